@@ -1,0 +1,86 @@
+-- Reading the arguments one after the other, as the parser's loops do.
+use Rattle.std.proofs.Common.{◌≡◌, ℕ, suc, ◌-◌, ◌+◌, ◌≤◌, ◌<◌, List, [], ◌∷◌, ◌++◌, length, get_or, drop, Option, Some, None, option_map, is_some, true, false, refl, sym, ap, ◌∙◌, append_assoc, add-one, drop-cons, arith}
+use Rattle.std.proofs.lemmas.List.{append-nil, drop_all}
+use Rattle.wl_wire.specs.declared.argument.ArgumentType.{ArgumentType}
+use Rattle.wl_wire.specs.declared.argument.Token.{Token}
+use Rattle.wl_wire.specs.declared.error.MessageParseError.{MessageParseError}
+use Rattle.wl_wire.specs.declared.error.MessageParseError.TheVariants as errors
+use Rattle.wl_wire.specs.Argument.{WireArgument}
+use Rattle.wl_wire.specs.Cursor.{◌>>=◌, Fails, argument_at, arguments_at, rests, with_front}
+
+-- where the next argument is read, the others are read behind it
+module _ (signature : List ArgumentType) (i : ℕ) (rest : List ℕ) (left : List Token) (d : ArgumentType) (lt : i < length signature) where
+  step : arguments_at (drop i signature) rest left
+      ≡ (argument_at (get_or signature i d) rest left >>= λ first. arguments_at (drop (i + 1) signature) first.1 first.2 >>= λ others. Some (first.0 ∷ others.0, others.1))
+  unfolding arguments_at
+  step = rw (add-one, drop-cons signature i d lt) refl
+
+regroup : (before : List WireArgument) (a : WireArgument) (read : Option (List WireArgument × List Token))
+    → with_front before (read >>= λ x. Some (a ∷ x.0, x.1)) ≡ with_front (before ++ a ∷ []) read
+regroup before a (Some x) = ap (λ (args : List WireArgument). Some (args, x.1)) (simp append_assoc)
+regroup before a None = refl
+
+-- ---- filling the arguments
+
+pub goes_on : (before : List WireArgument) (signature : List ArgumentType) (i : ℕ) (rest : List ℕ) (left : List Token) (d : ArgumentType)
+    (a : WireArgument) (after : List ℕ) (others : List Token) (total : Option (List WireArgument × List Token))
+    → i < length signature → argument_at (get_or signature i d) rest left ≡ Some (a, after, others)
+    → with_front before (arguments_at (drop i signature) rest left) ≡ total
+    → with_front (before ++ a ∷ []) (arguments_at (drop (i + 1) signature) after others) ≡ total
+goes_on before signature i rest left d a after others total lt found so_far =
+    let one : with_front before (arguments_at (drop i signature) rest left) ≡ with_front (before ++ a ∷ []) (arguments_at (drop (i + 1) signature) after others)
+        = rw (step signature i rest left d lt, found) (regroup before a (arguments_at (drop (i + 1) signature) after others)) in
+    sym one ∙ so_far
+
+pub ends : (e : MessageParseError) (before : List WireArgument) (signature : List ArgumentType) (i : ℕ) (rest : List ℕ) (left : List Token) (d : ArgumentType)
+    (total : Option (List WireArgument × List Token))
+    → i < length signature → Fails e (argument_at (get_or signature i d) rest left)
+    → with_front before (arguments_at (drop i signature) rest left) ≡ total → Fails e total
+ends errors.Malformed before signature i rest left d total lt fails so_far =
+    let one : with_front before (arguments_at (drop i signature) rest left) ≡ None = rw (step signature i rest left d lt, fails) refl in
+    sym so_far ∙ one
+ends errors.OutOfMemory before signature i rest left d total lt fails so_far = tt
+ends errors.MissingData before signature i rest left d total lt fails so_far = fails
+ends errors.MissingFD before signature i rest left d total lt fails so_far = fails
+
+pub is_done : (before : List WireArgument) (signature : List ArgumentType) (i : ℕ) (rest : List ℕ) (left : List Token) (total : Option (List WireArgument × List Token))
+    → length signature ≤ i → with_front before (arguments_at (drop i signature) rest left) ≡ total → total ≡ Some (before, left)
+unfolding arguments_at
+is_done before signature i rest left total le so_far =
+    let none : drop i signature ≡ [] = drop_all i signature le in
+    let one : with_front before (arguments_at (drop i signature) rest left) ≡ Some (before, left) = rw none (ap (λ (args : List WireArgument). Some (args, left)) (append-nil before)) in
+    sym so_far ∙ one
+
+-- ---- looking whether they read
+
+pub skips : (signature : List ArgumentType) (i : ℕ) (rest : List ℕ) (left : List Token) (d : ArgumentType) (after : List ℕ) (others : List Token)
+    → i < length signature → Some (after, others) ≡ option_map rests (argument_at (get_or signature i d) rest left)
+    → is_some (arguments_at (drop i signature) rest left) ≡ is_some (arguments_at (drop (i + 1) signature) after others)
+skips signature i rest left d after others lt found =
+    ap is_some (step signature i rest left d lt) ∙ skipped (argument_at (get_or signature i d) rest left) found
+  where
+    kept : (a : WireArgument) (read : Option (List WireArgument × List Token)) → is_some {T = List WireArgument × List Token} (read >>= λ x. Some (a ∷ x.0, x.1)) ≡ is_some read
+    kept a (Some x) = refl
+    kept a None = refl
+    skipped : (read : Option (WireArgument × List ℕ × List Token)) → Some (after, others) ≡ option_map rests read
+        → is_some {T = List WireArgument × List Token} (read >>= λ first. arguments_at (drop (i + 1) signature) first.1 first.2 >>= λ x. Some (first.0 ∷ x.0, x.1)) ≡ is_some (arguments_at (drop (i + 1) signature) after others)
+    skipped (Some first) e =
+        let both : (after, others) ≡ rests first = cc in
+        let after-is : after ≡ first.1 = ap (λ (x : List ℕ × List Token). x.0) both in
+        let others-is : others ≡ first.2 = ap (λ (x : List ℕ × List Token). x.1) both in
+        rw (after-is, others-is) (kept first.0 (arguments_at (drop (i + 1) signature) first.1 first.2))
+    skipped None e = absurd cc
+
+pub stops : (signature : List ArgumentType) (i : ℕ) (rest : List ℕ) (left : List Token) (d : ArgumentType)
+    → i < length signature → None ≡ option_map rests (argument_at (get_or signature i d) rest left)
+    → is_some (arguments_at (drop i signature) rest left) ≡ false
+stops signature i rest left d lt found = ap is_some (step signature i rest left d lt) ∙ stopped (argument_at (get_or signature i d) rest left) found
+  where
+    stopped : (read : Option (WireArgument × List ℕ × List Token)) → None ≡ option_map rests read
+        → is_some {T = List WireArgument × List Token} (read >>= λ first. arguments_at (drop (i + 1) signature) first.1 first.2 >>= λ x. Some (first.0 ∷ x.0, x.1)) ≡ false
+    stopped (Some first) e = absurd cc
+    stopped None e = refl
+
+pub all_skipped : (signature : List ArgumentType) (i : ℕ) (rest : List ℕ) (left : List Token) → length signature ≤ i → is_some (arguments_at (drop i signature) rest left) ≡ true
+unfolding arguments_at
+all_skipped signature i rest left le = let none : drop i signature ≡ [] = drop_all i signature le in rw none refl

@@ -1,0 +1,93 @@
+-- Reading from left to right: what the functions inside the parser compute. `CursorLaws` joins it to `Reading`.
+use Rattle.std.specs.Prelude.{◌≡◌, ℕ, ◌+◌, ◌-◌, List, [], ◌∷◌, ◌++◌, length, take, drop, Option, Some, None, Bool, true, false, nat_lt, ◌==◌, ◌||◌, not, if◌then◌else◌, slice_index, Result, Ok, Err, option_map}
+use Rattle.std.specs.List.{list_any}
+use Rattle.std.specs.Int.{w32, from_le_bytes, cast_signed}
+use Rattle.wl_wire.specs.declared.argument.ArgumentType.{ArgumentType}
+use Rattle.wl_wire.specs.declared.argument.ArgumentType.TheVariants as kind
+use Rattle.wl_wire.specs.declared.argument.Argument.TheVariants as arg
+use Rattle.wl_wire.specs.declared.argument.Token.{Token}
+use Rattle.wl_wire.specs.declared.error.MessageParseError.{MessageParseError}
+use Rattle.wl_wire.specs.declared.error.MessageParseError.TheVariants as errors
+use Rattle.wl_wire.specs.Argument.{WireArgument}
+use Rattle.wl_wire.specs.Message.{pad_len}
+
+infixl 10 ◌>>=◌
+abbrev pub ◌>>=◌ : {A B : Type 0} → Option A → (A → Option B) → Option B
+(Some x) >>= f = f x
+None >>= f = None
+
+-- a word and what follows it
+unfoldable pub word_at : List ℕ → Option (ℕ × List ℕ)
+word_at bytes = if nat_lt (length bytes) 4 then None else Some (from_le_bytes w32 (take 4 bytes), drop 4 bytes)
+
+-- counted bytes and what follows their padding
+unfoldable pub counted_at : List ℕ → Option (List ℕ × List ℕ)
+counted_at bytes = do
+  n ← word_at bytes
+  if nat_lt (length n.1) (n.0 + pad_len n.0) then None else Some (take n.0 n.1, drop (n.0 + pad_len n.0) n.1)
+
+-- all but the last
+abbrev pub front : List ℕ → List ℕ
+front bytes = take (length bytes - 1) bytes
+
+-- the last is no zero, or another one is
+abbrev pub is_no_text : List ℕ → Bool
+is_no_text bytes = not (slice_index bytes (length bytes - 1) == 0) || list_any (λ b. b == 0) (front bytes)
+
+-- the string that the counted bytes are, or null
+unfoldable pub text_of : List ℕ → Option (Option (List ℕ))
+text_of bytes = if length bytes == 0 then Some None else if is_no_text bytes then None else Some (Some (front bytes))
+
+-- what is read, and what is left of the bytes and of the tokens
+unfoldable pub argument_at : ArgumentType → List ℕ → List Token → Option (WireArgument × List ℕ × List Token)
+argument_at kind.Int payload fds = do
+  n ← word_at payload
+  Some (arg.Int (cast_signed w32 n.0), n.1, fds)
+argument_at kind.Uint payload fds = do
+  n ← word_at payload
+  Some (arg.Uint n.0, n.1, fds)
+argument_at kind.Fixed payload fds = do
+  n ← word_at payload
+  Some (arg.Fixed (cast_signed w32 n.0), n.1, fds)
+argument_at (kind.Str _) payload fds = do
+  bytes ← counted_at payload
+  text ← text_of bytes.0
+  Some (arg.Str text, bytes.1, fds)
+argument_at (kind.Object _) payload fds = do
+  n ← word_at payload
+  Some (arg.Object n.0, n.1, fds)
+argument_at kind.NewId payload fds = do
+  n ← word_at payload
+  Some (arg.NewId n.0, n.1, fds)
+argument_at kind.Array payload fds = do
+  bytes ← counted_at payload
+  Some (arg.Array bytes.0, bytes.1, fds)
+argument_at kind.Fd payload [] = None
+argument_at kind.Fd payload (t ∷ fds) = Some (arg.Fd t, payload, fds)
+
+-- what is left of the bytes and of the tokens
+abbrev pub rests : WireArgument × List ℕ × List Token → List ℕ × List Token
+rests x = (x.1, x.2)
+
+-- the arguments, and what is left of the tokens
+unfoldable pub arguments_at : List ArgumentType → List ℕ → List Token → Option (List WireArgument × List Token)
+arguments_at [] payload fds = Some ([], fds)
+arguments_at (k ∷ signature) payload fds = do
+  first ← argument_at k payload fds
+  others ← arguments_at signature first.1 first.2
+  Some (first.0 ∷ others.0, others.1)
+
+-- what was read before, and what is read from here on
+abbrev pub with_front : List WireArgument → Option (List WireArgument × List Token) → Option (List WireArgument × List Token)
+with_front before read = read >>= λ x. Some (before ++ x.0, x.1)
+
+-- a refusal is for want of memory, or because nothing is read
+abbrev pub Fails : {Y : Type 0} → MessageParseError → Option Y → Type 0
+Fails errors.Malformed read = read ≡ None
+Fails errors.OutOfMemory read = Unit {0}
+Fails _ read = ⊥
+
+-- a function gives what is read, seen by the view, unless memory ran out
+abbrev pub Gives : {X Y : Type 0} → (X → Y) → Result X MessageParseError → Option Y → Type 0
+Gives view (Ok x) read = read ≡ Some (view x)
+Gives view (Err e) read = Fails e read

@@ -1,0 +1,7 @@
+pub mod Text
+pub mod Argument
+pub mod Message
+pub mod Reading
+pub mod Parse
+pub mod Stream
+pub mod Cursor

@@ -1,0 +1,20 @@
+//! The Wayland wire format: interfaces, arguments, messages, and their bytes.
+#![tactic(auto)]
+
+mod argument;
+mod byte_array;
+mod c_string;
+mod error;
+mod interface;
+mod message;
+mod parse;
+
+pub use argument::{AllowNull, Argument, ArgumentType, Token};
+pub use byte_array::ByteArray;
+pub use c_string::{CString, ZeroByte};
+pub use error::{IoFault, MessageParseError, MessageWriteError, OutOfMemory};
+pub use interface::{
+    ANONYMOUS_INTERFACE, Interface, InterfaceId, MessageDesc, ObjectInfo, WL_CALLBACK_INTERFACE,
+    WL_DISPLAY_INTERFACE, WL_REGISTRY_INTERFACE,
+};
+pub use message::{INLINE_ARGS, Message};

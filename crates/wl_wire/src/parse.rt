@@ -1,0 +1,210 @@
+//! Reading a message from bytes and tokens.
+
+ghost use Rattle.std.specs.Prelude.{◌≡◌, ◌≢◌, ◌↔◌, ◌<◌, ◌≤◌, ◌++◌, length, drop, IsTrue, IsSome, IfSome, is_some, All, IfOk, IfErr, OnOk, OnErr, option_map, slice_get, vec_len};
+ghost use Rattle.std.specs.List.{count_by};
+ghost use Rattle.wl_wire.specs.declared.error.MessageParseError.TheVariants as errors;
+ghost use Rattle.wl_wire.specs.declared.error.MessageParseError.TheVariants.{OutOfMemory};
+ghost use Rattle.smallvec.specs.SmallVec.{HasRoomFor};
+ghost use Rattle.wl_wire.specs.Message.{content, pad_len};
+ghost use Rattle.wl_wire.specs.Parse.{fd_count, is_fd, IsInline, IsSmall, length_of, payload_of, sender_of, opcode_of, ReadsMessage, RefusesMessage, IsWhole};
+ghost use Rattle.wl_wire.specs.Text.{HasNoZero};
+ghost use Rattle.wl_wire.specs.Cursor.{word_at, counted_at, text_of, argument_at, arguments_at, rests, with_front, Gives};
+
+use crate::argument::{Argument, ArgumentType, Token};
+use crate::byte_array::ByteArray;
+use crate::c_string::CString;
+use crate::error::MessageParseError;
+use crate::message::{INLINE_ARGS, Message};
+use smallvec::SmallVec;
+use std::alloc::{AllocError, AllocFailed, Global};
+use std::collections::VecDeque;
+
+impl From<AllocError> for MessageParseError {
+    ghost from_gives = { λ _ e. e ≡ OutOfMemory };
+
+    fn from(_e: AllocError) -> MessageParseError {
+        MessageParseError::OutOfMemory
+    }
+}
+
+/// A word, and the bytes after it.
+#[tactic(auto, unfolding(crate::specs::Cursor::word_at))]
+fn read_word(payload: &[u8]) -> Option<(u32, &[u8])>
+    ensures { option_map (λ x. (x.0, x.1.now)) result ≡ word_at payload.now }
+{
+    if payload.len() < 4 {
+        return None;
+    }
+    let (word, rest) = payload.split_at(4);
+    Some((
+        u32::from_le_bytes([word[0], word[1], word[2], word[3]]),
+        rest,
+    ))
+}
+
+/// How many bytes lead from `len` to the next multiple of four.
+pub(crate) fn padding(len: usize) -> usize
+    ensures padding { result ≡ pad_len len }
+    ensures small { result < 4 }
+{
+    (4 - len % 4) % 4
+}
+
+/// Counted bytes, and what follows their padding.
+#[tactic(auto, unfolding(crate::specs::Cursor::counted_at))]
+fn read_counted(payload: &[u8]) -> Option<(&[u8], &[u8])>
+    ensures { option_map (λ x. (x.0.now, x.1.now)) result ≡ counted_at payload.now }
+{
+    let (len, rest) = read_word(payload)?;
+    let len = len as usize;
+    let padded = len + padding(len);
+    if rest.len() < padded {
+        return None;
+    }
+    Some((&rest[..len], &rest[padded..]))
+}
+
+/// The string that the counted bytes are: not there where they are no string, null where there are none.
+#[tactic(auto, unfolding(crate::specs::Cursor::text_of))]
+fn text_in(bytes: &[u8]) -> Option<Option<&[u8]>>
+    ensures text { option_map (option_map (λ x. x.now)) result ≡ text_of bytes.now }
+    ensures no_zero { IfSome result (λ text. IfSome text (λ bytes. HasNoZero bytes.now)) }
+{
+    let Some((last, text)) = bytes.split_last() else {
+        return Some(None);
+    };
+    if *last != 0 || text.contains(&0) {
+        return None;
+    }
+    Some(Some(text))
+}
+
+/// An argument that was read, and what is left of the bytes and of the tokens.
+type Read<'b, 't> = (Argument<u32, Token>, &'b [u8], &'t [Token]);
+
+/// The argument of that type at the front of the bytes or of the tokens.
+#[tactic(auto, unfolding(crate::specs::Cursor::argument_at))]
+fn read_argument<'b, 't>(
+    alloc: Global,
+    kind: ArgumentType,
+    payload: &'b [u8],
+    fds: &'t [Token],
+) -> Result<Read<'b, 't>, MessageParseError>
+    ensures found { Gives (λ x. (x.0, x.1.now, x.2.now)) result (argument_at kind payload.now fds.now) }
+    ensures small { IsSmall kind → IfErr result (λ e. e ≢ OutOfMemory) }
+{
+    match kind {
+        ArgumentType::Int => {
+            let (word, rest) = read_word(payload).ok_or(MessageParseError::Malformed)?;
+            Ok((Argument::Int(word.cast_signed()), rest, fds))
+        }
+        ArgumentType::Uint => {
+            let (word, rest) = read_word(payload).ok_or(MessageParseError::Malformed)?;
+            Ok((Argument::Uint(word), rest, fds))
+        }
+        ArgumentType::Fixed => {
+            let (word, rest) = read_word(payload).ok_or(MessageParseError::Malformed)?;
+            Ok((Argument::Fixed(word.cast_signed()), rest, fds))
+        }
+        ArgumentType::Str(_) => {
+            let (bytes, rest) = read_counted(payload).ok_or(MessageParseError::Malformed)?;
+            match text_in(bytes).ok_or(MessageParseError::Malformed)? {
+                None => Ok((Argument::Str(None), rest, fds)),
+                Some(text) => {
+                    let text = CString::copied(alloc, text)?;
+                    Ok((Argument::Str(Some(text)), rest, fds))
+                }
+            }
+        }
+        ArgumentType::Object(_) => {
+            let (word, rest) = read_word(payload).ok_or(MessageParseError::Malformed)?;
+            Ok((Argument::Object(word), rest, fds))
+        }
+        ArgumentType::NewId => {
+            let (word, rest) = read_word(payload).ok_or(MessageParseError::Malformed)?;
+            Ok((Argument::NewId(word), rest, fds))
+        }
+        ArgumentType::Array => {
+            let (bytes, rest) = read_counted(payload).ok_or(MessageParseError::Malformed)?;
+            let bytes = ByteArray::new(Vec::from_slice(alloc, bytes)?);
+            Ok((Argument::Array(bytes), rest, fds))
+        }
+        ArgumentType::Fd => {
+            let (fd, fds) = fds.split_first().ok_or(MessageParseError::Malformed)?;
+            Ok((Argument::Fd(*fd), payload, fds))
+        }
+    }
+}
+
+/// Reads the arguments into `args`, which is to be empty, and answers the tokens that are left.
+fn read_arguments<'t>(
+    alloc: Global,
+    signature: &[ArgumentType],
+    payload: &[u8],
+    fds: &'t [Token],
+    args: &mut SmallVec<Argument<u32, Token>, INLINE_ARGS>,
+) -> Result<&'t [Token], MessageParseError>
+    ensures found { Gives (λ left. (args.new.items, left.now)) result (with_front args.old.items (arguments_at signature.now payload.now fds.now)) }
+    ensures inline { All IsSmall signature.now → HasRoomFor args.old (length signature.now) → IfErr result (λ e. e ≢ OutOfMemory) }
+{
+    args.reserve(signature.len())?;
+    let mut rest = payload;
+    let mut left = fds;
+    for kind in signature {
+        let (arg, after, others) = read_argument(alloc, *kind, rest, left)?;
+        args.push_reserved(arg);
+        rest = after;
+        left = others;
+    }
+    Ok(left)
+}
+
+/// What follows the argument of that type at the front of the bytes or of the tokens.
+#[tactic(auto, unfolding(crate::specs::Cursor::argument_at))]
+fn skip_argument<'b, 't>(
+    kind: ArgumentType,
+    payload: &'b [u8],
+    fds: &'t [Token],
+) -> Option<(&'b [u8], &'t [Token])>
+    ensures { option_map (λ x. (x.0.now, x.1.now)) result ≡ option_map rests (argument_at kind payload.now fds.now) }
+{
+    match kind {
+        ArgumentType::Int
+        | ArgumentType::Uint
+        | ArgumentType::Fixed
+        | ArgumentType::Object(_)
+        | ArgumentType::NewId => {
+            let (_, rest) = read_word(payload)?;
+            Some((rest, fds))
+        }
+        ArgumentType::Str(_) => {
+            let (bytes, rest) = read_counted(payload)?;
+            text_in(bytes)?;
+            Some((rest, fds))
+        }
+        ArgumentType::Array => {
+            let (_, rest) = read_counted(payload)?;
+            Some((rest, fds))
+        }
+        ArgumentType::Fd => {
+            let (_, fds) = fds.split_first()?;
+            Some((payload, fds))
+        }
+    }
+}
+
+/// Whether the arguments read, were there memory for them.
+fn can_read(signature: &[ArgumentType], payload: &[u8], fds: &[Token]) -> bool
+    ensures { result ≡ is_some (arguments_at signature.now payload.now fds.now) }
+{
+    let mut rest = payload;
+    let mut left = fds;
+    for kind in signature {
+        let Some((after, others)) = skip_argument(*kind, rest, left) else {
+            return false;
+        };
+        rest = after;
+        left = others;
+    }
+    true
+}
