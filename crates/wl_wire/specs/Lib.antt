@@ -5,3 +5,4 @@ pub mod Reading
 pub mod Parse
 pub mod Stream
 pub mod Cursor
+pub mod Buffer

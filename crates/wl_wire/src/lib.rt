@@ -8,6 +8,7 @@ mod error;
 mod interface;
 mod message;
 mod parse;
+mod write;
 
 pub use argument::{AllowNull, Argument, ArgumentType, Token};
 pub use byte_array::ByteArray;

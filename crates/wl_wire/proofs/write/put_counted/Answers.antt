@@ -1,0 +1,8 @@
+use Rattle.std.proofs.Common.{refl}
+use Rattle.wl_wire.proofs.Pieces.{overwritten-counted}
+use Rattle.wl_wire.proofs.write.put_counted.Goals as goal
+
+pub returns-clause-bytes : goal.returns-clause-bytes
+returns-clause-bytes c =
+    rw (c.put_zeros.ensures, c.put_bytes.ensures, c.put_word-at.ensures.bytes, c.put_word-at.ensures.next, c.padding.ensures.padding)
+    (overwritten-counted c.args.payload.now c.args.at c.args.bytes.now c.args.ending _ refl c.requires.room)

@@ -1,0 +1,20 @@
+-- Writing into a slice, as the functions inside the writer say it.
+use Rattle.std.specs.Prelude.{ℕ, ◌+◌, List, ◌++◌, length, take, drop, Some, None}
+use Rattle.wl_wire.specs.declared.argument.Argument.TheVariants as arg
+use Rattle.wl_wire.specs.Argument.{WireArgument}
+use Rattle.wl_wire.specs.Message.{pad_len}
+
+-- the slice with these bytes from that place on
+unfoldable pub overwritten : List ℕ → ℕ → List ℕ → List ℕ
+overwritten old at bytes = take at old ++ bytes ++ drop (at + length bytes) old
+
+-- how many bytes so many counted ones take
+abbrev pub counted_len : ℕ → ℕ
+counted_len n = 4 + n + pad_len n
+
+-- how many bytes the argument takes
+abbrev pub piece_len : WireArgument → ℕ
+piece_len (arg.Str (Some text)) = counted_len (length text + 1)
+piece_len (arg.Array bytes) = counted_len (length bytes)
+piece_len (arg.Fd _) = 0
+piece_len _ = 4

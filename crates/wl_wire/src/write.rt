@@ -1,0 +1,220 @@
+//! Writing a message as bytes and tokens.
+
+ghost use Rattle.std.specs.Prelude.{◌≡◌, ◌≢◌, ◌↔◌, ◌+◌, ◌<◌, ◌≤◌, ◌++◌, [], Err, length, drop, replicate, IfOk, OnOk, OnErr, MatchOption, vec_len, vec_capacity};
+ghost use Rattle.wl_wire.specs.declared.error.MessageWriteError.TheVariants.{OutOfMemory};
+ghost use Rattle.wl_wire.specs.Message.{content, counted, pad_len, piece, pieces, size, spelling, token, tokens, word};
+ghost use Rattle.wl_wire.specs.Buffer.{overwritten, counted_len, piece_len};
+
+use crate::argument::{Argument, Token};
+use crate::error::MessageWriteError;
+use crate::message::Message;
+use crate::parse::padding;
+use std::alloc::AllocError;
+
+/// The most bytes that a message may have: its length is a number of 16 bits.
+const MAX_MESSAGE_SIZE: usize = 65535;
+
+impl From<AllocError> for MessageWriteError {
+    ghost from_gives = { λ _ e. e ≡ OutOfMemory };
+
+    fn from(_e: AllocError) -> MessageWriteError {
+        MessageWriteError::OutOfMemory
+    }
+}
+
+/// How many bytes the argument takes.
+fn piece_len(arg: &Argument<u32, Token>) -> usize
+    ensures { result ≡ piece_len arg.now }
+{
+    match arg {
+        Argument::Int(_)
+        | Argument::Uint(_)
+        | Argument::Fixed(_)
+        | Argument::Object(_)
+        | Argument::NewId(_)
+        | Argument::Str(None) => 4,
+        Argument::Str(Some(text)) => {
+            let len = text.as_bytes().len() + 1;
+            4 + len + padding(len)
+        }
+        Argument::Array(bytes) => {
+            let len = bytes.as_slice().len();
+            4 + len + padding(len)
+        }
+        Argument::Fd(_) => 0,
+    }
+}
+
+/// How many tokens the argument takes: one or none.
+fn token_count(arg: &Argument<u32, Token>) -> usize
+    ensures { result ≡ length (token arg.now) }
+{
+    match arg {
+        Argument::Fd(_) => 1,
+        _ => 0,
+    }
+}
+
+/// Writes the bytes at that place.
+#[tactic(auto, unfolding(crate::specs::Buffer::overwritten))]
+fn put_bytes(payload: &mut [u8], at: usize, bytes: &[u8])
+    requires { at + length bytes.now ≤ length payload.old }
+    ensures { payload.new ≡ overwritten payload.old at bytes.now }
+{
+    payload[at..at + bytes.len()].copy_from_slice(bytes);
+}
+
+/// Writes so many zeros at that place.
+#[tactic(auto, unfolding(crate::specs::Buffer::overwritten))]
+fn put_zeros(payload: &mut [u8], at: usize, count: usize)
+    requires { at + count ≤ length payload.old }
+    ensures { payload.new ≡ overwritten payload.old at (replicate count 0) }
+{
+    payload[at..at + count].fill(0);
+}
+
+/// Writes the word at that place, and answers the place behind it.
+#[tactic(auto, unfolding(crate::specs::Message::word))]
+fn put_word(payload: &mut [u8], at: usize, n: u32) -> usize
+    requires { at + 4 ≤ length payload.old }
+    ensures bytes { payload.new ≡ overwritten payload.old at (word n) }
+    ensures next { result ≡ at + 4 }
+{
+    put_bytes(payload, at, &n.to_le_bytes());
+    at + 4
+}
+
+/// Writes counted bytes at that place, and answers the place behind their padding.
+///
+/// So many zeros follow the bytes and count with them.
+fn put_counted(payload: &mut [u8], at: usize, bytes: &[u8], ending: usize) -> usize
+    requires room { at + counted_len (length bytes.now + ending) ≤ length payload.old }
+    requires small { length bytes.now + ending ≤ 65535 }
+    ensures bytes { payload.new ≡ overwritten payload.old at (counted (bytes.now ++ replicate ending 0)) }
+    ensures next { result ≡ at + counted_len (length bytes.now + ending) }
+{
+    let len = bytes.len() + ending;
+    let zeros = ending + padding(len);
+    let at = put_word(payload, at, len as u32);
+    put_bytes(payload, at, bytes);
+    put_zeros(payload, at + bytes.len(), zeros);
+    at + bytes.len() + zeros
+}
+
+/// Writes the argument's bytes at that place, and answers the place behind them.
+#[tactic(auto, unfolding(crate::specs::Message::piece))]
+fn put_argument(payload: &mut [u8], at: usize, arg: &Argument<u32, Token>) -> usize
+    requires room { at + piece_len arg.now ≤ length payload.old }
+    requires small { piece_len arg.now ≤ 65535 }
+    ensures bytes { payload.new ≡ overwritten payload.old at (piece arg.now) }
+    ensures next { result ≡ at + piece_len arg.now }
+{
+    match arg {
+        Argument::Int(n) => put_word(payload, at, n.cast_unsigned()),
+        Argument::Uint(n) => put_word(payload, at, *n),
+        Argument::Fixed(n) => put_word(payload, at, n.cast_unsigned()),
+        Argument::Str(None) => put_word(payload, at, 0),
+        Argument::Str(Some(text)) => put_counted(payload, at, text.as_bytes(), 1),
+        Argument::Object(n) => put_word(payload, at, *n),
+        Argument::NewId(n) => put_word(payload, at, *n),
+        Argument::Array(bytes) => put_counted(payload, at, bytes.as_slice(), 0),
+        Argument::Fd(_) => at,
+    }
+}
+
+/// Appends the argument's token, if it has one.
+fn put_token(fds: &mut Vec<Token>, arg: &Argument<u32, Token>)
+    requires { vec_len fds.old + length (token arg.now) ≤ vec_capacity fds.old }
+    ensures items { fds.new.items ≡ fds.old.items ++ token arg.now }
+    ensures len { vec_len fds.new ≡ vec_len fds.old + length (token arg.now) }
+    ensures capacity { vec_capacity fds.new ≡ vec_capacity fds.old }
+{
+    if let Argument::Fd(fd) = arg {
+        fds.push_reserved(*fd);
+    }
+}
+
+/// Writes the arguments' bytes behind a header of eight, and appends their tokens.
+fn put_arguments(payload: &mut [u8], fds: &mut Vec<Token>, args: &[Argument<u32, Token>])
+    requires bytes { 8 + length (pieces args.now) ≤ length payload.old }
+    requires small { length (pieces args.now) ≤ 65535 }
+    requires tokens { vec_len fds.old + length (tokens args.now) ≤ vec_capacity fds.old }
+    ensures bytes { payload.new ≡ overwritten payload.old 8 (pieces args.now) }
+    ensures tokens { fds.new.items ≡ fds.old.items ++ tokens args.now }
+{
+    let mut at = 8;
+    for arg in args {
+        at = put_argument(payload, at, arg);
+        put_token(fds, arg);
+    }
+}
+
+/// How many bytes a message takes, and how many tokens.
+#[derive(Clone, Copy)]
+struct Measure {
+    bytes: usize,
+    tokens: usize,
+}
+
+/// How much a message of these arguments takes; `None` where it takes more than a message may have.
+fn measure_of(args: &[Argument<u32, Token>]) -> Option<Measure>
+    ensures { MatchOption result (65535 < 8 + length (pieces args.now)) (λ m. (m.bytes ≡ 8 + length (pieces args.now)) × (m.bytes ≤ 65535) × (m.tokens ≡ length (tokens args.now))) }
+{
+    let mut bytes = 8;
+    let mut tokens = 0;
+    for arg in args {
+        let len = piece_len(arg);
+        if len > MAX_MESSAGE_SIZE - bytes {
+            return None;
+        }
+        bytes += len;
+        tokens += token_count(arg);
+    }
+    Some(Measure { bytes, tokens })
+}
+
+/// How many bytes the message takes; `None` where it takes more than 65535.
+pub fn message_size(message: &Message<u32, Token>) -> Option<usize>
+    ensures { MatchOption result (65535 < size (content message.now)) (λ n. n ≡ size (content message.now)) }
+{
+    let measure = measure_of(message.args.as_slice())?;
+    Some(measure.bytes)
+}
+
+/// Writes the message at the front of `payload`, and appends its tokens to `fds`.
+///
+/// Answers how many bytes were written. The bytes behind them stay as they were, and a refusal changes nothing. The
+/// errors are decided in this order: `TooLong` where the message takes more than 65535 bytes, `BufferTooSmall` where
+/// it takes more than `payload` has, `OutOfMemory` where there was no room for its tokens.
+pub fn write_to_buffers(
+    message: &Message<u32, Token>,
+    payload: &mut [u8],
+    fds: &mut Vec<Token>,
+) -> Result<usize, MessageWriteError>
+    ensures written { IfOk result (λ n. (n ≡ size (content message.now)) × (payload.new ≡ spelling (content message.now) ++ drop n payload.old)) }
+    ensures tokens { OnOk result (fds.new.items ≡ fds.old.items ++ tokens message.now.args.items) }
+
+    ensures too_long { (result ≡ Err MessageWriteError.TooLong) ↔ (65535 < size (content message.now)) }
+    ensures too_small { (result ≡ Err MessageWriteError.BufferTooSmall) ↔ ((size (content message.now) ≤ 65535) × (length payload.old < size (content message.now))) }
+
+    // Memory is wanted only where the room for the tokens is not there.
+    ensures memory { (result ≡ Err MessageWriteError.OutOfMemory) → (vec_capacity fds.old < vec_len fds.old + length (tokens message.now.args.items)) }
+    ensures no_tokens { tokens message.now.args.items ≡ [] → result ≢ Err MessageWriteError.OutOfMemory }
+    ensures unchanged { OnErr result ((payload.new ≡ payload.old) × (fds.new.items ≡ fds.old.items)) }
+{
+    let args = message.args.as_slice();
+    let Some(measure) = measure_of(args) else {
+        return Err(MessageWriteError::TooLong);
+    };
+    if payload.len() < measure.bytes {
+        return Err(MessageWriteError::BufferTooSmall);
+    }
+    if measure.tokens > 0 {
+        fds.reserve(measure.tokens)?;
+    }
+    let opcode = message.opcode;
+    put_word(payload, 0, message.sender_id);
+    put_word(payload, 4, measure.bytes as u32 * 65536 + u32::from(opcode));
+    put_arguments(payload, fds, args);
+    Ok(measure.bytes)
+}
