@@ -1,5 +1,5 @@
 -- Reading the arguments one after the other, as the parser's loops do.
-use Rattle.std.proofs.Common.{◌≡◌, ℕ, suc, ◌-◌, ◌+◌, ◌≤◌, ◌<◌, List, [], ◌∷◌, ◌++◌, length, get_or, drop, Option, Some, None, option_map, is_some, true, false, refl, sym, ap, ◌∙◌, append_assoc, add-one, drop-cons, arith}
+use Rattle.std.proofs.Common.{◌≡◌, ℕ, ◌+◌, ◌≤◌, ◌<◌, List, [], ◌∷◌, ◌++◌, length, get_or, drop, Option, Some, None, option_map, is_some, true, false, refl, sym, ap, ◌∙◌, append_assoc, add-one, drop-cons}
 use Rattle.std.proofs.lemmas.List.{append-nil, drop_all}
 use Rattle.wl_wire.specs.declared.argument.ArgumentType.{ArgumentType}
 use Rattle.wl_wire.specs.declared.argument.Token.{Token}
@@ -29,7 +29,7 @@ pub goes_on : (before : List WireArgument) (signature : List ArgumentType) (i : 
     → with_front (before ++ a ∷ []) (arguments_at (drop (i + 1) signature) after others) ≡ total
 goes_on before signature i rest left d a after others total lt found so_far =
     let one : with_front before (arguments_at (drop i signature) rest left) ≡ with_front (before ++ a ∷ []) (arguments_at (drop (i + 1) signature) after others)
-        = rw (step signature i rest left d lt, found) (regroup before a (arguments_at (drop (i + 1) signature) after others)) in
+    = rw (step signature i rest left d lt, found) (regroup before a (arguments_at (drop (i + 1) signature) after others)) in
     sym one ∙ so_far
 
 pub ends : (e : MessageParseError) (before : List WireArgument) (signature : List ArgumentType) (i : ℕ) (rest : List ℕ) (left : List Token) (d : ArgumentType)
@@ -62,6 +62,7 @@ skips signature i rest left d after others lt found =
     kept : (a : WireArgument) (read : Option (List WireArgument × List Token)) → is_some {T = List WireArgument × List Token} (read >>= λ x. Some (a ∷ x.0, x.1)) ≡ is_some read
     kept a (Some x) = refl
     kept a None = refl
+
     skipped : (read : Option (WireArgument × List ℕ × List Token)) → Some (after, others) ≡ option_map rests read
         → is_some {T = List WireArgument × List Token} (read >>= λ first. arguments_at (drop (i + 1) signature) first.1 first.2 >>= λ x. Some (first.0 ∷ x.0, x.1)) ≡ is_some (arguments_at (drop (i + 1) signature) after others)
     skipped (Some first) e =

@@ -1,7 +1,6 @@
 -- How long the pieces of arguments are, and how one is written behind another.
-use Rattle.std.proofs.Common.{◌≡◌, ℕ, ◌+◌, ◌-◌, ◌≤◌, ◌<◌, List, [], ◌∷◌, ◌++◌, length, get_or, take, drop, replicate, sum_by, Some, None, refl, sym, ap, subst, ◌∙◌, append_assoc, arith, length-append, add-zero, zero-add}
-use Rattle.std.proofs.lemmas.List.{append-nil, length-replicate, replicate-append-replicate, take_more, length-take, length-take-le, length-drop, take_at, drop_at, drop-drop, take-append-drop}
-use Rattle.std.proofs.lemmas.List.Sums.{sum_by-append}
+use Rattle.std.proofs.Common.{◌≡◌, ℕ, ◌+◌, ◌≤◌, ◌<◌, List, [], ◌∷◌, ◌++◌, length, get_or, take, drop, replicate, Some, None, refl, sym, ap, subst, ◌∙◌, append_assoc, arith, length-append, add-zero, zero-add}
+use Rattle.std.proofs.lemmas.List.{append-nil, length-replicate, replicate-append-replicate, take_more, length-take-le, length-drop, take_at, drop_at, drop-drop, take-append-drop}
 use Rattle.std.proofs.lemmas.Grind.{flat_map-append}
 use Rattle.wl_wire.specs.declared.argument.Argument.TheVariants as arg
 use Rattle.wl_wire.specs.declared.argument.Token.{Token}
@@ -63,10 +62,10 @@ overwritten-append old at xs ys le =
     let len : length (take at old ++ xs) ≡ at + length xs = omega (arith, length-append (take at old) xs, length-take-le at old (omega arith)) in
     let front-is : take (at + length xs) ((take at old ++ xs) ++ tail) ≡ take at old ++ xs = take_at (take at old ++ xs) tail (at + length xs) len in
     let back-is : drop (at + length xs + length ys) ((take at old ++ xs) ++ tail) ≡ drop (at + length (xs ++ ys)) old
-        = sym (drop-drop (length ys) (at + length xs) ((take at old ++ xs) ++ tail))
-          ∙ ap (drop (length ys)) (drop_at (take at old ++ xs) tail (at + length xs) len)
-          ∙ drop-drop (length ys) (at + length xs) old
-          ∙ ap (λ (n : ℕ). drop n old) (omega (arith, length-append xs ys)) in
+    = sym (drop-drop (length ys) (at + length xs) ((take at old ++ xs) ++ tail))
+    ∙ ap (drop (length ys)) (drop_at (take at old ++ xs) tail (at + length xs) len)
+    ∙ drop-drop (length ys) (at + length xs) old
+    ∙ ap (λ (n : ℕ). drop n old) (omega (arith, length-append xs ys)) in
     rw (front-is, back-is) (ap (λ (p : List ℕ). p ++ drop (at + length (xs ++ ys)) old) (append_assoc (take at old) xs ys))
 
 pub length-overwritten : (old : List ℕ) (at : ℕ) (xs : List ℕ) → at + length xs ≤ length old → length (overwritten old at xs) ≡ length old
@@ -86,7 +85,7 @@ overwritten-front old xs = rw (zero-add (length xs)) refl
 -- a count, the counted bytes with so many zeros at their end, and the padding
 pub overwritten-counted : (old : List ℕ) (at : ℕ) (bytes : List ℕ) (ending n : ℕ) → n ≡ length bytes + ending → at + counted_len n ≤ length old
     → overwritten (overwritten (overwritten old at (word n)) (at + 4) bytes) (at + 4 + length bytes) (replicate (ending + pad_len n) 0)
-      ≡ overwritten old at (counted (bytes ++ replicate ending 0))
+    ≡ overwritten old at (counted (bytes ++ replicate ending 0))
 overwritten-counted old at bytes ending n n-is le =
     let zeros : List ℕ = replicate ending 0 in
     let padding : List ℕ = replicate (pad_len n) 0 in
@@ -96,12 +95,12 @@ overwritten-counted old at bytes ending n n-is le =
     let zeros-is : replicate (ending + pad_len n) 0 ≡ zeros ++ padding = sym (replicate-append-replicate {A = ℕ} ending (pad_len n) 0) in
     let tail-len : length (replicate {A = ℕ} (ending + pad_len n) 0) ≡ ending + pad_len n = length-replicate {A = ℕ} (ending + pad_len n) 0 in
     let first : overwritten (overwritten old at (word n)) (at + 4) bytes ≡ overwritten old at (word n ++ bytes)
-        = subst (λ (k : ℕ). overwritten (overwritten old at (word n)) (at + k) bytes ≡ overwritten old at (word n ++ bytes)) word-len (overwritten-append old at (word n) bytes (omega arith)) in
+    = subst (λ (k : ℕ). overwritten (overwritten old at (word n)) (at + k) bytes ≡ overwritten old at (word n ++ bytes)) word-len (overwritten-append old at (word n) bytes (omega arith)) in
     let second : overwritten (overwritten old at (word n ++ bytes)) (at + 4 + length bytes) (replicate (ending + pad_len n) 0) ≡ overwritten old at ((word n ++ bytes) ++ replicate (ending + pad_len n) 0)
-        = subst (λ (k : ℕ). overwritten (overwritten old at (word n ++ bytes)) k (replicate (ending + pad_len n) 0) ≡ overwritten old at ((word n ++ bytes) ++ replicate (ending + pad_len n) 0)) (omega arith)
-            (overwritten-append old at (word n ++ bytes) (replicate (ending + pad_len n) 0) (omega arith)) in
+    = subst (λ (k : ℕ). overwritten (overwritten old at (word n ++ bytes)) k (replicate (ending + pad_len n) 0) ≡ overwritten old at ((word n ++ bytes) ++ replicate (ending + pad_len n) 0)) (omega arith)
+    (overwritten-append old at (word n ++ bytes) (replicate (ending + pad_len n) 0) (omega arith)) in
     let content-is : (word n ++ bytes) ++ replicate (ending + pad_len n) 0 ≡ counted (bytes ++ zeros)
-        = rw (whole-len, zeros-is) (simp append_assoc) in
+    = rw (whole-len, zeros-is) (simp append_assoc) in
     rw first (second ∙ ap (overwritten old at) content-is)
 
 -- one more argument is written behind the others
@@ -132,8 +131,8 @@ overwritten-header old a b rest a-len b-len le =
     let both-len : length (a ++ b) ≡ 8 = omega (arith, length-append a b) in
     let whole-len : length ((a ++ b) ++ rest) ≡ 8 + length rest = omega (arith, length-append (a ++ b) rest) in
     let first : overwritten (overwritten old 0 a) 4 b ≡ overwritten old 0 (a ++ b)
-        = subst (λ (k : ℕ). overwritten (overwritten old 0 a) k b ≡ overwritten old 0 (a ++ b)) (omega arith) (overwritten-append old 0 a b (omega arith)) in
+    = subst (λ (k : ℕ). overwritten (overwritten old 0 a) k b ≡ overwritten old 0 (a ++ b)) (omega arith) (overwritten-append old 0 a b (omega arith)) in
     let second : overwritten (overwritten old 0 (a ++ b)) 8 rest ≡ overwritten old 0 ((a ++ b) ++ rest)
-        = subst (λ (k : ℕ). overwritten (overwritten old 0 (a ++ b)) k rest ≡ overwritten old 0 ((a ++ b) ++ rest)) (omega arith) (overwritten-append old 0 (a ++ b) rest (omega arith)) in
+    = subst (λ (k : ℕ). overwritten (overwritten old 0 (a ++ b)) k rest ≡ overwritten old 0 ((a ++ b) ++ rest)) (omega arith) (overwritten-append old 0 (a ++ b) rest (omega arith)) in
     ap (λ (p : List ℕ). overwritten p 8 rest) first ∙ second ∙ overwritten-front old ((a ++ b) ++ rest)
     ∙ ap (λ (k : ℕ). ((a ++ b) ++ rest) ++ drop k old) whole-len

@@ -1,8 +1,6 @@
 -- Arguments and their types.
-use Rattle.std.specs.Prelude.{◌≡◌, ℕ, List, [], ◌∷◌, map}
-use Rattle.std.specs.List.{flat_map}
-use Rattle.wl_wire.specs.declared.argument.AllowNull.{AllowNull}
-use Rattle.wl_wire.specs.declared.argument.AllowNull.TheVariants.{Yes, No}
+use Rattle.std.specs.Prelude.{◌≡◌, ℕ, List, map}
+use Rattle.wl_wire.specs.declared.argument.AllowNull.TheVariants.{Yes}
 use Rattle.wl_wire.specs.declared.argument.ArgumentType.{ArgumentType}
 use Rattle.wl_wire.specs.declared.argument.ArgumentType.TheVariants as kind
 use Rattle.wl_wire.specs.declared.argument.Argument.{Argument}

@@ -1,5 +1,5 @@
 -- Reading from left to right: what the functions inside the parser compute. `CursorLaws` joins it to `Reading`.
-use Rattle.std.specs.Prelude.{◌≡◌, ℕ, ◌+◌, ◌-◌, List, [], ◌∷◌, ◌++◌, length, take, drop, Option, Some, None, Bool, true, false, nat_lt, ◌==◌, ◌||◌, not, if◌then◌else◌, slice_index, Result, Ok, Err, option_map}
+use Rattle.std.specs.Prelude.{◌≡◌, ℕ, ◌+◌, ◌-◌, ◌<◌, ◌≤◌, ◌⊎◌, List, [], ◌∷◌, ◌++◌, length, take, drop, Option, Some, None, Bool, nat_lt, ◌==◌, ◌||◌, not, if◌then◌else◌, slice_index, Result, Ok, Err}
 use Rattle.std.specs.List.{list_any}
 use Rattle.std.specs.Int.{w32, from_le_bytes, cast_signed}
 use Rattle.wl_wire.specs.declared.argument.ArgumentType.{ArgumentType}
@@ -10,6 +10,8 @@ use Rattle.wl_wire.specs.declared.error.MessageParseError.{MessageParseError}
 use Rattle.wl_wire.specs.declared.error.MessageParseError.TheVariants as errors
 use Rattle.wl_wire.specs.Argument.{WireArgument}
 use Rattle.wl_wire.specs.Message.{pad_len}
+use Rattle.wl_wire.specs.Reading.{Reads}
+use Rattle.wl_wire.specs.Parse.{length_of, fd_count, DoesNotRead}
 
 infixl 10 ◌>>=◌
 abbrev pub ◌>>=◌ : {A B : Type 0} → Option A → (A → Option B) → Option B
@@ -91,3 +93,17 @@ Fails _ read = ⊥
 abbrev pub Gives : {X Y : Type 0} → (X → Y) → Result X MessageParseError → Option Y → Type 0
 Gives view (Ok x) read = read ≡ Some (view x)
 Gives view (Err e) read = Fails e read
+
+-- what the parser answers where no whole message is there
+abbrev pub RefusesHeader : List ℕ → MessageParseError → Type 0
+RefusesHeader raw errors.MissingData = (length raw < 8) ⊎ ((8 ≤ length raw) × (8 ≤ length_of raw) × (length raw < length_of raw))
+RefusesHeader raw errors.Malformed = (8 ≤ length raw) × (length_of raw < 8)
+RefusesHeader raw _ = ⊥
+
+-- what the parser answers where the arguments were not given out: the header is there
+abbrev pub RefusesArguments : List ArgumentType → List ℕ → List Token → MessageParseError → Type 0
+RefusesArguments signature payload fds errors.MissingFD = length fds < fd_count signature
+RefusesArguments signature payload fds errors.Malformed = (fd_count signature ≤ length fds) × DoesNotRead signature payload fds
+RefusesArguments signature payload fds errors.OutOfMemory =
+    (fd_count signature ≤ length fds) × ((args : List WireArgument) × Reads signature args payload fds)
+RefusesArguments signature payload fds errors.MissingData = ⊥

@@ -6,3 +6,5 @@ pub mod Parse
 pub mod Stream
 pub mod Cursor
 pub mod Buffer
+pub mod CursorLaws
+pub mod Laws

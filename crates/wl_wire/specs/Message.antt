@@ -5,12 +5,13 @@
 -- message's bytes. A word has four bytes, the lowest first. A number or an object takes one word. A string is
 -- counted bytes with a zero at their end, a null string is the word 0, and an array is counted bytes. A descriptor
 -- takes no bytes: its token goes beside the bytes, in the order of the arguments.
-use Rattle.std.specs.Prelude.{ℕ, ◌+◌, ◌*◌, ◌-◌, ◌%◌, List, [], ◌∷◌, ◌++◌, length, replicate, Option, Some, None}
-use Rattle.std.specs.List.{flat_map}
+use Rattle.std.specs.Prelude.{ℕ, ◌+◌, ◌*◌, ◌-◌, ◌%◌, ◌^◌, ◌<◌, ◌≤◌, FitsSigned, List, [], ◌∷◌, ◌++◌, length, replicate, Some, None}
+use Rattle.std.specs.List.{flat_map, AllByRecursion}
 use Rattle.std.specs.Int.{w32, to_le_bytes, cast_unsigned}
 use Rattle.wl_wire.specs.declared.argument.Argument.TheVariants as arg
 use Rattle.wl_wire.specs.declared.argument.Token.{Token}
 use Rattle.wl_wire.specs.declared.message.Message.{Message}
+use Rattle.wl_wire.specs.Text.{HasNoZero}
 use Rattle.wl_wire.specs.Argument.{WireArgument}
 
 -- a message, without where its arguments lie in memory
@@ -64,3 +65,22 @@ size m = 8 + length (pieces m.args)
 -- the message's bytes
 abbrev pub spelling : WireMessage → List ℕ
 spelling m = word m.sender ++ word (size m * 65536 + m.opcode) ++ pieces m.args
+
+-- the value is one that its type has on the wire
+abbrev pub IsArgument : WireArgument → Type 0
+IsArgument (arg.Int z) = FitsSigned w32 z
+IsArgument (arg.Uint n) = n < 2 ^ 32
+IsArgument (arg.Fixed z) = FitsSigned w32 z
+IsArgument (arg.Str None) = Unit {0}
+IsArgument (arg.Str (Some text)) = HasNoZero text
+IsArgument (arg.Object n) = n < 2 ^ 32
+IsArgument (arg.NewId n) = n < 2 ^ 32
+IsArgument (arg.Array bytes) = Unit {0}
+IsArgument (arg.Fd _) = Unit {0}
+
+-- a message that can be written: each number is one of its type, and the bytes are at most 65535
+pub record IsMessage (m : WireMessage) : Type 0 where
+  pub sender : m.sender < 2 ^ 32
+  pub opcode : m.opcode < 2 ^ 16
+  pub args : AllByRecursion IsArgument m.args
+  pub size : size m ≤ 65535

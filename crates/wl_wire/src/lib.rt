@@ -6,6 +6,7 @@ mod byte_array;
 mod c_string;
 mod error;
 mod interface;
+pub mod laws;
 mod message;
 mod parse;
 mod write;
@@ -19,3 +20,5 @@ pub use interface::{
     WL_DISPLAY_INTERFACE, WL_REGISTRY_INTERFACE,
 };
 pub use message::{INLINE_ARGS, Message};
+pub use parse::parse_message;
+pub use write::{message_size, write_to_buffers};

@@ -1,6 +1,6 @@
 //! Reading a message from bytes and tokens.
 
-ghost use Rattle.std.specs.Prelude.{◌≡◌, ◌≢◌, ◌↔◌, ◌<◌, ◌≤◌, ◌++◌, length, drop, IsTrue, IsSome, IfSome, is_some, All, IfOk, IfErr, OnOk, OnErr, option_map, slice_get, vec_len};
+ghost use Rattle.std.specs.Prelude.{None, ◌≡◌, ◌≢◌, ◌↔◌, ◌<◌, ◌≤◌, ◌++◌, length, drop, IsTrue, IsSome, IfSome, is_some, All, IfOk, IfErr, OnOk, OnErr, option_map, slice_get, vec_len};
 ghost use Rattle.std.specs.List.{count_by};
 ghost use Rattle.wl_wire.specs.declared.error.MessageParseError.TheVariants as errors;
 ghost use Rattle.wl_wire.specs.declared.error.MessageParseError.TheVariants.{OutOfMemory};
@@ -8,7 +8,7 @@ ghost use Rattle.smallvec.specs.SmallVec.{HasRoomFor};
 ghost use Rattle.wl_wire.specs.Message.{content, pad_len};
 ghost use Rattle.wl_wire.specs.Parse.{fd_count, is_fd, IsInline, IsSmall, length_of, payload_of, sender_of, opcode_of, ReadsMessage, RefusesMessage, IsWhole};
 ghost use Rattle.wl_wire.specs.Text.{HasNoZero};
-ghost use Rattle.wl_wire.specs.Cursor.{word_at, counted_at, text_of, argument_at, arguments_at, rests, with_front, Gives};
+ghost use Rattle.wl_wire.specs.Cursor.{word_at, counted_at, text_of, argument_at, arguments_at, rests, with_front, Gives, Fails, RefusesArguments, RefusesHeader};
 
 use crate::argument::{Argument, ArgumentType, Token};
 use crate::byte_array::ByteArray;
@@ -207,4 +207,115 @@ fn can_read(signature: &[ArgumentType], payload: &[u8], fds: &[Token]) -> bool
         left = others;
     }
     true
+}
+
+/// How many descriptors a message of that signature has.
+fn fd_places(signature: &[ArgumentType]) -> usize
+    ensures { result ≡ fd_count signature.now }
+{
+    signature
+        .iter()
+        .filter(|kind| matches!(kind, ArgumentType::Fd))
+        .count()
+}
+
+/// Which error it is where the arguments were not given out.
+///
+/// Too few tokens come first, then bytes that do not read, and last the memory that was not there.
+fn refusal(signature: &[ArgumentType], payload: &[u8], fds: &[Token]) -> MessageParseError
+    ensures refused { RefusesArguments signature.now payload.now fds.now result }
+    ensures memory { arguments_at signature.now payload.now fds.now ≡ None → result ≢ OutOfMemory }
+{
+    if fds.len() < fd_places(signature) {
+        return MessageParseError::MissingFD;
+    }
+    if can_read(signature, payload, fds) {
+        MessageParseError::OutOfMemory
+    } else {
+        MessageParseError::Malformed
+    }
+}
+
+/// A message's header: its sender, its opcode and how many bytes it has.
+#[derive(Clone, Copy)]
+struct Header {
+    sender_id: u32,
+    opcode: u16,
+    len: usize,
+}
+
+/// The header of the message at the front, which is there as long as it says.
+#[tactic(auto, unfolding(crate::specs::Parse::sender_of, crate::specs::Parse::second_word))]
+fn read_header(raw: &[u8]) -> Result<Header, MessageParseError>
+    ensures whole { OnOk result (IsWhole raw.now) }
+    ensures words { IfOk result (λ h. (h.sender_id ≡ sender_of raw.now) × (h.opcode ≡ opcode_of raw.now) × (h.len ≡ length_of raw.now)) }
+    ensures refused { IfErr result (RefusesHeader raw.now) }
+{
+    if raw.len() < 8 {
+        return Err(MessageParseError::MissingData);
+    }
+    let sender_id = u32::from_le_bytes([raw[0], raw[1], raw[2], raw[3]]);
+    let word = u32::from_le_bytes([raw[4], raw[5], raw[6], raw[7]]);
+    let len = (word / 65536) as usize;
+    if len < 8 {
+        return Err(MessageParseError::Malformed);
+    }
+    if raw.len() < len {
+        return Err(MessageParseError::MissingData);
+    }
+    let opcode = (word % 65536) as u16;
+    Ok(Header {
+        sender_id,
+        opcode,
+        len,
+    })
+}
+
+/// Takes so many tokens off the front.
+fn take_tokens(fds: &mut VecDeque<Token>, count: usize)
+    ensures { fds.new.items ≡ drop count fds.old.items }
+{
+    for _ in 0..count {
+        let _ = fds.pop_front();
+    }
+}
+
+/// Reads the message at the front of `raw` under the signature, with the tokens at the front of `fds`.
+///
+/// Answers the message and the bytes behind it, which begin where its header says that it ends: bytes of it behind
+/// its last argument are ignored. The message's tokens are taken from `fds`; an error takes none. The errors are
+/// decided in this order: `MissingData` where the header is not there, `Malformed` where the header's length is less
+/// than its own, `MissingData` where the message is not there to its end, `MissingFD` where too few tokens wait,
+/// `Malformed` where its arguments do not read, `OutOfMemory`.
+pub fn parse_message<'a>(
+    alloc: Global,
+    raw: &'a [u8],
+    signature: &[ArgumentType],
+    fds: &mut VecDeque<Token>,
+) -> Result<(Message<u32, Token>, &'a [u8]), MessageParseError>
+    ensures found { IfOk result (λ x. ReadsMessage raw.now signature.now fds.old.items (content x.0)) }
+    ensures rest { IfOk result (λ x. x.1.now ≡ drop (length_of raw.now) raw.now) }
+    ensures tokens { OnOk result (fds.new.items ≡ drop (fd_count signature.now) fds.old.items) }
+
+    ensures refused { IfErr result (RefusesMessage raw.now signature.now fds.old.items) }
+    ensures inline { IsInline signature.now → IfErr result (λ e. e ≢ OutOfMemory) }
+    ensures unchanged { OnErr result (fds.new.items ≡ fds.old.items) }
+{
+    let header = read_header(raw)?;
+    let (whole, rest) = raw.split_at(header.len);
+    let payload = &whole[8..];
+    let mut message = Message {
+        sender_id: header.sender_id,
+        opcode: header.opcode,
+        args: SmallVec::new(alloc),
+    };
+    let taken = {
+        let waiting: &[Token] = fds.make_contiguous();
+        match read_arguments(alloc, signature, payload, waiting, &mut message.args) {
+            Ok(left) => waiting.len() - left.len(),
+            Err(_) => return Err(refusal(signature, payload, waiting)),
+        }
+    };
+    take_tokens(fds, taken);
+    Ok((message, rest))
 }

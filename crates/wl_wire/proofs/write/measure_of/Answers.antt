@@ -1,5 +1,4 @@
-use Rattle.std.proofs.Common.{◌≡◌, ◌≤◌, ◌+◌, length, take, ap, arith, length-append}
-use Rattle.wl_wire.specs.declared.argument.Argument.TheVariants as arg
+use Rattle.std.proofs.Common.{length, take, ap, arith, length-append}
 use Rattle.wl_wire.specs.Message.{piece, pieces, token, tokens}
 use Rattle.wl_wire.proofs.Pieces.{length-piece, length-token, length-pieces-more, pieces-more, tokens-more}
 use Rattle.wl_wire.proofs.write.measure_of.Goals as goal
@@ -13,8 +12,9 @@ loop-arg-preserved c =
     let a = c.arg-item.result in
     let bytes-more = pieces-more c.args.args.now c.loop-arg.arg-index a c.loop-arg-test.true c.arg-item.is in
     let more = tokens-more c.args.args.now c.loop-arg.arg-index a c.loop-arg-test.true c.arg-item.is in
-    let count = c.token_count-tokens.ensures in
-    (omega (arith, c.loop-arg.invariant.0, c.piece_len-len.ensures, length-piece a, ap length bytes-more, length-append (pieces (take c.loop-arg.arg-index c.args.args.now)) (piece a)),
-     omega (arith, c.loop-arg.invariant.1, c.if-len-bytes.false),
-     omega (arith, c.loop-arg.invariant.2, count, ap length more, length-append (tokens (take c.loop-arg.arg-index c.args.args.now)) (token a)),
-     omega (arith, c.loop-arg.invariant.3, count, length-token a))
+    let count = c.token_count-tokens.ensures in (
+      omega (arith, c.loop-arg.invariant.0, c.piece_len-len.ensures, length-piece a, ap length bytes-more, length-append (pieces (take c.loop-arg.arg-index c.args.args.now)) (piece a)),
+      omega (arith, c.loop-arg.invariant.1, c.if-len-bytes.false),
+      omega (arith, c.loop-arg.invariant.2, count, ap length more, length-append (tokens (take c.loop-arg.arg-index c.args.args.now)) (token a)),
+      omega (arith, c.loop-arg.invariant.3, count, length-token a),
+    )

@@ -1,4 +1,4 @@
-use Rattle.std.proofs.Common.{◌≡◌, ◌+◌, ◌++◌, length, take, refl, sym, ap, ◌∙◌, append_assoc, arith, length-append}
+use Rattle.std.proofs.Common.{length, take, refl, sym, ap, ◌∙◌, append_assoc, arith, length-append}
 use Rattle.std.proofs.lemmas.List.{append-nil}
 use Rattle.wl_wire.specs.Message.{piece, pieces, token, tokens}
 use Rattle.wl_wire.proofs.Pieces.{length-piece, length-pieces-more, length-tokens-more, pieces-more, tokens-more, overwritten-nil, overwritten-more}
@@ -23,9 +23,10 @@ pub loop-arg-preserved : goal.loop-arg-preserved
 loop-arg-preserved c =
     let a = c.arg-item.result in
     let more = tokens-more c.args.args.now c.loop-arg.arg-index a c.loop-arg-test.true c.arg-item.is in
-    let before = tokens (take c.loop-arg.arg-index c.args.args.now) in
-    (omega (arith, c.loop-arg.invariant.0, c.put_argument-at.ensures.next, length-piece a, ap length (pieces-more c.args.args.now c.loop-arg.arg-index a c.loop-arg-test.true c.arg-item.is), length-append (pieces (take c.loop-arg.arg-index c.args.args.now)) (piece a)),
-     overwritten-more c.args.payload.now c.loop-arg.payload c.put_argument-at.new.payload c.args.args.now c.loop-arg.arg-index c.loop-arg.at a c.loop-arg-test.true c.arg-item.is c.requires.bytes c.loop-arg.invariant.0 c.loop-arg.invariant.1 c.put_argument-at.ensures.bytes,
-     rw (c.put_token.ensures.items, c.loop-arg.invariant.2, more) (append_assoc c.args.fds.now.items before (token a)),
-     omega (arith, c.put_token.ensures.len, c.loop-arg.invariant.3, ap length more, length-append before (token a)),
-     c.put_token.ensures.capacity ∙ c.loop-arg.invariant.4)
+    let before = tokens (take c.loop-arg.arg-index c.args.args.now) in (
+      omega (arith, c.loop-arg.invariant.0, c.put_argument-at.ensures.next, length-piece a, ap length (pieces-more c.args.args.now c.loop-arg.arg-index a c.loop-arg-test.true c.arg-item.is), length-append (pieces (take c.loop-arg.arg-index c.args.args.now)) (piece a)),
+      overwritten-more c.args.payload.now c.loop-arg.payload c.put_argument-at.new.payload c.args.args.now c.loop-arg.arg-index c.loop-arg.at a c.loop-arg-test.true c.arg-item.is c.requires.bytes c.loop-arg.invariant.0 c.loop-arg.invariant.1 c.put_argument-at.ensures.bytes,
+      rw (c.put_token.ensures.items, c.loop-arg.invariant.2, more) (append_assoc c.args.fds.now.items before (token a)),
+      omega (arith, c.put_token.ensures.len, c.loop-arg.invariant.3, ap length more, length-append before (token a)),
+      c.put_token.ensures.capacity ∙ c.loop-arg.invariant.4,
+    )

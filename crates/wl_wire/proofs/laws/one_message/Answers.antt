@@ -1,0 +1,5 @@
+use Rattle.wl_wire.specs.Laws.{one_message_lem}
+use Rattle.wl_wire.proofs.laws.one_message.Goals as goal
+
+pub returns : goal.returns
+returns c = one_message_lem

@@ -1,0 +1,5 @@
+use Rattle.wl_wire.specs.Laws.{one_spelling_lem}
+use Rattle.wl_wire.proofs.laws.one_spelling.Goals as goal
+
+pub returns : goal.returns
+returns c = one_spelling_lem

@@ -1,0 +1,5 @@
+use Rattle.wl_wire.specs.Laws.{written_is_read_lem}
+use Rattle.wl_wire.proofs.laws.written_is_read.Goals as goal
+
+pub returns : goal.returns
+returns c = written_is_read_lem

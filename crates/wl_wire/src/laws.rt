@@ -1,0 +1,32 @@
+//! Laws of the wire format, as the contracts of functions that do nothing.
+//!
+//! A law speaks of the definitions in `specs/` alone. The proofs of the crates above cite its lemma in `specs/Laws`.
+
+ghost use Rattle.std.specs.Prelude.{◌≡◌, ◌++◌, ℕ, List, length, Option};
+ghost use Rattle.wl_wire.specs.declared.argument.ArgumentType.{ArgumentType};
+ghost use Rattle.wl_wire.specs.declared.argument.Token.{Token};
+ghost use Rattle.wl_wire.specs.Argument.{Matches};
+ghost use Rattle.wl_wire.specs.Message.{WireMessage, IsMessage, spelling, tokens};
+ghost use Rattle.wl_wire.specs.Parse.{ReadsMessage};
+ghost use Rattle.wl_wire.specs.Stream.{Stream};
+
+/// What was written is read: a message's spelling, with anything behind it, reads as the message under each
+/// signature that it matches, and so do its tokens.
+pub fn written_is_read()
+    ensures { (m : WireMessage) (signature : List ArgumentType) (rest : List ℕ) (others : List Token) → IsMessage m → Matches signature m.args → ReadsMessage (spelling m ++ rest) signature (tokens m.args ++ others) m }
+{}
+
+/// At most one message reads from the same bytes and tokens under one signature.
+pub fn one_message()
+    ensures { (m n : WireMessage) (raw : List ℕ) (signature : List ArgumentType) (fds : List Token) → ReadsMessage raw signature fds m → ReadsMessage raw signature fds n → m ≡ n }
+{}
+
+/// Two messages with one spelling and the same tokens, under one signature, are one message.
+pub fn one_spelling()
+    ensures { (m n : WireMessage) (signature : List ArgumentType) → IsMessage m → IsMessage n → Matches signature m.args → Matches signature n.args → spelling m ≡ spelling n → tokens m.args ≡ tokens n.args → m ≡ n }
+{}
+
+/// A stream of bytes and tokens begins with at most one list of so many messages.
+pub fn one_stream()
+    ensures { (look_up : ℕ → ℕ → Option (List ArgumentType)) (ms ns : List WireMessage) (bytes : List ℕ) (fds : List Token) → length ms ≡ length ns → Stream look_up ms bytes fds → Stream look_up ns bytes fds → ms ≡ ns }
+{}
