@@ -4,10 +4,12 @@
 mod argument;
 mod byte_array;
 mod c_string;
+mod core_interfaces;
 mod error;
 mod interface;
 mod message;
 mod parse;
+mod protocol;
 
 pub use argument::{AllowNull, Argument, ArgumentType, Token};
 pub use byte_array::ByteArray;
@@ -18,3 +20,6 @@ pub use interface::{
     WL_DISPLAY_INTERFACE, WL_REGISTRY_INTERFACE,
 };
 pub use message::{INLINE_ARGS, Message};
+pub use protocol::{
+    Protocol, TableError, check_for_signature, same_interface, same_interface_or_anonymous,
+};
