@@ -1,5 +1,6 @@
 pub mod Text
 pub mod Argument
+pub mod Table
 pub mod Message
 pub mod Reading
 pub mod Parse

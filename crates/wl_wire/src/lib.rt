@@ -4,11 +4,13 @@
 mod argument;
 mod byte_array;
 mod c_string;
+mod core_interfaces;
 mod error;
 mod interface;
 pub mod laws;
 mod message;
 mod parse;
+mod protocol;
 mod write;
 
 pub use argument::{AllowNull, Argument, ArgumentType, Token};
@@ -21,4 +23,7 @@ pub use interface::{
 };
 pub use message::{INLINE_ARGS, Message};
 pub use parse::parse_message;
+pub use protocol::{
+    Protocol, TableError, check_for_signature, same_interface, same_interface_or_anonymous,
+};
 pub use write::{message_size, write_to_buffers};
