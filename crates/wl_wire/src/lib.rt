@@ -27,3 +27,6 @@ pub use protocol::{
     Protocol, TableError, check_for_signature, same_interface, same_interface_or_anonymous,
 };
 pub use write::{message_size, write_to_buffers};
+
+#[cfg(test)]
+mod tests;

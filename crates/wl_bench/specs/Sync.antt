@@ -1,0 +1,18 @@
+-- The first exchange of a client and a server.
+use Rattle.std.specs.Prelude.{ℕ, List, [], ◌∷◌}
+use Rattle.wl_wire.specs.Argument.{WireArgument}
+use Rattle.wl_wire.specs.Message.{WireMessage}
+
+-- a message of one argument
+abbrev pub one_argument : ℕ → ℕ → WireArgument → WireMessage
+one_argument sender opcode argument = record { sender = sender; opcode = opcode; args = argument ∷ [] }
+
+-- `wl_display.sync` with the new object 2
+abbrev pub request_bytes : List ℕ
+request_bytes = 0x01 ∷ 0 ∷ 0 ∷ 0 ∷ 0x00 ∷ 0 ∷ 0x0c ∷ 0 ∷ 0x02 ∷ 0 ∷ 0 ∷ 0 ∷ []
+
+-- `wl_callback.done` with the serial 0, and `wl_display.delete_id` of object 2
+abbrev pub answer_bytes : List ℕ
+answer_bytes =
+    0x02 ∷ 0 ∷ 0 ∷ 0 ∷ 0x00 ∷ 0 ∷ 0x0c ∷ 0 ∷ 0x00 ∷ 0 ∷ 0 ∷ 0
+    ∷ 0x01 ∷ 0 ∷ 0 ∷ 0 ∷ 0x01 ∷ 0 ∷ 0x0c ∷ 0 ∷ 0x02 ∷ 0 ∷ 0 ∷ 0 ∷ []

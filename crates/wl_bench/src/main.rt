@@ -1,0 +1,73 @@
+//! The program `wl-bench`.
+//!
+//! `wl-bench sync` prints the bytes of a client's first `wl_display.sync`, and those of the server's answer, a line each.
+//! It ends with status 0; with 2 and its usage on standard error where the arguments are others; with 3 and `failed`
+//! there where memory, input or output failed.
+#![tactic(auto)]
+
+mod hex;
+mod stop;
+mod sync;
+
+use hex::hex_line;
+use std::env;
+use std::io;
+use std::process::ExitCode;
+use std::rt::Env;
+use stop::Stop;
+use wl_wire::Protocol;
+
+/// What the arguments ask for.
+enum Command {
+    Sync,
+    Other,
+}
+
+/// The command that the arguments name. Arguments that are no text name none.
+fn requested(rt: &(impl Env + Alloc)) -> Result<Command, Stop> {
+    let mut args = match env::args(rt) {
+        Ok(args) => args,
+        Err(error) if error.kind() == io::ErrorKind::InvalidData => return Ok(Command::Other),
+        Err(_) => return Err(Stop::Failed),
+    };
+    let _program = args.next();
+    let word = args.next();
+    let is_sync = word.as_ref().is_some_and(|word| word.as_str() == "sync");
+    if is_sync && args.next().is_none() {
+        Ok(Command::Sync)
+    } else {
+        Ok(Command::Other)
+    }
+}
+
+/// Prints the first exchange.
+fn print_sync(rt: &(impl Print + AllocGlobal)) -> Result<(), Stop> {
+    let alloc = rt.alloc();
+    let table = Protocol::new(alloc, Vec::new(alloc)).map_err(|_| Stop::Failed)?;
+    let request = hex_line(alloc, sync::request(alloc, &table)?.as_slice())?;
+    let answer = hex_line(alloc, sync::answer(alloc, &table)?.as_slice())?;
+    println!(rt; "{request}")?;
+    println!(rt; "{answer}")?;
+    Ok(())
+}
+
+fn run(rt: &(impl Env + Print + AllocGlobal)) -> Result<(), Stop> {
+    match requested(rt)? {
+        Command::Sync => print_sync(rt),
+        Command::Other => Err(Stop::Usage),
+    }
+}
+
+fn main(rt: HostRuntime) -> ExitCode {
+    match run(&rt) {
+        Ok(()) => ExitCode::SUCCESS,
+        Err(Stop::Usage) => {
+            let _ = eprintln!(rt; "usage: wl-bench sync | run");
+            ExitCode::from(2)
+        }
+        Err(Stop::Failed) => {
+            let _ = eprintln!(rt; "failed");
+            ExitCode::from(3)
+        }
+    }
+}

@@ -1,0 +1,38 @@
+//! Why the program ends before its work is done.
+
+use std::alloc::{AllocError, AllocFailed};
+use std::io;
+use wl_wire::MessageWriteError;
+
+/// Why the program ends before its work is done.
+#[derive(Clone, Copy, Debug, PartialEq, Eq)]
+pub enum Stop {
+    /// The arguments name no command.
+    Usage,
+    /// Memory, input or output failed.
+    Failed,
+}
+
+impl From<AllocError> for Stop {
+    fn from(_e: AllocError) -> Stop {
+        Stop::Failed
+    }
+}
+
+impl<T: Drop> From<AllocFailed<T>> for Stop {
+    fn from(_e: AllocFailed<T>) -> Stop {
+        Stop::Failed
+    }
+}
+
+impl From<io::Error> for Stop {
+    fn from(_e: io::Error) -> Stop {
+        Stop::Failed
+    }
+}
+
+impl From<MessageWriteError> for Stop {
+    fn from(_e: MessageWriteError) -> Stop {
+        Stop::Failed
+    }
+}

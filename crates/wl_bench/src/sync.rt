@@ -1,0 +1,108 @@
+//! The first exchange of a client and a server: `wl_display.sync`, and its answer.
+
+ghost use Rattle.std.specs.Prelude.{◌≡◌, ◌++◌, [], ◌∷◌, IfOk, OnOk};
+ghost use Rattle.wl_wire.specs.Message.{content, spelling};
+ghost use Rattle.wl_bench.specs.Sync.{one_argument, request_bytes, answer_bytes};
+
+use crate::stop::Stop;
+use smallvec::SmallVec;
+use std::alloc::Global;
+use wl_wire::{
+    Argument, ArgumentType, InterfaceId, Message, Protocol, Token, WL_CALLBACK_INTERFACE, WL_DISPLAY_INTERFACE,
+    check_for_signature, message_size, write_to_buffers,
+};
+
+/// The object of `wl_display`.
+const DISPLAY: u32 = 1;
+
+/// The first object that a client makes.
+const CALLBACK: u32 = 2;
+
+/// The opcode of `wl_display.sync`.
+const SYNC: u16 = 0;
+
+/// The opcode of `wl_display.delete_id`.
+const DELETE_ID: u16 = 1;
+
+/// The opcode of `wl_callback.done`.
+const DONE: u16 = 0;
+
+/// A message of one argument.
+fn one(
+    alloc: Global,
+    sender_id: u32,
+    opcode: u16,
+    argument: Argument<u32, Token>,
+) -> Result<Message<u32, Token>, Stop>
+    ensures { IfOk result (λ m. content m ≡ one_argument sender_id opcode argument) }
+{
+    let mut args = SmallVec::new(alloc);
+    args.push(argument)?;
+    Ok(Message {
+        sender_id,
+        opcode,
+        args,
+    })
+}
+
+/// Appends the message's bytes, where the table has a message of that signature.
+fn append(
+    out: &mut Vec<u8>,
+    signature: Option<&[ArgumentType]>,
+    message: &Message<u32, Token>,
+) -> Result<(), Stop>
+    ensures { OnOk result (out.new.items ≡ out.old.items ++ spelling (content message.now)) }
+{
+    let signature = signature.ok_or(Stop::Failed)?;
+    let size = message_size(message).ok_or(Stop::Failed)?;
+    if !check_for_signature(signature, message.args.as_slice()) {
+        return Err(Stop::Failed);
+    }
+    let mut bytes = Vec::from_elem(*out.allocator(), 0, size)?;
+    let mut tokens = Vec::new(*out.allocator());
+    write_to_buffers(message, &mut bytes, &mut tokens)?;
+    out.extend_from_slice(&bytes)?;
+    Ok(())
+}
+
+/// The signature of an event that the table has.
+fn event_signature(
+    table: &Protocol,
+    interface: InterfaceId,
+    opcode: u16,
+) -> Option<&[ArgumentType]> {
+    let event = table.get(interface)?.events.get(usize::from(opcode))?;
+    Some(event.signature.as_slice())
+}
+
+/// The bytes of the first `wl_display.sync` of a fresh client.
+pub fn request(alloc: Global, table: &Protocol) -> Result<Vec<u8>, Stop>
+    ensures { IfOk result (λ v. v.items ≡ request_bytes) }
+{
+    let display = table.get(WL_DISPLAY_INTERFACE).ok_or(Stop::Failed)?;
+    let request = display.requests.get(usize::from(SYNC)).ok_or(Stop::Failed)?;
+    let mut out = Vec::new(alloc);
+    let sync = one(alloc, DISPLAY, SYNC, Argument::NewId(CALLBACK))?;
+    append(&mut out, Some(request.signature.as_slice()), &sync)?;
+    Ok(out)
+}
+
+/// The bytes of the server's answer: the callback is done, and its number is free again.
+pub fn answer(alloc: Global, table: &Protocol) -> Result<Vec<u8>, Stop>
+    ensures { IfOk result (λ v. v.items ≡ answer_bytes) }
+{
+    let mut out = Vec::new(alloc);
+    let done = one(alloc, CALLBACK, DONE, Argument::Uint(0))?;
+    append(
+        &mut out,
+        event_signature(table, WL_CALLBACK_INTERFACE, DONE),
+        &done,
+    )?;
+    let delete_id = one(alloc, DISPLAY, DELETE_ID, Argument::Uint(CALLBACK))?;
+    append(
+        &mut out,
+        event_signature(table, WL_DISPLAY_INTERFACE, DELETE_ID),
+        &delete_id,
+    )?;
+    Ok(out)
+}
