@@ -37,6 +37,7 @@ impl ByteArray {
     pub fn into_vec(self) -> Vec<u8>
         ensures { result.items ≡ self }
     {
-        self.bytes
+        let ByteArray { bytes } = self;
+        bytes
     }
 }
