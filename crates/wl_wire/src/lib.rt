@@ -10,6 +10,7 @@ mod interface;
 mod message;
 mod parse;
 mod protocol;
+mod table_check;
 
 pub use argument::{AllowNull, Argument, ArgumentType, Token};
 pub use byte_array::ByteArray;
