@@ -30,7 +30,7 @@ first_sync = refl
 -- a bind of `wl_shell`: the name with its zero has nine bytes, and three of padding
 shell_bind : spelling (message 2 0 (arg.Uint 18 ∷ arg.Str (Some (codes "wl_shell")) ∷ arg.Uint 1 ∷ []))
     ≡ 2 ∷ 0 ∷ 0 ∷ 0 ∷ 0 ∷ 0 ∷ 32 ∷ 0 ∷ 18 ∷ 0 ∷ 0 ∷ 0 ∷ 9 ∷ 0 ∷ 0 ∷ 0
-      ∷ 119 ∷ 108 ∷ 95 ∷ 115 ∷ 104 ∷ 101 ∷ 108 ∷ 108 ∷ 0 ∷ 0 ∷ 0 ∷ 0 ∷ 1 ∷ 0 ∷ 0 ∷ 0 ∷ []
+    ∷ 119 ∷ 108 ∷ 95 ∷ 115 ∷ 104 ∷ 101 ∷ 108 ∷ 108 ∷ 0 ∷ 0 ∷ 0 ∷ 0 ∷ 1 ∷ 0 ∷ 0 ∷ 0 ∷ []
 unfolding word piece
 shell_bind = refl
 

@@ -4,7 +4,7 @@
 -- `wl_registry` and `wl_callback`. The caller's follow, in their order. The table is accepted where each name can go
 -- on the wire and is taken once, each interface that a message names is in the table, and each message says of its
 -- new object and of its objects what a session has to know.
-use Rattle.std.specs.Prelude.{◌≡◌, ℕ, ◌+◌, ◌<◌, ◌⊎◌, List, [], ◌∷◌, ◌++◌, length, take, map, Option, Some, None, Bool, true, false, ◌||◌, ◌&&◌, not, ◌==◌, nat_lt, nat_le, is_none, IsTrue, IsSomeAnd, slice_get, count_by, codes}
+use Rattle.std.specs.Prelude.{◌≡◌, ℕ, ◌+◌, ◌<◌, ◌⊎◌, List, [], ◌∷◌, ◌++◌, length, take, map, Option, Some, None, Bool, true, false, ◌||◌, ◌&&◌, not, ◌==◌, nat_le, is_none, IsTrue, IsSomeAnd, slice_get, count_by, codes}
 use Rattle.std.specs.List.{list_any}
 use Rattle.std.specs.Option.{option_map_or, option_to_list}
 use Rattle.std.specs.Str.{bytes_eq}
@@ -112,6 +112,10 @@ callback_row = record {
 abbrev pub fixed_rows : List InterfaceRow
 fixed_rows = anonymous_row ∷ display_row ∷ registry_row ∷ callback_row ∷ []
 
+-- the table of the caller's interfaces
+abbrev pub table_of : List Interface → List InterfaceRow
+table_of interfaces = fixed_rows ++ interface_rows interfaces
+
 -- the name of the interface at a place of the table
 abbrev pub name_of : List InterfaceRow → ℕ → List ℕ
 name_of table n = option_map_or (λ row. row.name) (slice_get table n) (codes "<unknown>")
@@ -125,6 +129,14 @@ messages row = row.requests ++ row.events
 abbrev pub holds_zero : List ℕ → Bool
 holds_zero name = list_any (λ byte. byte == 0) name
 
+-- an interface of the list has the name
+abbrev pub is_taken : List InterfaceRow → List ℕ → Bool
+is_taken rows name = list_any (λ row. bytes_eq name row.name) rows
+
+-- the child interface, where there is one, and the argument interfaces
+abbrev pub interfaces_of : MessageRow → List InterfaceId
+interfaces_of m = option_to_list m.child_interface ++ m.arg_interfaces
+
 abbrev pub is_new_id : ArgumentType → Bool
 is_new_id NewId = true
 is_new_id _ = false
@@ -133,34 +145,33 @@ abbrev pub is_object : ArgumentType → Bool
 is_object (Object _) = true
 is_object _ = false
 
+-- how many objects the message creates
 abbrev pub new_ids : MessageRow → ℕ
 new_ids m = count_by is_new_id m.signature
 
+-- how many objects it is about
 abbrev pub objects : MessageRow → ℕ
 objects m = count_by is_object m.signature
 
--- its own name or a message's holds a zero
-abbrev pub has_zero_in_name : InterfaceRow → Bool
-has_zero_in_name row = holds_zero row.name || list_any (λ m. holds_zero m.name) (messages row)
+-- the message has the fault, in a table of so many interfaces
+abbrev pub is_message_at_fault : ℕ → MessageRow → TableError → Bool
+is_message_at_fault count m (fault.ZeroInName _) = holds_zero m.name
+is_message_at_fault count m (fault.UnknownInterface _) = list_any (λ id. nat_le count id.0) (interfaces_of m)
+is_message_at_fault count m (fault.TooManyNewIds _) = nat_le 2 (new_ids m)
+is_message_at_fault count m (fault.MissingChild _) = nat_le 1 (new_ids m) && is_none m.child_interface
+is_message_at_fault count m (fault.ArgInterfaces _) = not (length m.arg_interfaces == objects m)
+is_message_at_fault count m _ = false
 
--- an interface of the list has the name
-abbrev pub is_taken : List InterfaceRow → List ℕ → Bool
-is_taken rows name = list_any (λ row. bytes_eq row.name name) rows
+-- an interface's name has the fault, where it is taken or not
+abbrev pub is_name_at_fault : Bool → List ℕ → TableError → Bool
+is_name_at_fault taken name (fault.ZeroInName _) = holds_zero name
+is_name_at_fault taken name (fault.DuplicateName _) = taken
+is_name_at_fault taken name _ = false
 
--- the child interface or an argument interface is outside a table of so many
-abbrev pub names_unknown : ℕ → MessageRow → Bool
-names_unknown count m = list_any (λ id. nat_le count id.0) (option_to_list m.child_interface ++ m.arg_interfaces)
-
-abbrev pub has_too_many_new_ids : MessageRow → Bool
-has_too_many_new_ids m = nat_lt 1 (new_ids m)
-
--- a new object is of no named interface
-abbrev pub lacks_child : MessageRow → Bool
-lacks_child m = nat_lt 0 (new_ids m) && is_none m.child_interface
-
--- not one argument interface for each object
-abbrev pub has_wrong_arg_interfaces : MessageRow → Bool
-has_wrong_arg_interfaces m = not (length m.arg_interfaces == objects m)
+-- the interface's name or one of its messages has the fault
+abbrev pub is_at_fault : Bool → ℕ → InterfaceRow → TableError → Bool
+is_at_fault taken count row fault =
+    is_name_at_fault taken row.name fault || list_any (λ m. is_message_at_fault count m fault) (messages row)
 
 -- the place that the fault names, in the caller's list
 abbrev pub place : TableError → ℕ
@@ -174,28 +185,23 @@ place fault.OutOfMemory = 0
 
 -- where the fault stands among those of one interface
 abbrev pub rank : TableError → ℕ
-rank (fault.ZeroInName _) = 1
-rank (fault.DuplicateName _) = 2
-rank (fault.UnknownInterface _) = 3
-rank (fault.TooManyNewIds _) = 4
-rank (fault.MissingChild _) = 5
-rank (fault.ArgInterfaces _) = 6
-rank fault.OutOfMemory = 7
+rank (fault.ZeroInName _) = 0
+rank (fault.DuplicateName _) = 1
+rank (fault.UnknownInterface _) = 2
+rank (fault.TooManyNewIds _) = 3
+rank (fault.MissingChild _) = 4
+rank (fault.ArgInterfaces _) = 5
+rank fault.OutOfMemory = 6
 
--- the interface, at its place in the table, has a fault of that kind
-abbrev pub is_at_fault : List InterfaceRow → ℕ → InterfaceRow → TableError → Bool
-is_at_fault table n row (fault.ZeroInName _) = has_zero_in_name row
-is_at_fault table n row (fault.DuplicateName _) = is_taken (take n table) row.name
-is_at_fault table n row (fault.UnknownInterface _) = list_any (names_unknown (length table)) (messages row)
-is_at_fault table n row (fault.TooManyNewIds _) = list_any has_too_many_new_ids (messages row)
-is_at_fault table n row (fault.MissingChild _) = list_any lacks_child (messages row)
-is_at_fault table n row (fault.ArgInterfaces _) = list_any has_wrong_arg_interfaces (messages row)
-is_at_fault table n row fault.OutOfMemory = false
+-- the name of the interface at that place is taken before it
+abbrev pub is_repeated : List InterfaceRow → ℕ → Bool
+is_repeated table n = option_map_or (λ row. is_taken (take n table) row.name) (slice_get table n) false
 
 -- the interface that the fault names has it
 abbrev pub HasFault : List InterfaceRow → TableError → Type 0
 HasFault table fault =
-    let n = 4 + place fault in IsSomeAnd (slice_get table n) (λ row. IsTrue (is_at_fault table n row fault))
+    let n = 4 + place fault in
+    IsSomeAnd (slice_get table n) (λ row. IsTrue (is_at_fault (is_repeated table n) (length table) row fault))
 
 -- it names an earlier interface, or the same one and stands before the other there
 abbrev pub ComesBefore : TableError → TableError → Type 0
@@ -210,3 +216,9 @@ pub record IsFirstFault (table : List InterfaceRow) (fault : TableError) : Type 
 pub record IsAcceptedTable (table : List InterfaceRow) : Type 0 where
   pub fixed : take 4 table ≡ fixed_rows
   pub no_fault : (fault : TableError) → ¬ (HasFault table fault)
+
+-- ---- what the check of one interface finds
+
+-- it has none of the faults of the first ranks
+abbrev pub LacksFirst : ℕ → Bool → ℕ → InterfaceRow → Type 0
+LacksFirst n taken count row = (fault : TableError) → rank fault < n → is_at_fault taken count row fault ≡ false

@@ -11,6 +11,7 @@ pub mod laws;
 mod message;
 mod parse;
 mod protocol;
+mod table_check;
 mod write;
 
 pub use argument::{AllowNull, Argument, ArgumentType, Token};

@@ -1,14 +1,16 @@
 //! The table of the interfaces that a session knows.
 
-ghost use Rattle.std.specs.Prelude.{◌≡◌, ◌↔◌, ◌⊎◌, ◌++◌, [], IsTrue, IfOk, IfErr, IsOkUnless, slice_get, option_map};
+ghost use Rattle.std.specs.Prelude.{◌≡◌, ◌≢◌, ◌↔◌, ◌⊎◌, IsTrue, IfOk, slice_get, option_map};
 ghost use Rattle.std.specs.Option.{option_copied};
 ghost use Rattle.wl_wire.specs.Argument.{Matches};
-ghost use Rattle.wl_wire.specs.Table.{IsAcceptedTable, fixed_rows, interface_row, interface_rows, name_of};
+ghost use Rattle.wl_wire.specs.Table.{IsAcceptedTable, IsFirstFault, interface_row, name_of, table_of};
+ghost use Rattle.wl_wire.specs.declared.protocol.TableError.{TableError as Fault};
 ghost use Rattle.wl_wire.specs.declared.protocol.TableError.TheVariants.{OutOfMemory};
 
 use crate::argument::{Argument, ArgumentType};
 use crate::core_interfaces::fixed_interfaces;
 use crate::interface::{ANONYMOUS_INTERFACE, Interface, InterfaceId};
+use crate::table_check::check;
 use std::alloc::{AllocError, Global};
 use std::marker::Model;
 use thiserror::Error;
@@ -68,14 +70,19 @@ impl Model for Protocol {
 
 impl Protocol {
     /// The table of these interfaces, after the fixed ones.
+    ///
+    /// It answers the first fault of the first interface that has one, in the order of `TableError`'s variants, and
+    /// `OutOfMemory` only for a table without a fault.
     pub fn new(alloc: Global, interfaces: Vec<Interface>) -> Result<Self, TableError>
-        requires empty { interfaces.items ≡ [] }
-        ensures table { IfOk result (λ table. table ≡ fixed_rows ++ interface_rows interfaces.items) }
+        ensures table { IfOk result (λ table. table ≡ table_of interfaces.items) }
         ensures accepted { IfOk result IsAcceptedTable }
-        ensures refused { IsOkUnless result OutOfMemory }
+        ensures refused { (fault : Fault) → fault ≢ OutOfMemory
+            → (result ≡ Err fault) ↔ IsFirstFault (table_of interfaces.items) fault }
+        ensures memory { result ≡ Err OutOfMemory → IsAcceptedTable (table_of interfaces.items) }
     {
-        let mut table = fixed_interfaces(alloc)?;
+        check(alloc, &interfaces)?;
         let mut interfaces = interfaces;
+        let mut table = fixed_interfaces(alloc)?;
         table.append(&mut interfaces)?;
         Ok(Protocol { interfaces: table })
     }

@@ -23,9 +23,7 @@ fn text(alloc: Global, text: &[u8]) -> Result<Argument<u32, Token>, Fail> {
 }
 
 fn array(alloc: Global, bytes: &[u8]) -> Result<Argument<u32, Token>, Fail> {
-    Ok(Argument::Array(ByteArray::new(Vec::from_slice(
-        alloc, bytes,
-    )?)))
+    Ok(Argument::Array(ByteArray::new(Vec::from_slice(alloc, bytes)?)))
 }
 
 /// Writes the message to a buffer of that size, filled with other bytes.
@@ -47,7 +45,13 @@ fn parsed(
     raw: &[u8],
     signature: &[ArgumentType],
     tokens: &[Token],
-) -> Result<(Result<(Message<u32, Token>, usize), MessageParseError>, usize), Fail> {
+) -> Result<
+    (
+        Result<(Message<u32, Token>, usize), MessageParseError>,
+        usize,
+    ),
+    Fail,
+> {
     let mut fds = VecDeque::new(alloc);
     for token in tokens {
         fds.push_back(*token)?;
@@ -60,6 +64,7 @@ fn parsed(
 }
 
 const STR: ArgumentType = ArgumentType::Str(AllowNull::No);
+
 const OBJECT: ArgumentType = ArgumentType::Object(AllowNull::No);
 
 const FIRST_SYNC: [u8; 12] = [1, 0, 0, 0, 0, 0, 12, 0, 2, 0, 0, 0];
@@ -83,7 +88,10 @@ fn two_objects_bytes(rt: HostRuntime) -> Result<(), Fail> {
     link.args.push(Argument::Object(0))?;
     link.args.push(Argument::Object(3))?;
     let (bytes, _) = written(alloc, &link, 100)?;
-    assert_eq!(rt; bytes.as_slice(), [3, 0, 0, 0, 3, 0, 16, 0, 0, 0, 0, 0, 3, 0, 0, 0].as_slice());
+    assert_eq!(rt;
+        bytes.as_slice(),
+        [3, 0, 0, 0, 3, 0, 16, 0, 0, 0, 0, 0, 3, 0, 0, 0].as_slice()
+    );
     Ok(())
 }
 
@@ -109,7 +117,9 @@ fn train_message_and_back(rt: HostRuntime) -> Result<(), Fail> {
     train.args.push(Argument::Uint(3))?;
     train.args.push(Argument::Fixed(-89))?;
     train.args.push(text(alloc, b"I like trains!")?)?;
-    train.args.push(array(alloc, &[1, 2, 3, 4, 5, 6, 7, 8, 9])?)?;
+    train
+        .args
+        .push(array(alloc, &[1, 2, 3, 4, 5, 6, 7, 8, 9])?)?;
     train.args.push(Argument::Object(88))?;
     train.args.push(Argument::NewId(56))?;
     train.args.push(Argument::Int(-25))?;

@@ -1,0 +1,31 @@
+use Rattle.std.proofs.Common.{◌≡◌, ◌+◌, length, sym, ap, ◌∙◌, inl, inr, arith}
+use Rattle.std.proofs.lemmas.Bool.{cases_lt, eq-eqb, true≢false}
+use Rattle.std.proofs.lemmas.Result.{err_from_is_err_and}
+use Rattle.wl_wire.specs.Table.{place, is_at_fault, interface_row}
+use Rattle.wl_wire.specs.declared.protocol.TableError.TheVariants.{DuplicateName}
+use Rattle.wl_wire.proofs.Faults.{is_repeated-first, no_fault_more, IsFirstFault-there, none_past}
+use Rattle.wl_wire.proofs.table_check.check.Goals as goal
+
+pub returns-in_err-check_interface-clause-first : goal.returns-in_err-check_interface-clause-first
+returns-in_err-check_interface-clause-first c =
+    let p = err_from_is_err_and c.from_residual.result c.from_residual.ensures.1 in
+    let xs = c.args.interfaces.now in
+    let repeats = is_repeated-first xs c.loop-at.at c.first_repeat-repeat.result c.loop-at-test.true c.loop-at.invariant.no_repeat c.first_repeat-repeat.ensures.before c.first_repeat-repeat.ensures.here in
+    rw (p.1, p.2) (IsFirstFault-there xs c.loop-at.at c.index-interfaces-at.result c.loop-at-test.true c.index-interfaces-at.is _ repeats c.loop-at.invariant.no_fault _ c.in_err-check_interface.ensures.place c.in_err-check_interface.ensures.faulty c.in_err-check_interface.ensures.first)
+
+pub loop-at-preserved : goal.loop-at-preserved
+loop-at-preserved c =
+    let xs = c.args.interfaces.now in
+    let at = c.loop-at.at in
+    let n = c.first_repeat-repeat.result in
+    let lacks = c.in_ok-check_interface.ensures.faultless in
+    let repeats = is_repeated-first xs at n c.loop-at-test.true c.loop-at.invariant.no_repeat c.first_repeat-repeat.ensures.before c.first_repeat-repeat.ensures.here in
+    let other : ¬ (at ≡ n) = λ same. true≢false (ap (λ b. is_at_fault b (4 + length xs) (interface_row c.index-interfaces-at.result) (DuplicateName at)) (sym (eq-eqb at n same)) ∙ lacks (DuplicateName at) (omega arith)) in
+    record {
+      no_repeat = omega arith;
+      no_fault = no_fault_more xs at c.index-interfaces-at.result c.loop-at-test.true c.index-interfaces-at.is _ repeats c.loop-at.invariant.no_fault lacks;
+    }
+
+pub returns-clause-faultless : goal.returns-clause-faultless
+returns-clause-faultless c = λ fault.
+    elim (cases_lt (place fault) c.loop-at.at) [ inl before ↦ c.loop-at.invariant.no_fault fault before | inr after ↦ none_past c.args.interfaces.now fault (omega arith) ]

@@ -1,0 +1,212 @@
+//! Looking for what a list of interfaces is refused for as a table.
+
+ghost use Rattle.std.specs.Prelude.{◌≡◌, ℕ, ◌+◌, ◌<◌, ◌≤◌, false, true, length, nat_le, IsTrue, OnOk, IfErr};
+ghost use Rattle.wl_wire.specs.declared.protocol.TableError.{TableError as Fault};
+ghost use Rattle.std.specs.List.{list_any};
+ghost use Rattle.std.specs.Str.{bytes_eq};
+ghost use Rattle.std.specs.String.{string_bytes};
+ghost use Rattle.wl_wire.specs.Table.{HasFault, IsFirstFault, LacksFirst, fixed_rows, is_repeated, is_taken, place, rank, table_of, holds_zero, interfaces_of, interface_row, interface_rows, is_at_fault, is_message_at_fault, is_name_at_fault, is_new_id, is_object, message_row, messages, new_ids, objects};
+
+use crate::argument::ArgumentType;
+use crate::interface::{Interface, InterfaceId, MessageDesc};
+use crate::protocol::TableError;
+use std::alloc::Global;
+use std::collections::HashSet;
+
+/// Whether the name has a zero byte.
+fn holds_zero(name: &String) -> bool
+    ensures { result ≡ holds_zero (string_bytes name.now) }
+{
+    name.as_bytes().contains(&0)
+}
+
+/// How many objects the message creates.
+fn new_ids(message: &MessageDesc) -> usize
+    ensures { result ≡ new_ids (message_row message.now) }
+{
+    message
+        .signature
+        .iter()
+        .filter(|kind| matches!(kind, ArgumentType::NewId))
+        .count()
+}
+
+/// How many objects the message is about.
+fn objects(message: &MessageDesc) -> usize
+    ensures { result ≡ objects (message_row message.now) }
+{
+    message
+        .signature
+        .iter()
+        .filter(|kind| matches!(kind, ArgumentType::Object(_)))
+        .count()
+}
+
+/// Whether one of the ids is outside a table of so many interfaces.
+fn any_unknown(ids: &[InterfaceId], count: usize) -> bool
+    ensures { result ≡ list_any (λ id. nat_le count id.0) ids.now }
+{
+    ids.iter().any(|id| id.0 >= count)
+}
+
+/// Whether the child interface or an argument interface is outside a table of so many.
+fn names_unknown(message: &MessageDesc, count: usize) -> bool
+    ensures { result ≡ list_any (λ id. nat_le count id.0) (interfaces_of (message_row message.now)) }
+{
+    match message.child_interface {
+        Some(child) if child.0 >= count => true,
+        _ => any_unknown(&message.arg_interfaces, count),
+    }
+}
+
+/// Whether the message has the fault, in a table of so many interfaces.
+fn is_message_at_fault(message: &MessageDesc, fault: TableError, count: usize) -> bool
+    ensures { result ≡ is_message_at_fault count (message_row message.now) fault }
+{
+    match fault {
+        TableError::ZeroInName(_) => holds_zero(&message.name),
+        TableError::UnknownInterface(_) => names_unknown(message, count),
+        TableError::TooManyNewIds(_) => new_ids(message) >= 2,
+        TableError::MissingChild(_) => new_ids(message) >= 1 && message.child_interface.is_none(),
+        TableError::ArgInterfaces(_) => message.arg_interfaces.len() != objects(message),
+        TableError::DuplicateName(_) | TableError::OutOfMemory => false,
+    }
+}
+
+/// Whether one of the messages has the fault.
+fn any_at_fault(messages: &[MessageDesc], fault: TableError, count: usize) -> bool
+    ensures { result ≡ list_any (λ m. is_message_at_fault count (message_row m) fault) messages.now }
+{
+    messages
+        .iter()
+        .any(|message| is_message_at_fault(message, fault, count))
+}
+
+/// Whether one of the interface's messages has the fault.
+#[tactic(auto, using(crate::proofs::Faults::any_message))]
+fn any_message_at_fault(interface: &Interface, fault: TableError, count: usize) -> bool
+    ensures { result ≡ list_any (λ m. is_message_at_fault count m fault) (messages (interface_row interface.now)) }
+{
+    any_at_fault(&interface.requests, fault, count) || any_at_fault(&interface.events, fault, count)
+}
+
+/// Whether an interface's name has the fault, where it is taken or not.
+fn is_name_at_fault(name: &String, fault: TableError, is_taken: bool) -> bool
+    ensures { result ≡ is_name_at_fault is_taken (string_bytes name.now) fault }
+{
+    match fault {
+        TableError::ZeroInName(_) => holds_zero(name),
+        TableError::DuplicateName(_) => is_taken,
+        _ => false,
+    }
+}
+
+/// Whether the interface has the fault, in a table of so many.
+fn is_at_fault(interface: &Interface, fault: TableError, is_taken: bool, count: usize) -> bool
+    ensures { result ≡ is_at_fault is_taken count (interface_row interface.now) fault }
+{
+    is_name_at_fault(&interface.name, fault, is_taken)
+        || any_message_at_fault(interface, fault, count)
+}
+
+/// The first fault of the interface at that place of the caller's list.
+fn check_interface(
+    interface: &Interface,
+    at: usize,
+    is_taken: bool,
+    count: usize,
+) -> Result<(), TableError>
+    ensures faultless { OnOk result (LacksFirst 7 is_taken count (interface_row interface.now)) }
+    ensures faulty { IfErr result (λ fault. IsTrue (is_at_fault is_taken count (interface_row interface.now) fault)) }
+    ensures place { IfErr result (λ fault. place fault ≡ at) }
+    ensures first { IfErr result (λ fault. LacksFirst (rank fault) is_taken count (interface_row interface.now)) }
+{
+    let faults = [
+        TableError::ZeroInName(at),
+        TableError::DuplicateName(at),
+        TableError::UnknownInterface(at),
+        TableError::TooManyNewIds(at),
+        TableError::MissingChild(at),
+        TableError::ArgInterfaces(at),
+    ];
+    for fault in faults {
+        if is_at_fault(interface, fault, is_taken, count) {
+            return Err(fault);
+        }
+    }
+    Ok(())
+}
+
+/// Whether a fixed interface has the name.
+fn is_fixed_name(name: &str) -> bool
+    ensures { result ≡ is_taken fixed_rows name.now }
+{
+    name == "<anonymous>" || name == "wl_display" || name == "wl_registry" || name == "wl_callback"
+}
+
+/// Whether an interface of the list has the name.
+fn any_named(interfaces: &[Interface], name: &str) -> bool
+    ensures { result ≡ list_any (λ i. bytes_eq name.now (string_bytes i.name)) interfaces.now }
+{
+    interfaces
+        .iter()
+        .any(|earlier| name == earlier.name.as_str())
+}
+
+/// Whether the name of the interface at that place is taken before it.
+fn is_repeated(interfaces: &[Interface], at: usize) -> bool
+    requires { at < length interfaces.now }
+    ensures { result ≡ is_repeated (table_of interfaces.now) (4 + at) }
+{
+    let name = interfaces[at].name.as_str();
+    is_fixed_name(name) || any_named(&interfaces[..at], name)
+}
+
+/// The first place from `from` on whose interface has a name that is taken, or how many interfaces there are.
+///
+/// It takes no memory, and time that grows with the square of the list.
+fn search_repeat(interfaces: &[Interface], from: usize) -> usize
+    ensures before { (k : ℕ) → from ≤ k → k < result → is_repeated (table_of interfaces.now) (4 + k) ≡ false }
+    ensures here { result < length interfaces.now → is_repeated (table_of interfaces.now) (4 + result) ≡ true }
+{
+    for at in from..interfaces.len() {
+        if is_repeated(interfaces, at) {
+            return at;
+        }
+    }
+    interfaces.len()
+}
+
+/// The first place whose interface has a name that is taken, or how many interfaces there are.
+fn first_repeat(alloc: Global, interfaces: &[Interface]) -> usize
+    ensures before { (k : ℕ) → k < result → is_repeated (table_of interfaces.now) (4 + k) ≡ false }
+    ensures here { result < length interfaces.now → is_repeated (table_of interfaces.now) (4 + result) ≡ true }
+{
+    let mut names = HashSet::new(alloc);
+    for (at, interface) in interfaces.iter().enumerate() {
+        let name = interface.name.as_str();
+        if is_fixed_name(name) {
+            return at;
+        }
+        match names.insert(name) {
+            Ok(true) => {}
+            Ok(false) => return at,
+            // A want of memory is no fault of the list.
+            Err(_) => return search_repeat(interfaces, at),
+        }
+    }
+    interfaces.len()
+}
+
+/// Looks for the first fault of the list as a table.
+pub(crate) fn check(alloc: Global, interfaces: &[Interface]) -> Result<(), TableError>
+    ensures faultless { OnOk result ((fault : Fault) → ¬ (HasFault (table_of interfaces.now) fault)) }
+    ensures first { IfErr result (IsFirstFault (table_of interfaces.now)) }
+{
+    let repeat = first_repeat(alloc, interfaces);
+    let count = 4 + interfaces.len();
+    for (at, interface) in interfaces.iter().enumerate() {
+        check_interface(interface, at, at == repeat, count)?;
+    }
+    Ok(())
+}
