@@ -6,3 +6,4 @@ pub mod Reading
 pub mod Parse
 pub mod Stream
 pub mod Cursor
+pub mod Enum
