@@ -9,3 +9,4 @@ pub mod Cursor
 pub mod Buffer
 pub mod CursorLaws
 pub mod Laws
+pub mod Enum

@@ -56,7 +56,7 @@ impl ArgumentType {
 pub struct Token(pub i32);
 
 /// An argument of a message, over the type `Id` of object ids and `Fd` of descriptors.
-#[derive(Debug, Drop)]
+#[derive(Debug, PartialEq, Eq, Drop)]
 pub enum Argument<Id, Fd> {
     /// A signed number.
     Int(i32),

@@ -1,6 +1,9 @@
 //! The bytes of an array argument.
 
 ghost use Rattle.std.specs.Prelude.{◌≡◌};
+ghost use Rattle.std.specs.Cmp.{nat_eq_equiv, partial_equiv_from_equiv};
+ghost use Rattle.std.specs.Cmp.Lexicographic.{lists_equiv};
+ghost use Rattle.std.specs.Str.{bytes_eq};
 
 use std::marker::Model;
 
@@ -40,4 +43,18 @@ impl ByteArray {
         let ByteArray { bytes } = self;
         bytes
     }
+}
+
+impl PartialEq for ByteArray {
+    ghost eq = { bytes_eq };
+
+    ghost laws = { partial_equiv_from_equiv (lists_equiv nat_eq_equiv) };
+
+    fn eq(&self, other: &Self) -> bool {
+        self.bytes == other.bytes
+    }
+}
+
+impl Eq for ByteArray {
+    ghost laws = { lists_equiv nat_eq_equiv };
 }

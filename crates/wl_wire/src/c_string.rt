@@ -1,8 +1,15 @@
 //! The bytes of a string argument.
 
 ghost use Rattle.std.specs.Prelude.{◌≡◌, ◌↔◌, IfOk, IsErr, Contains};
+ghost use Rattle.std.specs.Str.Lossy.{utf8_lossy};
+ghost use Rattle.std.specs.String.{string_bytes};
 ghost use Rattle.wl_wire.specs.Text.{HasNoZero};
+ghost use Rattle.std.specs.Cmp.{nat_eq_equiv, partial_equiv_from_equiv};
+ghost use Rattle.std.specs.Cmp.Lexicographic.{lists_equiv};
+ghost use Rattle.std.specs.Str.{bytes_eq};
 
+use crate::error::OutOfMemory;
+use bstr::ByteSlice;
 use std::alloc::{AllocError, Global};
 use std::marker::Model;
 use thiserror::Error;
@@ -59,4 +66,26 @@ impl CString {
     {
         self.bytes.as_slice()
     }
+
+    /// The bytes as text, with U+FFFD for each piece of them that is not UTF-8.
+    pub fn to_string_lossy(&self, alloc: Global) -> Result<String, OutOfMemory>
+        ensures { IfOk result (λ text. string_bytes text ≡ utf8_lossy self.now) }
+    {
+        let text = self.bytes.as_slice().to_str_lossy(alloc)?;
+        Ok(text.into_owned(alloc)?)
+    }
+}
+
+impl PartialEq for CString {
+    ghost eq = { bytes_eq };
+
+    ghost laws = { partial_equiv_from_equiv (lists_equiv nat_eq_equiv) };
+
+    fn eq(&self, other: &Self) -> bool {
+        self.bytes == other.bytes
+    }
+}
+
+impl Eq for CString {
+    ghost laws = { lists_equiv nat_eq_equiv };
 }

@@ -2,7 +2,9 @@
 
 ghost use Rattle.std.specs.Prelude.{◌≡◌};
 
+use crate::text::Text;
 use std::alloc::{AllocError, AllocFailed};
+use std::fmt;
 use thiserror::Error;
 
 /// There was no memory.
@@ -78,3 +80,39 @@ pub enum MessageParseError {
     #[error("out of memory")]
     OutOfMemory,
 }
+
+/// An error of the protocol, as one side told the other or found it itself.
+///
+/// Its text names the code and the object, and ends in the message unless that is empty.
+#[derive(Debug, PartialEq, Eq, Drop)]
+pub struct ProtocolError {
+    /// Which error of the object's interface it is.
+    pub code: u32,
+    /// The number of the object that it is about.
+    pub object_id: u32,
+    /// The name of that object's interface.
+    pub object_interface: Text,
+    /// What went wrong, for a reader.
+    pub message: Text,
+}
+
+impl fmt::Display for ProtocolError {
+    fn fmt<W: fmt::Write>(&self, f: &mut fmt::Formatter<W>) -> fmt::Result {
+        let ProtocolError {
+            code,
+            object_id,
+            object_interface,
+            message,
+        } = self;
+        write!(
+            f,
+            "Protocol error {code} on object {object_interface}@{object_id}"
+        )?;
+        if message.as_str().is_empty() {
+            return Ok(());
+        }
+        write!(f, ": {message}")
+    }
+}
+
+impl std::error::Error for ProtocolError {}

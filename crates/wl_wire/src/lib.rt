@@ -5,6 +5,7 @@ mod argument;
 mod byte_array;
 mod c_string;
 mod core_interfaces;
+mod enums;
 mod error;
 mod interface;
 pub mod laws;
@@ -12,12 +13,14 @@ mod message;
 mod parse;
 mod protocol;
 mod table_check;
+mod text;
 mod write;
 
 pub use argument::{AllowNull, Argument, ArgumentType, Token};
 pub use byte_array::ByteArray;
 pub use c_string::{CString, ZeroByte};
-pub use error::{IoFault, MessageParseError, MessageWriteError, OutOfMemory};
+pub use enums::{WEnum, WEnumError, WaylandEnum};
+pub use error::{IoFault, MessageParseError, MessageWriteError, OutOfMemory, ProtocolError};
 pub use interface::{
     ANONYMOUS_INTERFACE, Interface, InterfaceId, MessageDesc, ObjectInfo, WL_CALLBACK_INTERFACE,
     WL_DISPLAY_INTERFACE, WL_REGISTRY_INTERFACE,
@@ -27,6 +30,7 @@ pub use parse::parse_message;
 pub use protocol::{
     Protocol, TableError, check_for_signature, same_interface, same_interface_or_anonymous,
 };
+pub use text::Text;
 pub use write::{message_size, write_to_buffers};
 
 #[cfg(test)]

@@ -7,7 +7,7 @@ use smallvec::SmallVec;
 pub const INLINE_ARGS: usize = 4;
 
 /// A request or an event, over the type `Id` of object ids and `Fd` of descriptors.
-#[derive(Debug, Drop)]
+#[derive(Debug, PartialEq, Eq, Drop)]
 pub struct Message<Id, Fd> {
     /// The object that the request is made of, or that sends the event.
     pub sender_id: Id,
