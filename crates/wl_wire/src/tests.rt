@@ -6,8 +6,6 @@ use std::alloc::Global;
 use std::collections::VecDeque;
 use std::test::Fail;
 
-type Args = SmallVec<Argument<u32, Token>, INLINE_ARGS>;
-
 /// A message of no arguments yet.
 fn empty(alloc: Global, sender_id: u32, opcode: u16) -> Message<u32, Token> {
     Message {
@@ -136,34 +134,35 @@ fn train_message_and_back(rt: HostRuntime) -> Result<(), Fail> {
     ];
     let (answer, _) = parsed(alloc, bytes.as_slice(), &signature, &[])?;
     let (again, rest) = answer?;
-    assert_eq!(rt; (again.sender_id, again.opcode, rest), (42, 7, 0));
-    assert!(rt; same_arguments(&again.args, &train.args));
+    assert_eq!(rt; rest, 0);
+    assert!(rt; again == train);
     Ok(())
 }
 
-/// Whether the lists have the same arguments.
-fn same_arguments(left: &Args, right: &Args) -> bool {
-    left.len() == right.len()
-        && left
-            .as_slice()
-            .iter()
-            .zip(right.as_slice())
-            .all(|(one, two)| same_argument(one, two))
-}
+#[test]
+fn bind_written_and_read(rt: HostRuntime) -> Result<(), Fail> {
+    let alloc = rt.alloc();
+    let mut bind: Message<u32, Token> = Message {
+        sender_id: 2,
+        opcode: 0,
+        args: SmallVec::new(alloc),
+    };
+    bind.args.push(Argument::Uint(18))?;
+    let name = CString::new(Vec::from_slice(alloc, b"wl_shell")?)?;
+    bind.args.push(Argument::Str(Some(name)))?;
+    bind.args.push(Argument::Uint(1))?;
 
-fn same_argument(one: &Argument<u32, Token>, two: &Argument<u32, Token>) -> bool {
-    match (one, two) {
-        (Argument::Int(a), Argument::Int(b)) => a == b,
-        (Argument::Fixed(a), Argument::Fixed(b)) => a == b,
-        (Argument::Uint(a), Argument::Uint(b)) => a == b,
-        (Argument::Object(a), Argument::Object(b)) => a == b,
-        (Argument::NewId(a), Argument::NewId(b)) => a == b,
-        (Argument::Str(None), Argument::Str(None)) => true,
-        (Argument::Str(Some(a)), Argument::Str(Some(b))) => a.as_bytes() == b.as_bytes(),
-        (Argument::Array(a), Argument::Array(b)) => a.as_slice() == b.as_slice(),
-        (Argument::Fd(a), Argument::Fd(b)) => a == b,
-        _ => false,
-    }
+    let mut buffer = [0u8; 64];
+    let mut tokens = Vec::new(alloc);
+    let size = write_to_buffers(&bind, &mut buffer, &mut tokens)?;
+    assert_eq!(rt; size, 32);
+
+    let signature = [ArgumentType::Uint, STR, ArgumentType::Uint];
+    let mut waiting = VecDeque::new(alloc);
+    let (again, rest) = parse_message(alloc, &buffer[..32], &signature, &mut waiting)?;
+    assert!(rt; again == bind);
+    assert!(rt; rest.is_empty());
+    Ok(())
 }
 
 #[test]
@@ -254,7 +253,7 @@ fn tokens_go_beside_the_bytes(rt: HostRuntime) -> Result<(), Fail> {
     let signature = [ArgumentType::Fd, ArgumentType::Fd];
     let (answer, left) = parsed(alloc, bytes.as_slice(), &signature, tokens.as_slice())?;
     let (again, _) = answer?;
-    assert!(rt; same_arguments(&again.args, &message.args));
+    assert!(rt; again == message);
     assert_eq!(rt; left, 0);
     Ok(())
 }
