@@ -96,6 +96,11 @@ impl<Id, Fd> Argument<Id, Fd> {
 
 /// What an unused inline place of a message's list of arguments holds.
 impl<Id, Fd> Default for Argument<Id, Fd> {
+    ghost use Rattle.std.specs.Prelude.{◌≡◌, pos};
+    ghost use Rattle.wl_wire.specs.declared.argument.Argument.TheVariants.{Int};
+
+    ghost is_default = { λ a. a ≡ Int (pos 0) };
+
     fn default() -> Self {
         Argument::Int(0)
     }
