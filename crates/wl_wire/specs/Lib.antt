@@ -7,3 +7,4 @@ pub mod Parse
 pub mod Stream
 pub mod Cursor
 pub mod Enum
+pub mod MapFd
