@@ -10,3 +10,4 @@ pub mod Buffer
 pub mod CursorLaws
 pub mod Laws
 pub mod Enum
+pub mod MapFd

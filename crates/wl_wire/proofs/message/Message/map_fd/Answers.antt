@@ -1,0 +1,37 @@
+use Rattle.std.proofs.Common.{◌∷◌, [], ◌<◌, ◌^◌, length, reverse, ap, ◌∙◌, subst, arith, append_assoc, length-append}
+use Rattle.std.proofs.lemmas.Bool.{false≢true}
+use Rattle.std.proofs.lemmas.List.{reverse-reverse, append-nil, length-reverse}
+use prog.Capped.{capped_small}
+use Rattle.wl_wire.proofs.MapFd.{refill_whole, MapsFds-popped, MapsFds-done}
+use Rattle.wl_wire.proofs.message.Message.map_fd.Goals as goal
+
+pub loop-arg-init : goal.loop-arg-init
+loop-arg-init g c =
+    let old = c.args.self.args.items in
+    let turned = refill_whole old c.reverse.new.self (c.reverse.ensures.after ∙ ap reverse c.deref_mut.ensures.value) in
+    record {
+      callable = c.requires.callable;
+      room = rw (c.in-Ok.ensures.items, turned, length-reverse old) (omega (arith, c.in-Ok.ensures.capacity));
+      left = λ rest last others. rw c.in-Ok.ensures.items (rw (turned, reverse-reverse old) at others);
+    }
+
+pub push_reserved-requires : goal.push_reserved-requires
+push_reserved-requires g c =
+    let size = c.size_of_val-else-size_of_val-gt-LARGEST_SIZE.result in
+    let small : size < 2 ^ 63 = omega arith in
+    (capped_small _ (subst (λ n. n < 2 ^ 63) c.size_of_val-else-size_of_val-gt-LARGEST_SIZE.ensures small), omega (arith, c.in-Some.ensures.len))
+
+pub loop-arg-preserved : goal.loop-arg-preserved
+loop-arg-preserved g c = record {
+  callable = c.map_argument-next.ensures.callable;
+  room = rw (c.push_reserved.ensures.items, c.push_reserved.ensures.capacity) (omega (arith, length-append c.loop-arg.args.items (c.map_argument-next.result.1 ∷ []), c.in-Some.ensures.len));
+  left = λ rest last others.
+      rw (c.push_reserved.ensures.items, append_assoc)
+      (c.loop-arg.invariant.left (c.map_argument-next.result.1 ∷ rest) last
+      (MapsFds-popped (goal.F-step g) c.loop-arg.f c.map_argument-next.result.0 last c.loop-arg.old.items c.pop.new.self.items c.in-Some.arg c.map_argument-next.result.1 rest c.in-Some.ensures.items c.map_argument-next.ensures.mapped others));
+}
+
+pub returns-clause-mapped : goal.returns-clause-mapped
+returns-clause-mapped g c =
+    let none : ¬ (0 < length c.loop-arg.old.items) = λ more. false≢true (c.in_default-pop.ensures.variant.1 more) in
+    (c.loop-arg.f, rw append-nil at (c.loop-arg.invariant.left [] c.loop-arg.f (MapsFds-done (goal.F-step g) c.loop-arg.f c.loop-arg.old.items none)))
