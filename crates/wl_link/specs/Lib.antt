@@ -1,0 +1,4 @@
+pub mod Store
+pub mod ObjectMap
+pub mod PlaceList
+pub mod Room
