@@ -1,9 +1,11 @@
 //! The link to a peer and the objects of a session: transport, buffers, and objects by number.
 #![tactic(auto)]
 
+mod all_objects;
 mod object;
 mod object_map;
 mod places;
 
+pub use all_objects::AllObjects;
 pub use object::Object;
 pub use object_map::{InsertError, NewError, ObjectMap, SERVER_ID_LIMIT};

@@ -2,12 +2,14 @@
 
 ghost use Rattle.std.specs.Prelude.{◌≡◌, false, true, Err, OnOk, OnErr, option_copied};
 ghost use Rattle.std.specs.Fn.{FnOnceReturnsAtMut};
+ghost use Rattle.std.specs.FinMap as map;
 ghost use Rattle.wl_link.specs.Store.{client_range, server_range, empty_store, held, removed};
 ghost use Rattle.wl_link.specs.ObjectMap.{InsertsAt, InsertsNew, NextNew, Lends};
 ghost use Rattle.wl_link.specs.PlaceList.{IsPlaceOf};
 ghost use Rattle.wl_link.specs.declared.object_map.InsertError.TheVariants as insert;
 ghost use Rattle.wl_link.specs.declared.object_map.NewError.TheVariants as new;
 
+use crate::all_objects::AllObjects;
 use crate::object::Object;
 use crate::places::Places;
 use std::alloc::Global;
@@ -217,6 +219,17 @@ impl<Data: Drop> ObjectMap<Data> {
             Place::Nowhere => None,
             Place::Client(at) => self.clients.with(at, f),
             Place::Server(at) => self.servers.with(at, f),
+        }
+    }
+
+    /// The objects with their numbers, by ascending number: the client's range first, then the server's. Neither this
+    /// nor the walk takes memory.
+    pub fn all_objects(&self) -> AllObjects<'_, Data>
+        ensures { result ≡ map.entries self.now.store.objects }
+    {
+        AllObjects {
+            clients: self.clients.objects(1),
+            servers: self.servers.objects(SERVER_ID_LIMIT),
         }
     }
 }

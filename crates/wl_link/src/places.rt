@@ -1,27 +1,12 @@
 //! The objects of one range of numbers, each at the place that its number has in the range.
 
-ghost use Rattle.std.specs.Prelude.{
-  ◌≡◌,
-  ◌+◌,
-  ◌<◌,
-  ◌≤◌,
-  [],
-  length,
-  true,
-  false,
-  Bool,
-  None,
-  Some,
-  Err,
-  OnOk,
-  OnErr,
-  option_copied,
-};
+ghost use Rattle.std.specs.Prelude.{◌≡◌, ◌+◌, ◌≤◌, [], length, true, false, None, Some, Err, OnOk, OnErr, option_copied};
 ghost use Rattle.std.specs.Fn.{FnOnceReturnsAtMut};
-ghost use Rattle.wl_link.specs.PlaceList.{place, put_len, Puts, PutsAt, LendsAt, IsFirstFree};
+ghost use Rattle.wl_link.specs.PlaceList.{place, put_len, Puts, PutsAt, LendsAt, IsFirstFree, entries_from};
 ghost use Rattle.wl_link.specs.declared.object_map.InsertError.TheVariants as insert;
 ghost use Rattle.wl_link.specs.Room.{has_room};
 
+use crate::all_objects::RangeObjects;
 use crate::object::Object;
 use crate::object_map::InsertError;
 use std::alloc::Global;
@@ -141,5 +126,16 @@ impl<Data: Drop> Places<Data> {
     {
         self.slots.reserve(1)?;
         Ok(())
+    }
+
+    /// The objects with their numbers, where the first place has this number.
+    pub(crate) fn objects(&self, first: u32) -> RangeObjects<'_, Data>
+        requires { first + length self.now.slots.items ≤ 4294967296 }
+        ensures { result ≡ entries_from first self.now.slots.items }
+    {
+        RangeObjects {
+            slots: self.slots.as_slice(),
+            number: first as u64,
+        }
     }
 }

@@ -1,0 +1,7 @@
+use Rattle.std.proofs.Common.{sym}
+use Rattle.wl_link.proofs.Keeping.{all_entries}
+use Rattle.wl_link.proofs.object_map.ObjectMap.all_objects.Goals as goal
+
+pub returns : goal.returns
+returns g c =
+    rw (← c.self.view_is) (rw (c.objects.ensures, c.objects-2.ensures) (sym (all_entries c.self.inside.clients.slots.items c.self.inside.servers.slots.items c.self.invariant)))
