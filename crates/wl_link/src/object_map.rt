@@ -233,3 +233,6 @@ impl<Data: Drop> ObjectMap<Data> {
         }
     }
 }
+
+#[cfg(test)]
+mod tests;
