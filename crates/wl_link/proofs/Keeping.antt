@@ -10,10 +10,11 @@ use Rattle.std.specs.Ordering.{eq_by_cmp}
 use Rattle.std.specs.FinMap as map
 use Rattle.std.specs.FinMap.Entries.{below_all}
 use Rattle.wl_link.specs.declared.object.Object.{Object}
-use Rattle.wl_link.specs.Store.{Store, client_range, server_range, is_server_number, unused_after, empty_store, held, first_unused, is_free, stored, removed, rewritten, IsLeastAbsent, IsFull}
+use Rattle.wl_link.specs.Store.{Store, client_range, server_range, is_server_number, unused_after, empty_store, held, first_unused, is_free, stored, removed, rewritten, IsLeastAbsent, IsFull, IsWalk}
 use Rattle.wl_link.specs.declared.object_map.InsertError.{InsertError}
 use Rattle.wl_link.specs.declared.object_map.InsertError.TheVariants as insert
 use Rattle.wl_link.specs.ObjectMap.{InsertsAt, Lends}
+use Rattle.wl_link.specs.StoreLaws.{walk_of_entries}
 use Rattle.wl_link.specs.PlaceList.{place, put_len, Puts, is_free_place, PutsAt, LendsAt, IsFirstFree, entries_from, store_of, Within}
 
 -- ---- tests on numbers
@@ -119,6 +120,9 @@ module _ {D : Type 0} (c s : List (Option (Object D))) (w : Within c s) where
       map.entries-from_sorted nat_cmp (entries_from client_range.first c ++ entries_from server_range.first s)
       (sorted_entries c client_range.first server_range.first (entries_from server_range.first s) w.clients_fit
       (λ q h. below_alone s server_range.first q h) (sorted_alone s server_range.first))
+
+  pub walk_of_places : IsWalk (store_of c s) (entries_from client_range.first c ++ entries_from server_range.first s)
+  walk_of_places = subst (λ walk. IsWalk (store_of c s) walk) all_entries (walk_of_entries (store_of c s))
 
   held_find : (n : ℕ) → held (store_of c s) n
       ≡ option_or (map.find nat_cmp n (entries_from client_range.first c)) (map.find nat_cmp n (entries_from server_range.first s))

@@ -1,5 +1,5 @@
 -- The identity law: what lasts over each change, and so over every run.
-use Rattle.std.proofs.Common.{◌≡◌, ◌≢◌, ◌⊎◌, ℕ, zero, suc, ◌+◌, ◌<◌, ◌≤◌, Bool, true, false, cond, eqb, List, [], ◌∷◌, Option, None, Some, is_some, IsSome, unwrap_or, refl, sym, ap, subst, ◌∙◌, true≢false, arith}
+use Rattle.std.proofs.Common.{◌≡◌, ◌≢◌, ◌⊎◌, ℕ, zero, suc, ◌+◌, ◌<◌, ◌≤◌, Bool, true, false, cond, eqb, List, [], ◌∷◌, ◌++◌, Option, None, Some, is_some, IsSome, unwrap_or, refl, sym, ap, subst, ◌∙◌, true≢false, arith}
 use mathlib.Core.Logic.{inl, inr}
 use Rattle.std.specs.Prelude.{Contains}
 use Rattle.std.proofs.lemmas.Bool.{eq-eqb, ne_eqb, eqb-true, cases_eq}
@@ -349,6 +349,20 @@ module _ {D : Type 0} (serial_of : D → ℕ) where
       either other c (inr in-made) = lasts.made other c in-made
 
   -- ---- steps and runs
+
+  -- the changes of a part of a step, and then those of the rest of it
+  pub step_joins : (before between after : Objects D) (first others : List (Change D)) → StepLeads serial_of before first between
+      → StepLeads serial_of between others after → StepLeads serial_of before (first ++ others) after
+  step_joins before between after [] others same leads = subst (λ b. StepLeads serial_of b others after) same leads
+  step_joins before between after (change ∷ rest) others (next, changes, leads) after-leads =
+      (next, changes, step_joins next between after rest others leads after-leads)
+
+  -- the steps of a run, and then those of another
+  pub run_joins : (before between after : Objects D) (first others : List (List (Change D))) → RunLeads serial_of before first between
+      → RunLeads serial_of between others after → RunLeads serial_of before (first ++ others) after
+  run_joins before between after [] others same leads = subst (λ b. RunLeads serial_of b others after) same leads
+  run_joins before between after (step ∷ rest) others (next, changes, leads) after-leads =
+      (next, changes, run_joins next between after rest others leads after-leads)
 
   lasts_in : (next : Birth) (births : Births) (s after : Objects D) (changes : List (Change D)) → Lasts next births s
       → StepLeads serial_of s changes after → (last : Birth) × (last.step ≡ next.step) × Lasts last (births_in next births changes) after

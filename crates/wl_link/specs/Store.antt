@@ -2,7 +2,7 @@
 --
 -- Each side gives out the numbers of a range of its own, and 0 is no number of an object. The numbers of a range that
 -- were ever in use lie below its first unused number, which never falls.
-use Rattle.std.specs.Prelude.{◌≡◌, ℕ, ◌+◌, ◌<◌, ◌≤◌, Bool, true, not, ◌&&◌, ◌==◌, nat_lt, nat_le, if◌then◌else◌, Option, None, is_some}
+use Rattle.std.specs.Prelude.{◌≡◌, ℕ, ◌+◌, ◌<◌, ◌≤◌, Bool, true, not, ◌&&◌, ◌==◌, nat_lt, nat_le, if◌then◌else◌, Option, None, Some, is_some, List, Contains, AllPairs, ◌↔◌}
 use Rattle.std.specs.Ordering.{nat_cmp}
 use Rattle.std.specs.FinMap as map
 use Rattle.wl_link.specs.declared.object.Object.{Object}
@@ -75,3 +75,8 @@ module _ {D : Type 0} where
   -- every number of the range holds an object
   pub record IsFull (range : Range) (store : Store D) : Type 0 where
     pub each : (k : ℕ) → range.first ≤ k → k < range.end → is_some (held store k) ≡ true
+
+  -- the walk over a store: each kept object once, with its number, by ascending number
+  pub record IsWalk (store : Store D) (walk : List (ℕ × Object D)) : Type 0 where
+    pub ascending : AllPairs (λ a b. a.0 < b.0) walk
+    pub each : (n : ℕ) (x : Object D) → Contains walk (n, x) ↔ (held store n ≡ Some x)

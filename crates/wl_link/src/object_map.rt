@@ -3,7 +3,7 @@
 ghost use Rattle.std.specs.Prelude.{◌≡◌, false, true, Err, OnOk, OnErr, option_copied};
 ghost use Rattle.std.specs.Fn.{FnOnceReturnsAtMut};
 ghost use Rattle.std.specs.FinMap as map;
-ghost use Rattle.wl_link.specs.Store.{client_range, server_range, empty_store, held, removed};
+ghost use Rattle.wl_link.specs.Store.{client_range, server_range, empty_store, held, removed, IsWalk};
 ghost use Rattle.wl_link.specs.ObjectMap.{InsertsAt, InsertsNew, NextNew, Lends};
 ghost use Rattle.wl_link.specs.PlaceList.{IsPlaceOf};
 ghost use Rattle.wl_link.specs.declared.object_map.InsertError.TheVariants as insert;
@@ -225,7 +225,8 @@ impl<Data: Drop> ObjectMap<Data> {
     /// The objects with their numbers, by ascending number: the client's range first, then the server's. Neither this
     /// nor the walk takes memory.
     pub fn all_objects(&self) -> AllObjects<'_, Data>
-        ensures { result ≡ map.entries self.now.store.objects }
+        ensures objects { result ≡ map.entries self.now.store.objects }
+        ensures walk { IsWalk self.now.store result }
     {
         AllObjects {
             clients: self.clients.objects(1),

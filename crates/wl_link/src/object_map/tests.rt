@@ -89,3 +89,21 @@ fn an_object_is_lent_and_written_to(rt: HostRuntime) -> Result<(), Fail> {
     assert!(rt; map.find(0).is_none());
     Ok(())
 }
+
+// Inserts without a want of memory once there is room: what `reserve` promises.
+fn insert_reserved(map: &mut ObjectMap<u32>, value: u32) -> Result<Option<u32>, OutOfMemory> {
+    map.reserve()?;
+    match map.client_insert_new(object(value)) {
+        Ok(number) => Ok(Some(number)),
+        Err(NewError::IdsExhausted) => Ok(None),
+        Err(NewError::OutOfMemory) => unreachable!(),
+    }
+}
+
+#[test]
+fn an_insertion_after_reserve_takes_no_memory(rt: HostRuntime) -> Result<(), Fail> {
+    let mut map = ObjectMap::new(rt.alloc());
+    assert_eq!(rt; insert_reserved(&mut map, 1), Ok(Some(1)));
+    assert_eq!(rt; insert_reserved(&mut map, 2), Ok(Some(2)));
+    Ok(())
+}
