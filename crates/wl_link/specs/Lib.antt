@@ -1,7 +1,6 @@
 pub mod Store
 pub mod ObjectMap
 pub mod PlaceList
-pub mod Room
 pub mod StoreLaws
 pub mod Identity
 pub mod IdentityLaw

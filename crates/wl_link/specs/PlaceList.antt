@@ -1,5 +1,5 @@
 -- The objects of a range of numbers as the code keeps them: a place for each number that was ever in use.
-use Rattle.std.specs.Prelude.{◌≡◌, ℕ, ◌+◌, ◌<◌, ◌≤◌, Bool, true, false, not, ◌&&◌, nat_le, Result, Ok, Err, MatchOption, List, [], ◌∷◌, ◌++◌, length, Option, None, Some, is_some, slice_index_or, if◌then◌else◌, ◌==◌}
+use Rattle.std.specs.Prelude.{Vec, vec_len, vec_capacity, nat_lt, ◌≡◌, ℕ, ◌+◌, ◌<◌, ◌≤◌, Bool, true, false, not, ◌&&◌, nat_le, Result, Ok, Err, MatchOption, List, [], ◌∷◌, ◌++◌, length, Option, None, Some, is_some, slice_index_or, if◌then◌else◌, ◌==◌}
 use Rattle.std.specs.FinMap as map
 use Rattle.wl_link.specs.declared.object.Object.{Object}
 use Rattle.wl_link.specs.declared.object_map.InsertError.{InsertError}
@@ -7,6 +7,10 @@ use Rattle.wl_link.specs.declared.object_map.InsertError.TheVariants as insert
 use Rattle.wl_link.specs.declared.object_map.Place.{Place}
 use Rattle.wl_link.specs.declared.object_map.Place.TheVariants.{Nowhere, Client, Server}
 use Rattle.wl_link.specs.Store.{Store, client_range, server_range}
+
+-- whether a vector takes one item more without memory
+abbrev pub has_room : {A Z : Type 0} → Vec A Z → Bool
+has_room v = nat_lt (vec_len v) (vec_capacity v)
 
 -- how many places there are, once something is put at this one
 abbrev pub put_len : ℕ → ℕ → ℕ

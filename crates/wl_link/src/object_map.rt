@@ -64,8 +64,7 @@ impl<Data> Model for ObjectMap<Data> {
 
     ghost coded = { map_code Data.code };
 
-    ghost use Rattle.wl_link.specs.PlaceList.{store_of, Within};
-    ghost use Rattle.wl_link.specs.Room.{has_room};
+    ghost use Rattle.wl_link.specs.PlaceList.{has_room, store_of, Within};
 
     ghost view = { λ m. record {
       store = store_of m.clients.slots.items m.servers.slots.items;

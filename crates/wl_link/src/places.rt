@@ -2,9 +2,8 @@
 
 ghost use Rattle.std.specs.Prelude.{◌≡◌, ◌+◌, ◌≤◌, [], length, true, false, None, Some, Err, OnOk, OnErr, option_copied};
 ghost use Rattle.std.specs.Fn.{FnOnceReturnsAtMut};
-ghost use Rattle.wl_link.specs.PlaceList.{place, put_len, Puts, PutsAt, LendsAt, IsFirstFree, entries_from};
+ghost use Rattle.wl_link.specs.PlaceList.{has_room, place, put_len, Puts, PutsAt, LendsAt, IsFirstFree, entries_from};
 ghost use Rattle.wl_link.specs.declared.object_map.InsertError.TheVariants as insert;
-ghost use Rattle.wl_link.specs.Room.{has_room};
 
 use crate::all_objects::RangeObjects;
 use crate::object::Object;
