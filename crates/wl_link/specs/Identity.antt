@@ -2,7 +2,7 @@
 --
 -- Objects carry a serial, which `serial_of` reads. A session gives the serials out by one counter, so that an id,
 -- which has a number and a serial, never names an object that took the number of its own.
-use Rattle.std.specs.Prelude.{◌≡◌, ℕ, ◌+◌, ◌≤◌, ◌==◌, if◌then◌else◌, List, [], ◌∷◌, Option, None, Some, IsSome, Contains, ◌↔◌}
+use Rattle.std.specs.Prelude.{◌≡◌, ℕ, ◌+◌, ◌≤◌, ◌==◌, if◌then◌else◌, List, [], ◌∷◌, Option, None, Some, IsSome, Contains, ◌↔◌, ◌⊎◌}
 use Rattle.wl_link.specs.declared.object.Object.{Object}
 use Rattle.wl_link.specs.Store.{Store, empty_store, held, stored, removed, rewritten}
 
@@ -54,6 +54,16 @@ abbrev pub births_over : {D : Type 0} → ℕ → Births → List (List (Change 
 births_over step births [] = births
 births_over step births (changes ∷ rest) =
     births_over (step + 1) (births_in (record { step = step; place = 0 }) births changes) rest
+
+-- a step of the run makes the id
+abbrev pub IsMadeInStep : {D : Type 0} → List (Change D) → Id → Type 0
+IsMadeInStep [] id = ⊥
+IsMadeInStep (Made made ∷ rest) id = (made ≡ id) ⊎ IsMadeInStep rest id
+IsMadeInStep (_ ∷ rest) id = IsMadeInStep rest id
+
+abbrev pub IsMadeIn : {D : Type 0} → List (List (Change D)) → Id → Type 0
+IsMadeIn [] id = ⊥
+IsMadeIn (step ∷ rest) id = IsMadeInStep step id ⊎ IsMadeIn rest id
 
 -- a session begins with step 0, which puts the display at number 1
 abbrev pub display_born : Births
@@ -115,7 +125,9 @@ module _ {D : Type 0} (serial_of : D → ℕ) where
     pub serials : HasSerials after
     -- a number has a birth exactly while it holds an object
     pub kept : (n : ℕ) → IsSome ((births_of run).of_number n) ↔ IsSome (held after.store n)
-    -- each id that was made names the object that it was made of exactly while that is kept, and afterwards none
+    -- each id that was made has the birth of the object that it was made of
+    pub made : (id : Id) → IsMadeIn run id → (birth : Birth) × Contains (births_of run).made (id, birth)
+    -- and names that object exactly while that is kept, and afterwards none
     pub own : (id : Id) (birth : Birth) → Contains (births_of run).made (id, birth)
         → NamesOwn (births_of run).of_number after.store id birth
 

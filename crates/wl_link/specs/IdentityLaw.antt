@@ -1,12 +1,12 @@
 -- The identity law: what lasts over each change, and so over every run.
-use Rattle.std.proofs.Common.{◌≡◌, ◌≢◌, ◌⊎◌, ℕ, zero, suc, ◌+◌, ◌<◌, ◌≤◌, Bool, true, false, cond, eqb, List, [], ◌∷◌, ◌++◌, Option, None, Some, is_some, IsSome, unwrap_or, refl, sym, ap, subst, ◌∙◌, true≢false, arith}
+use Rattle.std.proofs.Common.{◌≡◌, ◌≢◌, ◌⊎◌, ℕ, zero, suc, ◌+◌, ◌<◌, ◌≤◌, Bool, true, false, cond, eqb, List, [], ◌∷◌, ◌++◌, Option, None, Some, is_some, IsSome, unwrap_or, refl, sym, ap, subst, ◌∙◌, true≢false, suc-le-suc, arith}
 use mathlib.Core.Logic.{inl, inr}
 use Rattle.std.specs.Prelude.{Contains}
 use Rattle.std.proofs.lemmas.Bool.{eq-eqb, ne_eqb, eqb-true, cases_eq}
 use Rattle.wl_link.specs.declared.object.Object.{Object}
 use Rattle.wl_link.specs.Store.{Store, empty_store, held, stored, removed, rewritten}
 use Rattle.wl_link.specs.StoreLaws.{stored_here, stored_other, removed_here, removed_other, rewritten_here, rewritten_other, held_empty}
-use Rattle.wl_link.specs.Identity.{Id, Birth, Objects, Change, Born, Gone, Wrote, Made, Births, at_number, with_made, births_in, births_over, display_born, begun, named_in, names, StepLeads, RunLeads, HasSerials, NamesOwn, IdentityLaw}
+use Rattle.wl_link.specs.Identity.{Id, Birth, Objects, Change, Born, Gone, Wrote, Made, Births, at_number, with_made, births_in, births_over, display_born, begun, named_in, names, StepLeads, RunLeads, IsMadeInStep, IsMadeIn, HasSerials, NamesOwn, IdentityLaw}
 
 -- ---- options
 
@@ -364,24 +364,70 @@ module _ {D : Type 0} (serial_of : D → ℕ) where
   run_joins before between after (step ∷ rest) others (next, changes, leads) after-leads =
       (next, changes, run_joins next between after rest others leads after-leads)
 
+  -- what lasts over the changes of a step, and what is made there
+  record StepLasts (next : Birth) (births births-after : Births) (changes : List (Change D)) (after : Objects D) : Type 0 where
+    last : Birth
+    same : last.step ≡ next.step
+    lasts : Lasts last births-after after
+    still : (p : Id × Birth) → Contains births.made p → Contains births-after.made p
+    makes : (id : Id) → IsMadeInStep changes id → (b : Birth) × Contains births-after.made (id, b)
+
+  still_made : (births : Births) (id : Id) (o : Option Birth) (p : Id × Birth) → Contains births.made p → Contains (with_made births id o).made p
+  still_made births id None p in-made = in-made
+  still_made births id (Some b) p (k, lt, is) = (suc k, suc-le-suc lt, is)
+
+  made_now : (births : Births) (id : Id) (o : Option Birth) → is_some o ≡ true → (b : Birth) × Contains (with_made births id o).made (id, b)
+  made_now births id None h = absurd (true≢false (sym h))
+  made_now births id (Some b) h = (b, (0, omega arith, refl))
+
+  has_birth : (next : Birth) (births : Births) (s : Objects D) (id : Id) → Lasts next births s → IsSome (names serial_of id s.store)
+      → is_some (births.of_number id.number) ≡ true
+  has_birth next births s id lasts named =
+      let (numbered, is) = named_parts id s.store named in
+      let (x, holds, same) = named_serial id (held s.store id.number) is in
+      lasts.kept id.number ∙ ap is_some holds
+
   lasts_in : (next : Birth) (births : Births) (s after : Objects D) (changes : List (Change D)) → Lasts next births s
-      → StepLeads serial_of s changes after → (last : Birth) × (last.step ≡ next.step) × Lasts last (births_in next births changes) after
-  lasts_in next births s after [] lasts same = (next, refl, subst (λ a. Lasts next births a) (sym same) lasts)
+      → StepLeads serial_of s changes after → StepLasts next births (births_in next births changes) changes after
+  lasts_in next births s after [] lasts same = record {
+    last = next;
+    same = refl;
+    lasts = subst (λ a. Lasts next births a) (sym same) lasts;
+    still = λ p in-made. in-made;
+    makes = λ id in-step. absurd in-step;
+  }
   lasts_in next births s after (Born n x ∷ rest) lasts (between, (free, serial, is), leads) =
-      lasts_in (place_after next) (record births { of_number = at_number births.of_number n (Some next) }) between after rest
-      (subst (λ a. Lasts (place_after next) (record births { of_number = at_number births.of_number n (Some next) }) a) (sym is) (lasts_born next births s lasts n x free serial))
-      leads
+      let births' : Births = record births { of_number = at_number births.of_number n (Some next) } in
+      let now : Lasts (place_after next) births' between = subst (λ a. Lasts (place_after next) births' a) (sym is) (lasts_born next births s lasts n x free serial) in
+      let then = lasts_in (place_after next) births' between after rest now leads in
+      record { last = then.last; same = then.same; lasts = then.lasts; still = then.still; makes = then.makes }
   lasts_in next births s after (Gone n ∷ rest) lasts (between, is, leads) =
-      lasts_in next (record births { of_number = at_number births.of_number n None }) between after rest
-      (subst (λ a. Lasts next (record births { of_number = at_number births.of_number n None }) a) (sym is) (lasts_gone next births s lasts n))
-      leads
+      let births' : Births = record births { of_number = at_number births.of_number n None } in
+      let now : Lasts next births' between = subst (λ a. Lasts next births' a) (sym is) (lasts_gone next births s lasts n) in
+      let then = lasts_in next births' between after rest now leads in
+      record { last = then.last; same = then.same; lasts = then.lasts; still = then.still; makes = then.makes }
   lasts_in next births s after (Wrote n x ∷ rest) lasts (between, ((y, was, serial), is), leads) =
-      lasts_in next births between after rest (subst (λ a. Lasts next births a) (sym is) (lasts_wrote next births s lasts n x y was serial)) leads
+      let now : Lasts next births between = subst (λ a. Lasts next births a) (sym is) (lasts_wrote next births s lasts n x y was serial) in
+      let then = lasts_in next births between after rest now leads in
+      record { last = then.last; same = then.same; lasts = then.lasts; still = then.still; makes = then.makes }
   lasts_in next births s after (Made id ∷ rest) lasts (between, (named, is), leads) =
-      lasts_in next (with_made births id (births.of_number id.number)) between after rest
-      (subst (λ a. Lasts next (with_made births id (births.of_number id.number)) a) (sym is)
-      (lasts_made next births s id (births.of_number id.number) lasts named refl))
-      leads
+      let o = births.of_number id.number in
+      let births' : Births = with_made births id o in
+      let now : Lasts next births' between = subst (λ a. Lasts next births' a) (sym is) (lasts_made next births s id o lasts named refl) in
+      let then = lasts_in next births' between after rest now leads in
+      let (b, here) = made_now births id o (has_birth next births s id lasts named) in
+      record {
+        last = then.last;
+        same = then.same;
+        lasts = then.lasts;
+        still = λ p in-made. then.still p (still_made births id o p in-made);
+        makes = λ other in-step. (
+            elim in-step [
+              | inl e ↦ (b, then.still (other, b) (subst (λ (i : Id). Contains births'.made (i, b)) e here))
+              | inr later ↦ then.makes other later
+            ]
+            );
+      }
 
   later_step : (last : Birth) (births : Births) (s : Objects D) (step : ℕ) → last.step + 1 ≡ step → Lasts last births s
       → Lasts (record { step = step; place = 0 }) births s
@@ -398,16 +444,38 @@ module _ {D : Type 0} (serial_of : D → ℕ) where
       moved : {b : Birth} → IsBefore b (record { step = last.step + 1; place = 0 }) → IsBefore b (record { step = step; place = 0 })
       moved {b} h = subst (λ k. IsBefore b (record { step = k; place = 0 })) e h
 
+  -- what lasts over the steps of a run, and what is made there
+  record RunLasts (births births-after : Births) (run : List (List (Change D))) (after : Objects D) : Type 0 where
+    last : Birth
+    lasts : Lasts last births-after after
+    still : (p : Id × Birth) → Contains births.made p → Contains births-after.made p
+    makes : (id : Id) → IsMadeIn run id → (b : Birth) × Contains births-after.made (id, b)
+
   lasts_over : (step : ℕ) (births : Births) (s after : Objects D) (run : List (List (Change D)))
       → Lasts (record { step = step; place = 0 }) births s → RunLeads serial_of s run after
-      → (last : Birth) × Lasts last (births_over step births run) after
-  lasts_over step births s after [] lasts same =
-      (record { step = step; place = 0 }, subst (λ a. Lasts (record { step = step; place = 0 }) births a) (sym same) lasts)
-  lasts_over step births s after (changes ∷ rest) lasts (between, first, others) =
-      let (last, same, then) = lasts_in (record { step = step; place = 0 }) births s between changes lasts first in
-      lasts_over (step + 1) (births_in (record { step = step; place = 0 }) births changes) between after rest
-      (later_step last (births_in (record { step = step; place = 0 }) births changes) between (step + 1) (ap (λ k. k + 1) same) then)
-      others
+      → RunLasts births (births_over step births run) run after
+  lasts_over step births s after [] lasts same = record {
+    last = record { step = step; place = 0 };
+    lasts = subst (λ a. Lasts (record { step = step; place = 0 }) births a) (sym same) lasts;
+    still = λ p in-made. in-made;
+    makes = λ id in-run. absurd in-run;
+  }
+  lasts_over step births s after (changes ∷ rest) lasts (between, leads, others) =
+      let first = lasts_in (record { step = step; place = 0 }) births s between changes lasts leads in
+      let births' = births_in (record { step = step; place = 0 }) births changes in
+      let now = later_step first.last births' between (step + 1) (ap (λ k. k + 1) first.same) first.lasts in
+      let then = lasts_over (step + 1) births' between after rest now others in
+      record {
+        last = then.last;
+        lasts = then.lasts;
+        still = λ p in-made. then.still p (first.still p in-made);
+        makes = λ id in-run. (
+            elim in-run [
+              | inl in-step ↦ (let (b, here) = first.makes id in-step in (b, then.still (id, b) here))
+              | inr later ↦ then.makes id later
+            ]
+            );
+      }
 
   -- ---- the display alone
 
@@ -447,9 +515,10 @@ module _ {D : Type 0} (serial_of : D → ℕ) where
 
   pub identity_law : IdentityLaw serial_of
   identity_law display serial run after leads =
-      let (last, lasts) = lasts_over 1 display_born (begun display) after run (lasts_begun display serial) leads in
+      let whole = lasts_over 1 display_born (begun display) after run (lasts_begun display serial) leads in
       record {
-        serials = lasts.serials;
-        kept = λ n. (λ h. sym (lasts.kept n) ∙ h, λ h. lasts.kept n ∙ h);
-        own = λ id b in-made. (lasts.made id b in-made).own;
+        serials = whole.lasts.serials;
+        kept = λ n. (λ h. sym (whole.lasts.kept n) ∙ h, λ h. whole.lasts.kept n ∙ h);
+        made = whole.makes;
+        own = λ id b in-made. (whole.lasts.made id b in-made).own;
       }
