@@ -1,0 +1,138 @@
+-- What an id names, and how long: the objects of a session over a run of changes.
+--
+-- Objects carry a serial, which `serial_of` reads. A session gives the serials out by one counter, so that an id,
+-- which has a number and a serial, never names an object that took the number of its own.
+use Rattle.std.specs.Prelude.{◌≡◌, ℕ, ◌+◌, ◌≤◌, ◌==◌, if◌then◌else◌, List, [], ◌∷◌, Option, None, Some, IsSome, Contains, ◌↔◌, ◌⊎◌}
+use Rattle.wl_link.specs.declared.object.Object.{Object}
+use Rattle.wl_link.specs.Store.{Store, empty_store, held, stored, removed, rewritten}
+
+-- what names in an object id
+pub record Id : Type 0 where
+  pub number : ℕ
+  pub serial : ℕ
+
+-- the step that put an object into the store, and its place among that step's new objects
+pub record Birth : Type 0 where
+  pub step : ℕ
+  pub place : ℕ
+
+-- the kept objects, and the last serial given out
+pub record Objects (D : Type 0) : Type 0 where
+  pub store : Store D
+  pub last_serial : ℕ
+
+-- what a step does, in order: an object is put at a number, leaves its number, is written to, or an id is made of it
+pub data Change (D : Type 0) : Type 0 where
+  Born : (number : ℕ) (object : Object D) → Change D
+  Gone : (number : ℕ) → Change D
+  Wrote : (number : ℕ) (object : Object D) → Change D
+  Made : (id : Id) → Change D
+
+-- the birth of the object at each number, and the ids that were made, each with the birth of its object
+pub record Births : Type 0 where
+  pub of_number : ℕ → Option Birth
+  pub made : List (Id × Birth)
+
+abbrev pub at_number : (ℕ → Option Birth) → ℕ → Option Birth → ℕ → Option Birth
+at_number births n birth m = if m == n then birth else births m
+
+abbrev pub with_made : Births → Id → Option Birth → Births
+with_made births id None = births
+with_made births id (Some birth) = record births { made = (id, birth) ∷ births.made }
+
+-- the births after the changes of a step, where the step's next new object has this one
+abbrev pub births_in : {D : Type 0} → Birth → Births → List (Change D) → Births
+births_in next births [] = births
+births_in next births (Born n _ ∷ rest) =
+    births_in (record next { place = next.place + 1 }) (record births { of_number = at_number births.of_number n (Some next) }) rest
+births_in next births (Gone n ∷ rest) = births_in next (record births { of_number = at_number births.of_number n None }) rest
+births_in next births (Wrote _ _ ∷ rest) = births_in next births rest
+births_in next births (Made id ∷ rest) = births_in next (with_made births id (births.of_number id.number)) rest
+
+-- the births after the steps of a run, of which the next has this number
+abbrev pub births_over : {D : Type 0} → ℕ → Births → List (List (Change D)) → Births
+births_over step births [] = births
+births_over step births (changes ∷ rest) =
+    births_over (step + 1) (births_in (record { step = step; place = 0 }) births changes) rest
+
+-- a step of the run makes the id
+abbrev pub IsMadeInStep : {D : Type 0} → List (Change D) → Id → Type 0
+IsMadeInStep [] id = ⊥
+IsMadeInStep (Made made ∷ rest) id = (made ≡ id) ⊎ IsMadeInStep rest id
+IsMadeInStep (_ ∷ rest) id = IsMadeInStep rest id
+
+abbrev pub IsMadeIn : {D : Type 0} → List (List (Change D)) → Id → Type 0
+IsMadeIn [] id = ⊥
+IsMadeIn (step ∷ rest) id = IsMadeInStep step id ⊎ IsMadeIn rest id
+
+-- a session begins with step 0, which puts the display at number 1
+abbrev pub display_born : Births
+display_born = record { of_number = at_number (λ _. None) 1 (Some (record { step = 0; place = 0 })); made = [] }
+
+-- the births after a run, from the display's on
+abbrev pub births_of : {D : Type 0} → List (List (Change D)) → Births
+births_of run = births_over 1 display_born run
+
+abbrev pub begun : {D : Type 0} → Object D → Objects D
+begun display = record { store = stored empty_store 1 display; last_serial = 0 }
+
+module _ {D : Type 0} (serial_of : D → ℕ) where
+  -- the object at an id's number, if it has the id's serial
+  abbrev pub named_in : Id → Option (Object D) → Option (Object D)
+  named_in id None = None
+  named_in id (Some x) = if serial_of x.value == id.serial then Some x else None
+
+  -- the object that an id names: the one at its number, if that has its serial. The number 0 names none
+  abbrev pub names : Id → Store D → Option (Object D)
+  names id store = if id.number == 0 then None else named_in id (held store id.number)
+
+  -- A new object takes a number that holds none, and the next serial; one that is written to keeps its serial; an
+  -- id is made of the object that it then names.
+  abbrev pub Changes : Objects D → Change D → Objects D → Type 0
+  Changes before (Born n x) after =
+      (held before.store n ≡ None) × (serial_of x.value ≡ before.last_serial + 1)
+      × (after ≡ record { store = stored before.store n x; last_serial = before.last_serial + 1 })
+  Changes before (Gone n) after = after ≡ record before { store = removed before.store n }
+  Changes before (Wrote n x) after =
+      ((y : Object D) × (held before.store n ≡ Some y) × (serial_of x.value ≡ serial_of y.value))
+      × (after ≡ record before { store = rewritten before.store n x })
+  Changes before (Made id) after = IsSome (names id before.store) × (after ≡ before)
+
+  -- the changes of a step, one after the other
+  abbrev pub StepLeads : Objects D → List (Change D) → Objects D → Type 0
+  StepLeads before [] after = after ≡ before
+  StepLeads before (change ∷ rest) after =
+      (between : Objects D) × Changes before change between × StepLeads between rest after
+
+  -- the steps of a run, one after the other
+  abbrev pub RunLeads : Objects D → List (List (Change D)) → Objects D → Type 0
+  RunLeads before [] after = after ≡ before
+  RunLeads before (step ∷ rest) after =
+      (between : Objects D) × StepLeads before step between × RunLeads between rest after
+
+  -- the kept serials are distinct and at most the last one given out
+  pub record HasSerials (objects : Objects D) : Type 0 where
+    pub distinct : (n m : ℕ) (x y : Object D) → held objects.store n ≡ Some x → held objects.store m ≡ Some y
+        → serial_of x.value ≡ serial_of y.value → n ≡ m
+    pub at_most_last : (n : ℕ) (x : Object D) → held objects.store n ≡ Some x → serial_of x.value ≤ objects.last_serial
+
+  -- the id names the object at its number exactly while that is the one of this birth, and else none
+  abbrev pub NamesOwn : (ℕ → Option Birth) → Store D → Id → Birth → Type 0
+  NamesOwn births store id birth = IsSome (names id store) ↔ (births id.number ≡ Some birth)
+
+  -- what holds after a run
+  pub record HasIdentity (run : List (List (Change D))) (after : Objects D) : Type 0 where
+    pub serials : HasSerials after
+    -- a number has a birth exactly while it holds an object
+    pub kept : (n : ℕ) → IsSome ((births_of run).of_number n) ↔ IsSome (held after.store n)
+    -- each id that was made has the birth of the object that it was made of
+    pub made : (id : Id) → IsMadeIn run id → (birth : Birth) × Contains (births_of run).made (id, birth)
+    -- and names that object exactly while that is kept, and afterwards none
+    pub own : (id : Id) (birth : Birth) → Contains (births_of run).made (id, birth)
+        → NamesOwn (births_of run).of_number after.store id birth
+
+  -- every run of a session has that, from its display alone on, whose serial is 0
+  abbrev pub IdentityLaw : Type 0
+  IdentityLaw =
+      (display : Object D) → serial_of display.value ≡ 0 → (run : List (List (Change D))) (after : Objects D)
+      → RunLeads (begun display) run after → HasIdentity run after

@@ -1,0 +1,238 @@
+//! The objects of a session by their numbers.
+
+ghost use Rattle.std.specs.Prelude.{◌≡◌, false, true, Err, OnOk, OnErr, option_copied};
+ghost use Rattle.std.specs.Fn.{FnOnceReturnsAtMut};
+ghost use Rattle.std.specs.FinMap as map;
+ghost use Rattle.wl_link.specs.Store.{client_range, server_range, empty_store, held, removed, IsWalk};
+ghost use Rattle.wl_link.specs.ObjectMap.{InsertsAt, InsertsNew, NextNew, Lends};
+ghost use Rattle.wl_link.specs.PlaceList.{IsPlaceOf};
+ghost use Rattle.wl_link.specs.declared.object_map.InsertError.TheVariants as insert;
+ghost use Rattle.wl_link.specs.declared.object_map.NewError.TheVariants as new;
+
+use crate::all_objects::AllObjects;
+use crate::object::Object;
+use crate::places::Places;
+use std::alloc::Global;
+use std::marker::Model;
+use thiserror::Error;
+use wl_wire::OutOfMemory;
+
+/// The first number of the objects that a server makes; those of a client have the numbers from 1 on below it.
+pub const SERVER_ID_LIMIT: u32 = 0xFF00_0000;
+
+/// How many numbers the client's range has.
+const CLIENT_PLACES: usize = SERVER_ID_LIMIT as usize - 1;
+
+/// How many numbers the server's range has.
+const SERVER_PLACES: usize = 0x0100_0000;
+
+/// Why an object was not put at a given number.
+#[derive(Clone, Copy, Debug, PartialEq, Eq, Error)]
+pub enum InsertError {
+    /// The number is 0, holds an object, or lies past the first unused number of its range.
+    #[error("the number is not free")]
+    NotFree,
+    /// There was no memory.
+    #[error("out of memory")]
+    OutOfMemory,
+}
+
+/// Why a new object got no number.
+#[derive(Clone, Copy, Debug, PartialEq, Eq, Error)]
+pub enum NewError {
+    /// Each number of the range holds an object.
+    #[error("no number is left")]
+    IdsExhausted,
+    /// There was no memory.
+    #[error("out of memory")]
+    OutOfMemory,
+}
+
+/// The objects of a session, by number: 1 to 0xFEFFFFFF for those that the client makes, 0xFF000000 to 0xFFFFFFFF
+/// for those that the server makes.
+#[derive(Debug, Drop)]
+pub struct ObjectMap<Data> {
+    clients: Places<Data>,
+    servers: Places<Data>,
+}
+
+impl<Data> Model for ObjectMap<Data> {
+    ghost use Rattle.std.specs.Prelude.{◌&&◌};
+    ghost use Rattle.wl_link.specs.ObjectMap.{MapState, map_code};
+
+    ghost Value = { MapState Data };
+
+    ghost coded = { map_code Data.code };
+
+    ghost use Rattle.wl_link.specs.PlaceList.{has_room, store_of, Within};
+
+    ghost view = { λ m. record {
+      store = store_of m.clients.slots.items m.servers.slots.items;
+      reserved = has_room m.clients.slots && has_room m.servers.slots;
+    } };
+
+    ghost invariant = { λ m. Within m.clients.slots.items m.servers.slots.items };
+}
+
+/// Where the object of a number is kept.
+enum Place {
+    /// 0 is no object's number.
+    Nowhere,
+    /// The place in the client's range.
+    Client(usize),
+    /// The place in the server's range.
+    Server(usize),
+}
+
+/// Where the object of this number is kept.
+fn place_of(number: u32) -> Place
+    ensures { IsPlaceOf number result }
+{
+    if number >= SERVER_ID_LIMIT {
+        Place::Server((number - SERVER_ID_LIMIT) as usize)
+    } else if number > 0 {
+        Place::Client((number - 1) as usize)
+    } else {
+        Place::Nowhere
+    }
+}
+
+impl<Data: Drop> ObjectMap<Data> {
+    /// A map without objects. It takes no memory.
+    pub fn new(alloc: Global) -> Self
+        ensures { result.store ≡ empty_store }
+    {
+        ObjectMap {
+            clients: Places::new(alloc),
+            servers: Places::new(alloc),
+        }
+    }
+
+    /// The object of this number. It takes no memory.
+    pub fn find(&self, number: u32) -> Option<&Object<Data>>
+        ensures found { option_copied result ≡ held self.now.store number }
+    {
+        match place_of(number) {
+            Place::Nowhere => None,
+            Place::Client(at) => self.clients.find(at),
+            Place::Server(at) => self.servers.find(at),
+        }
+    }
+
+    /// Takes the object of this number out. It takes no memory, and its number can be given to another object.
+    pub fn remove(&mut self, number: u32) -> Option<Object<Data>>
+        ensures found { result ≡ held self.old.store number }
+        ensures removed { self.new.store ≡ removed self.old.store number }
+        ensures reserved { self.new.reserved ≡ self.old.reserved }
+    {
+        match place_of(number) {
+            Place::Nowhere => None,
+            Place::Client(at) => self.clients.remove(at),
+            Place::Server(at) => self.servers.remove(at),
+        }
+    }
+
+    /// Puts an object at this number.
+    ///
+    /// The number must be free: not 0, without an object, and below the first unused number of its range or equal to
+    /// it; else the answer is `NotFree`. A refusal changes nothing.
+    pub fn insert_at(&mut self, number: u32, object: Object<Data>) -> Result<(), InsertError>
+        ensures inserts { InsertsAt self.old.store number object result self.new.store }
+        ensures reserved { result ≡ Err insert.OutOfMemory → self.old.reserved ≡ false }
+        ensures kept { OnErr result (self.old.reserved ≡ true → self.new.reserved ≡ true) }
+    {
+        match place_of(number) {
+            Place::Nowhere => Err(InsertError::NotFree),
+            Place::Client(at) => self.clients.insert_at(at, object),
+            Place::Server(at) => self.servers.insert_at(at, object),
+        }
+    }
+
+    /// Puts a new object of the client at the least number of the client's range that holds none, and answers that
+    /// number; `IdsExhausted` where each holds one. A refusal changes nothing.
+    pub fn client_insert_new(&mut self, object: Object<Data>) -> Result<u32, NewError>
+        ensures inserts { InsertsNew client_range self.old.store object result self.new.store }
+        ensures reserved { result ≡ Err new.OutOfMemory → self.old.reserved ≡ false }
+        ensures kept { OnErr result (self.old.reserved ≡ true → self.new.reserved ≡ true) }
+    {
+        let at = self.clients.first_free();
+        if at >= CLIENT_PLACES {
+            return Err(NewError::IdsExhausted);
+        }
+        match self.clients.put(at, object) {
+            Ok(()) => Ok(at as u32 + 1),
+            Err(OutOfMemory) => Err(NewError::OutOfMemory),
+        }
+    }
+
+    /// Puts a new object of the server at the least number of the server's range that holds none, and answers that
+    /// number; `IdsExhausted` where each holds one. A refusal changes nothing.
+    pub fn server_insert_new(&mut self, object: Object<Data>) -> Result<u32, NewError>
+        ensures inserts { InsertsNew server_range self.old.store object result self.new.store }
+        ensures reserved { result ≡ Err new.OutOfMemory → self.old.reserved ≡ false }
+        ensures kept { OnErr result (self.old.reserved ≡ true → self.new.reserved ≡ true) }
+    {
+        let at = self.servers.first_free();
+        if at >= SERVER_PLACES {
+            return Err(NewError::IdsExhausted);
+        }
+        match self.servers.put(at, object) {
+            Ok(()) => Ok(at as u32 + SERVER_ID_LIMIT),
+            Err(OutOfMemory) => Err(NewError::OutOfMemory),
+        }
+    }
+
+    /// The number that `client_insert_new` would give, or none where each number of its range holds an object. It
+    /// takes no memory.
+    pub fn next_client(&mut self) -> Option<u32>
+        ensures next { NextNew client_range self.old.store result }
+        ensures store { self.new.store ≡ self.old.store }
+        ensures reserved { self.new.reserved ≡ self.old.reserved }
+    {
+        let at = self.clients.first_free();
+        if at < CLIENT_PLACES {
+            Some(at as u32 + 1)
+        } else {
+            None
+        }
+    }
+
+    /// Makes room, so that the next insertion takes no memory.
+    pub fn reserve(&mut self) -> Result<(), OutOfMemory>
+        ensures ok { OnOk result (self.new.reserved ≡ true) }
+        ensures err { OnErr result (self.old.reserved ≡ false) }
+        ensures store { self.new.store ≡ self.old.store }
+    {
+        self.clients.reserve()?;
+        self.servers.reserve()
+    }
+
+    /// Lends the object of this number for writing: `f` is called with it once, and its answer is given. Where the
+    /// number holds no object, `f` is not called. It takes no memory beside what `f` takes.
+    pub fn with<R, F: FnOnce(&mut Object<Data>) -> R>(&mut self, number: u32, f: F) -> Option<R>
+        requires { F.IsAlwaysCallable f }
+        ensures called { Lends (FnOnceReturnsAtMut F.FnOnce f) self.old.store number result self.new.store }
+        ensures reserved { self.new.reserved ≡ self.old.reserved }
+    {
+        match place_of(number) {
+            Place::Nowhere => None,
+            Place::Client(at) => self.clients.with(at, f),
+            Place::Server(at) => self.servers.with(at, f),
+        }
+    }
+
+    /// The objects with their numbers, by ascending number: the client's range first, then the server's. Neither this
+    /// nor the walk takes memory.
+    pub fn all_objects(&self) -> AllObjects<'_, Data>
+        ensures objects { result ≡ map.entries self.now.store.objects }
+        ensures walk { IsWalk self.now.store result }
+    {
+        AllObjects {
+            clients: self.clients.objects(1),
+            servers: self.servers.objects(SERVER_ID_LIMIT),
+        }
+    }
+}
+
+#[cfg(test)]
+mod tests;
