@@ -1,5 +1,5 @@
 pub mod Exchange
 pub mod Script
 pub mod ScriptLaws
-pub mod Storage
 pub mod Link
+pub mod Storage
