@@ -9,7 +9,7 @@ use Rattle.wl_wire.specs.declared.error.IoFault.{IoFault}
 use Rattle.wl_link.specs.Exchange.{Queue, Lands, receipt}
 use Rattle.wl_link.specs.Storage.{Received, beside, arrived}
 
-front_and_part : (front part post : List ℕ) (w n : ℕ) → length front ≡ w → n ≤ length part
+pub front_and_part : (front part post : List ℕ) (w n : ℕ) → length front ≡ w → n ≤ length part
     → take (w + n) (front ++ (part ++ post)) ≡ front ++ take n part
 front_and_part front part post w n e le =
     rw (← e) (take-append-add front (part ++ post) n ∙ ap (λ (ys : List ℕ). front ++ ys) (take-append-le n part post le))

@@ -196,9 +196,14 @@ Wrote sends before m answer after = (es : List Sending) × WroteBy sends before 
 -- ---- a fill
 
 -- a receive of no bytes is the end of the stream
-abbrev pub fill_answer : Result Queue IoFault → Result (Unit {0}) IoFault
-fill_answer (Ok came) = if length came.bytes == 0 then Err fault.Pipe else Ok tt
-fill_answer (Err fault) = Err fault
+abbrev pub counted_answer : Result ℕ IoFault → Result (Unit {0}) IoFault
+counted_answer (Ok n) = if n == 0 then Err fault.Pipe else Ok tt
+counted_answer (Err fault) = Err fault
+
+-- the count that a receive of this answers
+abbrev pub count_of : Result Queue IoFault → Result ℕ IoFault
+count_of (Ok came) = Ok (length came.bytes)
+count_of (Err fault) = Err fault
 
 -- what came stands behind what waits, tokens also where no bytes came
 abbrev pub with_came : Queue → Result Queue IoFault → Queue
@@ -210,7 +215,7 @@ abbrev pub FilledBy : {T : Type 0} → (T → ℕ → Result Queue IoFault → T
     → LinkState T → Result Queue IoFault → Result (Unit {0}) IoFault → LinkState T → Type 0
 FilledBy receives before received answer after =
     receives before.transport (before.room - length before.incoming.bytes) received after.transport
-    × (answer ≡ fill_answer received)
+    × (answer ≡ counted_answer (count_of received))
     × (after ≡ with_incoming before after.transport (with_came before.incoming received))
 
 -- or there was no memory for the tokens that a receive may give, and nothing was received

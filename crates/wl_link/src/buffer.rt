@@ -1,14 +1,16 @@
 //! Bytes that wait, in a storage that is used again.
 
-ghost use Rattle.std.specs.Prelude.{◌≡◌, ◌≢◌, ◌+◌, ◌-◌, ◌<◌, ◌≤◌, ◌^◌, ◌↔◌, ◌++◌, [], length, take, drop, slice_range, IfOk, OnOk, OnErr};
+ghost use Rattle.std.specs.Prelude.{◌≡◌, ◌≢◌, ◌+◌, ◌-◌, ◌<◌, ◌≤◌, ◌^◌, ◌↔◌, ◌++◌, [], length, take, drop, slice_range, Err, IfOk, OnOk, OnErr};
+ghost use Rattle.wl_wire.specs.Message.{content, size, spelling, tokens};
 ghost use Rattle.wl_link.specs.Exchange.{Lands, receipt};
-ghost use Rattle.wl_link.specs.Storage.{waits, beside, arrived, Received};
+ghost use Rattle.wl_link.specs.Storage.{waits, beside, arrived, Received, Appended};
 
+use crate::token_queue::TokenQueue;
 use crate::transport::Transport;
 use std::alloc::Global;
 use std::collections::VecDeque;
 use std::marker::Model;
-use wl_wire::{IoFault, OutOfMemory, Token};
+use wl_wire::{IoFault, Message, MessageWriteError, OutOfMemory, Token};
 
 /// Bytes that wait in their order, in a storage of a given size.
 ///
@@ -94,6 +96,52 @@ impl Buffer {
         Ok(())
     }
 
+    /// Writes the message behind the bytes that wait, and puts its tokens behind those in the queue.
+    ///
+    /// The bytes that wait are not moved, so there may be too little room behind them where the storage has enough.
+    pub fn write(
+        &mut self,
+        message: &Message<u32, Token>,
+        fds: &mut TokenQueue,
+    ) -> Result<(), MessageWriteError>
+        ensures { Appended self.old fds.old (content message.now) result self.new fds.new }
+    {
+        let end = self.end;
+        match write_behind(message, &mut self.storage, self.start, end, fds) {
+            Ok(count) => {
+                self.end = end + count;
+                Ok(())
+            }
+            Err(error) => Err(error),
+        }
+    }
+
+    /// Writes the message behind the bytes that wait, which are moved to the front, and puts its tokens behind those
+    /// in the queue. Where there is no memory for these, nothing is changed.
+    pub fn put(
+        &mut self,
+        message: &Message<u32, Token>,
+        fds: &mut TokenQueue,
+    ) -> Result<(), MessageWriteError>
+        requires small { size (content message.now) ≤ 65535 }
+        requires room { length self.old.bytes + size (content message.now) ≤ self.old.size }
+        ensures appended { Appended self.old fds.old (content message.now) result self.new fds.new }
+        ensures fits { result ≢ Err MessageWriteError.BufferTooSmall }
+    {
+        let (start, end) = (self.start, self.end);
+        self.start = 0;
+        match write_at_front(message, &mut self.storage, start, end, fds) {
+            Ok(count) => {
+                self.end = end - start + count;
+                Ok(())
+            }
+            Err(error) => {
+                self.end = end - start;
+                Err(error)
+            }
+        }
+    }
+
     /// Receives behind the bytes that wait, into all of the storage that is free, and answers how many bytes came.
     /// The tokens that came are put behind those in the queue. A fault changes neither.
     pub fn receive<T: Transport>(
@@ -130,6 +178,44 @@ fn move_to_front(storage: &mut [u8], start: usize, end: usize)
     if start > 0 {
         storage.copy_within(start..end, 0);
     }
+}
+
+/// Writes the message behind the bytes from `start` to `end`, and puts its tokens behind those in the queue. Answers
+/// how many bytes were written.
+fn write_behind(
+    message: &Message<u32, Token>,
+    storage: &mut [u8],
+    start: usize,
+    end: usize,
+    fds: &mut TokenQueue,
+) -> Result<usize, MessageWriteError>
+    requires ordered { start ≤ end }
+    requires within { end ≤ length storage.old }
+    ensures appended { Appended (waits (slice_range storage.old start end) (length storage.old)) fds.old (content message.now) result
+        (waits (slice_range storage.new start (end + arrived result)) (length storage.old)) fds.new }
+    ensures room { end + arrived result ≤ length storage.old }
+    ensures too_small { result ≡ Err MessageWriteError.BufferTooSmall → length storage.old < end + size (content message.now) }
+{
+    fds.write(message, &mut storage[end..])
+}
+
+/// Moves the bytes from `start` to `end` to the front, and writes the message behind them.
+fn write_at_front(
+    message: &Message<u32, Token>,
+    storage: &mut [u8],
+    start: usize,
+    end: usize,
+    fds: &mut TokenQueue,
+) -> Result<usize, MessageWriteError>
+    requires ordered { start ≤ end }
+    requires within { end ≤ length storage.old }
+    ensures appended { Appended (waits (slice_range storage.old start end) (length storage.old)) fds.old (content message.now) result
+        (waits (slice_range storage.new 0 (end - start + arrived result)) (length storage.old)) fds.new }
+    ensures room { end - start + arrived result ≤ length storage.old }
+    ensures too_small { result ≡ Err MessageWriteError.BufferTooSmall → length storage.old < end - start + size (content message.now) }
+{
+    move_to_front(storage, start, end);
+    write_behind(message, storage, 0, end - start, fds)
 }
 
 /// Moves the bytes from `start` to `end` to the front, and receives behind them.

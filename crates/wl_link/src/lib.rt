@@ -2,10 +2,13 @@
 #![tactic(auto)]
 
 mod buffer;
+mod buffered_socket;
+mod limit;
 mod memory;
 mod parcel;
 mod token_queue;
 mod transport;
 
+pub use buffered_socket::{BufferedSocket, DEFAULT_MAX_BUFFER_SIZE, MAX_BYTES_OUT, MAX_FDS_OUT};
 pub use memory::{ArriveError, Memory};
 pub use transport::Transport;

@@ -1,10 +1,11 @@
 //! Tokens that wait to be sent.
 
-ghost use Rattle.std.specs.Prelude.{◌≡◌, ◌++◌, [], length, take, drop};
+ghost use Rattle.std.specs.Prelude.{◌≡◌, ◌≢◌, ◌↔◌, ◌<◌, ◌≤◌, ◌++◌, [], Err, length, take, drop, IfOk, OnOk, OnErr};
+ghost use Rattle.wl_wire.specs.Message.{content, size, spelling, tokens};
 
 use std::alloc::Global;
 use std::marker::Model;
-use wl_wire::Token;
+use wl_wire::{Message, MessageWriteError, Token, write_to_buffers};
 
 /// Tokens that wait in their order. Taking some off the front moves the others only where those taken off before
 /// are as many as are left.
@@ -63,6 +64,25 @@ impl TokenQueue {
             self.tokens.drain(..start);
             self.start = 0;
         }
+    }
+
+    /// Writes the message at the front of the slice, and puts its tokens behind those that wait. Answers how many
+    /// bytes were written. A refusal changes nothing.
+    pub fn write(
+        &mut self,
+        message: &Message<u32, Token>,
+        payload: &mut [u8],
+    ) -> Result<usize, MessageWriteError>
+        ensures written { IfOk result (λ n. (n ≡ size (content message.now))
+            × (payload.new ≡ spelling (content message.now) ++ drop n payload.old)) }
+        ensures tokens { OnOk result (self.new ≡ self.old ++ tokens message.now.args.items) }
+        ensures too_long { (result ≡ Err MessageWriteError.TooLong) ↔ (65535 < size (content message.now)) }
+        ensures too_small { (result ≡ Err MessageWriteError.BufferTooSmall)
+            ↔ ((size (content message.now) ≤ 65535) × (length payload.old < size (content message.now))) }
+        ensures no_tokens { tokens message.now.args.items ≡ [] → result ≢ Err MessageWriteError.OutOfMemory }
+        ensures unchanged { OnErr result ((payload.new ≡ payload.old) × (self.new ≡ self.old)) }
+    {
+        write_to_buffers(message, payload, &mut self.tokens)
     }
 }
 

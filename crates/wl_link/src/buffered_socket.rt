@@ -1,0 +1,197 @@
+//! The buffered link over a transport.
+
+ghost use Rattle.std.specs.Prelude.{◌≡◌, ◌≢◌, ◌+◌, ◌<◌, ◌≤◌, ◌∷◌, [], length, take, nat_le, if◌then◌else◌, Ok, Err, IfOk, OnOk, MatchResult};
+ghost use Rattle.std.specs.Borrow.{sem};
+ghost use Rattle.wl_wire.specs.Message.{content, size};
+ghost use Rattle.wl_link.specs.Link.{IsFresh, LimitSet, Flushed, Filled, Grown, Wants, Put, Wrote, needed, has_room, ignoring, counted_answer};
+
+use crate::buffer::Buffer;
+use crate::limit::{LEAST_LIMIT, grown_size, rounded};
+use crate::token_queue::TokenQueue;
+use crate::transport::Transport;
+use std::alloc::Global;
+use std::collections::VecDeque;
+use std::marker::Model;
+use wl_wire::{IoFault, Message, MessageWriteError, OutOfMemory, Token, message_size};
+
+/// The most tokens that one send is offered.
+pub const MAX_FDS_OUT: usize = 28;
+
+/// The most bytes that one send is offered.
+pub const MAX_BYTES_OUT: usize = 4096;
+
+/// The limit of the outgoing storage that a connection has where nothing else is asked for.
+pub const DEFAULT_MAX_BUFFER_SIZE: usize = 4096;
+
+/// The most tokens that one receive gives.
+const MAX_FDS_IN: usize = 28;
+
+/// A transport, and what waits on both sides of it: bytes and tokens that were received and not read yet, and those
+/// that were written and not sent yet.
+#[derive(Debug, Drop)]
+pub struct BufferedSocket<T> {
+    transport: T,
+    incoming: Buffer,
+    fds_in: VecDeque<Token>,
+    outgoing: Buffer,
+    fds_out: TokenQueue,
+    limit: Option<usize>,
+}
+
+impl<T> Model for BufferedSocket<T> {
+    ghost use Rattle.wl_link.specs.Link.{LinkState};
+    ghost use Rattle.wl_link.specs.Storage.{beside};
+
+    ghost Value = { LinkState T };
+
+    ghost view = { λ s. record {
+        transport = s.transport;
+        incoming = beside s.incoming.bytes s.fds_in.items;
+        room = s.incoming.size;
+        outgoing = beside s.outgoing.bytes s.fds_out;
+        storage = s.outgoing.size;
+        limit = s.limit;
+    } };
+}
+
+impl<T> BufferedSocket<T> {
+    /// A link over the transport on which nothing waits. Both storages have 4096 bytes, and the outgoing one may grow
+    /// up to the limit, which is rounded up to a power of two and is at least 4096; without a limit it may always
+    /// grow.
+    pub fn new(alloc: Global, transport: T, max_buffer_size: Option<usize>) -> Result<Self, OutOfMemory>
+    where
+        T: Drop,
+        ensures { IfOk result (IsFresh transport max_buffer_size) }
+    {
+        let incoming = Buffer::new(alloc, LEAST_LIMIT)?;
+        let outgoing = Buffer::new(alloc, LEAST_LIMIT)?;
+        Ok(BufferedSocket {
+            transport,
+            incoming,
+            fds_in: VecDeque::new(alloc),
+            outgoing,
+            fds_out: TokenQueue::new(alloc),
+            limit: rounded(max_buffer_size),
+        })
+    }
+
+    /// Sets how far the outgoing storage may grow, rounded as for a new link. A storage that is larger already stays.
+    pub fn set_max_buffer_size(&mut self, max_buffer_size: Option<usize>)
+        ensures { LimitSet self.old max_buffer_size self.new }
+    {
+        self.limit = rounded(max_buffer_size);
+    }
+
+    /// How far the outgoing storage may grow, in bytes; `None` where it always may.
+    pub fn max_buffer_size(&self) -> Option<usize>
+        ensures { result ≡ self.now.limit }
+    {
+        self.limit
+    }
+
+    /// How many bytes and tokens were received and not read yet, and how many were written and not sent yet.
+    pub fn waiting(&self) -> [usize; 4]
+        ensures { result ≡ length self.now.incoming.bytes ∷ length self.now.incoming.tokens
+            ∷ length self.now.outgoing.bytes ∷ length self.now.outgoing.tokens ∷ [] }
+    {
+        [
+            self.incoming.len(),
+            self.fds_in.len(),
+            self.outgoing.len(),
+            self.fds_out.len(),
+        ]
+    }
+
+    /// How many bytes the incoming and the outgoing storage hold.
+    pub fn storage(&self) -> [usize; 2]
+        ensures { result ≡ self.now.room ∷ self.now.storage ∷ [] }
+    {
+        [self.incoming.size(), self.outgoing.size()]
+    }
+
+    /// The transport.
+    pub fn transport(&self) -> &T
+        ensures { result.now ≡ self.now.transport }
+    {
+        &self.transport
+    }
+
+    /// The transport, which may be changed; what waits stays as it is.
+    pub fn transport_mut(&mut self) -> &mut T
+        ensures value { result.now ≡ self.old.transport }
+    {
+        &mut self.transport
+    }
+
+    /// The transport, where what waits is given up.
+    pub fn into_transport(self) -> T
+        ensures { result ≡ self.transport }
+    {
+        let BufferedSocket { transport, incoming: _, fds_in: _, outgoing: _, fds_out: _, limit: _ } = self;
+        transport
+    }
+}
+
+impl<T: Transport> BufferedSocket<T> {
+    /// Sends what waits.
+    ///
+    /// While bytes wait, a send is offered up to 4096 of them with all tokens, or 1 byte with 28 tokens where more
+    /// wait. What a send took is gone. A send that takes no bytes ends the flush with `Ok`, and the tokens that it
+    /// was offered are gone. A fault of the transport ends the flush, and is answered; what was not sent still waits.
+    pub fn flush(&mut self) -> Result<(), IoFault>
+        ensures { Flushed T.sends self.old result self.new }
+    {
+        while self.outgoing.len() > 0 {
+            let bytes = first_bytes(self.outgoing.bytes(), self.fds_out.len());
+            let fds = self.fds_out.first(MAX_FDS_OUT);
+            match self.transport.send_msg(bytes, fds) {
+                Err(fault) => return Err(fault),
+                Ok(0) => {
+                    self.fds_out.drop_first(MAX_FDS_OUT);
+                    return Ok(());
+                }
+                Ok(count) => {
+                    self.outgoing.consume(count);
+                    self.fds_out.drop_first(MAX_FDS_OUT);
+                }
+            }
+        }
+        Ok(())
+    }
+
+    /// Receives once, into all of the incoming storage that is free.
+    ///
+    /// Where no bytes came the answer is `Pipe`, also where none are free; tokens that came with none still wait. A
+    /// fault of the transport is answered. Room for the most tokens that a receive may give is made before it;
+    /// without memory for that the answer is `OutOfMemory`, and nothing was received.
+    pub fn fill_incoming_buffers(&mut self) -> Result<(), IoFault>
+        ensures { Filled T.receives self.old result self.new }
+    {
+        let Ok(()) = self.fds_in.reserve(MAX_FDS_IN) else {
+            return Err(IoFault::OutOfMemory);
+        };
+        let received = self.incoming.receive(&mut self.transport, &mut self.fds_in);
+        answer_of(received)
+    }
+}
+
+/// What is offered of the bytes that wait, where so many tokens wait.
+#[tactic(auto, using(std::proofs::lemmas::List::take_min))]
+fn first_bytes(bytes: &[u8], tokens: usize) -> &[u8]
+    ensures { result.now ≡ take (if nat_le tokens 28 then 4096 else 1) bytes.now }
+{
+    let most = if tokens > MAX_FDS_OUT { 1 } else { MAX_BYTES_OUT };
+    let count = most.min(bytes.len());
+    &bytes[..count]
+}
+
+/// A receive of no bytes is the end of the stream.
+fn answer_of(received: Result<usize, IoFault>) -> Result<(), IoFault>
+    ensures { result ≡ counted_answer received }
+{
+    match received {
+        Ok(0) => Err(IoFault::Pipe),
+        Ok(_) => Ok(()),
+        Err(fault) => Err(fault),
+    }
+}
