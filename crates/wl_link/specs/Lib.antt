@@ -3,3 +3,4 @@ pub mod Script
 pub mod ScriptLaws
 pub mod Link
 pub mod Storage
+pub mod FlushLaws

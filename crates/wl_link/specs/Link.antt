@@ -61,10 +61,9 @@ with_incoming l transport incoming = record {
 -- greatest power of two it becomes the greatest number.
 abbrev pub IsLimit : ℕ → ℕ → Type 0
 IsLimit asked limit =
-    MatchBool (nat_le asked (2 ^ 63))
-    (IsPowerOfTwo limit × (asked ≤ limit) × (4096 ≤ limit)
+    (asked ≤ 2 ^ 63 → IsPowerOfTwo limit × (asked ≤ limit) × (4096 ≤ limit)
     × ((p : ℕ) → IsPowerOfTwo p → asked ≤ p → 4096 ≤ p → limit ≤ p))
-    (limit ≡ 2 ^ 64 - 1)
+    × (2 ^ 63 < asked → limit ≡ 2 ^ 64 - 1)
 
 -- no limit stays no limit
 abbrev pub AreLimits : Option ℕ → Option ℕ → Type 0

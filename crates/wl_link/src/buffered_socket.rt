@@ -45,12 +45,12 @@ impl<T> Model for BufferedSocket<T> {
     ghost Value = { LinkState T };
 
     ghost view = { λ s. record {
-        transport = s.transport;
-        incoming = beside s.incoming.bytes s.fds_in.items;
-        room = s.incoming.size;
-        outgoing = beside s.outgoing.bytes s.fds_out;
-        storage = s.outgoing.size;
-        limit = s.limit;
+      transport = s.transport;
+      incoming = beside s.incoming.bytes s.fds_in.items;
+      room = s.incoming.size;
+      outgoing = beside s.outgoing.bytes s.fds_out;
+      storage = s.outgoing.size;
+      limit = s.limit;
     } };
 }
 
@@ -58,7 +58,11 @@ impl<T> BufferedSocket<T> {
     /// A link over the transport on which nothing waits. Both storages have 4096 bytes, and the outgoing one may grow
     /// up to the limit, which is rounded up to a power of two and is at least 4096; without a limit it may always
     /// grow.
-    pub fn new(alloc: Global, transport: T, max_buffer_size: Option<usize>) -> Result<Self, OutOfMemory>
+    pub fn new(
+        alloc: Global,
+        transport: T,
+        max_buffer_size: Option<usize>,
+    ) -> Result<Self, OutOfMemory>
     where
         T: Drop,
         ensures { IfOk result (IsFresh transport max_buffer_size) }
@@ -127,7 +131,14 @@ impl<T> BufferedSocket<T> {
     pub fn into_transport(self) -> T
         ensures { result ≡ self.transport }
     {
-        let BufferedSocket { transport, incoming: _, fds_in: _, outgoing: _, fds_out: _, limit: _ } = self;
+        let BufferedSocket {
+            transport,
+            incoming: _,
+            fds_in: _,
+            outgoing: _,
+            fds_out: _,
+            limit: _,
+        } = self;
         transport
     }
 }
@@ -180,7 +191,11 @@ impl<T: Transport> BufferedSocket<T> {
 fn first_bytes(bytes: &[u8], tokens: usize) -> &[u8]
     ensures { result.now ≡ take (if nat_le tokens 28 then 4096 else 1) bytes.now }
 {
-    let most = if tokens > MAX_FDS_OUT { 1 } else { MAX_BYTES_OUT };
+    let most = if tokens > MAX_FDS_OUT {
+        1
+    } else {
+        MAX_BYTES_OUT
+    };
     let count = most.min(bytes.len());
     &bytes[..count]
 }

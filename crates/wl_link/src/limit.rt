@@ -6,6 +6,9 @@ ghost use Rattle.wl_link.specs.Link.{AreLimits, IsLimit, Grows, Wants};
 /// The least limit, which is also the size that the storage of a new link has.
 pub(crate) const LEAST_LIMIT: usize = 4096;
 
+/// The greatest power of two of 64 bits.
+const GREATEST_POWER_OF_TWO: usize = 1 << 63;
+
 /// The limit that is kept where this one is asked for.
 pub(crate) fn rounded(limit: Option<usize>) -> Option<usize>
     ensures { AreLimits limit result }
@@ -16,14 +19,15 @@ pub(crate) fn rounded(limit: Option<usize>) -> Option<usize>
     }
 }
 
-/// The least power of two that is not below the number and not below the least limit, or the greatest number.
+/// The least power of two that is not below the number and not below the least limit; the greatest number where the
+/// number is above each power of two.
 fn rounded_up(asked: usize) -> usize
     ensures { IsLimit asked result }
 {
-    match asked.max(LEAST_LIMIT).checked_next_power_of_two() {
-        Some(limit) => limit,
-        None => usize::MAX,
+    if asked > GREATEST_POWER_OF_TWO {
+        return usize::MAX;
     }
+    asked.max(LEAST_LIMIT).next_power_of_two()
 }
 
 /// Whether a storage of that size has too little room, and may be doubled.
@@ -42,7 +46,7 @@ pub(crate) fn grown_size(limit: Option<usize>, needed: usize, size: usize) -> Op
     ensures { MatchOption result (Wants limit needed size) (λ n. Grows limit needed size n) }
 {
     let mut grown = size;
-    while wants_more(limit, needed, grown) {
+    'doublings: while wants_more(limit, needed, grown) {
         grown = grown.checked_mul(2)?;
     }
     Some(grown)
