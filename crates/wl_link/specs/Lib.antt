@@ -4,3 +4,4 @@ pub mod ScriptLaws
 pub mod Link
 pub mod Storage
 pub mod FlushLaws
+pub mod WriteLaws

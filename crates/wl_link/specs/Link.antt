@@ -177,6 +177,10 @@ PlacedBy {T = T} sends before m es answer after =
     (λ _. MatchBool (has_room mid (size m)) (Put mid m answer after) ((answer ≡ Err fault.TooBig) × (after ≡ mid)))
     (λ fault. (answer ≡ Err fault) × (after ≡ mid)))
 
+abbrev pub Placed : {T : Type 0} → (T → Queue → Result ℕ IoFault → T → Type 0)
+    → LinkState T → WireMessage → Result (Unit {0}) IoFault → LinkState T → Type 0
+Placed sends before m answer after = (es : List Sending) × PlacedBy sends before m es answer after
+
 -- A message above 65535 bytes is too big. Otherwise the storage grows, for which there may be no memory, and the
 -- message is put.
 abbrev pub WroteBy : {T : Type 0} → (T → Queue → Result ℕ IoFault → T → Type 0)

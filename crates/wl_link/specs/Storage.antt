@@ -5,6 +5,7 @@ use Rattle.wl_wire.specs.declared.error.MessageWriteError.TheVariants as errors
 use Rattle.wl_wire.specs.Message.{WireMessage, size, spelling, tokens as tokens_of}
 use Rattle.wl_wire.specs.declared.argument.Token.{Token}
 use Rattle.wl_wire.specs.declared.error.IoFault.{IoFault}
+use Rattle.wl_wire.specs.declared.error.IoFault.TheVariants as fault
 use Rattle.wl_link.specs.Exchange.{Queue}
 use Rattle.wl_link.specs.Link.{count_of, with_came}
 
@@ -44,3 +45,10 @@ Appended before fds m (Err errors.BufferTooSmall) after fds' = (size m ≤ 65535
 Appended before fds m (Err errors.OutOfMemory) after fds' =
     (size m ≤ 65535) × (length before.bytes + size m ≤ before.size)
     × (tokens_of m.args ≢ []) × (after ≡ before) × (fds' ≡ fds)
+
+-- the link's answer to a write
+abbrev pub write_answer_of : Result (Unit {0}) MessageWriteError → Result (Unit {0}) IoFault
+write_answer_of (Ok u) = Ok u
+write_answer_of (Err errors.TooLong) = Err fault.TooBig
+write_answer_of (Err errors.BufferTooSmall) = Err fault.TooBig
+write_answer_of (Err errors.OutOfMemory) = Err fault.OutOfMemory

@@ -1,9 +1,10 @@
 //! The buffered link over a transport.
 
-ghost use Rattle.std.specs.Prelude.{◌≡◌, ◌≢◌, ◌+◌, ◌<◌, ◌≤◌, ◌∷◌, [], length, take, nat_le, if◌then◌else◌, Ok, Err, IfOk, OnOk, MatchResult};
+ghost use Rattle.std.specs.Prelude.{◌≡◌, ◌≢◌, ◌+◌, ◌<◌, ◌≤◌, ◌∷◌, [], length, take, nat_le, if◌then◌else◌, IsTrue, Ok, Err, IfOk, MatchResult};
 ghost use Rattle.std.specs.Borrow.{sem};
 ghost use Rattle.wl_wire.specs.Message.{content, size};
-ghost use Rattle.wl_link.specs.Link.{IsFresh, LimitSet, Flushed, Filled, Grown, Wants, Put, Wrote, needed, has_room, ignoring, counted_answer};
+ghost use Rattle.wl_link.specs.Link.{IsFresh, LimitSet, Flushed, Filled, Grown, Wants, Put, Placed, Wrote, needed, has_room, ignoring, counted_answer};
+ghost use Rattle.wl_link.specs.Storage.{write_answer_of};
 
 use crate::buffer::Buffer;
 use crate::limit::{LEAST_LIMIT, grown_size, rounded};
@@ -127,6 +128,40 @@ impl<T> BufferedSocket<T> {
         &mut self.transport
     }
 
+    /// Whether the outgoing storage has room for that many bytes more.
+    fn has_room(&self, size: usize) -> bool
+        ensures { result ≡ has_room self.now size }
+    {
+        size <= self.outgoing.size() - self.outgoing.len()
+    }
+
+    /// Doubles the outgoing storage until it has room for that many bytes more, as far as the limit allows. Where there
+    /// is no memory, it stays as it was.
+    fn grow_for(&mut self, more: usize) -> Result<(), OutOfMemory>
+        requires { more ≤ 65535 }
+        ensures { MatchResult result (λ _. Grown self.old more self.new)
+            (λ _. (self.new ≡ self.old) × Wants self.old.limit (needed self.old more) self.old.storage) }
+    {
+        let size = self.outgoing.size();
+        let needed = self.outgoing.len() + more;
+        let Some(grown) = grown_size(self.limit, needed, size) else {
+            return Err(OutOfMemory);
+        };
+        if grown == size {
+            return Ok(());
+        }
+        self.outgoing.grow(grown)
+    }
+
+    /// Puts the message behind what waits.
+    fn put(&mut self, message: &Message<u32, Token>) -> Result<(), IoFault>
+        requires small { size (content message.now) ≤ 65535 }
+        requires room { IsTrue (has_room self.old (size (content message.now))) }
+        ensures { Put self.old (content message.now) result self.new }
+    {
+        write_answer(self.outgoing.put(message, &mut self.fds_out))
+    }
+
     /// The transport, where what waits is given up.
     pub fn into_transport(self) -> T
         ensures { result ≡ self.transport }
@@ -170,6 +205,65 @@ impl<T: Transport> BufferedSocket<T> {
         Ok(())
     }
 
+    /// Writes the message behind what waits.
+    ///
+    /// Where the outgoing storage has too little room it is doubled, as often as is needed and the limit allows; a
+    /// doubling for which there is no memory is answered by `OutOfMemory`, and changes nothing. Where there is still
+    /// too little room what waits is flushed. A fault of that flush but `WouldBlock` is answered, and the message is
+    /// not written. It is not written either where there is too little room even then, or where it takes more than
+    /// 65535 bytes: both are answered by `TooBig`. Without memory for its tokens the answer is `OutOfMemory`.
+    pub fn write_message(&mut self, message: &Message<u32, Token>) -> Result<(), IoFault>
+        ensures { Wrote T.sends self.old (content message.now) result self.new }
+    {
+        match self.outgoing.write(message, &mut self.fds_out) {
+            Ok(()) => Ok(()),
+            Err(MessageWriteError::TooLong) => Err(IoFault::TooBig),
+            Err(MessageWriteError::OutOfMemory) => Err(IoFault::OutOfMemory),
+            Err(MessageWriteError::BufferTooSmall) => self.make_room_and_write(message),
+        }
+    }
+
+    /// Writes the message where there may be too little room behind what waits.
+    fn make_room_and_write(&mut self, message: &Message<u32, Token>) -> Result<(), IoFault>
+        requires { size (content message.now) ≤ 65535 }
+        ensures { Wrote T.sends self.old (content message.now) result self.new }
+    {
+        let Some(len) = message_size(message) else {
+            return Err(IoFault::TooBig);
+        };
+        let Ok(()) = self.grow_for(len) else {
+            return Err(IoFault::OutOfMemory);
+        };
+        self.place(message, len)
+    }
+
+    /// Writes the message of that size where there is room, and else where there is room after a flush.
+    fn place(&mut self, message: &Message<u32, Token>, len: usize) -> Result<(), IoFault>
+        requires len { len ≡ size (content message.now) }
+        requires small { len ≤ 65535 }
+        ensures { Placed T.sends self.old (content message.now) result self.new }
+    {
+        if self.has_room(len) {
+            return self.put(message);
+        }
+        self.flush_for_room()?;
+        if self.has_room(len) {
+            return self.put(message);
+        }
+        Err(IoFault::TooBig)
+    }
+
+    /// Flushes what waits. That the transport would block is no fault here.
+    fn flush_for_room(&mut self) -> Result<(), IoFault>
+        ensures { (flushed : _) × Flushed T.sends self.old flushed self.new × (result ≡ ignoring flushed) }
+    {
+        match self.flush() {
+            Ok(()) => Ok(()),
+            Err(IoFault::WouldBlock) => Ok(()),
+            Err(fault) => Err(fault),
+        }
+    }
+
     /// Receives once, into all of the incoming storage that is free.
     ///
     /// Where no bytes came the answer is `Pipe`, also where none are free; tokens that came with none still wait. A
@@ -198,6 +292,17 @@ fn first_bytes(bytes: &[u8], tokens: usize) -> &[u8]
     };
     let count = most.min(bytes.len());
     &bytes[..count]
+}
+
+/// The link's answer to a write.
+fn write_answer(written: Result<(), MessageWriteError>) -> Result<(), IoFault>
+    ensures { result ≡ write_answer_of written }
+{
+    match written {
+        Ok(()) => Ok(()),
+        Err(MessageWriteError::TooLong | MessageWriteError::BufferTooSmall) => Err(IoFault::TooBig),
+        Err(MessageWriteError::OutOfMemory) => Err(IoFault::OutOfMemory),
+    }
 }
 
 /// A receive of no bytes is the end of the stream.

@@ -1,6 +1,6 @@
 //! How far the outgoing storage may grow.
 
-ghost use Rattle.std.specs.Prelude.{◌≡◌, ◌↔◌, ◌+◌, ◌*◌, ◌^◌, ◌<◌, ◌≤◌, IsTrue, MatchOption};
+ghost use Rattle.std.specs.Prelude.{◌≡◌, ◌≢◌, ◌↔◌, ◌+◌, ◌*◌, ◌^◌, ◌<◌, ◌≤◌, IsTrue, IfSome, MatchOption};
 ghost use Rattle.wl_link.specs.Link.{AreLimits, IsLimit, Grows, Wants};
 
 /// The least limit, which is also the size that the storage of a new link has.
@@ -43,7 +43,9 @@ fn wants_more(limit: Option<usize>, needed: usize, size: usize) -> bool
 /// What a storage of that size grows to so that it has room; `None` where that is more than a number can say.
 pub(crate) fn grown_size(limit: Option<usize>, needed: usize, size: usize) -> Option<usize>
     requires { 0 < size }
-    ensures { MatchOption result (Wants limit needed size) (λ n. Grows limit needed size n) }
+    ensures grown { MatchOption result (Wants limit needed size) (λ n. Grows limit needed size n) }
+    ensures larger { IfSome result (λ n. size ≤ n) }
+    ensures wanted { IfSome result (λ n. n ≢ size → Wants limit needed size) }
 {
     let mut grown = size;
     'doublings: while wants_more(limit, needed, grown) {
