@@ -7,17 +7,10 @@ use borrow.Rule.Slice.PartMut.{put_mid, post_of}
 use Rattle.wl_wire.specs.declared.argument.Token.{Token}
 use Rattle.wl_wire.specs.declared.error.MessageWriteError.{MessageWriteError}
 use Rattle.wl_wire.specs.declared.error.MessageWriteError.TheVariants as errors
-use Rattle.wl_wire.specs.Message.{WireMessage, size, spelling, tokens as tokens_of, word, pieces}
+use Rattle.wl_wire.specs.Message.{WireMessage, size, spelling, tokens as tokens_of}
+use Rattle.wl_wire.specs.Laws.{length-spelling}
 use Rattle.wl_link.specs.Storage.{Appended, waits, arrived}
 use Rattle.wl_link.proofs.Receiving.{front_and_part}
-
-length-word : (n : ℕ) → length (word n) ≡ 4
-unfolding word
-length-word n = refl
-
-pub length-spelling : (m : WireMessage) → length (spelling m) ≡ size m
-length-spelling m =
-    omega (arith, length-append (word m.sender ++ word (size m * 65536 + m.opcode)) (pieces m.args), length-append (word m.sender) (word (size m * 65536 + m.opcode)), length-word m.sender, length-word (size m * 65536 + m.opcode))
 
 -- where more follows the front of a list, more follows a part that ends there
 range_longer : (old new piece : List ℕ) (start end n : ℕ) → start ≤ end → end ≤ length old → take (end + n) new ≡ take end old ++ piece

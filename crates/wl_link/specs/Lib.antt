@@ -5,3 +5,4 @@ pub mod Link
 pub mod Storage
 pub mod FlushLaws
 pub mod WriteLaws
+pub mod Lending

@@ -5,13 +5,16 @@
 -- `Wrote`).
 use Rattle.std.specs.Prelude.{◌≡◌, ◌≢◌, ℕ, zero, suc, ◌+◌, ◌-◌, ◌*◌, ◌^◌, ◌<◌, ◌≤◌, ◌⊎◌, List, [], ◌∷◌, ◌++◌, length, take, drop, Bool, nat_le, ◌==◌, Option, Some, None, Result, Ok, Err, MatchBool, MatchOption, MatchResult, if◌then◌else◌}
 use Rattle.std.specs.Int.{IsPowerOfTwo}
+use Rattle.std.specs.Option.{option_copied}
+use Rattle.std.specs.Borrow.{Bor}
 use Rattle.wl_wire.specs.declared.argument.ArgumentType.{ArgumentType}
 use Rattle.wl_wire.specs.declared.argument.Token.{Token}
 use Rattle.wl_wire.specs.declared.error.IoFault.{IoFault}
 use Rattle.wl_wire.specs.declared.error.IoFault.TheVariants as fault
 use Rattle.wl_wire.specs.declared.error.MessageParseError.{MessageParseError}
 use Rattle.wl_wire.specs.declared.error.MessageParseError.TheVariants as errors
-use Rattle.wl_wire.specs.Message.{WireMessage, size, spelling, tokens}
+use Rattle.wl_wire.specs.declared.message.Message.{Message}
+use Rattle.wl_wire.specs.Message.{WireMessage, content, size, spelling, tokens}
 use Rattle.wl_wire.specs.Parse.{length_of, sender_of, opcode_of, fd_count, IsInline, ReadsMessage, RefusesMessage}
 use Rattle.wl_link.specs.Exchange.{Queue, Sending, Chain, joined, nothing}
 
@@ -24,6 +27,16 @@ pub record LinkState (T : Type 0) : Type 0 where
   pub outgoing : Queue
   pub storage : ℕ
   pub limit : Option ℕ
+
+abbrev pub with_transport : {T : Type 0} → LinkState T → T → LinkState T
+with_transport l transport = record {
+  transport = transport;
+  incoming = l.incoming;
+  room = l.room;
+  outgoing = l.outgoing;
+  storage = l.storage;
+  limit = l.limit;
+}
 
 abbrev pub with_outgoing : {T : Type 0} → LinkState T → T → Queue → LinkState T
 with_outgoing l transport outgoing = record {
@@ -253,3 +266,12 @@ ReadOne looks_up before answer after =
     × looks_up (sender_of before.incoming.bytes) (opcode_of before.incoming.bytes) signature
     × MatchOption signature ((answer ≡ Err errors.Malformed) × (after ≡ before)) (λ s. ReadUnder s before answer after))
     ((answer ≡ Err errors.MissingData) × (after ≡ before))
+
+-- the answer of a read, without where the message's arguments lie in memory
+abbrev pub read_content : Result (Message ℕ Token) MessageParseError → Result WireMessage MessageParseError
+read_content (Ok message) = Ok (content message)
+read_content (Err e) = Err e
+
+-- a look-up that answers by reference
+abbrev pub looked_up : (ℕ → ℕ → Option (Bor (List ArgumentType)) → Type 0) → ℕ → ℕ → Option (List ArgumentType) → Type 0
+looked_up answers sender opcode found = (r : Option (Bor (List ArgumentType))) × answers sender opcode r × (found ≡ option_copied r)

@@ -1,9 +1,10 @@
 //! The buffered link over a transport.
 
-ghost use Rattle.std.specs.Prelude.{◌≡◌, ◌≢◌, ◌+◌, ◌<◌, ◌≤◌, ◌∷◌, [], length, take, nat_le, if◌then◌else◌, IsTrue, Ok, Err, IfOk, MatchResult};
+ghost use Rattle.std.specs.Prelude.{◌≡◌, ◌≢◌, ◌+◌, ◌<◌, ◌≤◌, ◌∷◌, [], length, take, nat_le, if◌then◌else◌, IsTrue, Ok, Err, IfOk, MatchOption, MatchResult};
 ghost use Rattle.std.specs.Borrow.{sem};
 ghost use Rattle.wl_wire.specs.Message.{content, size};
-ghost use Rattle.wl_link.specs.Link.{IsFresh, LimitSet, Flushed, Filled, Grown, Wants, Put, Placed, Wrote, needed, has_room, ignoring, counted_answer};
+ghost use Rattle.wl_wire.specs.Parse.{sender_of, opcode_of};
+ghost use Rattle.wl_link.specs.Link.{IsFresh, LimitSet, Flushed, Filled, Grown, Wants, Put, Placed, Wrote, ReadOne, looked_up, read_content, needed, has_room, ignoring, counted_answer};
 ghost use Rattle.wl_link.specs.Storage.{write_answer_of};
 
 use crate::buffer::Buffer;
@@ -13,7 +14,10 @@ use crate::transport::Transport;
 use std::alloc::Global;
 use std::collections::VecDeque;
 use std::marker::Model;
-use wl_wire::{IoFault, Message, MessageWriteError, OutOfMemory, Token, message_size};
+use wl_wire::{
+    ArgumentType, IoFault, Message, MessageParseError, MessageWriteError, OutOfMemory, Token,
+    message_size, parse_message,
+};
 
 /// The most tokens that one send is offered.
 pub const MAX_FDS_OUT: usize = 28;
@@ -56,6 +60,8 @@ impl<T> Model for BufferedSocket<T> {
 }
 
 impl<T> BufferedSocket<T> {
+    ghost use Rattle.wl_link.specs.Lending.{LendsTransport};
+
     /// A link over the transport on which nothing waits. Both storages have 4096 bytes, and the outgoing one may grow
     /// up to the limit, which is rounded up to a power of two and is at least 4096; without a limit it may always
     /// grow.
@@ -123,9 +129,43 @@ impl<T> BufferedSocket<T> {
 
     /// The transport, which may be changed; what waits stays as it is.
     pub fn transport_mut(&mut self) -> &mut T
+        ensures* lends { sem 𝓛 (LendsTransport T.row self.entry result) }
         ensures value { result.now ≡ self.old.transport }
     {
         &mut self.transport
+    }
+
+    /// Reads the message at the front of what was received, under the signature that the closure gives for its sender
+    /// and opcode.
+    ///
+    /// Where the header is not there to its end the answer is `MissingData`, and where there is no signature it is
+    /// `Malformed`. Otherwise the answer is that of `parse_message` under the signature. A message that is read is
+    /// taken with its tokens; an error takes nothing.
+    pub fn read_one_message<'s, F>(
+        &mut self,
+        signature: F,
+    ) -> Result<Message<u32, Token>, MessageParseError>
+    where
+        F: FnOnce(u32, u16) -> Option<&'s [ArgumentType]> + Drop,
+        requires { F.IsAlwaysCallable signature }
+        ensures { ReadOne (looked_up (F.post signature)) self.old (read_content result) self.new }
+    {
+        let alloc = *self.fds_in.allocator();
+        let bytes = self.incoming.bytes();
+        let Some((sender, opcode)) = header(bytes) else {
+            return Err(MessageParseError::MissingData);
+        };
+        let Some(signature) = signature(sender, opcode) else {
+            return Err(MessageParseError::Malformed);
+        };
+        match parse_message(alloc, bytes, signature, &mut self.fds_in) {
+            Ok((message, rest)) => {
+                let len = bytes.len() - rest.len();
+                self.incoming.consume(len);
+                Ok(message)
+            }
+            Err(error) => Err(error),
+        }
     }
 
     /// Whether the outgoing storage has room for that many bytes more.
@@ -292,6 +332,20 @@ fn first_bytes(bytes: &[u8], tokens: usize) -> &[u8]
     };
     let count = most.min(bytes.len());
     &bytes[..count]
+}
+
+/// The sender and the opcode of the message at the front; `None` where its header is not there to its end.
+#[tactic(auto, unfolding(wl_wire::specs::Parse::sender_of, wl_wire::specs::Parse::second_word))]
+fn header(bytes: &[u8]) -> Option<(u32, u16)>
+    ensures { MatchOption result (length bytes.now < 8)
+        (λ x. (8 ≤ length bytes.now) × (x.0 ≡ sender_of bytes.now) × (x.1 ≡ opcode_of bytes.now)) }
+{
+    if bytes.len() < 8 {
+        return None;
+    }
+    let sender = u32::from_le_bytes([bytes[0], bytes[1], bytes[2], bytes[3]]);
+    let word = u32::from_le_bytes([bytes[4], bytes[5], bytes[6], bytes[7]]);
+    Some((sender, (word % 65536) as u16))
 }
 
 /// The link's answer to a write.
