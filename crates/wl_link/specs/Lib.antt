@@ -5,4 +5,5 @@ pub mod Link
 pub mod Storage
 pub mod FlushLaws
 pub mod WriteLaws
+pub mod ReadLaws
 pub mod Lending
