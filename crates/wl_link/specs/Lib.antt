@@ -6,4 +6,7 @@ pub mod Storage
 pub mod FlushLaws
 pub mod WriteLaws
 pub mod ReadLaws
+pub mod Kept
+pub mod KeptLaws
+pub mod OneLaws
 pub mod Lending
