@@ -4,3 +4,15 @@ pub mod PlaceList
 pub mod StoreLaws
 pub mod Identity
 pub mod IdentityLaw
+pub mod Exchange
+pub mod Script
+pub mod ScriptLaws
+pub mod Link
+pub mod Storage
+pub mod FlushLaws
+pub mod WriteLaws
+pub mod ReadLaws
+pub mod Kept
+pub mod KeptLaws
+pub mod OneLaws
+pub mod Lending

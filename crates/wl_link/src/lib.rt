@@ -2,12 +2,22 @@
 #![tactic(auto)]
 
 mod all_objects;
+mod buffer;
+mod buffered_socket;
 mod identity;
+mod limit;
+mod memory;
 mod object;
 mod object_map;
+mod parcel;
 mod places;
+mod token_queue;
+mod transport;
 
 pub use all_objects::AllObjects;
+pub use buffered_socket::{BufferedSocket, DEFAULT_MAX_BUFFER_SIZE, MAX_BYTES_OUT, MAX_FDS_OUT};
 pub use identity::each_id_names_its_own_object;
+pub use memory::{ArriveError, Memory};
 pub use object::Object;
 pub use object_map::{InsertError, NewError, ObjectMap, SERVER_ID_LIMIT};
+pub use transport::Transport;

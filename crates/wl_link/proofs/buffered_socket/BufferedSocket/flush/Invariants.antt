@@ -1,0 +1,19 @@
+use Rattle.std.proofs.Common.{length}
+use Rattle.wl_link.specs.Storage.{beside}
+use Rattle.wl_link.specs.FlushLaws.{FlushLeads}
+use Rattle.wl_link.proofs.buffered_socket.BufferedSocket.flush.Given as goal
+
+abbrev pub invariant-loop-self : goal.invariant-loop-self
+invariant-loop-self g l =
+    FlushLeads g.T.Transport.sends l.fn.self
+    (record {
+      transport = l.self-inside.transport;
+      incoming = beside l.self-inside.incoming.bytes l.self-inside.fds_in.items;
+      room = l.self-inside.incoming.size;
+      outgoing = beside l.self-inside.outgoing.bytes l.self-inside.fds_out;
+      storage = l.self-inside.outgoing.size;
+      limit = l.self-inside.limit;
+    })
+
+abbrev pub decreases-loop-self : goal.decreases-loop-self
+decreases-loop-self g l = length l.self-inside.outgoing.bytes

@@ -1,0 +1,51 @@
+-- What the sends of a call took, and that nothing is lost.
+use Rattle.std.specs.Prelude.{◌≡◌, ◌≢◌, ℕ, ◌≤◌, List, [], ◌∷◌, ◌++◌, length, take, ◌==◌, Result, Ok, Err, if◌then◌else◌}
+use Rattle.std.specs.List.{AllByRecursion}
+use Rattle.wl_wire.specs.declared.argument.Token.{Token}
+use Rattle.wl_wire.specs.declared.error.IoFault.{IoFault}
+use Rattle.wl_wire.specs.Message.{WireMessage}
+use Rattle.wl_link.specs.Exchange.{Queue, Sending, joined, nothing}
+use Rattle.wl_link.specs.Link.{LinkState, FlushedBy, WroteBy, spelled}
+
+-- of a count above 0 that many bytes and all tokens that were offered; of a count 0 or a fault nothing
+abbrev pub taken_by : Result ℕ IoFault → Queue → Queue
+taken_by (Ok n) offer = record { bytes = take n offer.bytes; tokens = if n == 0 then [] else offer.tokens }
+taken_by (Err fault) offer = nothing
+
+-- what the transport took, one send behind another
+abbrev pub taken : List Sending → Queue
+taken [] = nothing
+taken (e ∷ es) = joined (taken_by e.answer e.offer) (taken es)
+
+-- the tokens that no longer wait: also those that a count 0 dropped
+abbrev pub gone_by : Result ℕ IoFault → Queue → List Token
+gone_by (Ok n) offer = offer.tokens
+gone_by (Err fault) offer = []
+
+abbrev pub gone : List Sending → List Token
+gone [] = []
+gone (e ∷ es) = gone_by e.answer e.offer ++ gone es
+
+-- no send answered 0, so that no tokens were dropped
+abbrev pub NoZero : List Sending → Type 0
+NoZero es = AllByRecursion (λ e. e.answer ≢ Ok 0) es
+
+-- What is gone, followed by what waits, is what waited, followed by what was added.
+pub record Kept (es : List Sending) (before added after : Queue) : Type 0 where
+  pub bytes : (taken es).bytes ++ after.bytes ≡ before.bytes ++ added.bytes
+  pub tokens : gone es ++ after.tokens ≡ before.tokens ++ added.tokens
+
+-- what a write adds, by its answer
+abbrev pub queued_by : Result (Unit {0}) IoFault → WireMessage → Queue
+queued_by (Ok u) m = spelled m
+queued_by (Err fault) m = nothing
+
+-- A flush loses nothing.
+abbrev pub FlushKeeps : {T : Type 0} → (T → Queue → Result ℕ IoFault → T → Type 0) → LinkState T → Result (Unit {0}) IoFault → LinkState T → Type 0
+FlushKeeps sends before answer after =
+    (es : List Sending) × FlushedBy sends before es answer after × Kept es before.outgoing nothing after.outgoing
+
+-- A write that is answered by Ok makes what was taken and what waits longer by one spelling; another adds nothing.
+abbrev pub WriteKeeps : {T : Type 0} → (T → Queue → Result ℕ IoFault → T → Type 0) → LinkState T → WireMessage → Result (Unit {0}) IoFault → LinkState T → Type 0
+WriteKeeps sends before m answer after =
+    (es : List Sending) × WroteBy sends before m es answer after × Kept es before.outgoing (queued_by answer m) after.outgoing

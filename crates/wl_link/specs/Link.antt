@@ -1,0 +1,277 @@
+-- What a link holds, and what each of its calls does to it.
+--
+-- The sends of a call are a list, which the transport's relation chains from its value before the call to its value
+-- after. Each relation comes with its sends as an argument (`FlushedBy`, `WroteBy`) and with them hidden (`Flushed`,
+-- `Wrote`).
+use Rattle.std.specs.Prelude.{◌≡◌, ◌≢◌, ℕ, zero, suc, ◌+◌, ◌-◌, ◌*◌, ◌^◌, ◌<◌, ◌≤◌, ◌⊎◌, List, [], ◌∷◌, ◌++◌, length, take, drop, Bool, nat_le, ◌==◌, Option, Some, None, Result, Ok, Err, MatchBool, MatchOption, MatchResult, if◌then◌else◌}
+use Rattle.std.specs.Int.{IsPowerOfTwo}
+use Rattle.std.specs.Option.{option_copied}
+use Rattle.std.specs.Borrow.{Bor}
+use Rattle.wl_wire.specs.declared.argument.ArgumentType.{ArgumentType}
+use Rattle.wl_wire.specs.declared.argument.Token.{Token}
+use Rattle.wl_wire.specs.declared.error.IoFault.{IoFault}
+use Rattle.wl_wire.specs.declared.error.IoFault.TheVariants as fault
+use Rattle.wl_wire.specs.declared.error.MessageParseError.{MessageParseError}
+use Rattle.wl_wire.specs.declared.error.MessageParseError.TheVariants as errors
+use Rattle.wl_wire.specs.declared.message.Message.{Message}
+use Rattle.wl_wire.specs.Message.{WireMessage, content, size, spelling, tokens}
+use Rattle.wl_wire.specs.Parse.{length_of, sender_of, opcode_of, fd_count, IsInline, ReadsMessage, RefusesMessage}
+use Rattle.wl_link.specs.Exchange.{Queue, Sending, Chain, joined, nothing}
+
+pub record LinkState (T : Type 0) : Type 0 where
+  pub transport : T
+  -- received and not read yet, and how many bytes there is storage for
+  pub incoming : Queue
+  pub room : ℕ
+  -- written and not sent yet, how many bytes there is storage for, and how far that may grow
+  pub outgoing : Queue
+  pub storage : ℕ
+  pub limit : Option ℕ
+
+abbrev pub with_transport : {T : Type 0} → LinkState T → T → LinkState T
+with_transport l transport = record {
+  transport = transport;
+  incoming = l.incoming;
+  room = l.room;
+  outgoing = l.outgoing;
+  storage = l.storage;
+  limit = l.limit;
+}
+
+abbrev pub with_outgoing : {T : Type 0} → LinkState T → T → Queue → LinkState T
+with_outgoing l transport outgoing = record {
+  transport = transport;
+  incoming = l.incoming;
+  room = l.room;
+  outgoing = outgoing;
+  storage = l.storage;
+  limit = l.limit;
+}
+
+abbrev pub with_storage : {T : Type 0} → LinkState T → ℕ → LinkState T
+with_storage l storage = record {
+  transport = l.transport;
+  incoming = l.incoming;
+  room = l.room;
+  outgoing = l.outgoing;
+  storage = storage;
+  limit = l.limit;
+}
+
+abbrev pub with_incoming : {T : Type 0} → LinkState T → T → Queue → LinkState T
+with_incoming l transport incoming = record {
+  transport = transport;
+  incoming = incoming;
+  room = l.room;
+  outgoing = l.outgoing;
+  storage = l.storage;
+  limit = l.limit;
+}
+
+-- ---- limits
+
+-- A limit that is asked for becomes the least power of two that is not below it and not below 4096. Above the
+-- greatest power of two it becomes the greatest number.
+abbrev pub IsLimit : ℕ → ℕ → Type 0
+IsLimit asked limit =
+    (asked ≤ 2 ^ 63 → IsPowerOfTwo limit × (asked ≤ limit) × (4096 ≤ limit)
+    × ((p : ℕ) → IsPowerOfTwo p → asked ≤ p → 4096 ≤ p → limit ≤ p))
+    × (2 ^ 63 < asked → limit ≡ 2 ^ 64 - 1)
+
+-- no limit stays no limit
+abbrev pub AreLimits : Option ℕ → Option ℕ → Type 0
+AreLimits None limit = limit ≡ None
+AreLimits (Some asked) limit = (n : ℕ) × (limit ≡ Some n) × IsLimit asked n
+
+-- a link on which nothing waits
+abbrev pub IsFresh : {T : Type 0} → T → Option ℕ → LinkState T → Type 0
+IsFresh transport asked l =
+    (limit : Option ℕ) × AreLimits asked limit
+    × (l ≡ record { transport = transport; incoming = nothing; room = 4096; outgoing = nothing; storage = 4096; limit = limit })
+
+-- the limit is another one, and all else as it was
+abbrev pub LimitSet : {T : Type 0} → LinkState T → Option ℕ → LinkState T → Type 0
+LimitSet before asked after =
+    (limit : Option ℕ) × AreLimits asked limit
+    × (after ≡ record {
+      transport = before.transport;
+      incoming = before.incoming;
+      room = before.room;
+      outgoing = before.outgoing;
+      storage = before.storage;
+      limit = limit;
+    })
+
+-- ---- a flush
+
+-- With more than 28 tokens waiting one byte is offered, and else up to 4096; of the tokens up to 28.
+abbrev pub offer_size : List Token → ℕ
+offer_size tokens = if nat_le (length tokens) 28 then 4096 else 1
+
+abbrev pub offer_of : Queue → Queue
+offer_of q = record { bytes = take (offer_size q.tokens) q.bytes; tokens = take 28 q.tokens }
+
+-- what is left where so many bytes were taken, and the tokens offered are gone
+abbrev pub left_of : ℕ → Queue → Queue
+left_of n q = record { bytes = drop n q.bytes; tokens = drop 28 q.tokens }
+
+-- a fault ends the flush and changes nothing, an answer 0 ends it and drops the tokens, and another count goes on
+abbrev pub Goes : Result ℕ IoFault → Type 0 → Type 0 → Type 0 → Result (Unit {0}) IoFault → (ℕ → Type 0) → Type 0
+Goes (Err fault) last same dropped answer on = last × same × (answer ≡ Err fault)
+Goes (Ok n) last same dropped answer on = MatchBool (n == 0) (last × dropped × (answer ≡ Ok tt)) (on n)
+
+-- A flush of the queue makes these sends, gives this answer, and leaves that queue: while bytes wait, a beginning of
+-- what is left is offered.
+abbrev pub Flushes : Queue → List Sending → Result (Unit {0}) IoFault → Queue → Type 0
+Flushes q [] answer after = (q.bytes ≡ []) × (after ≡ q) × (answer ≡ Ok tt)
+Flushes q (e ∷ es) answer after =
+    (q.bytes ≢ []) × (e.offer ≡ offer_of q)
+    × Goes e.answer (es ≡ []) (after ≡ q) (after ≡ left_of 0 q) answer (λ n. Flushes (left_of n q) es answer after)
+
+abbrev pub FlushedBy : {T : Type 0} → (T → Queue → Result ℕ IoFault → T → Type 0)
+    → LinkState T → List Sending → Result (Unit {0}) IoFault → LinkState T → Type 0
+FlushedBy sends before es answer after =
+    Chain sends before.transport es after.transport × Flushes before.outgoing es answer after.outgoing
+    × (after ≡ with_outgoing before after.transport after.outgoing)
+
+abbrev pub Flushed : {T : Type 0} → (T → Queue → Result ℕ IoFault → T → Type 0)
+    → LinkState T → Result (Unit {0}) IoFault → LinkState T → Type 0
+Flushed sends before answer after = (es : List Sending) × FlushedBy sends before es answer after
+
+-- ---- a write
+
+-- a message's bytes, and its tokens
+abbrev pub spelled : WireMessage → Queue
+spelled m = record { bytes = spelling m; tokens = tokens m.args }
+
+-- a storage of that size has too little room, and may be doubled
+abbrev pub Wants : Option ℕ → ℕ → ℕ → Type 0
+Wants None needed size = size < needed
+Wants (Some limit) needed size = (size < needed) × (size < limit)
+
+-- The storage is doubled as often as it has too little room and may be doubled: so to the least size that has room,
+-- or else to the greatest that the limit allows.
+pub record Grows (limit : Option ℕ) (needed size size' : ℕ) : Type 0 where
+  pub times : ℕ
+  pub grown : size' ≡ size * 2 ^ times
+  pub wanted : (k : ℕ) → k < times → Wants limit needed (size * 2 ^ k)
+  pub enough : ¬ (Wants limit needed size')
+
+-- so many bytes are needed for what waits and so many more
+abbrev pub needed : {T : Type 0} → LinkState T → ℕ → ℕ
+needed l more = length l.outgoing.bytes + more
+
+abbrev pub Grown : {T : Type 0} → LinkState T → ℕ → LinkState T → Type 0
+Grown before more after =
+    Grows before.limit (needed before more) before.storage after.storage × (after ≡ with_storage before after.storage)
+
+-- the message stands behind what waits; or there is no memory for its tokens, and nothing is changed
+abbrev pub Put : {T : Type 0} → LinkState T → WireMessage → Result (Unit {0}) IoFault → LinkState T → Type 0
+Put before m answer after =
+    ((answer ≡ Ok tt) × (after ≡ with_outgoing before before.transport (joined before.outgoing (spelled m))))
+    ⊎ ((answer ≡ Err fault.OutOfMemory) × (after ≡ before) × (tokens m.args ≢ []))
+
+abbrev pub has_room : {T : Type 0} → LinkState T → ℕ → Bool
+has_room l more = nat_le (needed l more) l.storage
+
+-- a flush in a write counts as done where the transport would block
+abbrev pub ignoring : Result (Unit {0}) IoFault → Result (Unit {0}) IoFault
+ignoring (Ok u) = Ok u
+ignoring (Err fault.WouldBlock) = Ok tt
+ignoring (Err other) = Err other
+
+-- the message is put where there is room, and else where there is room after a flush
+abbrev pub PlacedBy : {T : Type 0} → (T → Queue → Result ℕ IoFault → T → Type 0)
+    → LinkState T → WireMessage → List Sending → Result (Unit {0}) IoFault → LinkState T → Type 0
+PlacedBy {T = T} sends before m es answer after =
+    MatchBool (has_room before (size m)) ((es ≡ []) × Put before m answer after)
+    ((mid : LinkState T) × (flushed : Result (Unit {0}) IoFault) × FlushedBy sends before es flushed mid
+    × MatchResult (ignoring flushed)
+    (λ _. MatchBool (has_room mid (size m)) (Put mid m answer after) ((answer ≡ Err fault.TooBig) × (after ≡ mid)))
+    (λ fault. (answer ≡ Err fault) × (after ≡ mid)))
+
+abbrev pub Placed : {T : Type 0} → (T → Queue → Result ℕ IoFault → T → Type 0)
+    → LinkState T → WireMessage → Result (Unit {0}) IoFault → LinkState T → Type 0
+Placed sends before m answer after = (es : List Sending) × PlacedBy sends before m es answer after
+
+-- A message above 65535 bytes is too big. Otherwise the storage grows, for which there may be no memory, and the
+-- message is put.
+abbrev pub WroteBy : {T : Type 0} → (T → Queue → Result ℕ IoFault → T → Type 0)
+    → LinkState T → WireMessage → List Sending → Result (Unit {0}) IoFault → LinkState T → Type 0
+WroteBy {T = T} sends before m es answer after =
+    MatchBool (nat_le (size m) 65535)
+    (((es ≡ []) × (answer ≡ Err fault.OutOfMemory) × (after ≡ before)
+    × Wants before.limit (needed before (size m)) before.storage)
+    ⊎ ((grown : LinkState T) × Grown before (size m) grown × PlacedBy sends grown m es answer after))
+    ((es ≡ []) × (answer ≡ Err fault.TooBig) × (after ≡ before))
+
+abbrev pub Wrote : {T : Type 0} → (T → Queue → Result ℕ IoFault → T → Type 0)
+    → LinkState T → WireMessage → Result (Unit {0}) IoFault → LinkState T → Type 0
+Wrote sends before m answer after = (es : List Sending) × WroteBy sends before m es answer after
+
+-- ---- a fill
+
+-- a receive of no bytes is the end of the stream
+abbrev pub counted_answer : Result ℕ IoFault → Result (Unit {0}) IoFault
+counted_answer (Ok n) = if n == 0 then Err fault.Pipe else Ok tt
+counted_answer (Err fault) = Err fault
+
+-- the count that a receive of this answers
+abbrev pub count_of : Result Queue IoFault → Result ℕ IoFault
+count_of (Ok came) = Ok (length came.bytes)
+count_of (Err fault) = Err fault
+
+-- what came stands behind what waits, tokens also where no bytes came
+abbrev pub with_came : Queue → Result Queue IoFault → Queue
+with_came q (Ok came) = joined q came
+with_came q (Err fault) = q
+
+-- One receive was offered the free part of the storage, and gave this.
+abbrev pub FilledBy : {T : Type 0} → (T → ℕ → Result Queue IoFault → T → Type 0)
+    → LinkState T → Result Queue IoFault → Result (Unit {0}) IoFault → LinkState T → Type 0
+FilledBy receives before received answer after =
+    receives before.transport (before.room - length before.incoming.bytes) received after.transport
+    × (answer ≡ counted_answer (count_of received))
+    × (after ≡ with_incoming before after.transport (with_came before.incoming received))
+
+-- or there was no memory for the tokens that a receive may give, and nothing was received
+abbrev pub Filled : {T : Type 0} → (T → ℕ → Result Queue IoFault → T → Type 0)
+    → LinkState T → Result (Unit {0}) IoFault → LinkState T → Type 0
+Filled receives before answer after =
+    ((received : Result Queue IoFault) × FilledBy receives before received answer after)
+    ⊎ ((answer ≡ Err fault.OutOfMemory) × (after ≡ before))
+
+-- ---- a read
+
+-- what is left where the message at the front was read under this signature
+abbrev pub behind_first : List ArgumentType → Queue → Queue
+behind_first signature q = record { bytes = drop (length_of q.bytes) q.bytes; tokens = drop (fd_count signature) q.tokens }
+
+-- the answer under this signature; memory is refused only where the message may need some
+abbrev pub ReadUnder : {T : Type 0} → List ArgumentType → LinkState T → Result WireMessage MessageParseError → LinkState T → Type 0
+ReadUnder signature before answer after =
+    MatchResult answer
+    (λ m. ReadsMessage before.incoming.bytes signature before.incoming.tokens m
+    × (after ≡ with_incoming before before.transport (behind_first signature before.incoming)))
+    (λ e. RefusesMessage before.incoming.bytes signature before.incoming.tokens e
+    × (IsInline signature → e ≢ errors.OutOfMemory) × (after ≡ before))
+
+-- A header that is not there to its end lacks data. Without a signature for its sender and opcode the message is
+-- malformed. Otherwise the answer is that of a parser under that signature. No error changes anything.
+abbrev pub ReadOne : {T : Type 0} → (ℕ → ℕ → Option (List ArgumentType) → Type 0)
+    → LinkState T → Result WireMessage MessageParseError → LinkState T → Type 0
+ReadOne looks_up before answer after =
+    MatchBool (nat_le 8 (length before.incoming.bytes))
+    ((signature : Option (List ArgumentType))
+    × looks_up (sender_of before.incoming.bytes) (opcode_of before.incoming.bytes) signature
+    × MatchOption signature ((answer ≡ Err errors.Malformed) × (after ≡ before)) (λ s. ReadUnder s before answer after))
+    ((answer ≡ Err errors.MissingData) × (after ≡ before))
+
+-- the answer of a read, without where the message's arguments lie in memory
+abbrev pub read_content : Result (Message ℕ Token) MessageParseError → Result WireMessage MessageParseError
+read_content (Ok message) = Ok (content message)
+read_content (Err e) = Err e
+
+-- a look-up that answers by reference
+abbrev pub looked_up : (ℕ → ℕ → Option (Bor (List ArgumentType)) → Type 0) → ℕ → ℕ → Option (List ArgumentType) → Type 0
+looked_up answers sender opcode found = (r : Option (Bor (List ArgumentType))) × answers sender opcode r × (found ≡ option_copied r)

@@ -1,0 +1,238 @@
+//! Bytes that wait, in a storage that is used again.
+
+ghost use Rattle.std.specs.Prelude.{◌≡◌, ◌≢◌, ◌+◌, ◌-◌, ◌<◌, ◌≤◌, ◌^◌, ◌↔◌, ◌++◌, [], length, take, drop, slice_range, Err, IfOk, OnOk, OnErr};
+ghost use Rattle.wl_wire.specs.Message.{content, size, spelling, tokens};
+ghost use Rattle.wl_link.specs.Exchange.{Lands, receipt};
+ghost use Rattle.wl_link.specs.Storage.{waits, beside, arrived, Received, Appended};
+
+use crate::token_queue::TokenQueue;
+use crate::transport::Transport;
+use std::alloc::Global;
+use std::collections::VecDeque;
+use std::marker::Model;
+use wl_wire::{IoFault, Message, MessageWriteError, OutOfMemory, Token};
+
+/// Bytes that wait in their order, in a storage of a given size.
+///
+/// They lie between two indices, so taking some off the front moves none. They are moved to the front of the storage
+/// only where the part behind them is too short.
+#[derive(Debug, Drop)]
+pub struct Buffer {
+    storage: Vec<u8>,
+    start: usize,
+    end: usize,
+}
+
+impl Model for Buffer {
+    ghost use Rattle.std.specs.Prelude.{◌<◌, ◌≤◌, slice_range};
+    ghost use Rattle.std.specs.Vec.{vec_len};
+    ghost use Rattle.wl_link.specs.Storage.{Waiting};
+
+    ghost Value = { Waiting };
+
+    ghost view = { λ b. record { bytes = slice_range b.storage.items b.start b.end; size = vec_len b.storage } };
+
+    ghost invariant = { λ b. (b.start ≤ b.end) × (b.end ≤ vec_len b.storage) × (0 < vec_len b.storage) };
+}
+
+impl Buffer {
+    /// An empty storage of that size.
+    pub fn new(alloc: Global, size: usize) -> Result<Self, OutOfMemory>
+        requires { 0 < size }
+        ensures { IfOk result (λ b. b ≡ waits [] size) }
+    {
+        let storage = vec![in alloc; 0; size]?;
+        Ok(Buffer {
+            storage,
+            start: 0,
+            end: 0,
+        })
+    }
+
+    /// The bytes that wait.
+    pub fn bytes(&self) -> &[u8]
+        ensures { result.now ≡ self.now.bytes }
+    {
+        &self.storage[self.start..self.end]
+    }
+
+    /// How many bytes wait.
+    pub fn len(&self) -> usize
+        ensures len { result ≡ length self.now.bytes }
+        ensures within { result ≤ self.now.size }
+    {
+        self.end - self.start
+    }
+
+    /// How many bytes the storage holds.
+    pub fn size(&self) -> usize
+        ensures size { result ≡ self.now.size }
+        ensures positive { 0 < result }
+        ensures small { result < 2 ^ 63 }
+    {
+        self.storage.len()
+    }
+
+    /// Takes that many bytes off the front.
+    pub fn consume(&mut self, count: usize)
+        requires { count ≤ length self.old.bytes }
+        ensures { self.new ≡ waits (drop count self.old.bytes) self.old.size }
+    {
+        if count == self.end - self.start {
+            self.start = 0;
+            self.end = 0;
+        } else {
+            self.start += count;
+        }
+    }
+
+    /// Makes the storage that large. Where there is no memory, it stays as it was.
+    pub fn grow(&mut self, size: usize) -> Result<(), OutOfMemory>
+        requires { self.old.size ≤ size }
+        ensures ok { OnOk result (self.new ≡ waits self.old.bytes size) }
+        ensures err { OnErr result (self.new ≡ self.old) }
+    {
+        self.storage.resize(size, 0)?;
+        Ok(())
+    }
+
+    /// Writes the message behind the bytes that wait, and puts its tokens behind those in the queue.
+    ///
+    /// The bytes that wait are not moved, so there may be too little room behind them where the storage has enough.
+    pub fn write(
+        &mut self,
+        message: &Message<u32, Token>,
+        fds: &mut TokenQueue,
+    ) -> Result<(), MessageWriteError>
+        ensures { Appended self.old fds.old (content message.now) result self.new fds.new }
+    {
+        let end = self.end;
+        match write_behind(message, &mut self.storage, self.start, end, fds) {
+            Ok(count) => {
+                self.end = end + count;
+                Ok(())
+            }
+            Err(error) => Err(error),
+        }
+    }
+
+    /// Writes the message behind the bytes that wait, which are moved to the front, and puts its tokens behind those
+    /// in the queue. Where there is no memory for these, nothing is changed.
+    pub fn put(
+        &mut self,
+        message: &Message<u32, Token>,
+        fds: &mut TokenQueue,
+    ) -> Result<(), MessageWriteError>
+        requires small { size (content message.now) ≤ 65535 }
+        requires room { length self.old.bytes + size (content message.now) ≤ self.old.size }
+        ensures appended { Appended self.old fds.old (content message.now) result self.new fds.new }
+        ensures fits { result ≢ Err MessageWriteError.BufferTooSmall }
+    {
+        let (start, end) = (self.start, self.end);
+        self.start = 0;
+        match write_at_front(message, &mut self.storage, start, end, fds) {
+            Ok(count) => {
+                self.end = end - start + count;
+                Ok(())
+            }
+            Err(error) => {
+                self.end = end - start;
+                Err(error)
+            }
+        }
+    }
+
+    /// Receives behind the bytes that wait, into all of the storage that is free, and answers how many bytes came.
+    /// The tokens that came are put behind those in the queue. A fault changes neither.
+    pub fn receive<T: Transport>(
+        &mut self,
+        transport: &mut T,
+        tokens: &mut VecDeque<Token>,
+    ) -> Result<usize, IoFault>
+        ensures received { Received T.receives transport.old (beside self.old.bytes tokens.old.items) self.old.size result
+            transport.new (beside self.new.bytes tokens.new.items) }
+        ensures size { self.new.size ≡ self.old.size }
+    {
+        let (start, end) = (self.start, self.end);
+        self.start = 0;
+        match receive_at_front(transport, &mut self.storage, start, end, tokens) {
+            Ok(count) => {
+                self.end = end - start + count;
+                Ok(count)
+            }
+            Err(fault) => {
+                self.end = end - start;
+                Err(fault)
+            }
+        }
+    }
+}
+
+/// Moves the bytes from `start` to `end` to the front.
+#[tactic(auto, using(std::proofs::lemmas::Slice::overwrites))]
+fn move_to_front(storage: &mut [u8], start: usize, end: usize)
+    requires ordered { start ≤ end }
+    requires within { end ≤ length storage.old }
+    ensures { slice_range storage.new 0 (end - start) ≡ slice_range storage.old start end }
+{
+    if start > 0 {
+        storage.copy_within(start..end, 0);
+    }
+}
+
+/// Writes the message behind the bytes from `start` to `end`, and puts its tokens behind those in the queue. Answers
+/// how many bytes were written.
+fn write_behind(
+    message: &Message<u32, Token>,
+    storage: &mut [u8],
+    start: usize,
+    end: usize,
+    fds: &mut TokenQueue,
+) -> Result<usize, MessageWriteError>
+    requires ordered { start ≤ end }
+    requires within { end ≤ length storage.old }
+    ensures appended { Appended (waits (slice_range storage.old start end) (length storage.old)) fds.old (content message.now) result
+        (waits (slice_range storage.new start (end + arrived result)) (length storage.old)) fds.new }
+    ensures room { end + arrived result ≤ length storage.old }
+    ensures too_small { result ≡ Err MessageWriteError.BufferTooSmall → length storage.old < end + size (content message.now) }
+{
+    fds.write(message, &mut storage[end..])
+}
+
+/// Moves the bytes from `start` to `end` to the front, and writes the message behind them.
+fn write_at_front(
+    message: &Message<u32, Token>,
+    storage: &mut [u8],
+    start: usize,
+    end: usize,
+    fds: &mut TokenQueue,
+) -> Result<usize, MessageWriteError>
+    requires ordered { start ≤ end }
+    requires within { end ≤ length storage.old }
+    ensures appended { Appended (waits (slice_range storage.old start end) (length storage.old)) fds.old (content message.now) result
+        (waits (slice_range storage.new 0 (end - start + arrived result)) (length storage.old)) fds.new }
+    ensures room { end - start + arrived result ≤ length storage.old }
+    ensures too_small { result ≡ Err MessageWriteError.BufferTooSmall → length storage.old < end - start + size (content message.now) }
+{
+    move_to_front(storage, start, end);
+    write_behind(message, storage, 0, end - start, fds)
+}
+
+/// Moves the bytes from `start` to `end` to the front, and receives behind them.
+fn receive_at_front<T: Transport>(
+    transport: &mut T,
+    storage: &mut [u8],
+    start: usize,
+    end: usize,
+    tokens: &mut VecDeque<Token>,
+) -> Result<usize, IoFault>
+    requires ordered { start ≤ end }
+    requires within { end ≤ length storage.old }
+    ensures received { Received T.receives transport.old
+        (beside (slice_range storage.old start end) tokens.old.items) (length storage.old) result
+        transport.new (beside (slice_range storage.new 0 (end - start + arrived result)) tokens.new.items) }
+    ensures room { end - start + arrived result ≤ length storage.old }
+{
+    move_to_front(storage, start, end);
+    transport.rcv_msg(&mut storage[end - start..], tokens)
+}

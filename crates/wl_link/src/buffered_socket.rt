@@ -1,0 +1,371 @@
+//! The buffered link over a transport.
+
+ghost use Rattle.std.specs.Prelude.{◌≡◌, ◌≢◌, ◌+◌, ◌<◌, ◌≤◌, ◌∷◌, [], length, take, nat_le, if◌then◌else◌, IsTrue, Ok, Err, IfOk, MatchOption, MatchResult};
+ghost use Rattle.std.specs.Borrow.{sem};
+ghost use Rattle.wl_wire.specs.Message.{content, size};
+ghost use Rattle.wl_wire.specs.Parse.{sender_of, opcode_of};
+ghost use Rattle.wl_link.specs.Link.{IsFresh, LimitSet, Flushed, Filled, Grown, Wants, Put, Placed, Wrote, ReadOne, looked_up, read_content, needed, has_room, ignoring, counted_answer};
+ghost use Rattle.wl_link.specs.Storage.{write_answer_of};
+
+use crate::buffer::Buffer;
+use crate::limit::{LEAST_LIMIT, grown_size, rounded};
+use crate::token_queue::TokenQueue;
+use crate::transport::Transport;
+use std::alloc::Global;
+use std::collections::VecDeque;
+use std::marker::Model;
+use wl_wire::{
+    ArgumentType, IoFault, Message, MessageParseError, MessageWriteError, OutOfMemory, Token,
+    message_size, parse_message,
+};
+
+/// The most tokens that one send is offered.
+pub const MAX_FDS_OUT: usize = 28;
+
+/// The most bytes that one send is offered.
+pub const MAX_BYTES_OUT: usize = 4096;
+
+/// The limit of the outgoing storage that a connection has where nothing else is asked for.
+pub const DEFAULT_MAX_BUFFER_SIZE: usize = 4096;
+
+/// The most tokens that one receive gives.
+const MAX_FDS_IN: usize = 28;
+
+/// A transport, and what waits on both sides of it: bytes and tokens that were received and not read yet, and those
+/// that were written and not sent yet.
+#[derive(Debug, Drop)]
+pub struct BufferedSocket<T> {
+    transport: T,
+    incoming: Buffer,
+    fds_in: VecDeque<Token>,
+    outgoing: Buffer,
+    fds_out: TokenQueue,
+    limit: Option<usize>,
+}
+
+impl<T> Model for BufferedSocket<T> {
+    ghost use Rattle.wl_link.specs.Link.{LinkState};
+    ghost use Rattle.wl_link.specs.Storage.{beside};
+
+    ghost Value = { LinkState T };
+
+    ghost view = { λ s. record {
+      transport = s.transport;
+      incoming = beside s.incoming.bytes s.fds_in.items;
+      room = s.incoming.size;
+      outgoing = beside s.outgoing.bytes s.fds_out;
+      storage = s.outgoing.size;
+      limit = s.limit;
+    } };
+}
+
+impl<T> BufferedSocket<T> {
+    ghost use Rattle.wl_link.specs.Lending.{LendsTransport};
+
+    /// A link over the transport on which nothing waits. Both storages have 4096 bytes, and the outgoing one may grow
+    /// up to the limit, which is rounded up to a power of two and is at least 4096; without a limit it may always
+    /// grow.
+    pub fn new(
+        alloc: Global,
+        transport: T,
+        max_buffer_size: Option<usize>,
+    ) -> Result<Self, OutOfMemory>
+    where
+        T: Drop,
+        ensures { IfOk result (IsFresh transport max_buffer_size) }
+    {
+        let incoming = Buffer::new(alloc, LEAST_LIMIT)?;
+        let outgoing = Buffer::new(alloc, LEAST_LIMIT)?;
+        Ok(BufferedSocket {
+            transport,
+            incoming,
+            fds_in: VecDeque::new(alloc),
+            outgoing,
+            fds_out: TokenQueue::new(alloc),
+            limit: rounded(max_buffer_size),
+        })
+    }
+
+    /// Sets how far the outgoing storage may grow, rounded as for a new link. A storage that is larger already stays.
+    pub fn set_max_buffer_size(&mut self, max_buffer_size: Option<usize>)
+        ensures { LimitSet self.old max_buffer_size self.new }
+    {
+        self.limit = rounded(max_buffer_size);
+    }
+
+    /// How far the outgoing storage may grow, in bytes; `None` where it always may.
+    pub fn max_buffer_size(&self) -> Option<usize>
+        ensures { result ≡ self.now.limit }
+    {
+        self.limit
+    }
+
+    /// How many bytes and tokens were received and not read yet, and how many were written and not sent yet.
+    pub fn waiting(&self) -> [usize; 4]
+        ensures { result ≡ length self.now.incoming.bytes ∷ length self.now.incoming.tokens
+            ∷ length self.now.outgoing.bytes ∷ length self.now.outgoing.tokens ∷ [] }
+    {
+        [
+            self.incoming.len(),
+            self.fds_in.len(),
+            self.outgoing.len(),
+            self.fds_out.len(),
+        ]
+    }
+
+    /// How many bytes the incoming and the outgoing storage hold.
+    pub fn storage(&self) -> [usize; 2]
+        ensures { result ≡ self.now.room ∷ self.now.storage ∷ [] }
+    {
+        [self.incoming.size(), self.outgoing.size()]
+    }
+
+    /// The transport.
+    pub fn transport(&self) -> &T
+        ensures { result.now ≡ self.now.transport }
+    {
+        &self.transport
+    }
+
+    /// The transport, which may be changed; what waits stays as it is.
+    pub fn transport_mut(&mut self) -> &mut T
+        ensures* lends { sem 𝓛 (LendsTransport T.row self.entry result) }
+        ensures value { result.now ≡ self.old.transport }
+    {
+        &mut self.transport
+    }
+
+    /// Reads the message at the front of what was received, under the signature that the closure gives for its sender
+    /// and opcode.
+    ///
+    /// Where the header is not there to its end the answer is `MissingData`, and where there is no signature it is
+    /// `Malformed`. Otherwise the answer is that of `parse_message` under the signature. A message that is read is
+    /// taken with its tokens; an error takes nothing.
+    pub fn read_one_message<'s, F>(
+        &mut self,
+        signature: F,
+    ) -> Result<Message<u32, Token>, MessageParseError>
+    where
+        F: FnOnce(u32, u16) -> Option<&'s [ArgumentType]> + Drop,
+        requires { F.IsAlwaysCallable signature }
+        ensures { ReadOne (looked_up (F.post signature)) self.old (read_content result) self.new }
+    {
+        let alloc = *self.fds_in.allocator();
+        let bytes = self.incoming.bytes();
+        let Some((sender, opcode)) = header(bytes) else {
+            return Err(MessageParseError::MissingData);
+        };
+        let Some(signature) = signature(sender, opcode) else {
+            return Err(MessageParseError::Malformed);
+        };
+        match parse_message(alloc, bytes, signature, &mut self.fds_in) {
+            Ok((message, rest)) => {
+                let len = bytes.len() - rest.len();
+                self.incoming.consume(len);
+                Ok(message)
+            }
+            Err(error) => Err(error),
+        }
+    }
+
+    /// Whether the outgoing storage has room for that many bytes more.
+    fn has_room(&self, size: usize) -> bool
+        ensures { result ≡ has_room self.now size }
+    {
+        size <= self.outgoing.size() - self.outgoing.len()
+    }
+
+    /// Doubles the outgoing storage until it has room for that many bytes more, as far as the limit allows. Where there
+    /// is no memory, it stays as it was.
+    fn grow_for(&mut self, more: usize) -> Result<(), OutOfMemory>
+        requires { more ≤ 65535 }
+        ensures { MatchResult result (λ _. Grown self.old more self.new)
+            (λ _. (self.new ≡ self.old) × Wants self.old.limit (needed self.old more) self.old.storage) }
+    {
+        let size = self.outgoing.size();
+        let needed = self.outgoing.len() + more;
+        let Some(grown) = grown_size(self.limit, needed, size) else {
+            return Err(OutOfMemory);
+        };
+        if grown == size {
+            return Ok(());
+        }
+        self.outgoing.grow(grown)
+    }
+
+    /// Puts the message behind what waits.
+    fn put(&mut self, message: &Message<u32, Token>) -> Result<(), IoFault>
+        requires small { size (content message.now) ≤ 65535 }
+        requires room { IsTrue (has_room self.old (size (content message.now))) }
+        ensures { Put self.old (content message.now) result self.new }
+    {
+        write_answer(self.outgoing.put(message, &mut self.fds_out))
+    }
+
+    /// The transport, where what waits is given up.
+    pub fn into_transport(self) -> T
+        ensures { result ≡ self.transport }
+    {
+        let BufferedSocket {
+            transport,
+            incoming: _,
+            fds_in: _,
+            outgoing: _,
+            fds_out: _,
+            limit: _,
+        } = self;
+        transport
+    }
+}
+
+impl<T: Transport> BufferedSocket<T> {
+    /// Sends what waits.
+    ///
+    /// While bytes wait, a send is offered up to 4096 of them with all tokens, or 1 byte with 28 tokens where more
+    /// wait. What a send took is gone. A send that takes no bytes ends the flush with `Ok`, and the tokens that it
+    /// was offered are gone. A fault of the transport ends the flush, and is answered; what was not sent still waits.
+    pub fn flush(&mut self) -> Result<(), IoFault>
+        ensures { Flushed T.sends self.old result self.new }
+    {
+        while self.outgoing.len() > 0 {
+            let bytes = first_bytes(self.outgoing.bytes(), self.fds_out.len());
+            let fds = self.fds_out.first(MAX_FDS_OUT);
+            match self.transport.send_msg(bytes, fds) {
+                Err(fault) => return Err(fault),
+                Ok(0) => {
+                    self.fds_out.drop_first(MAX_FDS_OUT);
+                    return Ok(());
+                }
+                Ok(count) => {
+                    self.outgoing.consume(count);
+                    self.fds_out.drop_first(MAX_FDS_OUT);
+                }
+            }
+        }
+        Ok(())
+    }
+
+    /// Writes the message behind what waits.
+    ///
+    /// Where the outgoing storage has too little room it is doubled, as often as is needed and the limit allows; a
+    /// doubling for which there is no memory is answered by `OutOfMemory`, and changes nothing. Where there is still
+    /// too little room what waits is flushed. A fault of that flush but `WouldBlock` is answered, and the message is
+    /// not written. It is not written either where there is too little room even then, or where it takes more than
+    /// 65535 bytes: both are answered by `TooBig`. Without memory for its tokens the answer is `OutOfMemory`.
+    pub fn write_message(&mut self, message: &Message<u32, Token>) -> Result<(), IoFault>
+        ensures { Wrote T.sends self.old (content message.now) result self.new }
+    {
+        match self.outgoing.write(message, &mut self.fds_out) {
+            Ok(()) => Ok(()),
+            Err(MessageWriteError::TooLong) => Err(IoFault::TooBig),
+            Err(MessageWriteError::OutOfMemory) => Err(IoFault::OutOfMemory),
+            Err(MessageWriteError::BufferTooSmall) => self.make_room_and_write(message),
+        }
+    }
+
+    /// Writes the message where there may be too little room behind what waits.
+    fn make_room_and_write(&mut self, message: &Message<u32, Token>) -> Result<(), IoFault>
+        requires { size (content message.now) ≤ 65535 }
+        ensures { Wrote T.sends self.old (content message.now) result self.new }
+    {
+        let Some(len) = message_size(message) else {
+            return Err(IoFault::TooBig);
+        };
+        let Ok(()) = self.grow_for(len) else {
+            return Err(IoFault::OutOfMemory);
+        };
+        self.place(message, len)
+    }
+
+    /// Writes the message of that size where there is room, and else where there is room after a flush.
+    fn place(&mut self, message: &Message<u32, Token>, len: usize) -> Result<(), IoFault>
+        requires len { len ≡ size (content message.now) }
+        requires small { len ≤ 65535 }
+        ensures { Placed T.sends self.old (content message.now) result self.new }
+    {
+        if self.has_room(len) {
+            return self.put(message);
+        }
+        self.flush_for_room()?;
+        if self.has_room(len) {
+            return self.put(message);
+        }
+        Err(IoFault::TooBig)
+    }
+
+    /// Flushes what waits. That the transport would block is no fault here.
+    fn flush_for_room(&mut self) -> Result<(), IoFault>
+        ensures { (flushed : _) × Flushed T.sends self.old flushed self.new × (result ≡ ignoring flushed) }
+    {
+        match self.flush() {
+            Ok(()) => Ok(()),
+            Err(IoFault::WouldBlock) => Ok(()),
+            Err(fault) => Err(fault),
+        }
+    }
+
+    /// Receives once, into all of the incoming storage that is free.
+    ///
+    /// Where no bytes came the answer is `Pipe`, also where none are free; tokens that came with none still wait. A
+    /// fault of the transport is answered. Room for the most tokens that a receive may give is made before it;
+    /// without memory for that the answer is `OutOfMemory`, and nothing was received.
+    pub fn fill_incoming_buffers(&mut self) -> Result<(), IoFault>
+        ensures { Filled T.receives self.old result self.new }
+    {
+        let Ok(()) = self.fds_in.reserve(MAX_FDS_IN) else {
+            return Err(IoFault::OutOfMemory);
+        };
+        let received = self.incoming.receive(&mut self.transport, &mut self.fds_in);
+        answer_of(received)
+    }
+}
+
+/// What is offered of the bytes that wait, where so many tokens wait.
+#[tactic(auto, using(std::proofs::lemmas::List::take_min))]
+fn first_bytes(bytes: &[u8], tokens: usize) -> &[u8]
+    ensures { result.now ≡ take (if nat_le tokens 28 then 4096 else 1) bytes.now }
+{
+    let most = if tokens > MAX_FDS_OUT {
+        1
+    } else {
+        MAX_BYTES_OUT
+    };
+    let count = most.min(bytes.len());
+    &bytes[..count]
+}
+
+/// The sender and the opcode of the message at the front; `None` where its header is not there to its end.
+#[tactic(auto, unfolding(wl_wire::specs::Parse::sender_of, wl_wire::specs::Parse::second_word))]
+fn header(bytes: &[u8]) -> Option<(u32, u16)>
+    ensures { MatchOption result (length bytes.now < 8)
+        (λ x. (8 ≤ length bytes.now) × (x.0 ≡ sender_of bytes.now) × (x.1 ≡ opcode_of bytes.now)) }
+{
+    if bytes.len() < 8 {
+        return None;
+    }
+    let sender = u32::from_le_bytes([bytes[0], bytes[1], bytes[2], bytes[3]]);
+    let word = u32::from_le_bytes([bytes[4], bytes[5], bytes[6], bytes[7]]);
+    Some((sender, (word % 65536) as u16))
+}
+
+/// The link's answer to a write.
+fn write_answer(written: Result<(), MessageWriteError>) -> Result<(), IoFault>
+    ensures { result ≡ write_answer_of written }
+{
+    match written {
+        Ok(()) => Ok(()),
+        Err(MessageWriteError::TooLong | MessageWriteError::BufferTooSmall) => Err(IoFault::TooBig),
+        Err(MessageWriteError::OutOfMemory) => Err(IoFault::OutOfMemory),
+    }
+}
+
+/// A receive of no bytes is the end of the stream.
+fn answer_of(received: Result<usize, IoFault>) -> Result<(), IoFault>
+    ensures { result ≡ counted_answer received }
+{
+    match received {
+        Ok(0) => Err(IoFault::Pipe),
+        Ok(_) => Ok(()),
+        Err(fault) => Err(fault),
+    }
+}

@@ -1,0 +1,220 @@
+//! A transport by script, for programs and tests that have no other.
+
+ghost use Rattle.std.specs.Prelude.{◌≡◌, ◌<◌, ◌≤◌, ◌++◌, ◌∷◌, [], ◌↔◌, length, map, Ok, Err, IfOk, OnOk, OnErr};
+ghost use Rattle.wl_link.specs.Script.{parcel, count_taken};
+
+use crate::parcel::Parcel;
+use crate::transport::Transport;
+use std::alloc::Global;
+use std::collections::VecDeque;
+use std::marker::Model;
+use std::mem;
+use thiserror::Error;
+use wl_wire::{IoFault, OutOfMemory, Token};
+
+/// The most tokens that one receive gives.
+const MAX_TOKENS: usize = 28;
+
+/// Why an arrival was not put into a script.
+#[derive(Clone, Copy, Debug, PartialEq, Eq, Error)]
+pub enum ArriveError {
+    /// The chunk has more than 28 tokens.
+    #[error("more than 28 tokens in one chunk")]
+    TooManyTokens,
+    /// There was no memory for the arrival.
+    #[error("out of memory")]
+    OutOfMemory,
+}
+
+/// A transport whose answers were written down beforehand.
+///
+/// A receive takes the first arrival, and a send uses up the first send answer. A chunk gives the bytes that fit
+/// with all its tokens, and stays first with the rest of its bytes. Where no arrival is left a receive answers
+/// `WouldBlock`, and where no send answer is left a send takes all that it is offered.
+#[derive(Debug, Drop)]
+pub struct Memory {
+    arrivals: VecDeque<Result<Parcel, IoFault>>,
+    answers: VecDeque<Result<usize, IoFault>>,
+    sent: Vec<(Vec<u8>, Vec<Token>)>,
+}
+
+impl Model for Memory {
+    ghost use Rattle.std.specs.Prelude.{map};
+    ghost use Rattle.wl_link.specs.Script.{Script, parcel};
+
+    ghost Value = { Script };
+
+    ghost view = { λ m. record { arrivals = m.arrivals.items; answers = m.answers.items; sent = map parcel m.sent.items } };
+}
+
+impl Memory {
+    /// A transport with an empty script. It takes no memory.
+    pub fn new(alloc: Global) -> Self
+        ensures { result ≡ record { arrivals = []; answers = []; sent = [] } }
+    {
+        Memory {
+            arrivals: VecDeque::new(alloc),
+            answers: VecDeque::new(alloc),
+            sent: Vec::new(alloc),
+        }
+    }
+
+    /// Puts a chunk behind the arrivals. It is refused where it has more than 28 tokens, or where there is no memory;
+    /// the script then stays as it was.
+    pub fn arrive(&mut self, bytes: Vec<u8>, tokens: Vec<Token>) -> Result<(), ArriveError>
+        ensures ok { OnOk result (self.new ≡ record self.old {
+          arrivals = self.old.arrivals ++ Ok (record { bytes = bytes.items; tokens = tokens.items }) ∷ [];
+        }) }
+        ensures too_many { (result ≡ Err ArriveError.TooManyTokens) ↔ (28 < length tokens.items) }
+        ensures err { OnErr result (self.new ≡ self.old) }
+    {
+        if tokens.len() > MAX_TOKENS {
+            return Err(ArriveError::TooManyTokens);
+        }
+        match self.arrivals.push_back(Ok(Parcel::new(bytes, tokens))) {
+            Ok(()) => Ok(()),
+            Err(_) => Err(ArriveError::OutOfMemory),
+        }
+    }
+
+    /// Puts a fault behind the arrivals. Where there is no memory, the script stays as it was.
+    pub fn arrive_fault(&mut self, fault: IoFault) -> Result<(), OutOfMemory>
+        ensures ok { OnOk result (self.new ≡ record self.old { arrivals = self.old.arrivals ++ Err fault ∷ [] }) }
+        ensures err { OnErr result (self.new ≡ self.old) }
+    {
+        self.arrivals.push_back(Err(fault))?;
+        Ok(())
+    }
+
+    /// Puts a count behind the send answers: the send takes that many bytes, or all where fewer are offered. Where
+    /// there is no memory, the script stays as it was.
+    pub fn accept(&mut self, count: usize) -> Result<(), OutOfMemory>
+        ensures ok { OnOk result (self.new ≡ record self.old { answers = self.old.answers ++ Ok count ∷ [] }) }
+        ensures err { OnErr result (self.new ≡ self.old) }
+    {
+        self.answers.push_back(Ok(count))?;
+        Ok(())
+    }
+
+    /// Puts a fault behind the send answers. Where there is no memory, the script stays as it was.
+    pub fn accept_fault(&mut self, fault: IoFault) -> Result<(), OutOfMemory>
+        ensures ok { OnOk result (self.new ≡ record self.old { answers = self.old.answers ++ Err fault ∷ [] }) }
+        ensures err { OnErr result (self.new ≡ self.old) }
+    {
+        self.answers.push_back(Err(fault))?;
+        Ok(())
+    }
+
+    /// How many arrivals are left, a chunk of which a part was received among them.
+    pub fn arrivals_left(&self) -> usize
+        ensures { result ≡ length self.now.arrivals }
+    {
+        self.arrivals.len()
+    }
+
+    /// What was taken from each send that took something, the oldest first.
+    pub fn sent(&self) -> &[(Vec<u8>, Vec<Token>)]
+        ensures { map parcel result.now ≡ self.now.sent }
+    {
+        self.sent.as_slice()
+    }
+
+    /// The record of what was taken, which is empty from then on. It takes no memory.
+    pub fn take_sent(&mut self) -> Vec<(Vec<u8>, Vec<Token>)>
+        ensures taken { map parcel result.items ≡ self.old.sent }
+        ensures rest { self.new ≡ record self.old { sent = [] } }
+    {
+        let alloc = *self.sent.allocator();
+        mem::replace(&mut self.sent, Vec::new(alloc))
+    }
+
+    /// How many of so many bytes the next send takes, or its fault.
+    fn next_count(&self, offered: usize) -> Result<usize, IoFault>
+        ensures count { result ≡ count_taken self.now.answers offered }
+        ensures within { IfOk result (λ n. n ≤ offered) }
+    {
+        match self.answers.front() {
+            None => Ok(offered),
+            Some(Ok(count)) => Ok(offered.min(*count)),
+            Some(Err(fault)) => Err(*fault),
+        }
+    }
+
+    /// Records what a send took. Where there is no memory for it, nothing is recorded.
+    fn record(&mut self, bytes: &[u8], tokens: &[Token]) -> Result<(), OutOfMemory>
+        ensures ok { OnOk result (self.new ≡ record self.old {
+          sent = self.old.sent ++ record { bytes = bytes.now; tokens = tokens.now } ∷ [];
+        }) }
+        ensures err { OnErr result (self.new ≡ self.old) }
+    {
+        let alloc = *self.sent.allocator();
+        let bytes = Vec::from_slice(alloc, bytes)?;
+        let tokens = Vec::from_slice(alloc, tokens)?;
+        self.sent.push((bytes, tokens))?;
+        Ok(())
+    }
+}
+
+impl Transport for Memory {
+    ghost use Rattle.wl_link.specs.Script.{ScriptSends, ScriptReceives};
+    ghost use Rattle.wl_link.specs.ScriptLaws.{script_within_offer, script_within_room, script_few_tokens};
+
+    ghost sends = { ScriptSends };
+
+    ghost receives = { ScriptReceives };
+
+    fn send_msg(&mut self, bytes: &[u8], tokens: &[Token]) -> Result<usize, IoFault> {
+        match self.next_count(bytes.len()) {
+            Err(fault) => {
+                self.answers.pop_front();
+                Err(fault)
+            }
+            Ok(0) => {
+                self.answers.pop_front();
+                Ok(0)
+            }
+            Ok(count) => {
+                let Ok(()) = self.record(&bytes[..count], tokens) else {
+                    return Err(IoFault::OutOfMemory);
+                };
+                self.answers.pop_front();
+                Ok(count)
+            }
+        }
+    }
+
+    fn rcv_msg(
+        &mut self,
+        buffer: &mut [u8],
+        tokens: &mut VecDeque<Token>,
+    ) -> Result<usize, IoFault> {
+        if buffer.is_empty() {
+            return Ok(0);
+        }
+        if self.arrivals.is_empty() {
+            return Err(IoFault::WouldBlock);
+        }
+        match &mut self.arrivals[0] {
+            Err(fault) => {
+                let fault = *fault;
+                self.arrivals.pop_front();
+                Err(fault)
+            }
+            Ok(parcel) => {
+                let Ok(count) = parcel.give(buffer, tokens) else {
+                    return Err(IoFault::OutOfMemory);
+                };
+                if parcel.is_empty() {
+                    self.arrivals.pop_front();
+                }
+                Ok(count)
+            }
+        }
+    }
+
+    ghost within_offer = { script_within_offer };
+
+    ghost within_room = { script_within_room };
+
+    ghost few_tokens = { script_few_tokens };
+}

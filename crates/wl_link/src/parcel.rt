@@ -1,0 +1,88 @@
+//! A chunk of bytes, with tokens, that is to arrive at a transport by script.
+
+ghost use Rattle.std.specs.Prelude.{◌≡◌, ◌≢◌, ◌≤◌, ◌<◌, ◌-◌, ◌++◌, ◌==◌, [], MatchResult, length, take, drop, min};
+ghost use Rattle.std.specs.Vec.{vec_len};
+ghost use Rattle.std.specs.VecDeque.{deque_len, deque_capacity};
+
+use std::alloc::AllocError;
+use std::collections::VecDeque;
+use std::marker::Model;
+use wl_wire::Token;
+
+/// Bytes and at most 28 tokens, of which the bytes leave in pieces.
+#[derive(Debug, Drop)]
+pub struct Parcel {
+    bytes: Vec<u8>,
+    /// How many of the bytes have left.
+    start: usize,
+    tokens: Vec<Token>,
+}
+
+impl Model for Parcel {
+    ghost use Rattle.std.specs.Prelude.{◌≤◌, drop};
+    ghost use Rattle.std.specs.Vec.{vec_len};
+    ghost use Rattle.wl_link.specs.Exchange.{Queue};
+
+    ghost Value = { Queue };
+
+    ghost view = { λ p. record { bytes = drop p.start p.bytes.items; tokens = p.tokens.items } };
+
+    ghost invariant = { λ p. (p.start ≤ vec_len p.bytes) × (vec_len p.tokens ≤ 28) };
+}
+
+impl Parcel {
+    /// These bytes and tokens. It takes no memory.
+    pub fn new(bytes: Vec<u8>, tokens: Vec<Token>) -> Self
+        requires { vec_len tokens ≤ 28 }
+        ensures { result ≡ record { bytes = bytes.items; tokens = tokens.items } }
+    {
+        Parcel {
+            bytes,
+            start: 0,
+            tokens,
+        }
+    }
+
+    /// Whether no bytes are left.
+    pub fn is_empty(&self) -> bool
+        ensures { result ≡ (length self.now.bytes == 0) }
+    {
+        self.bytes[self.start..].is_empty()
+    }
+
+    /// Puts the first bytes that fit into the front of the buffer, and all tokens behind those in the queue. Answers
+    /// how many bytes these are. Where there is no memory for the tokens, nothing is changed.
+    pub fn give(
+        &mut self,
+        buffer: &mut [u8],
+        tokens: &mut VecDeque<Token>,
+    ) -> Result<usize, AllocError>
+        ensures gives { MatchResult result
+            (λ n. (n ≡ min (length buffer.old) (length self.old.bytes))
+            × (take n buffer.new ≡ take (length buffer.old) self.old.bytes)
+            × (tokens.new.items ≡ tokens.old.items ++ self.old.tokens)
+            × (self.new ≡ record { bytes = drop (length buffer.old) self.old.bytes; tokens = [] }))
+            (λ _. (self.old.tokens ≢ []) × (self.new ≡ self.old) × (buffer.new ≡ buffer.old)
+            × (tokens.new.items ≡ tokens.old.items)) }
+        ensures few { length self.old.tokens ≤ 28 }
+    {
+        append(tokens, &self.tokens)?;
+        self.tokens.clear();
+        let count = buffer.len().min(self.bytes.len() - self.start);
+        buffer[..count].copy_from_slice(&self.bytes[self.start..self.start + count]);
+        self.start += count;
+        Ok(count)
+    }
+}
+
+/// Puts the tokens behind those in the queue. Where there is no memory for them, the queue stays as it was.
+fn append(to: &mut VecDeque<Token>, tokens: &[Token]) -> Result<(), AllocError>
+    ensures items { MatchResult result (λ _. to.new.items ≡ to.old.items ++ tokens.now)
+        (λ _. (to.new.items ≡ to.old.items) × (tokens.now ≢ [])) }
+{
+    to.reserve(tokens.len())?;
+    for token in tokens {
+        to.push_back_reserved(*token);
+    }
+    Ok(())
+}
