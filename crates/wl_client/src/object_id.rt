@@ -1,0 +1,108 @@
+//! The ids of a client's objects.
+
+ghost use Rattle.std.specs.Prelude.{◌≡◌, ◌↔◌, ◌++◌, IsTrue, IfOk, codes};
+ghost use Rattle.std.specs.String.{string_bytes};
+ghost use Rattle.std.specs.Fmt.{decimal};
+ghost use Rattle.wl_wire.specs.Table.{name_of};
+
+use std::alloc::Global;
+use std::hash::{Hash, Hasher};
+use std::marker::Model;
+use wl_wire::{ANONYMOUS_INTERFACE, InterfaceId, OutOfMemory, Protocol};
+
+/// The id of an object: its number, the serial that tells it from others of that number, and its interface.
+///
+/// Ids are equal where all parts are equal; the hash leaves the interface out. An id of number 0 is null.
+#[derive(Clone, Copy, Debug, PartialEq, Eq)]
+pub struct ObjectId {
+    serial: u64,
+    interface: InterfaceId,
+    number: u32,
+}
+
+impl Model for ObjectId {
+    ghost use Rattle.wl_client.specs.ObjectId.{IdParts};
+
+    ghost Value = { IdParts };
+
+    ghost view = { λ id. record { number = id.number; serial = id.serial; interface = id.interface } };
+
+    ghost inverse = { λ id. record { serial = id.serial; interface = id.interface; number = id.number } };
+}
+
+impl Hash for ObjectId {
+    ghost use Rattle.std.specs.Prelude.{◌++◌};
+    ghost use Rattle.std.proofs.Common.{rules};
+    ghost use Rattle.std.specs.Hash as fed;
+    ghost use Rattle.std.specs.Cmp.Rules.{hashing};
+
+    ghost hash_input = { λ id. fed.u32 id.number ++ fed.u64 id.serial };
+
+    ghost respects_eq = { Prim.search (hashing, rules) };
+
+    fn hash<H: Hasher>(&self, state: &mut H) {
+        state.write_u32(self.number);
+        state.write_u64(self.serial);
+    }
+}
+
+impl ObjectId {
+    /// The id of no object: number 0, serial 0, the anonymous interface.
+    pub fn null() -> Self
+        ensures { result ≡ record { number = 0; serial = 0; interface = ANONYMOUS_INTERFACE } }
+    {
+        ObjectId {
+            serial: 0,
+            interface: ANONYMOUS_INTERFACE,
+            number: 0,
+        }
+    }
+
+    /// The id of these parts.
+    pub fn from_parts(number: u32, serial: u64, interface: InterfaceId) -> Self
+        ensures { result ≡ record { number = number; serial = serial; interface = interface } }
+    {
+        ObjectId {
+            serial,
+            interface,
+            number,
+        }
+    }
+
+    /// Whether it is the id of no object: whether its number is 0.
+    pub fn is_null(&self) -> bool
+        ensures { IsTrue result ↔ (self.now.number ≡ 0) }
+    {
+        self.number == 0
+    }
+
+    /// The object's interface.
+    pub fn interface(&self) -> InterfaceId
+        ensures { result ≡ self.now.interface }
+    {
+        self.interface
+    }
+
+    /// The object's number in the protocol.
+    pub fn protocol_id(&self) -> u32
+        ensures { result ≡ self.now.number }
+    {
+        self.number
+    }
+
+    /// The id as a text: the name of its interface, `@`, and its number.
+    pub fn display(&self, alloc: Global, protocol: &Protocol) -> Result<String, OutOfMemory>
+        ensures { IfOk result (λ text. string_bytes text ≡ name_of protocol.now self.now.interface.0 ++ codes "@" ++ decimal self.now.number) }
+    {
+        let name = protocol.name(self.interface);
+        let number = self.number;
+        Ok(format!(in alloc; "{name}@{number}")?)
+    }
+
+    /// The serial, which no other object of the session has.
+    pub fn serial(&self) -> u64
+        ensures { result ≡ self.now.serial }
+    {
+        self.serial
+    }
+}
