@@ -105,3 +105,6 @@ impl<Id, Fd> Default for Argument<Id, Fd> {
         Argument::Int(0)
     }
 }
+
+#[cfg(test)]
+mod tests;

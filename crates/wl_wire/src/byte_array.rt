@@ -58,3 +58,6 @@ impl PartialEq for ByteArray {
 impl Eq for ByteArray {
     ghost laws = { lists_equiv nat_eq_equiv };
 }
+
+#[cfg(test)]
+mod tests;

@@ -89,3 +89,6 @@ impl PartialEq for CString {
 impl Eq for CString {
     ghost laws = { lists_equiv nat_eq_equiv };
 }
+
+#[cfg(test)]
+mod tests;

@@ -92,3 +92,6 @@ impl<T: WaylandEnum> From<WEnum<T>> for Result<T, WEnumError> {
         value.into_result()
     }
 }
+
+#[cfg(test)]
+mod tests;

@@ -87,3 +87,6 @@ impl<Id: Drop, Fd: Drop> Message<Id, Fd> {
         })
     }
 }
+
+#[cfg(test)]
+mod tests;

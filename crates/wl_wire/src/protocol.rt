@@ -136,3 +136,6 @@ pub fn check_for_signature<Id, Fd>(signature: &[ArgumentType], args: &[Argument<
     }
     true
 }
+
+#[cfg(test)]
+mod tests;
