@@ -10,10 +10,9 @@ mod stop;
 mod sync;
 
 use hex::hex_line;
-use std::env;
-use std::io;
 use std::process::ExitCode;
 use std::rt::Env;
+use std::{env, io};
 use stop::Stop;
 use wl_wire::Protocol;
 

@@ -8,8 +8,8 @@ use crate::stop::Stop;
 use smallvec::SmallVec;
 use std::alloc::Global;
 use wl_wire::{
-    Argument, ArgumentType, InterfaceId, Message, Protocol, Token, WL_CALLBACK_INTERFACE, WL_DISPLAY_INTERFACE,
-    check_for_signature, message_size, write_to_buffers,
+    Argument, ArgumentType, InterfaceId, Message, Protocol, Token, WL_CALLBACK_INTERFACE,
+    WL_DISPLAY_INTERFACE, check_for_signature, message_size, write_to_buffers,
 };
 
 /// The object of `wl_display`.

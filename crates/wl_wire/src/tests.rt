@@ -152,14 +152,14 @@ fn bind_written_and_read(rt: HostRuntime) -> Result<(), Fail> {
     bind.args.push(Argument::Str(Some(name)))?;
     bind.args.push(Argument::Uint(1))?;
 
-    let mut buffer = [0u8; 64];
+    let mut buffer = [0u8; 32];
     let mut tokens = Vec::new(alloc);
     let size = write_to_buffers(&bind, &mut buffer, &mut tokens)?;
     assert_eq!(rt; size, 32);
 
     let signature = [ArgumentType::Uint, STR, ArgumentType::Uint];
     let mut waiting = VecDeque::new(alloc);
-    let (again, rest) = parse_message(alloc, &buffer[..32], &signature, &mut waiting)?;
+    let (again, rest) = parse_message(alloc, &buffer, &signature, &mut waiting)?;
     assert!(rt; again == bind);
     assert!(rt; rest.is_empty());
     Ok(())
@@ -218,26 +218,34 @@ fn overrunning_string_leaves_its_token(rt: HostRuntime) -> Result<(), Fail> {
     Ok(())
 }
 
+/// So many bytes.
+fn filled(alloc: Global, len: usize) -> Result<Vec<u8>, Fail> {
+    Ok(Vec::from_elem(alloc, 9, len)?)
+}
+
+/// A message of one array of so many bytes.
+fn of_one_array(alloc: Global, len: usize) -> Result<Message<u32, Token>, Fail> {
+    let mut message = empty(alloc, 1, 1);
+    let bytes = ByteArray::new(filled(alloc, len)?);
+    message.args.push(Argument::Array(bytes))?;
+    Ok(message)
+}
+
 #[test]
 fn longest_message(rt: HostRuntime) -> Result<(), Fail> {
     let alloc = rt.alloc();
-    let mut longest = empty(alloc, 1, 1);
-    let bytes = Vec::from_elem(alloc, 9, 65520)?;
-    longest.args.push(Argument::Array(ByteArray::new(bytes)))?;
+    let longest = of_one_array(alloc, 65520)?;
     assert_eq!(rt; message_size(&longest), Some(65532));
     let mut fds = Vec::new(alloc);
-    let mut buffer = Vec::from_elem(alloc, 0xa5, 65532)?;
-    let small = write_to_buffers(&longest, &mut buffer[..65531], &mut fds);
-    assert!(rt; matches!(small, Err(MessageWriteError::BufferTooSmall)));
-    let size = write_to_buffers(&longest, &mut buffer, &mut fds)?;
-    assert_eq!(rt; size, 65532);
-
-    let mut longer = empty(alloc, 1, 1);
-    let bytes = Vec::from_elem(alloc, 9, 65521)?;
-    longer.args.push(Argument::Array(ByteArray::new(bytes)))?;
+    let mut short = filled(alloc, 65531)?;
+    let refused = write_to_buffers(&longest, &mut short, &mut fds);
+    assert!(rt; matches!(refused, Err(MessageWriteError::BufferTooSmall)));
+    let mut exact = filled(alloc, 65532)?;
+    assert_eq!(rt; write_to_buffers(&longest, &mut exact, &mut fds)?, 65532);
+    let longer = of_one_array(alloc, 65521)?;
     assert_eq!(rt; message_size(&longer), None);
-    let too_long = write_to_buffers(&longer, &mut buffer, &mut fds);
-    assert!(rt; matches!(too_long, Err(MessageWriteError::TooLong)));
+    let refused = write_to_buffers(&longer, &mut exact, &mut fds);
+    assert!(rt; matches!(refused, Err(MessageWriteError::TooLong)));
     Ok(())
 }
 
