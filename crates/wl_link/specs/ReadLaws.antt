@@ -14,7 +14,7 @@ use Rattle.wl_wire.specs.CursorLaws.{reads_tokens}
 use Rattle.wl_wire.specs.Laws.{one_message_lem}
 use Rattle.wl_wire.specs.Parse.{length_of, sender_of, opcode_of, payload_of, fd_count, IsWhole, IsInline, ReadsMessage, RefusesMessage}
 use Rattle.wl_link.specs.Exchange.{Queue}
-use Rattle.wl_link.specs.Link.{LinkState, with_incoming, behind_first, ReadUnder, ReadOne}
+use Rattle.wl_link.specs.Link.{LinkState, with_incoming, behind_first, ReadUnder, ReadFound, ReadOne}
 
 -- the answer of a parser, of the bytes and tokens that wait
 module _ {T : Type 0} (looks_up : ℕ → ℕ → Option (List ArgumentType) → Type 0) (before : LinkState T) (bytes : List ℕ)
@@ -135,9 +135,7 @@ module _ {T : Type 0} (before x y : LinkState T) where
   one_read_lem looks_up function a b r s ok ok' = at (cases_Bool (nat_le 8 (length before.incoming.bytes)))
     where
       found : (f : Option (List ArgumentType))
-          → MatchOption f ((a ≡ Err errors.Malformed) × (x ≡ before)) (λ k. ReadUnder k before a x)
-          → MatchOption f ((b ≡ Err errors.Malformed) × (y ≡ before)) (λ k. ReadUnder k before b y)
-          → SameRead a b x y
+          → ReadFound f before a x → ReadFound f before b y → SameRead a b x y
       found None p q = record { answer = p.0 ∙ sym q.0; after = p.1 ∙ sym q.1 }
       found (Some signature) p q = under_one signature a b p q ok ok'
       at : (nat_le 8 (length before.incoming.bytes) ≡ true) ⊎ (nat_le 8 (length before.incoming.bytes) ≡ false) → SameRead a b x y
@@ -145,7 +143,7 @@ module _ {T : Type 0} (before x y : LinkState T) where
           let p = MatchBool-at_true _ _ header r in
           let q = MatchBool-at_true _ _ header s in
           let same : q.0 ≡ p.0 = function _ _ q.0 p.0 q.1 p.1 in
-          let q' = subst (λ (f : Option (List ArgumentType)). MatchOption f ((b ≡ Err errors.Malformed) × (y ≡ before)) (λ k. ReadUnder k before b y)) same q.2 in
+          let q' = subst (λ (f : Option (List ArgumentType)). ReadFound f before b y) same q.2 in
           found p.0 p.2 q'
       at (inr short) =
           let p = MatchBool-at_false _ _ short r in
