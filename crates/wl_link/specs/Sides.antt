@@ -1,5 +1,5 @@
 -- The calls on both sides of a link, one after another, and the messages that they carry.
-use Rattle.std.specs.Prelude.{◌≡◌, ◌≢◌, ℕ, List, [], ◌∷◌, ◌++◌, Option, Some, None, Result, Ok, Err, MatchOption, ◌↔◌}
+use Rattle.std.specs.Prelude.{◌≡◌, ◌≢◌, ℕ, List, [], ◌∷◌, ◌++◌, Option, Some, None, Result, Ok, Err, MatchOption, IfOk, ◌↔◌}
 use Rattle.std.specs.List.{AllByRecursion}
 use Rattle.wl_wire.specs.declared.argument.ArgumentType.{ArgumentType}
 use Rattle.wl_wire.specs.declared.error.IoFault.{IoFault}
@@ -146,3 +146,10 @@ CuttingLaw {T = T} receives =
 abbrev pub TakesFirst : (ℕ → ℕ → Option (List ArgumentType)) → Queue → WireMessage → Queue → Type 0
 TakesFirst look_up before m after =
     (ms : List WireMessage) → Stream look_up (m ∷ ms) before.bytes before.tokens ↔ Stream look_up ms after.bytes after.tokens
+
+-- a read that is answered by Ok takes the first message off each stream whose look-up the look-up's answers are
+abbrev pub ReadTakes : {T : Type 0} → (ℕ → ℕ → Option (List ArgumentType) → Type 0) → LinkState T → Result WireMessage MessageParseError → LinkState T → Type 0
+ReadTakes looks_up before answer after =
+    (look_up : ℕ → ℕ → Option (List ArgumentType))
+    → ((sender opcode : ℕ) (found : Option (List ArgumentType)) → looks_up sender opcode found → found ≡ look_up sender opcode)
+    → IfOk answer (λ m. TakesFirst look_up before.incoming m after.incoming)

@@ -20,8 +20,8 @@ use Rattle.wl_link.specs.Exchange.{Queue, Sending, joined, nothing}
 use Rattle.wl_link.specs.Link.{LinkState, with_transport, FlushedBy, WroteBy, FilledBy, with_came, behind_first, ReadUnder, ReadFound, ReadOne, spelled}
 use Rattle.wl_link.specs.Kept.{taken, gone, NoZero, Kept, queued_by}
 use Rattle.wl_link.specs.KeptLaws.{Within, flush_kept, write_kept, gone-taken}
-use Rattle.wl_link.specs.ReadLaws.{reads_front, reads_enough, refused_though_read}
-use Rattle.wl_link.specs.Sides.{SenderCall, SenderStep, SenderRun, written_by, written, all_taken, NoneZero, ReceiverCall, Filling, Reading, ReceiverStep, ReceiverRun, came_by, all_came, read_by, messages_read, spelled_all, IsReadable, StreamLaw, AllReadLaw, CuttingLaw, TakesFirst}
+use Rattle.wl_link.specs.ReadLaws.{reads_front, reads_enough, refused_though_read, read_under_other}
+use Rattle.wl_link.specs.Sides.{SenderCall, SenderStep, SenderRun, written_by, written, all_taken, NoneZero, ReceiverCall, Filling, Reading, ReceiverStep, ReceiverRun, came_by, all_came, read_by, messages_read, spelled_all, IsReadable, StreamLaw, AllReadLaw, CuttingLaw, TakesFirst, ReadTakes}
 
 -- ---- queues behind one another
 
@@ -343,3 +343,10 @@ takes_first look_up before signature m looked reads ms =
         = ap (λ (s : ℕ). look_up s m.opcode) reads.sender ∙ ap (look_up (sender_of before.bytes)) reads.opcode ∙ looked in
     (λ whole. subst (λ (k : ℕ). Stream look_up ms (drop (length_of before.bytes) before.bytes) (drop k before.tokens)) count whole.3,
      λ rest. (signature, mine, reads, subst (λ (k : ℕ). Stream look_up ms (drop (length_of before.bytes) before.bytes) (drop k before.tokens)) (sym count) rest))
+
+pub read_takes : {T : Type 0} (looks_up : ℕ → ℕ → Option (List ArgumentType) → Type 0) (before after : LinkState T) (answer : Result WireMessage MessageParseError)
+    → ReadOne looks_up before answer after → ReadTakes looks_up before answer after
+read_takes looks_up before after (Ok m) read look_up gives =
+    let r = read_left (λ t n c u. ⊥) look_up nothing before after m (read_under_other looks_up (λ s o f. f ≡ look_up s o) before after (Ok m) gives read) in
+    subst (λ (q : Queue). TakesFirst look_up before.incoming m q) (sym r.3) (takes_first look_up before.incoming r.0 m r.1 r.2)
+read_takes looks_up before after (Err e) read look_up gives = tt
