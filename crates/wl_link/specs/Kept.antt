@@ -51,7 +51,7 @@ abbrev pub FlushDrains : {T : Type 0} → (T → Queue → Result ℕ IoFault �
 FlushDrains sends before answer after =
     (es : List Sending) × FlushedBy sends before es answer after
     × (answer ≡ Ok tt → NoZero es → (after.outgoing.bytes ≡ [])
-      × (after.outgoing.tokens ≡ drop (28 * length before.outgoing.bytes) before.outgoing.tokens))
+    × (after.outgoing.tokens ≡ drop (28 * length before.outgoing.bytes) before.outgoing.tokens))
 
 -- A write that is answered by Ok makes what was taken and what waits longer by one spelling; another adds nothing.
 abbrev pub WriteKeeps : {T : Type 0} → (T → Queue → Result ℕ IoFault → T → Type 0) → LinkState T → WireMessage → Result (Unit {0}) IoFault → LinkState T → Type 0

@@ -217,7 +217,10 @@ drains sends within t t' q after (e ∷ es) chain flushes none =
 
 pub flush_drains : {T : Type 0} (sends : T → Queue → Result ℕ IoFault → T → Type 0) → Within sends
     → (before after : LinkState T) (answer : Result (Unit {0}) IoFault) → Flushed sends before answer after → FlushDrains sends before answer after
-flush_drains sends within before after answer f =
-    (f.0, f.1, λ done none.
+flush_drains sends within before after answer f = (
+  f.0,
+  f.1,
+  λ done none.
       drains sends within before.transport after.transport before.outgoing after.outgoing f.0 f.1.0
-        (subst (λ (a : Result (Unit {0}) IoFault). Flushes before.outgoing f.0 a after.outgoing) done f.1.1) none)
+      (subst (λ (a : Result (Unit {0}) IoFault). Flushes before.outgoing f.0 a after.outgoing) done f.1.1) none,
+)

@@ -267,9 +267,9 @@ abbrev pub ReadOne : {T : Type 0} → (ℕ → ℕ → Option (List ArgumentType
     → LinkState T → Result WireMessage MessageParseError → LinkState T → Type 0
 ReadOne looks_up before answer after =
     MatchBool (nat_le 8 (length before.incoming.bytes))
-      ((found : Option (List ArgumentType))
-        × looks_up (sender_of before.incoming.bytes) (opcode_of before.incoming.bytes) found × ReadFound found before answer after)
-      ((answer ≡ Err errors.MissingData) × (after ≡ before))
+    ((found : Option (List ArgumentType))
+    × looks_up (sender_of before.incoming.bytes) (opcode_of before.incoming.bytes) found × ReadFound found before answer after)
+    ((answer ≡ Err errors.MissingData) × (after ≡ before))
 
 -- the answer of a read, without where the message's arguments lie in memory
 abbrev pub read_content : Result (Message ℕ Token) MessageParseError → Result WireMessage MessageParseError

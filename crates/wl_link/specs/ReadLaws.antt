@@ -138,6 +138,7 @@ module _ {T : Type 0} (before x y : LinkState T) where
           → ReadFound f before a x → ReadFound f before b y → SameRead a b x y
       found None p q = record { answer = p.0 ∙ sym q.0; after = p.1 ∙ sym q.1 }
       found (Some signature) p q = under_one signature a b p q ok ok'
+
       at : (nat_le 8 (length before.incoming.bytes) ≡ true) ⊎ (nat_le 8 (length before.incoming.bytes) ≡ false) → SameRead a b x y
       at (inl header) =
           let p = MatchBool-at_true _ _ header r in

@@ -117,7 +117,7 @@ StreamLaw {S = S} {R = R} sends receives =
     → ReceiverRun receives look_up empty got full → empty.incoming ≡ nothing
     → joined (all_came got) under_way ≡ all_taken sent
     → (left : List WireMessage) × (written sent ≡ messages_read got ++ left)
-        × (joined full.incoming (joined under_way end.outgoing) ≡ spelled_all left)
+    × (joined full.incoming (joined under_way end.outgoing) ≡ spelled_all left)
 
 -- So where nothing waits for sending and nothing is under way, and a next read gives none, though memory is not
 -- refused, all messages that were written have been read.
@@ -139,7 +139,7 @@ CuttingLaw {T = T} receives =
     (a b c : Result (Unit {0}) IoFault) (e : MessageParseError)
     → FilledBy receives start (Ok x) a mid → ReceiverStep receives look_up mid (Reading (Err e)) between → FilledBy receives between (Ok y) b end
     → (end.incoming ≡ with_came start.incoming (Ok (joined x y)))
-        × (FilledBy receives start (Ok (joined x y)) c at_once → end.incoming ≡ at_once.incoming)
+    × (FilledBy receives start (Ok (joined x y)) c at_once → end.incoming ≡ at_once.incoming)
 
 -- A read that is answered by Ok takes the first message off the stream: before it the stream is that message and
 -- then others exactly where after it the stream is these others.

@@ -48,7 +48,6 @@ spelled_all-append (m ∷ ms) ns = ap (λ (q : Queue). joined (spelled m) q) (sp
 -- ---- the sending side
 
 module _ {T : Type 0} (sends : T → Queue → Result ℕ IoFault → T → Type 0) (within : Within sends) where
-
   added_spelled : (m : WireMessage) (answer : Result (Unit {0}) IoFault) → queued_by answer m ≡ spelled_all (written_by (Some m) answer)
   added_spelled m (Ok u) = sym (joined_nothing (spelled m))
   added_spelled m (Err fault) = refl
@@ -67,7 +66,7 @@ module _ {T : Type 0} (sends : T → Queue → Result ℕ IoFault → T → Type
   sender_kept before after [] run none = ap (λ (l : LinkState T). l.outgoing) run ∙ sym (joined_nothing before.outgoing)
   sender_kept before after (c ∷ cs) run none =
       let first : joined (taken c.sends) run.1.outgoing ≡ joined before.outgoing (spelled_all (written_by c.message c.answer))
-          = step_kept (with_transport before run.0) run.1 c.message c.sends c.answer none.0 run.2 in
+      = step_kept (with_transport before run.0) run.1 c.message c.sends c.answer none.0 run.2 in
       let others : joined (all_taken cs) after.outgoing ≡ joined run.1.outgoing (spelled_all (written cs)) = sender_kept run.1 after cs run.3 none.1 in
       joined_assoc (taken c.sends) (all_taken cs) after.outgoing
       ∙ ap (λ (q : Queue). joined (taken c.sends) q) others
@@ -100,7 +99,6 @@ module _ (raw more : List ℕ) (header : 8 ≤ length raw) where
 module _ (look_up : ℕ → ℕ → Option (List ArgumentType)) (waiting pending : Queue) (signature : List ArgumentType) (m : WireMessage)
     (looked : look_up (sender_of waiting.bytes) (opcode_of waiting.bytes) ≡ Some signature)
     (reads : ReadsMessage waiting.bytes signature waiting.tokens m) where
-
   nothing_spelled : joined waiting pending ≡ nothing → ⊥
   nothing_spelled is = omega (arith, ap (λ (q : Queue). length q.bytes) is, length-append waiting.bytes pending.bytes, reads.whole.header)
 
@@ -121,8 +119,8 @@ module _ (look_up : ℕ → ℕ → Option (List ArgumentType)) (waiting pending
     bytes_front : waiting.bytes ≡ spelling n ++ drop (length (spelling n)) waiting.bytes
     bytes_front =
         let first : take (length (spelling n)) waiting.bytes ≡ spelling n
-            = sym (take-append-le (length (spelling n)) waiting.bytes pending.bytes fits)
-              ∙ ap (λ (bs : List ℕ). take (length (spelling n)) bs) bytes_are ∙ take_at (spelling n) (spelled_all ns).bytes (length (spelling n)) refl in
+        = sym (take-append-le (length (spelling n)) waiting.bytes pending.bytes fits)
+        ∙ ap (λ (bs : List ℕ). take (length (spelling n)) bs) bytes_are ∙ take_at (spelling n) (spelled_all ns).bytes (length (spelling n)) refl in
         sym (take-append-drop (length (spelling n)) waiting.bytes) ∙ ap (λ (bs : List ℕ). bs ++ drop (length (spelling n)) waiting.bytes) first
 
     bytes_left : drop (length (spelling n)) waiting.bytes ++ pending.bytes ≡ (spelled_all ns).bytes
@@ -139,7 +137,7 @@ module _ (look_up : ℕ → ℕ → Option (List ArgumentType)) (waiting pending
     signature_is : readable.signature ≡ signature
     signature_is =
         let found : Some readable.signature ≡ Some signature
-            = sym readable.looked_up ∙ ap (λ (s : ℕ). look_up s n.opcode) (sym sender_is) ∙ ap (look_up (sender_of waiting.bytes)) (sym opcode_is) ∙ looked in
+        = sym readable.looked_up ∙ ap (λ (s : ℕ). look_up s n.opcode) (sym sender_is) ∙ ap (look_up (sender_of waiting.bytes)) (sym opcode_is) ∙ looked in
         cc
 
     matching : Matches signature n.args
@@ -156,8 +154,8 @@ module _ (look_up : ℕ → ℕ → Option (List ArgumentType)) (waiting pending
     tokens_front : waiting.tokens ≡ tokens n.args ++ drop (length (tokens n.args)) waiting.tokens
     tokens_front =
         let first : take (length (tokens n.args)) waiting.tokens ≡ tokens n.args
-            = sym (take-append-le (length (tokens n.args)) waiting.tokens pending.tokens enough)
-              ∙ ap (λ (ts : List Token). take (length (tokens n.args)) ts) tokens_are ∙ take_at (tokens n.args) (spelled_all ns).tokens (length (tokens n.args)) refl in
+        = sym (take-append-le (length (tokens n.args)) waiting.tokens pending.tokens enough)
+        ∙ ap (λ (ts : List Token). take (length (tokens n.args)) ts) tokens_are ∙ take_at (tokens n.args) (spelled_all ns).tokens (length (tokens n.args)) refl in
         sym (take-append-drop (length (tokens n.args)) waiting.tokens) ∙ ap (λ (ts : List Token). ts ++ drop (length (tokens n.args)) waiting.tokens) first
 
     tokens_left : drop (length (tokens n.args)) waiting.tokens ++ pending.tokens ≡ (spelled_all ns).tokens
@@ -174,8 +172,8 @@ module _ (look_up : ℕ → ℕ → Option (List ArgumentType)) (waiting pending
     left_is : joined (behind_first signature waiting) pending ≡ spelled_all ns
     left_is =
         queue_is _ _
-          (ap (λ (k : ℕ). drop k waiting.bytes ++ pending.bytes) (length_is ∙ sym (length-spelling n)) ∙ bytes_left)
-          (ap (λ (k : ℕ). drop k waiting.tokens ++ pending.tokens) (sym token_count) ∙ tokens_left)
+        (ap (λ (k : ℕ). drop k waiting.bytes ++ pending.bytes) (length_is ∙ sym (length-spelling n)) ∙ bytes_left)
+        (ap (λ (k : ℕ). drop k waiting.tokens ++ pending.tokens) (sym token_count) ∙ tokens_left)
 
 -- what is left to be read: the messages that were read are the first, and the others' spelling waits or is pending
 pub record Left (look_up : ℕ → ℕ → Option (List ArgumentType)) (ms read : List WireMessage) (waiting pending : Queue) : Type 0 where
@@ -185,7 +183,6 @@ pub record Left (look_up : ℕ → ℕ → Option (List ArgumentType)) (ms read 
   pub readable : AllByRecursion (IsReadable look_up) left
 
 module _ {T : Type 0} (receives : T → ℕ → Result Queue IoFault → T → Type 0) (look_up : ℕ → ℕ → Option (List ArgumentType)) (pending : Queue) where
-
   -- what a run does to each stream of readable messages
   abbrev pub Carries : Queue → List ReceiverCall → Queue → Type 0
   Carries before cs after =
@@ -196,9 +193,9 @@ module _ {T : Type 0} (receives : T → ℕ → Result Queue IoFault → T → T
       → Carries mid cs after → Carries before (Filling received ∷ cs) after
   carries_filled received cs before mid after is others ms readable spelled_is =
       others ms readable
-        (ap (λ (q : Queue). joined q (joined (all_came cs) pending)) is
-          ∙ joined_assoc before (came_by (Filling received)) (joined (all_came cs) pending)
-          ∙ ap (λ (q : Queue). joined before q) (sym (joined_assoc (came_by (Filling received)) (all_came cs) pending)) ∙ spelled_is)
+      (ap (λ (q : Queue). joined q (joined (all_came cs) pending)) is
+      ∙ joined_assoc before (came_by (Filling received)) (joined (all_came cs) pending)
+      ∙ ap (λ (q : Queue). joined before q) (sym (joined_assoc (came_by (Filling received)) (all_came cs) pending)) ∙ spelled_is)
 
   carries_first : (cs : List ReceiverCall) (before after : Queue) (signature : List ArgumentType) (m : WireMessage)
       → look_up (sender_of before.bytes) (opcode_of before.bytes) ≡ Some signature → ReadsMessage before.bytes signature before.tokens m
@@ -208,12 +205,12 @@ module _ {T : Type 0} (receives : T → ℕ → Result Queue IoFault → T → T
   carries_first cs before after signature m looked reads others (n ∷ ns) readable spelled_is =
       let later : Queue = joined (all_came cs) pending in
       let o = others ns readable.1 (left_is look_up before later signature m looked reads n ns readable.0 spelled_is) in record {
-      left = o.left;
-      whole = ap (λ (xs : List WireMessage). n ∷ xs) o.whole
-        ∙ ap (λ (x : WireMessage). x ∷ (messages_read cs ++ o.left)) (sym (first_is look_up before later signature m looked reads n ns readable.0 spelled_is));
-      spelled_is = o.spelled_is;
-      readable = o.readable;
-    }
+        left = o.left;
+        whole = ap (λ (xs : List WireMessage). n ∷ xs) o.whole
+            ∙ ap (λ (x : WireMessage). x ∷ (messages_read cs ++ o.left)) (sym (first_is look_up before later signature m looked reads n ns readable.0 spelled_is));
+        spelled_is = o.spelled_is;
+        readable = o.readable;
+      }
 
   -- the message at the front was read, and is gone
   abbrev pub FirstRead : LinkState T → WireMessage → LinkState T → Type 0
@@ -229,6 +226,7 @@ module _ {T : Type 0} (receives : T → ℕ → Result Queue IoFault → T → T
           → ReadFound f before (Ok m) after → FirstRead before m after
       found None is none = let e = none.0 in absurd cc
       found (Some signature) is under = (signature, sym is, under.0, ap (λ (l : LinkState T). l.incoming) under.1)
+
       at : (nat_le 8 (length before.incoming.bytes) ≡ true) ⊎ (nat_le 8 (length before.incoming.bytes) ≡ false) → FirstRead before m after
       at (inl header) = let r = MatchBool-at_true _ _ header read in found r.0 r.1 r.2
       at (inr short) = let r = MatchBool-at_false _ _ short read in let e = r.0 in absurd cc
@@ -239,6 +237,7 @@ module _ {T : Type 0} (receives : T → ℕ → Result Queue IoFault → T → T
       found : (f : Option (List ArgumentType)) → ReadFound f before (Err e) after → after ≡ before
       found None none = none.1
       found (Some signature) under = under.2
+
       at : (nat_le 8 (length before.incoming.bytes) ≡ true) ⊎ (nat_le 8 (length before.incoming.bytes) ≡ false) → after ≡ before
       at (inl header) = let r = MatchBool-at_true _ _ header read in found r.0 r.2
       at (inr short) = (MatchBool-at_false _ _ short read).1
@@ -262,7 +261,7 @@ module _ {T : Type 0} (receives : T → ℕ → Result Queue IoFault → T → T
       carries_filled None cs before.incoming mid.incoming after.incoming (ap (λ (l : LinkState T). l.incoming) step ∙ sym (joined_nothing before.incoming)) others
   step_carries before mid after (Filling (Some received)) cs step others =
       carries_filled (Some received) cs before.incoming mid.incoming after.incoming
-        (ap (λ (l : LinkState T). l.incoming) step.1.2 ∙ came_is before.incoming received) others
+      (ap (λ (l : LinkState T). l.incoming) step.1.2 ∙ came_is before.incoming received) others
   step_carries before mid after (Reading answer) cs step others = carries_read before mid after answer cs step others
 
   pub receiver_carries : (before after : LinkState T) (cs : List ReceiverCall) → ReceiverRun receives look_up before cs after
@@ -304,7 +303,7 @@ nothing_left look_up full after e (m ∷ ms) read ok is readable =
     let reads' = subst (λ (q : Queue). ReadsMessage q.bytes readable.0.signature q.tokens m) (sym is) reads in
     let header : 8 ≤ length full.incoming.bytes = reads'.whole.header in
     let looked : look_up (sender_of full.incoming.bytes) (opcode_of full.incoming.bytes) ≡ Some readable.0.signature
-        = ap (λ (s : ℕ). look_up s (opcode_of full.incoming.bytes)) (sym reads'.sender) ∙ ap (look_up m.sender) (sym reads'.opcode) ∙ readable.0.looked_up in
+    = ap (λ (s : ℕ). look_up s (opcode_of full.incoming.bytes)) (sym reads'.sender) ∙ ap (look_up m.sender) (sym reads'.opcode) ∙ readable.0.looked_up in
     let r = MatchBool-at_true _ _ (le-leb 8 (length full.incoming.bytes) header) read in
     let found : r.0 ≡ Some readable.0.signature = r.1 ∙ looked in
     let under = subst (λ (f : Option (List ArgumentType)). ReadFound f full (Err e) after) found r.2 in
@@ -329,7 +328,7 @@ cutting_law {T = T} receives look_up start mid between end at_once x y a b c e f
     let same : between.incoming ≡ mid.incoming = ap (λ (l : LinkState T). l.incoming) (read_same receives look_up nothing mid between e read) in
     let two : end.incoming ≡ joined between.incoming y = ap (λ (l : LinkState T). l.incoming) second.2 in
     let both : end.incoming ≡ joined start.incoming (joined x y)
-        = two ∙ ap (λ (q : Queue). joined q y) (same ∙ one) ∙ joined_assoc start.incoming x y in
+    = two ∙ ap (λ (q : Queue). joined q y) (same ∙ one) ∙ joined_assoc start.incoming x y in
     (both, λ together. both ∙ sym (ap (λ (l : LinkState T). l.incoming) together.2))
 
 -- a read takes the first message off the stream
@@ -340,9 +339,10 @@ unfolding Stream
 takes_first look_up before signature m looked reads ms =
     let count : length (tokens m.args) ≡ fd_count signature = reads_tokens signature m.args (payload_of before.bytes) before.tokens reads.args in
     let mine : look_up m.sender m.opcode ≡ Some signature
-        = ap (λ (s : ℕ). look_up s m.opcode) reads.sender ∙ ap (look_up (sender_of before.bytes)) reads.opcode ∙ looked in
-    (λ whole. subst (λ (k : ℕ). Stream look_up ms (drop (length_of before.bytes) before.bytes) (drop k before.tokens)) count whole.3,
-     λ rest. (signature, mine, reads, subst (λ (k : ℕ). Stream look_up ms (drop (length_of before.bytes) before.bytes) (drop k before.tokens)) (sym count) rest))
+    = ap (λ (s : ℕ). look_up s m.opcode) reads.sender ∙ ap (look_up (sender_of before.bytes)) reads.opcode ∙ looked in (
+      λ whole. subst (λ (k : ℕ). Stream look_up ms (drop (length_of before.bytes) before.bytes) (drop k before.tokens)) count whole.3,
+      λ rest. (signature, mine, reads, subst (λ (k : ℕ). Stream look_up ms (drop (length_of before.bytes) before.bytes) (drop k before.tokens)) (sym count) rest),
+    )
 
 pub read_takes : {T : Type 0} (looks_up : ℕ → ℕ → Option (List ArgumentType) → Type 0) (before after : LinkState T) (answer : Result WireMessage MessageParseError)
     → ReadOne looks_up before answer after → ReadTakes looks_up before answer after

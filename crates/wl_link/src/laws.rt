@@ -24,23 +24,20 @@ pub fn flush_loses_nothing<T: Transport>()
         Flushed T.sends before answer after → FlushKeeps T.sends before answer after }
     ensures drained { (before after : LinkState T) (answer : _) →
         Flushed T.sends before answer after → FlushDrains T.sends before answer after }
-{
-}
+{}
 
 /// A write that is answered by `Ok` makes what was sent and what waits longer by one spelling; another adds nothing.
 pub fn write_loses_nothing<T: Transport>()
     ensures { (before after : LinkState T) (m : WireMessage) (answer : _) →
         Wrote T.sends before m answer after → WriteKeeps T.sends before m answer after }
-{
-}
+{}
 
 /// A read that is answered by `Ok` takes the first message off the stream.
 pub fn read_takes_first_message<T>()
     ensures { (look_up : ℕ → ℕ → Option (List ArgumentType)) (before after : LinkState T) (answer : _) →
         ReadOne (λ sender opcode found. found ≡ look_up sender opcode) before answer after →
         ReadTakes (λ sender opcode found. found ≡ look_up sender opcode) before answer after }
-{
-}
+{}
 
 /// Where the answers of a transport follow from its value, and memory is not refused, a call has one outcome.
 pub fn one_outcome<T: Transport>()
@@ -57,27 +54,23 @@ pub fn one_outcome<T: Transport>()
         ReadOne (λ sender opcode found. found ≡ look_up sender opcode) before a x →
         ReadOne (λ sender opcode found. found ≡ look_up sender opcode) before b y →
         a ≢ Err errors.OutOfMemory → b ≢ Err errors.OutOfMemory → SameRead a b x y }
-{
-}
+{}
 
 /// The answers of a transport by script follow from its value.
 pub fn script_has_one_outcome()
     ensures sends { IsFunction ScriptSends }
     ensures receives { IsReceiveFunction ScriptReceives }
-{
-}
+{}
 
 /// The messages that were written, carried whole and in order, are read back as the same messages in the same order,
 /// however bytes and tokens were cut.
 pub fn messages_come_back<S: Transport, R: Transport>()
     ensures in_order { StreamLaw S.sends R.receives }
     ensures all { AllReadLaw S.sends R.receives }
-{
-}
+{}
 
 /// Receiving one part and then another leaves what receiving both at once would, also where a read between finds no
 /// message.
 pub fn cutting_does_not_matter<T: Transport>()
     ensures { CuttingLaw T.receives }
-{
-}
+{}

@@ -26,7 +26,7 @@ pub returns-in-Err-TooLong-clause-wrote : goal.returns-in-Err-TooLong-clause-wro
 returns-in-Err-TooLong-clause-wrote g c =
     let a = rw c.in-Err-TooLong.field-0-is at c.in-Err-TooLong.ensures in
     rw (← c.self.view_is, a.1, a.2)
-      (wrote_too_long g.T.Transport.sends _ _ (content c.args.message.now) (Err fault.TooBig) a.0 refl refl)
+    (wrote_too_long g.T.Transport.sends _ _ (content c.args.message.now) (Err fault.TooBig) a.0 refl refl)
 
 pub returns-in-Ok-clause-kept : goal.returns-in-Ok-clause-kept
 returns-in-Ok-clause-kept g c = write_keeps g.T.Transport.sends (record { law = g.met.T.Transport.within_offer }) (content c.args.message.now) _ _ c.args.self.now (returns-in-Ok-clause-wrote g c)
