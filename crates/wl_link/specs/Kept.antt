@@ -1,5 +1,5 @@
 -- What the sends of a call took, and that nothing is lost.
-use Rattle.std.specs.Prelude.{◌≡◌, ◌≢◌, ℕ, ◌≤◌, List, [], ◌∷◌, ◌++◌, length, take, ◌==◌, Result, Ok, Err, if◌then◌else◌}
+use Rattle.std.specs.Prelude.{◌≡◌, ◌≢◌, ℕ, ◌≤◌, List, [], ◌∷◌, ◌++◌, ◌*◌, length, take, drop, ◌==◌, Result, Ok, Err, if◌then◌else◌}
 use Rattle.std.specs.List.{AllByRecursion}
 use Rattle.wl_wire.specs.declared.argument.Token.{Token}
 use Rattle.wl_wire.specs.declared.error.IoFault.{IoFault}
@@ -44,6 +44,14 @@ queued_by (Err fault) m = nothing
 abbrev pub FlushKeeps : {T : Type 0} → (T → Queue → Result ℕ IoFault → T → Type 0) → LinkState T → Result (Unit {0}) IoFault → LinkState T → Type 0
 FlushKeeps sends before answer after =
     (es : List Sending) × FlushedBy sends before es answer after × Kept es before.outgoing nothing after.outgoing
+
+-- A flush that is answered by Ok, and in which no send answered 0, leaves no bytes, and the tokens behind 28 for each
+-- byte.
+abbrev pub FlushDrains : {T : Type 0} → (T → Queue → Result ℕ IoFault → T → Type 0) → LinkState T → Result (Unit {0}) IoFault → LinkState T → Type 0
+FlushDrains sends before answer after =
+    (es : List Sending) × FlushedBy sends before es answer after
+    × (answer ≡ Ok tt → NoZero es → (after.outgoing.bytes ≡ [])
+    × (after.outgoing.tokens ≡ drop (28 * length before.outgoing.bytes) before.outgoing.tokens))
 
 -- A write that is answered by Ok makes what was taken and what waits longer by one spelling; another adds nothing.
 abbrev pub WriteKeeps : {T : Type 0} → (T → Queue → Result ℕ IoFault → T → Type 0) → LinkState T → WireMessage → Result (Unit {0}) IoFault → LinkState T → Type 0

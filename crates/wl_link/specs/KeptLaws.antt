@@ -9,7 +9,7 @@ use Rattle.wl_wire.specs.declared.error.IoFault.TheVariants as fault
 use Rattle.wl_wire.specs.Message.{WireMessage, size}
 use Rattle.wl_link.specs.Exchange.{Queue, Sending, Chain, joined, nothing}
 use Rattle.wl_link.specs.Link.{LinkState, offer_size, offer_of, left_of, Goes, Flushes, FlushedBy, Flushed, Put, PlacedBy, WroteBy, Wrote, spelled, has_room, ignoring, needed, Wants, Grown}
-use Rattle.wl_link.specs.Kept.{taken_by, taken, gone_by, gone, NoZero, Kept, queued_by, FlushKeeps, WriteKeeps}
+use Rattle.wl_link.specs.Kept.{taken_by, taken, gone_by, gone, NoZero, Kept, queued_by, FlushKeeps, FlushDrains, WriteKeeps}
 
 -- no more is taken than is offered
 pub record Within {T : Type 0} (sends : T → Queue → Result ℕ IoFault → T → Type 0) : Type 0 where
@@ -191,18 +191,18 @@ tokens_left q n some within = drop-drop (28 * length (drop n q.bytes)) 28 q.toke
         let n_one : n ≡ 1 = omega (arith, length-take (offer_size q.tokens) q.bytes) in
         ap (λ (k : ℕ). drop k q.tokens) (omega (arith, length-drop n q.bytes, length-take (offer_size q.tokens) q.bytes))
 
-pub flush_drains : {T : Type 0} (sends : T → Queue → Result ℕ IoFault → T → Type 0) → Within sends
+drains : {T : Type 0} (sends : T → Queue → Result ℕ IoFault → T → Type 0) → Within sends
     → (t t' : T) (q after : Queue) (es : List Sending) → Chain sends t es t' → Flushes q es (Ok tt) after → NoZero es
     → (after.bytes ≡ []) × (after.tokens ≡ drop (28 * length q.bytes) q.tokens)
-flush_drains sends within t t' q after [] chain flushes none = (
+drains sends within t t' q after [] chain flushes none = (
   ap (λ (x : Queue). x.bytes) flushes.1 ∙ flushes.0,
   let no_bytes : 0 ≡ 28 * length q.bytes = omega (arith, ap length flushes.0) in
       ap (λ (x : Queue). x.tokens) flushes.1 ∙ ap (λ (k : ℕ). drop k q.tokens) no_bytes,
 )
-flush_drains sends within t t' q after (e ∷ es) chain flushes none =
+drains sends within t t' q after (e ∷ es) chain flushes none =
     once e.answer none.0
     (λ n is. within.law t chain.0 e.offer n (subst (λ (a : Result ℕ IoFault). sends t e.offer a chain.0) is chain.1))
-    flushes.2 (λ n more. flush_drains sends within chain.0 t' (left_of n q) after es chain.2 more none.1)
+    flushes.2 (λ n more. drains sends within chain.0 t' (left_of n q) after es chain.2 more none.1)
   where
     once : (sent : Result ℕ IoFault) → sent ≢ Ok 0 → ((n : ℕ) → sent ≡ Ok n → n ≤ length e.offer.bytes)
         → Goes sent (es ≡ []) (after ≡ q) (after ≡ left_of 0 q) (Ok tt) (λ n. Flushes (left_of n q) es (Ok tt) after)
@@ -214,3 +214,13 @@ flush_drains sends within t t' q after (e ∷ es) chain flushes none =
         let left = others n (MatchBool-at_false _ _ (ne_eqb n 0 more) goes) in
         let bytes : e.offer.bytes ≡ (offer_of q).bytes = ap (λ (o : Queue). o.bytes) flushes.1 in
         (left.0, left.1 ∙ tokens_left q n (omega (arith, more)) (omega (arith, le n refl, ap length bytes)))
+
+pub flush_drains : {T : Type 0} (sends : T → Queue → Result ℕ IoFault → T → Type 0) → Within sends
+    → (before after : LinkState T) (answer : Result (Unit {0}) IoFault) → Flushed sends before answer after → FlushDrains sends before answer after
+flush_drains sends within before after answer f = (
+  f.0,
+  f.1,
+  λ done none.
+      drains sends within before.transport after.transport before.outgoing after.outgoing f.0 f.1.0
+      (subst (λ (a : Result (Unit {0}) IoFault). Flushes before.outgoing f.0 a after.outgoing) done f.1.1) none,
+)

@@ -15,4 +15,6 @@ pub mod ReadLaws
 pub mod Kept
 pub mod KeptLaws
 pub mod OneLaws
+pub mod Sides
+pub mod StreamLaws
 pub mod Lending

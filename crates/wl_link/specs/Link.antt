@@ -249,22 +249,26 @@ behind_first signature q = record { bytes = drop (length_of q.bytes) q.bytes; to
 
 -- the answer under this signature; memory is refused only where the message may need some
 abbrev pub ReadUnder : {T : Type 0} → List ArgumentType → LinkState T → Result WireMessage MessageParseError → LinkState T → Type 0
-ReadUnder signature before answer after =
-    MatchResult answer
-    (λ m. ReadsMessage before.incoming.bytes signature before.incoming.tokens m
-    × (after ≡ with_incoming before before.transport (behind_first signature before.incoming)))
-    (λ e. RefusesMessage before.incoming.bytes signature before.incoming.tokens e
-    × (IsInline signature → e ≢ errors.OutOfMemory) × (after ≡ before))
+ReadUnder signature before (Ok m) after =
+    ReadsMessage before.incoming.bytes signature before.incoming.tokens m
+    × (after ≡ with_incoming before before.transport (behind_first signature before.incoming))
+ReadUnder signature before (Err e) after =
+    RefusesMessage before.incoming.bytes signature before.incoming.tokens e
+    × (IsInline signature → e ≢ errors.OutOfMemory) × (after ≡ before)
 
--- A header that is not there to its end lacks data. Without a signature for its sender and opcode the message is
--- malformed. Otherwise the answer is that of a parser under that signature. No error changes anything.
+-- without a signature the message is malformed
+abbrev pub ReadFound : {T : Type 0} → Option (List ArgumentType) → LinkState T → Result WireMessage MessageParseError → LinkState T → Type 0
+ReadFound None before answer after = (answer ≡ Err errors.Malformed) × (after ≡ before)
+ReadFound (Some signature) before answer after = ReadUnder signature before answer after
+
+-- A header that is not there to its end lacks data. Otherwise the answer is that of a parser under the signature that
+-- the look-up has for the message's sender and opcode. No error changes anything.
 abbrev pub ReadOne : {T : Type 0} → (ℕ → ℕ → Option (List ArgumentType) → Type 0)
     → LinkState T → Result WireMessage MessageParseError → LinkState T → Type 0
 ReadOne looks_up before answer after =
     MatchBool (nat_le 8 (length before.incoming.bytes))
-    ((signature : Option (List ArgumentType))
-    × looks_up (sender_of before.incoming.bytes) (opcode_of before.incoming.bytes) signature
-    × MatchOption signature ((answer ≡ Err errors.Malformed) × (after ≡ before)) (λ s. ReadUnder s before answer after))
+    ((found : Option (List ArgumentType))
+    × looks_up (sender_of before.incoming.bytes) (opcode_of before.incoming.bytes) found × ReadFound found before answer after)
     ((answer ≡ Err errors.MissingData) × (after ≡ before))
 
 -- the answer of a read, without where the message's arguments lie in memory

@@ -5,6 +5,8 @@ ghost use Rattle.std.specs.Borrow.{sem};
 ghost use Rattle.wl_wire.specs.Message.{content, size};
 ghost use Rattle.wl_wire.specs.Parse.{sender_of, opcode_of};
 ghost use Rattle.wl_link.specs.Link.{IsFresh, LimitSet, Flushed, Filled, Grown, Wants, Put, Placed, Wrote, ReadOne, looked_up, read_content, needed, has_room, ignoring, counted_answer};
+ghost use Rattle.wl_link.specs.Kept.{FlushKeeps, FlushDrains, WriteKeeps};
+ghost use Rattle.wl_link.specs.Sides.{ReadTakes};
 ghost use Rattle.wl_link.specs.Storage.{write_answer_of};
 
 use crate::buffer::Buffer;
@@ -148,7 +150,8 @@ impl<T> BufferedSocket<T> {
     where
         F: FnOnce(u32, u16) -> Option<&'s [ArgumentType]> + Drop,
         requires { F.IsAlwaysCallable signature }
-        ensures { ReadOne (looked_up (F.post signature)) self.old (read_content result) self.new }
+        ensures read { ReadOne (looked_up (F.post signature)) self.old (read_content result) self.new }
+        ensures first { ReadTakes (looked_up (F.post signature)) self.old (read_content result) self.new }
     {
         let alloc = *self.fds_in.allocator();
         let bytes = self.incoming.bytes();
@@ -225,7 +228,9 @@ impl<T: Transport> BufferedSocket<T> {
     /// wait. What a send took is gone. A send that takes no bytes ends the flush with `Ok`, and the tokens that it
     /// was offered are gone. A fault of the transport ends the flush, and is answered; what was not sent still waits.
     pub fn flush(&mut self) -> Result<(), IoFault>
-        ensures { Flushed T.sends self.old result self.new }
+        ensures flushed { Flushed T.sends self.old result self.new }
+        ensures kept { FlushKeeps T.sends self.old result self.new }
+        ensures drained { FlushDrains T.sends self.old result self.new }
     {
         while self.outgoing.len() > 0 {
             let bytes = first_bytes(self.outgoing.bytes(), self.fds_out.len());
@@ -253,7 +258,8 @@ impl<T: Transport> BufferedSocket<T> {
     /// not written. It is not written either where there is too little room even then, or where it takes more than
     /// 65535 bytes: both are answered by `TooBig`. Without memory for its tokens the answer is `OutOfMemory`.
     pub fn write_message(&mut self, message: &Message<u32, Token>) -> Result<(), IoFault>
-        ensures { Wrote T.sends self.old (content message.now) result self.new }
+        ensures wrote { Wrote T.sends self.old (content message.now) result self.new }
+        ensures kept { WriteKeeps T.sends self.old (content message.now) result self.new }
     {
         match self.outgoing.write(message, &mut self.fds_out) {
             Ok(()) => Ok(()),

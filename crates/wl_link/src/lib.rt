@@ -5,6 +5,7 @@ mod all_objects;
 mod buffer;
 mod buffered_socket;
 mod identity;
+mod laws;
 mod limit;
 mod memory;
 mod object;
@@ -17,7 +18,14 @@ mod transport;
 pub use all_objects::AllObjects;
 pub use buffered_socket::{BufferedSocket, DEFAULT_MAX_BUFFER_SIZE, MAX_BYTES_OUT, MAX_FDS_OUT};
 pub use identity::each_id_names_its_own_object;
+pub use laws::{
+    cutting_does_not_matter, flush_loses_nothing, messages_come_back, one_outcome,
+    read_takes_first_message, script_has_one_outcome, write_loses_nothing,
+};
 pub use memory::{ArriveError, Memory};
 pub use object::Object;
 pub use object_map::{InsertError, NewError, ObjectMap, SERVER_ID_LIMIT};
 pub use transport::Transport;
+
+#[cfg(test)]
+mod tests;

@@ -2,21 +2,26 @@ use Rattle.std.proofs.Common.{Some, refl}
 use Rattle.wl_wire.specs.Message.{content}
 use Rattle.wl_link.specs.Link.{looked_up}
 use Rattle.wl_link.specs.ReadLaws.{read_by_parser, refused_by_parser}
+use Rattle.wl_link.specs.StreamLaws.{read_takes}
 use Rattle.wl_link.specs.contracts.buffered_socket.BufferedSocket.read_one_message.F-FnOnce.{words}
 use Rattle.wl_link.proofs.buffered_socket.BufferedSocket.read_one_message.Goals as goal
 
-pub returns-in-Ok : goal.returns-in-Ok
-returns-in-Ok g c =
+pub returns-in-Ok-clause-read : goal.returns-in-Ok-clause-read
+returns-in-Ok-clause-read g c =
     rw (← c.self.view_is, c.consume.ensures)
     (read_by_parser (looked_up ((words g.row.T g.row.F g.F.FnOnce).post c.args.signature)) _ c.bytes-bytes.result.now
     c.in-Some.sender c.in-Some.opcode c.in-Some-signature.signature.now c.bytes-bytes.ensures
     c.in-Some.ensures.0 c.in-Some.ensures.1 c.in-Some.ensures.2 (Some c.in-Some-signature.signature, c.in-Some-signature.ensures, refl)
     (content c.in-Ok.message) c.in-Ok.rest.now c.parse_message.new.fds.items c.in-Ok.ensures.found c.in-Ok.ensures.rest c.in-Ok.ensures.tokens)
 
-pub returns-in-Err : goal.returns-in-Err
-returns-in-Err g c =
+pub returns-in-Err-clause-read : goal.returns-in-Err-clause-read
+returns-in-Err-clause-read g c =
     rw (← c.self.view_is)
     (refused_by_parser (looked_up ((words g.row.T g.row.F g.F.FnOnce).post c.args.signature)) _ c.bytes-bytes.result.now
     c.in-Some.sender c.in-Some.opcode c.in-Some-signature.signature.now c.bytes-bytes.ensures
     c.in-Some.ensures.0 c.in-Some.ensures.1 c.in-Some.ensures.2 (Some c.in-Some-signature.signature, c.in-Some-signature.ensures, refl)
     c.in-Err.error c.parse_message.new.fds.items c.in-Err.ensures.refused c.in-Err.ensures.inline c.in-Err.ensures.unchanged)
+
+pub returns-in-Ok-clause-first : goal.returns-in-Ok-clause-first
+returns-in-Ok-clause-first g c =
+    read_takes (looked_up ((words g.row.T g.row.F g.F.FnOnce).post c.args.signature)) c.args.self.now _ _ (returns-in-Ok-clause-read g c)

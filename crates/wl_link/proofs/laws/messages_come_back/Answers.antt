@@ -1,0 +1,8 @@
+use Rattle.wl_link.specs.StreamLaws.{stream_law, all_read_law}
+use Rattle.wl_link.proofs.laws.messages_come_back.Goals as goal
+
+pub returns-clause-in_order : goal.returns-clause-in_order
+returns-clause-in_order g c = stream_law g.S.Transport.sends g.R.Transport.receives (record { law = g.met.S.Transport.within_offer })
+
+pub returns-clause-all : goal.returns-clause-all
+returns-clause-all g c = all_read_law g.S.Transport.sends g.R.Transport.receives (record { law = g.met.S.Transport.within_offer })
