@@ -350,12 +350,12 @@ fn three_messages_in_one_flush(rt: HostRuntime) -> Result<(), Fail> {
     link.fill_incoming_buffers()?;
     assert_eq!(rt; link.waiting(), [52, 3, 0, 0]);
     for message in &messages {
-        assert!(rt; link.read_one_message(signature)? == *message);
+        assert!(rt; link.read_one_message(|sender, opcode| signature(sender, opcode))? == *message);
     }
     assert_eq!(rt; link.waiting(), [0; 4]);
     assert!(rt;
         matches!(
-            link.read_one_message(signature),
+            link.read_one_message(|sender, opcode| signature(sender, opcode)),
             Err(MessageParseError::MissingData)
         )
     );
@@ -381,7 +381,7 @@ fn three_messages_byte_by_byte(rt: HostRuntime) -> Result<(), Fail> {
     let mut read = 0;
     for _ in 0..52 {
         link.fill_incoming_buffers()?;
-        match link.read_one_message(signature) {
+        match link.read_one_message(|sender, opcode| signature(sender, opcode)) {
             Ok(message) => {
                 assert!(rt; read < 3 && message == messages[read]);
                 read += 1;
@@ -409,7 +409,7 @@ fn unknown_messages_stay(rt: HostRuntime) -> Result<(), Fail> {
     );
     assert!(rt;
         matches!(
-            link.read_one_message(signature),
+            link.read_one_message(|sender, opcode| signature(sender, opcode)),
             Err(MessageParseError::MissingFD)
         )
     );
