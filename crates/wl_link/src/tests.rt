@@ -7,7 +7,7 @@ use smallvec::SmallVec;
 use std::alloc::Global;
 use std::collections::VecDeque;
 use std::test::Fail;
-use wl_wire::{Argument, IoFault, Message, Token};
+use wl_wire::{Argument, ByteArray, IoFault, Message, Token};
 
 /// Refuses each send and each receive.
 #[derive(Drop)]
@@ -78,6 +78,23 @@ fn empty(alloc: Global, sender_id: u32, opcode: u16) -> Message<u32, Token> {
         opcode,
         args: SmallVec::new(alloc),
     }
+}
+
+/// A message of that many descriptors and no bytes but its header.
+fn descriptors(alloc: Global, count: usize) -> Result<Message<u32, Token>, Fail> {
+    let mut message = empty(alloc, 42, 1);
+    for _ in 0..count {
+        message.args.push(Argument::Fd(Token(7)))?;
+    }
+    Ok(message)
+}
+
+/// A message that takes 12 bytes more than its array.
+fn array_of(alloc: Global, len: usize) -> Result<Message<u32, Token>, Fail> {
+    let mut message = empty(alloc, 42, 0);
+    let bytes = Vec::from_elem(alloc, 1, len)?;
+    message.args.push(Argument::Array(ByteArray::new(bytes)))?;
+    Ok(message)
 }
 
 /// A message of 12 bytes and one token.
@@ -191,5 +208,45 @@ fn limits_are_rounded_up(rt: HostRuntime) -> Result<(), Fail> {
     }
     link.set_max_buffer_size(None);
     assert_eq!(rt; link.max_buffer_size(), None);
+    Ok(())
+}
+
+#[test]
+fn descriptors_that_have_no_byte_wait(rt: HostRuntime) -> Result<(), Fail> {
+    let alloc = rt.alloc();
+    let mut link = BufferedSocket::new(alloc, OneByte, None)?;
+    link.write_message(&descriptors(alloc, 300)?)?;
+    assert_eq!(rt; link.waiting(), [0, 0, 8, 300]);
+    link.flush()?;
+    assert_eq!(rt; link.waiting(), [0, 0, 0, 76]);
+    Ok(())
+}
+
+#[test]
+fn sixty_descriptors_in_three_sends(rt: HostRuntime) -> Result<(), Fail> {
+    let alloc = rt.alloc();
+    let mut link = BufferedSocket::new(alloc, Memory::new(alloc), None)?;
+    link.write_message(&descriptors(alloc, 60)?)?;
+    link.flush()?;
+    let sent = link.transport().sent();
+    assert_eq!(rt; sent.len(), 3);
+    assert_eq!(rt; (sent[0].0.len(), sent[0].1.len()), (1, 28));
+    assert_eq!(rt; (sent[1].0.len(), sent[1].1.len()), (1, 28));
+    assert_eq!(rt; (sent[2].0.len(), sent[2].1.len()), (6, 4));
+    Ok(())
+}
+
+#[test]
+fn refusing_transport_is_answered(rt: HostRuntime) -> Result<(), Fail> {
+    let alloc = rt.alloc();
+    let mut link = BufferedSocket::new(alloc, Refusing, Some(0))?;
+    link.write_message(&with_token(alloc)?)?;
+    assert_eq!(rt; link.flush(), Err(IoFault::Pipe));
+    assert_eq!(rt; link.fill_incoming_buffers(), Err(IoFault::Pipe));
+    assert_eq!(rt;
+        link.write_message(&array_of(alloc, 4084)?),
+        Err(IoFault::Pipe)
+    );
+    assert_eq!(rt; link.waiting(), [0, 0, 12, 1]);
     Ok(())
 }
