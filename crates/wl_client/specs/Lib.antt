@@ -1,1 +1,7 @@
 pub mod ObjectId
+pub mod Session
+pub mod Objects
+pub mod Requests
+pub mod Events
+pub mod Reading
+pub mod Finish

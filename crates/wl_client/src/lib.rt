@@ -2,9 +2,19 @@
 #![tactic(auto)]
 
 mod error;
+mod event_fault;
+mod kept;
+mod note;
 mod object_id;
+mod objects;
+mod open_event;
+mod session;
 
-pub use error::{InvalidId, WaylandError};
+pub use error::{
+    DestroyError, EventError, FinishError, FinishRefused, FlushError, InvalidId, RequestError,
+    WaylandError,
+};
+pub use note::Note;
 pub use object_id::ObjectId;
 
 #[cfg(test)]

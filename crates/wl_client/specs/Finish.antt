@@ -1,0 +1,79 @@
+-- What the end of an event does, and a flush.
+use Rattle.std.specs.Prelude.{◌≡◌, ℕ, ◌⊎◌, Bool, true, false, if◌then◌else◌, Option, None, Some, Result, Ok, Err, MatchOption, MatchResult}
+use Rattle.wl_wire.specs.declared.error.IoFault.{IoFault}
+use Rattle.wl_wire.specs.declared.error.IoFault.TheVariants as fault
+use Rattle.wl_link.specs.declared.object.Object.{Object}
+use Rattle.wl_link.specs.Exchange.{Queue}
+use Rattle.wl_link.specs.Link.{LinkState, Flushed}
+use Rattle.wl_link.specs.Store.{Store, rewritten}
+use Rattle.wl_client.specs.declared.error.FinishError.{FinishError}
+use Rattle.wl_client.specs.declared.error.FinishError.TheVariants as finish
+use Rattle.wl_client.specs.declared.error.FinishRefused.{FinishRefused}
+use Rattle.wl_client.specs.declared.error.FlushError.{FlushError}
+use Rattle.wl_client.specs.declared.error.FlushError.TheVariants as flush
+use Rattle.wl_client.specs.declared.error.WaylandError.TheVariants.{Io}
+use Rattle.wl_client.specs.declared.kept.Kept.{Kept}
+use Rattle.wl_client.specs.declared.open_event.OpenEvent.{OpenEvent}
+use Rattle.wl_client.specs.ObjectId.{IdParts}
+use Rattle.wl_client.specs.Session.{SessionState, named, noted, id_at, with_flags, with_user_data}
+
+module _ {T U : Type 0} where
+  -- an object is destroyed by both sides, and noted if the client had not destroyed it and it has user data
+  abbrev pub with_dead : SessionState T U → ℕ → Option (Object (Kept U)) → SessionState T U
+  with_dead s n None = s
+  with_dead s n (Some x) = record s {
+    store = rewritten s.store n (with_flags true true x);
+    notes = if x.value.client_destroyed then s.notes else noted s.notes x.value.user_data (id_at n x);
+  }
+
+  -- a destructor event ends the object that it was sent to
+  abbrev pub after_destructor : SessionState T U → OpenEvent → SessionState T U
+  after_destructor s event =
+      if event.is_destructor then with_dead s event.sender.number (named s.store event.sender) else s
+
+  abbrev pub data_given : Store (Kept U) → ℕ → Option (Object (Kept U)) → U → Store (Kept U)
+  data_given store n None u = store
+  data_given store n (Some x) u = rewritten store n (with_user_data u x)
+
+  -- the object that the event made gets the data
+  abbrev pub with_data_for : SessionState T U → Option IdParts → Option U → SessionState T U
+  with_data_for s None u = s
+  with_data_for s (Some id) None = s
+  with_data_for s (Some id) (Some u) = record s { store = data_given s.store id.number (named s.store id) u }
+
+  abbrev pub closed : SessionState T U → OpenEvent → Option U → SessionState T U
+  closed s event u = with_data_for (after_destructor (record s { open_event = None }) event) event.created u
+
+  abbrev pub Refuses : SessionState T U → Option U → FinishError → Result (Unit {0}) (FinishRefused U) → SessionState T U → Type 0
+  Refuses before u e answer after = (answer ≡ Err (record { error = e; user_data = u })) × (after ≡ before)
+
+  -- the event is closed; for the note of an object that it ends there may be no memory
+  abbrev pub Closes : SessionState T U → OpenEvent → Option U → Result (Unit {0}) (FinishRefused U) → SessionState T U → Type 0
+  Closes before event u answer after =
+      ((answer ≡ Ok tt) × (after ≡ closed before event u))
+      ⊎ ((event.is_destructor ≡ true) × Refuses before u finish.OutOfMemory answer after)
+
+  -- data are given exactly where the event made an object; a refusal gives them back, and the event stays open
+  abbrev pub Finishes : SessionState T U → Option U → Result (Unit {0}) (FinishRefused U) → SessionState T U → Type 0
+  Finishes before u answer after =
+      MatchOption before.open_event
+      (Refuses before u finish.NoOpenEvent answer after)
+      (λ event. MatchOption event.created
+      (MatchOption u (Closes before event u answer after) (λ _. Refuses before u finish.UnexpectedData answer after))
+      (λ _. MatchOption u (Refuses before u finish.MissingObjectData answer after) (λ _. Closes before event u answer after)))
+
+  -- what a session makes of a fault of its flush: it is stored, unless more may be sent later
+  abbrev pub FlushEnds : SessionState T U → Result (Unit {0}) IoFault → Result (Unit {0}) FlushError → SessionState T U → Type 0
+  FlushEnds s (Ok _) answer after = (answer ≡ Ok tt) × (after ≡ s)
+  FlushEnds s (Err fault.WouldBlock) answer after = (answer ≡ Err flush.WouldBlock) × (after ≡ s)
+  FlushEnds s (Err fault.OutOfMemory) answer after = (answer ≡ Err flush.OutOfMemory) × (after ≡ s)
+  FlushEnds s (Err other) answer after = (answer ≡ Err flush.Failed) × (after ≡ record s { error = Some (Io other) })
+
+  -- a stored error is answered first
+  abbrev pub SessionFlushed : (T → Queue → Result ℕ IoFault → T → Type 0) → SessionState T U → Result (Unit {0}) FlushError
+      → SessionState T U → Type 0
+  SessionFlushed sends before answer after =
+      MatchOption before.error
+      ((flushed : Result (Unit {0}) IoFault) × (link : LinkState T) × Flushed sends before.link flushed link
+      × FlushEnds (record before { link = link }) flushed answer after)
+      (λ _. (answer ≡ Err flush.Failed) × (after ≡ before))

@@ -1,0 +1,54 @@
+-- What the calls on a session's objects answer, and what they change.
+use Rattle.std.specs.Prelude.{◌≡◌, ℕ, ◌⊎◌, Bool, true, false, ◌==◌, if◌then◌else◌, Option, None, Some, IsSome, Result, Ok, Err, MatchOption}
+use Rattle.wl_wire.specs.declared.interface.ObjectInfo.{ObjectInfo}
+use Rattle.wl_link.specs.declared.object.Object.{Object}
+use Rattle.wl_link.specs.Store.{Store, rewritten}
+use Rattle.wl_client.specs.declared.error.InvalidId.{InvalidId}
+use Rattle.wl_client.specs.declared.error.DestroyError.{DestroyError}
+use Rattle.wl_client.specs.declared.error.DestroyError.TheVariants as destroy
+use Rattle.wl_client.specs.declared.kept.Kept.{Kept}
+use Rattle.wl_client.specs.ObjectId.{IdParts}
+use Rattle.wl_client.specs.Session.{SessionState, named, alive, noted, id_at, with_flags, with_user_data}
+
+module _ {U : Type 0} where
+  abbrev pub info_in : ℕ → Option (Object (Kept U)) → Option ObjectInfo
+  info_in n None = None
+  info_in n (Some x) = Some (record { id = n; interface = x.interface; version = x.version })
+
+  abbrev pub user_data_in : Option (Object (Kept U)) → Option U
+  user_data_in None = None
+  user_data_in (Some x) = x.value.user_data
+
+  -- a number's object is no longer the client's
+  abbrev pub given_up : Store (Kept U) → ℕ → Object (Kept U) → Store (Kept U)
+  given_up store n x = rewritten store n (with_flags true x.value.server_destroyed x)
+
+module _ {T U : Type 0} where
+  -- what is known of the object that the id names, unless the client destroyed it
+  abbrev pub info_of : SessionState T U → IdParts → Option ObjectInfo
+  info_of s id = info_in id.number (alive (named s.store id))
+
+  -- the user data of the object that the id names
+  abbrev pub user_data_of : SessionState T U → IdParts → Option U
+  user_data_of s id = user_data_in (named s.store id)
+
+  -- the object that the id names gets the user data
+  abbrev pub DataSet : SessionState T U → IdParts → U → Result (Unit {0}) InvalidId → SessionState T U → Type 0
+  DataSet before id u answer after =
+      MatchOption (named before.store id) ((answer ≡ Err _) × (after ≡ before))
+      (λ x. (answer ≡ Ok tt) × (after ≡ record before { store = rewritten before.store id.number (with_user_data u x) }))
+
+  -- the object that the client may destroy by the id: not the display, and none that it has destroyed
+  abbrev pub destroyable : SessionState T U → IdParts → Option (Object (Kept U))
+  destroyable s id = if id.number == 1 then None else alive (named s.store id)
+
+  -- The object is flagged as destroyed by the client, and noted if it has user data. For the note there may be no
+  -- memory; then nothing is changed.
+  abbrev pub DestroyedBy : SessionState T U → IdParts → Result (Unit {0}) DestroyError → SessionState T U → Type 0
+  DestroyedBy before id answer after =
+      MatchOption (destroyable before id) ((answer ≡ Err destroy.InvalidId) × (after ≡ before))
+      (λ x. ((answer ≡ Ok tt) × (after ≡ record before {
+        store = given_up before.store id.number x;
+        notes = noted before.notes x.value.user_data (id_at id.number x);
+      }))
+      ⊎ ((answer ≡ Err destroy.OutOfMemory) × (after ≡ before) × IsSome x.value.user_data))

@@ -1,0 +1,275 @@
+-- What a request does to a session.
+use Rattle.std.specs.Prelude.{◌≡◌, ℕ, ◌+◌, ◌⊎◌, List, [], ◌∷◌, map, length, Bool, true, false, not, ◌==◌, ◌&&◌, slice_get, if◌then◌else◌, Option, None, Some, is_some, option_map, Result, Ok, Err, MatchOption, MatchResult, MatchBool}
+use Rattle.std.specs.List.{list_all, list_any}
+use Rattle.wl_wire.specs.declared.argument.AllowNull.{AllowNull}
+use Rattle.wl_wire.specs.declared.argument.AllowNull.TheVariants.{Yes, No}
+use Rattle.wl_wire.specs.declared.argument.Argument.{Argument}
+use Rattle.wl_wire.specs.declared.argument.Argument.TheVariants as arg
+use Rattle.wl_wire.specs.declared.argument.ArgumentType.{ArgumentType}
+use Rattle.wl_wire.specs.declared.argument.ArgumentType.TheVariants as kind
+use Rattle.wl_wire.specs.declared.argument.Token.{Token}
+use Rattle.wl_wire.specs.declared.error.IoFault.{IoFault}
+use Rattle.wl_wire.specs.declared.error.IoFault.TheVariants as fault
+use Rattle.wl_wire.specs.declared.interface.InterfaceId.{InterfaceId}
+use Rattle.wl_wire.specs.declared.message.Message.{Message}
+use Rattle.wl_wire.specs.Argument.{WireArgument, type_of}
+use Rattle.wl_wire.specs.Message.{WireMessage}
+use Rattle.wl_wire.specs.Table.{InterfaceRow, MessageRow, is_new_id}
+use Rattle.wl_link.specs.declared.object.Object.{Object}
+use Rattle.wl_link.specs.Exchange.{Queue}
+use Rattle.wl_link.specs.Link.{LinkState, Wrote}
+use Rattle.wl_link.specs.Store.{Store, client_range, stored, IsLeastAbsent, IsFull}
+use Rattle.wl_client.specs.declared.error.RequestError.{RequestError}
+use Rattle.wl_client.specs.declared.error.RequestError.TheVariants as refused
+use Rattle.wl_client.specs.declared.error.WaylandError.{WaylandError}
+use Rattle.wl_client.specs.declared.error.WaylandError.TheVariants.{Io}
+use Rattle.wl_client.specs.declared.kept.Kept.{Kept}
+use Rattle.wl_client.specs.ObjectId.{IdParts}
+use Rattle.wl_client.specs.Objects.{given_up}
+use Rattle.wl_client.specs.Session.{SessionState, last_possible_serial, null_parts, named, alive, noted, id_at, fits, next_interface, rest_of, request_row, fresh_object}
+
+-- a message of a session, without where its arguments lie in memory
+pub record SessionMessage : Type 0 where
+  pub sender : IdParts
+  pub opcode : ℕ
+  pub args : List (Argument IdParts Token)
+
+abbrev pub session_content : Message IdParts Token → SessionMessage
+session_content m = record { sender = m.sender_id; opcode = m.opcode; args = m.args.items }
+
+-- ---- which requests are refused
+
+-- the interface and the version of an object that a request creates
+abbrev pub Spec : Type 0
+Spec = InterfaceId × ℕ
+
+-- what a request creates that names no child interface of its own
+abbrev pub named_child : Option InterfaceId → Spec → ℕ → Result Spec RequestError
+named_child None spec version = Ok spec
+named_child (Some child) spec version =
+    if child.0 == spec.0.0 then (if version == spec.1 then Ok spec else Err refused.WrongChildVersion) else Err refused.WrongChild
+
+abbrev pub known_child : Option InterfaceId → ℕ → Result Spec RequestError
+known_child None version = Err refused.MissingChildSpec
+known_child (Some child) version = Ok (child, version)
+
+-- what a request with a new id creates: as the caller says and the table allows, or else as the table says
+abbrev pub child_of : List InterfaceRow → MessageRow → ℕ → Option Spec → Result Spec RequestError
+child_of table row version None = known_child row.child_interface version
+child_of table row version (Some spec) =
+    if is_some (slice_get table spec.0.0) then named_child row.child_interface spec version else Err refused.UnknownInterface
+
+-- a new id is null until the session gives it a number
+abbrev pub is_placeholder : Argument IdParts Token → Bool
+is_placeholder (arg.NewId id) = id.number == 0
+is_placeholder _ = true
+
+abbrev pub null_fault : AllowNull → Option RequestError
+null_fault Yes = None
+null_fault No = Some refused.NullObject
+
+abbrev pub interface_fault : {U : Type 0} → InterfaceId → Option (Object (Kept U)) → Option RequestError
+interface_fault asked None = Some refused.InvalidId
+interface_fault asked (Some x) = if fits asked x.interface then None else Some refused.WrongInterface
+
+-- why an object argument is refused, where the signature says this of null and the table asks for this interface
+abbrev pub object_fault : {U : Type 0} → Store (Kept U) → AllowNull → InterfaceId → IdParts → Option RequestError
+object_fault store null asked id =
+    if id.number == 0 then null_fault null else interface_fault asked (alive (named store id))
+
+-- why an argument of that type is refused, where the table asks for this interface next
+abbrev pub argument_fault : {U : Type 0} → Store (Kept U) → ArgumentType → InterfaceId → Argument IdParts Token → Option RequestError
+argument_fault store (kind.Object null) asked (arg.Object id) = object_fault store null asked id
+argument_fault store _ asked _ = None
+
+-- each object argument takes the next of the table's interfaces
+abbrev pub left_after : {Id Fd : Type 0} → Argument Id Fd → List InterfaceId → List InterfaceId
+left_after (arg.Object _) asked = rest_of asked
+left_after _ asked = asked
+
+abbrev pub fault_or : Option RequestError → Option RequestError → Option RequestError
+fault_or None other = other
+fault_or (Some e) other = Some e
+
+-- why the first of the arguments that is refused is, from left to right
+abbrev pub first_fault : {U : Type 0} → Store (Kept U) → List ArgumentType → List InterfaceId → List (Argument IdParts Token)
+    → Option RequestError
+first_fault store [] asked args = None
+first_fault store (k ∷ kinds) asked [] = None
+first_fault store (k ∷ kinds) asked (a ∷ args) =
+    fault_or (argument_fault store k (next_interface asked) a) (first_fault store kinds (left_after a asked) args)
+
+-- the types of arguments, counted, whatever they say of null
+abbrev pub type_number : ArgumentType → ℕ
+type_number kind.Int = 0
+type_number kind.Uint = 1
+type_number kind.Fixed = 2
+type_number (kind.Str _) = 3
+type_number (kind.Object _) = 4
+type_number kind.NewId = 5
+type_number kind.Array = 6
+type_number kind.Fd = 7
+
+-- the arguments fit the signature: what `Matches` says, as a truth value
+abbrev pub matches : {Id Fd : Type 0} → List ArgumentType → List (Argument Id Fd) → Bool
+matches [] [] = true
+matches (k ∷ kinds) [] = false
+matches [] (a ∷ args) = false
+matches (k ∷ kinds) (a ∷ args) = (type_number k == type_number (type_of a)) && matches kinds args
+
+-- what a request that is not refused creates, and whether it ends its sender
+pub record Granted : Type 0 where
+  pub child : Option Spec
+  pub is_destructor : Bool
+
+abbrev pub creates : MessageRow → Bool
+creates row = list_any is_new_id row.signature
+
+abbrev pub placed_child : Result Spec RequestError → Bool → Bool → Result (Option Spec) RequestError
+placed_child (Err e) has_data placeholders = Err e
+placed_child (Ok child) has_data placeholders =
+    if has_data then (if placeholders then Ok (Some child) else Err refused.NotPlaceholder) else Err refused.MissingObjectData
+
+-- what is looked at only where the request creates an object: that its interface and version can be told, that it gets
+-- user data, and that its id is a placeholder
+abbrev pub checked_child : List InterfaceRow → MessageRow → ℕ → Option Spec → Bool → List (Argument IdParts Token)
+    → Result (Option Spec) RequestError
+checked_child table row version spec has_data args =
+    if creates row then placed_child (child_of table row version spec) has_data (list_all is_placeholder args) else Ok None
+
+abbrev pub granted : MessageRow → Option Spec → Option RequestError → Result Granted RequestError
+granted row child (Some e) = Err e
+granted row child None = Ok (record { child = child; is_destructor = row.is_destructor })
+
+abbrev pub checked_args : {U : Type 0} → Store (Kept U) → MessageRow → List (Argument IdParts Token)
+    → Result (Option Spec) RequestError → Result Granted RequestError
+checked_args store row args (Err e) = Err e
+checked_args store row args (Ok child) = granted row child (first_fault store row.signature row.arg_interfaces args)
+
+-- what is looked at where sender and opcode are known, in this order
+abbrev pub checked_row : {T U : Type 0} → SessionState T U → Object (Kept U) → MessageRow → SessionMessage → Bool → Option Spec
+    → Result Granted RequestError
+checked_row s sender row m has_data spec =
+    if sender.value.client_destroyed then Err refused.InvalidId
+    else (if matches row.signature m.args
+    then checked_args s.store row m.args (checked_child s.table row sender.version spec has_data m.args)
+    else Err refused.BadSignature)
+
+abbrev pub checked_opcode : {T U : Type 0} → SessionState T U → Object (Kept U) → Option MessageRow → SessionMessage → Bool → Option Spec
+    → Result Granted RequestError
+checked_opcode s sender None m has_data spec = Err refused.UnknownOpcode
+checked_opcode s sender (Some row) m has_data spec = checked_row s sender row m has_data spec
+
+abbrev pub checked_sender : {T U : Type 0} → SessionState T U → Option (Object (Kept U)) → SessionMessage → Bool → Option Spec
+    → Result Granted RequestError
+checked_sender s None m has_data spec = Err refused.InvalidId
+checked_sender s (Some sender) m has_data spec =
+    checked_opcode s sender (request_row s.table sender.interface m.opcode) m has_data spec
+
+-- what the request is granted, or the first reason for which it is refused
+abbrev pub request_check : {T U : Type 0} → SessionState T U → SessionMessage → Bool → Option Spec → Result Granted RequestError
+request_check s m has_data spec = checked_sender s (named s.store m.sender) m has_data spec
+
+-- ---- what a request does that is not refused
+
+-- the argument as it goes on the wire, where the new object gets this number
+abbrev pub wire_argument : ℕ → Argument IdParts Token → WireArgument
+wire_argument n (arg.Int z) = arg.Int z
+wire_argument n (arg.Uint u) = arg.Uint u
+wire_argument n (arg.Fixed z) = arg.Fixed z
+wire_argument n (arg.Str text) = arg.Str text
+wire_argument n (arg.Object id) = arg.Object id.number
+wire_argument n (arg.NewId id) = arg.NewId n
+wire_argument n (arg.Array bytes) = arg.Array bytes
+wire_argument n (arg.Fd token) = arg.Fd token
+
+abbrev pub wire_message : ℕ → SessionMessage → WireMessage
+wire_message n m = record { sender = m.sender.number; opcode = m.opcode; args = map (wire_argument n) m.args }
+
+-- a write's fault takes the place of the last error
+abbrev pub error_after : Option WaylandError → Result (Unit {0}) IoFault → Option WaylandError
+error_after error (Ok _) = error
+error_after error (Err e) = Some (Io e)
+
+abbrev pub lacked_memory : Result (Unit {0}) IoFault → Bool
+lacked_memory (Err fault.OutOfMemory) = true
+lacked_memory _ = false
+
+-- an object with its number
+abbrev pub Numbered : Type 0 → Type 0
+Numbered U = ℕ × Object (Kept U)
+
+module _ {T U : Type 0} where
+  -- the new object is put at its number, and uses up a serial
+  abbrev pub with_born : SessionState T U → Option (Numbered U) → SessionState T U
+  with_born s None = s
+  with_born s (Some new) = record s { store = stored s.store new.0 new.1; last_serial = s.last_serial + 1 }
+
+  -- a destructor's sender is no longer the client's, and noted if it has user data
+  abbrev pub with_ended : SessionState T U → Option (Numbered U) → SessionState T U
+  with_ended s None = s
+  with_ended s (Some ended) = record s {
+    store = given_up s.store ended.0 ended.1;
+    notes = noted s.notes ended.1.value.user_data (id_at ended.0 ended.1);
+  }
+
+  abbrev pub id_of_new : Option (Numbered U) → IdParts
+  id_of_new None = null_parts
+  id_of_new (Some new) = id_at new.0 new.1
+
+  abbrev pub number_of_new : Option (Numbered U) → ℕ
+  number_of_new None = 0
+  number_of_new (Some new) = new.0
+
+  -- The message is written. Where there was memory for it, the new object is made and a destructor's sender given up,
+  -- also where the write has a fault, which is then stored. Where there was none, the session is as before, but for
+  -- what the write did to the link.
+  abbrev pub Written : (T → Queue → Result ℕ IoFault → T → Type 0) → SessionState T U → WireMessage → Option (Numbered U)
+      → Option (Numbered U) → Result IdParts RequestError → SessionState T U → Type 0
+  Written sends before m new ended answer after =
+      (written : Result (Unit {0}) IoFault) × (link : LinkState T) × Wrote sends before.link m written link
+      × MatchBool (lacked_memory written)
+      ((answer ≡ Err refused.OutOfMemory) × (after ≡ record before { link = link }))
+      ((answer ≡ Ok (id_of_new new))
+      × (after ≡ with_ended (with_born (record before { link = link; error = error_after before.error written }) new) ended))
+
+  -- or there was no memory for what the session keeps of it, and nothing is changed
+  abbrev pub Sent : (T → Queue → Result ℕ IoFault → T → Type 0) → SessionState T U → SessionMessage → Option (Numbered U)
+      → Option (Numbered U) → Result IdParts RequestError → SessionState T U → Type 0
+  Sent sends before m new ended answer after =
+      ((answer ≡ Err refused.OutOfMemory) × (after ≡ before))
+      ⊎ Written sends before (wire_message (number_of_new new) m) new ended answer after
+
+  abbrev pub new_child : SessionState T U → Spec → U → Object (Kept U)
+  new_child s child u = fresh_object child.0 child.1 (s.last_serial + 1) (Some u)
+
+  -- A new object gets the least number of the client's range that holds none, and the next serial; it is refused where
+  -- none is left.
+  abbrev pub SentWithChild : (T → Queue → Result ℕ IoFault → T → Type 0) → SessionState T U → SessionMessage → Spec → U
+      → Option (Numbered U) → Result IdParts RequestError → SessionState T U → Type 0
+  SentWithChild sends before m child u ended answer after =
+      (IsFull client_range before.store × (answer ≡ Err refused.IdsExhausted) × (after ≡ before))
+      ⊎ ((n : ℕ) × IsLeastAbsent client_range before.store n
+      × MatchBool (before.last_serial == last_possible_serial)
+      ((answer ≡ Err refused.SerialsExhausted) × (after ≡ before))
+      (Sent sends before m (Some (n, new_child before child u)) ended answer after))
+
+  abbrev pub SentAs : (T → Queue → Result ℕ IoFault → T → Type 0) → SessionState T U → SessionMessage → Option Spec → Option U
+      → Option (Numbered U) → Result IdParts RequestError → SessionState T U → Type 0
+  SentAs sends before m None u ended answer after = Sent sends before m None ended answer after
+  SentAs sends before m (Some child) None ended answer after = ⊥
+  SentAs sends before m (Some child) (Some u) ended answer after = SentWithChild sends before m child u ended answer after
+
+  -- the sender, where the request ends it
+  abbrev pub ended_by : Store (Kept U) → SessionMessage → Bool → Option (Numbered U)
+  ended_by store m false = None
+  ended_by store m true = option_map (λ x. (m.sender.number, x)) (named store m.sender)
+
+  -- what a request with this user data and this wish for the new object does: it is refused and nothing is changed, or
+  -- it is sent
+  abbrev pub Requested : (T → Queue → Result ℕ IoFault → T → Type 0) → SessionState T U → SessionMessage → Option U → Option Spec
+      → Result IdParts RequestError → SessionState T U → Type 0
+  Requested sends before m u spec answer after =
+      MatchResult (request_check before m (is_some u) spec)
+      (λ g. SentAs sends before m g.child u (ended_by before.store m g.is_destructor) answer after)
+      (λ e. (answer ≡ Err e) × (after ≡ before))

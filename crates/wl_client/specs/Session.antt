@@ -1,0 +1,151 @@
+-- What a client session holds, and the look-ups that its calls share.
+use Rattle.std.specs.Prelude.{◌≡◌, ℕ, List, [], Bool, false, true, Option, None, Some, ◌==◌, if◌then◌else◌, slice_get, map, ◌++◌, ◌∷◌}
+use Rattle.std.specs.Coded.{Coded, code_by, coded×, coded_ℕ, coded_bool}
+use Rattle.wl_wire.specs.declared.argument.ArgumentType.{ArgumentType}
+use Rattle.wl_wire.specs.declared.interface.InterfaceId.{InterfaceId}
+use Rattle.wl_wire.specs.declared.interface.TheConstants.{ANONYMOUS_INTERFACE, WL_DISPLAY_INTERFACE}
+use Rattle.wl_wire.specs.Table.{InterfaceRow, MessageRow}
+use Rattle.wl_link.specs.declared.object.Object.{Object}
+use Rattle.wl_link.specs.Identity.{Id, Objects, names}
+use Rattle.wl_link.specs.Link.{LinkState, IsFresh}
+use Rattle.wl_link.specs.Store.{Store, empty_store, held, stored}
+use Rattle.wl_client.specs.declared.error.WaylandError.{WaylandError}
+use Rattle.wl_client.specs.declared.kept.Kept.{Kept}
+use Rattle.wl_client.specs.declared.note.Note.{Note}
+use Rattle.wl_client.specs.declared.note.Note.TheVariants.{Destroyed}
+use Rattle.wl_client.specs.declared.open_event.OpenEvent.{OpenEvent}
+use Rattle.wl_client.specs.ObjectId.{IdParts}
+
+-- the table, the link to the server, the kept objects, the last serial given out, the error that ended the session,
+-- the event that was handed out and not finished yet, and the notes that were not taken yet
+pub record SessionState (T U : Type 0) : Type 0 where
+  pub table : List InterfaceRow
+  pub link : LinkState T
+  pub store : Store (Kept U)
+  pub last_serial : ℕ
+  pub error : Option WaylandError
+  pub open_event : Option OpenEvent
+  pub notes : List Note
+
+-- the greatest serial
+abbrev pub last_possible_serial : ℕ
+last_possible_serial = 0xFFFFFFFFFFFFFFFF
+
+-- ---- ids
+
+abbrev pub null_parts : IdParts
+null_parts = record { number = 0; serial = 0; interface = ANONYMOUS_INTERFACE }
+
+-- what names in an id: all but its interface
+abbrev pub id_of : IdParts → Id
+id_of id = record { number = id.number; serial = id.serial }
+
+abbrev pub next_interface : List InterfaceId → InterfaceId
+next_interface [] = ANONYMOUS_INTERFACE
+next_interface (i ∷ _) = i
+
+abbrev pub rest_of : List InterfaceId → List InterfaceId
+rest_of [] = []
+rest_of (_ ∷ rest) = rest
+
+-- an object of the second interface may stand where the first is asked for; the anonymous one takes any
+abbrev pub fits : InterfaceId → InterfaceId → Bool
+fits asked i = if asked.0 == i.0 then true else asked.0 == ANONYMOUS_INTERFACE.0
+
+-- the request or the event of that opcode
+abbrev pub row_at : List MessageRow → ℕ → Option MessageRow
+row_at rows opcode = slice_get rows opcode
+
+abbrev pub event_in : Option InterfaceRow → ℕ → Option MessageRow
+event_in None opcode = None
+event_in (Some row) opcode = row_at row.events opcode
+
+abbrev pub request_in : Option InterfaceRow → ℕ → Option MessageRow
+request_in None opcode = None
+request_in (Some row) opcode = row_at row.requests opcode
+
+abbrev pub event_row : List InterfaceRow → InterfaceId → ℕ → Option MessageRow
+event_row table i opcode = event_in (slice_get table i.0) opcode
+
+abbrev pub request_row : List InterfaceRow → InterfaceId → ℕ → Option MessageRow
+request_row table i opcode = request_in (slice_get table i.0) opcode
+
+-- the note of an object that is no longer the program's, where it has user data
+abbrev pub noted : {U : Type 0} → List Note → Option U → IdParts → List Note
+noted notes None id = notes
+noted notes (Some _) id = notes ++ Destroyed id ∷ []
+
+module _ {U : Type 0} where
+  abbrev pub serial_of : Kept U → ℕ
+  serial_of k = k.serial
+
+  -- the id of the object that a number holds
+  abbrev pub id_at : ℕ → Object (Kept U) → IdParts
+  id_at n x = record { number = n; serial = x.value.serial; interface = x.interface }
+
+  -- the object that an id names
+  abbrev pub named : Store (Kept U) → IdParts → Option (Object (Kept U))
+  named store id = names serial_of (id_of id) store
+
+  -- the object, unless the client destroyed it
+  abbrev pub alive : Option (Object (Kept U)) → Option (Object (Kept U))
+  alive None = None
+  alive (Some x) = if x.value.client_destroyed then None else Some x
+
+  -- a new object, which nobody destroyed
+  abbrev pub fresh_object : InterfaceId → ℕ → ℕ → Option U → Object (Kept U)
+  fresh_object interface version serial user_data = record {
+    interface = interface;
+    version = version;
+    value = record { serial = serial; user_data = user_data; client_destroyed = false; server_destroyed = false };
+  }
+
+  -- the display: it has no user data
+  abbrev pub display_object : Object (Kept U)
+  display_object = fresh_object WL_DISPLAY_INTERFACE 1 0 None
+
+  abbrev pub with_flags : Bool → Bool → Object (Kept U) → Object (Kept U)
+  with_flags client server x = record {
+    interface = x.interface;
+    version = x.version;
+    value = record {
+      serial = x.value.serial;
+      user_data = x.value.user_data;
+      client_destroyed = client;
+      server_destroyed = server;
+    };
+  }
+
+  abbrev pub with_user_data : U → Object (Kept U) → Object (Kept U)
+  with_user_data u x = record {
+    interface = x.interface;
+    version = x.version;
+    value = record {
+      serial = x.value.serial;
+      user_data = Some u;
+      client_destroyed = x.value.client_destroyed;
+      server_destroyed = x.value.server_destroyed;
+    };
+  }
+
+module _ {T U : Type 0} where
+  -- the kept objects and the last serial
+  abbrev pub objects_of : SessionState T U → Objects (Kept U)
+  objects_of s = record { store = s.store; last_serial = s.last_serial }
+
+  abbrev pub with_objects : SessionState T U → Objects (Kept U) → SessionState T U
+  with_objects s objects = record s { store = objects.store; last_serial = objects.last_serial }
+
+  -- a session over the transport in which nothing has happened
+  abbrev pub IsConnected : List InterfaceRow → T → SessionState T U → Type 0
+  IsConnected table transport s =
+      (link : LinkState T) × IsFresh transport None link
+      × (s ≡ record {
+        table = table;
+        link = link;
+        store = stored empty_store 1 display_object;
+        last_serial = 0;
+        error = None;
+        open_event = None;
+        notes = [];
+      })

@@ -1,0 +1,14 @@
+//! What a session keeps of an object.
+
+/// What the session keeps of an object beside its interface and version.
+#[derive(Debug, Drop)]
+pub struct Kept<U> {
+    /// The serial, which no other object of the session has.
+    pub serial: u64,
+    /// The program's data.
+    pub user_data: Option<U>,
+    /// Whether the client destroyed it, or an event did.
+    pub client_destroyed: bool,
+    /// Whether the server gave up its number, or an event destroyed it.
+    pub server_destroyed: bool,
+}
