@@ -5,3 +5,4 @@ pub mod Requests
 pub mod Events
 pub mod Reading
 pub mod Finish
+pub mod Conversion

@@ -2,6 +2,7 @@
 #![tactic(auto)]
 
 mod error;
+mod event;
 mod event_fault;
 mod kept;
 mod note;
