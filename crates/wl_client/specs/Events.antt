@@ -30,11 +30,12 @@ abbrev pub fault_text : List InterfaceRow → EventFault → List ℕ
 fault_text table wrong.Malformed = codes "Malformed Wayland message."
 fault_text table (wrong.UnknownObject n) = codes "Unknown object " ++ decimal n ++ codes "."
 fault_text table (wrong.WrongInterface n asked i) =
-    codes "Protocol error: server sent object " ++ decimal n ++ codes " for interface " ++ name_of table asked.0
-    ++ codes ", but it has interface " ++ name_of table i.0 ++ codes "."
+    codes "Protocol error: server sent object "
+    ++ (decimal n
+    ++ (codes " for interface " ++ (name_of table asked.0 ++ (codes ", but it has interface " ++ (name_of table i.0 ++ codes ".")))))
 fault_text table (wrong.InvalidNewId n i) =
-    codes "Protocol error: server tried to create an object \"" ++ name_of table i.0 ++ codes "\" with invalid id "
-    ++ decimal n ++ codes "."
+    codes "Protocol error: server tried to create an object \""
+    ++ (name_of table i.0 ++ (codes "\" with invalid id " ++ (decimal n ++ codes ".")))
 
 -- the error that is stored: code 0, object 0, no interface
 abbrev pub error_of : List InterfaceRow → EventFault → ProtocolError

@@ -6,3 +6,4 @@ pub mod Events
 pub mod Reading
 pub mod Finish
 pub mod Conversion
+pub mod Turns

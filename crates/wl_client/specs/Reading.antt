@@ -17,7 +17,7 @@ use Rattle.wl_wire.specs.Table.{InterfaceRow, MessageRow}
 use Rattle.wl_link.specs.declared.object.Object.{Object}
 use Rattle.wl_link.specs.Exchange.{Queue}
 use Rattle.wl_link.specs.Link.{LinkState, FilledBy, ReadOne, counted_answer, count_of}
-use Rattle.wl_link.specs.Store.{held}
+use Rattle.wl_link.specs.Store.{Store, held}
 use Rattle.wl_client.specs.declared.error.EventError.{EventError}
 use Rattle.wl_client.specs.declared.error.EventError.TheVariants as no_event
 use Rattle.wl_client.specs.declared.error.WaylandError.{WaylandError}
@@ -49,13 +49,16 @@ abbrev pub row_in : {U : Type 0} → List InterfaceRow → Option (Object (Kept 
 row_in table None opcode = None
 row_in table (Some x) opcode = event_row table x.interface opcode
 
+abbrev pub signature_in : {U : Type 0} → List InterfaceRow → Store (Kept U) → ℕ → ℕ → Option (List ArgumentType)
+signature_in table store sender opcode = option_map (λ row. row.signature) (row_in table (held store sender) opcode)
+
 module _ {T U : Type 0} where
   -- the event of that opcode of the object that the number holds
   abbrev pub row_of : SessionState T U → ℕ → ℕ → Option MessageRow
   row_of s sender opcode = row_in s.table (held s.store sender) opcode
 
   abbrev pub signature_at : SessionState T U → ℕ → ℕ → Option (List ArgumentType)
-  signature_at s sender opcode = option_map (λ row. row.signature) (row_of s sender opcode)
+  signature_at s sender opcode = signature_in s.table s.store sender opcode
 
   abbrev pub with_link : SessionState T U → LinkState T → SessionState T U
   with_link s link = record s { link = link }

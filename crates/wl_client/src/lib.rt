@@ -1,6 +1,7 @@
 //! The client's session of the Wayland protocol: its ids and its errors so far.
 #![tactic(auto)]
 
+mod display;
 mod error;
 mod event;
 mod event_fault;
@@ -9,7 +10,10 @@ mod note;
 mod object_id;
 mod objects;
 mod open_event;
+mod reading;
+mod receive;
 mod session;
+mod turn;
 
 pub use error::{
     DestroyError, EventError, FinishError, FinishRefused, FlushError, InvalidId, RequestError,
