@@ -1,5 +1,6 @@
 -- What the functions of a reading say to each other.
 use Rattle.std.specs.Prelude.{◌≡◌, ◌≢◌, ℕ, ◌⊎◌, List, [], ◌∷◌, Bool, true, false, Option, None, Some, Result, Ok, Err, length}
+use Rattle.std.specs.Borrow.{Bor}
 use Rattle.smallvec.specs.SmallVec.{SmallVec, HasRoomFor}
 use Rattle.wl_wire.specs.declared.argument.Argument.{Argument}
 use Rattle.wl_wire.specs.declared.argument.Token.{Token}
@@ -7,7 +8,8 @@ use Rattle.wl_wire.specs.declared.error.MessageParseError.{MessageParseError}
 use Rattle.wl_wire.specs.declared.error.MessageParseError.TheVariants as parse
 use Rattle.wl_wire.specs.declared.message.Message.{Message}
 use Rattle.wl_wire.specs.Message.{WireMessage, content}
-use Rattle.wl_wire.specs.Table.{InterfaceRow, MessageRow}
+use Rattle.wl_wire.specs.declared.interface.MessageDesc.{MessageDesc}
+use Rattle.wl_wire.specs.Table.{InterfaceRow, MessageRow, message_row}
 use Rattle.wl_link.specs.declared.object.Object.{Object}
 use Rattle.wl_link.specs.Exchange.{Queue}
 use Rattle.wl_link.specs.Identity.{Objects}
@@ -47,13 +49,18 @@ module _ {U : Type 0} where
   HandledAs m receiver row (Wrong w objects) (handled.Fault w') after = (w' ≡ w) × (after ≡ objects)
   HandledAs m receiver row _ _ after = ⊥
 
-  -- the message at the front was taken, with room for what it becomes; or it was not, and the link is as before
-  abbrev pub Took : {T : Type 0} → List InterfaceRow → Store (Kept U) → LinkState T → Result (Message ℕ Token) MessageParseError → LinkState T → Type 0
-  Took table store before (Ok m) after =
-      ReadOne (λ sender opcode found. found ≡ signature_in table store sender opcode) before (Ok (content m)) after
-  Took table store before (Err e) after =
-      (after ≡ before)
-      × (e ≢ parse.OutOfMemory → ReadOne (λ sender opcode found. found ≡ signature_in table store sender opcode) before (Err e) before)
+  -- what the read of the message at the front answers under the session's signatures
+  abbrev pub ReadsIn : {T : Type 0} → List InterfaceRow → Store (Kept U) → LinkState T → Result WireMessage MessageParseError → LinkState T → Type 0
+  ReadsIn table store before answer after = ReadOne (λ sender opcode found. found ≡ signature_in table store sender opcode) before answer after
+
+  -- the message at the front was taken, with what the table says of it; or it was not, and the link is as before
+  abbrev pub TookWith : {T : Type 0} → List InterfaceRow → Store (Kept U) → LinkState T
+      → Result (Message ℕ Token × Bor MessageDesc) MessageParseError → LinkState T → Type 0
+  TookWith table store before (Ok taken) after =
+      ReadsIn table store before (Ok (content taken.0)) after
+      × (row_in table (held store taken.0.sender_id) taken.0.opcode ≡ Some (message_row taken.1.now))
+  TookWith table store before (Err e) after =
+      (after ≡ before) × (e ≢ parse.OutOfMemory → ReadsIn table store before (Err e) before)
 
 abbrev pub no_turns : List Turn
 no_turns = []
@@ -71,6 +78,10 @@ module _ {T U : Type 0} where
       → Result SessionMessage EventError → Bool → SessionState T U → Type 0
   HandledLast receives before m answer refused after =
       (left : ℕ) → Handles before m (no_turns ≡ []) answer refused after (λ mid. Reads receives left mid [] answer refused after)
+
+  -- no message was taken, for this reason
+  abbrev pub NotTaken : SessionState T U → MessageParseError → Type 0
+  NotTaken s e = e ≢ parse.OutOfMemory → ReadsAs s (Err e) s.link
 
   -- a turn of a reading
   abbrev pub Turns : (T → ℕ → Result Queue IoFault → T → Type 0) → SessionState T U → Turned → SessionState T U → Type 0

@@ -10,7 +10,7 @@ ghost use Rattle.wl_client.specs.declared.error.EventError.TheVariants as no_eve
 ghost use Rattle.wl_client.specs.declared.error.WaylandError.TheVariants.{Io, Protocol as ProtocolFault};
 ghost use Rattle.wl_client.specs.Events.{error_of};
 ghost use Rattle.wl_client.specs.Reading.{Stores, row_in, with_error};
-ghost use Rattle.wl_client.specs.Turns.{HandledLast, HandledOn, Took, Turns};
+ghost use Rattle.wl_client.specs.Turns.{HandledLast, HandledOn, NotTaken, TookWith, Turns};
 
 use crate::display::{DisplayEvent, display_event};
 use crate::error::{EventError, WaylandError};
@@ -47,6 +47,41 @@ pub enum Turn {
     Lacks,
     /// The reading ends without an event.
     Ends(NoEvent),
+}
+
+/// Takes the message at the front off the link, with room for what it becomes: for its arguments in `converted`, and
+/// for the object that it may make in the map.
+fn take<'p, T: Drop, U: Drop>(
+    protocol: &'p Protocol,
+    objects: &mut ObjectMap<Kept<U>>,
+    socket: &mut BufferedSocket<T>,
+    converted: &mut SmallVec<Argument<ObjectId, Token>, INLINE_ARGS>,
+) -> Result<(Message<u32, Token>, &'p MessageDesc), MessageParseError>
+    requires { converted.old.items ≡ [] }
+    ensures took { TookWith protocol.now objects.old.store socket.old result socket.new }
+    ensures store { objects.new.store ≡ objects.old.store }
+    ensures room { IfOk result (λ r. HasRoomFor converted.new (length r.0.args.items)) }
+    ensures empty { converted.new.items ≡ [] }
+    ensures can_make { IfOk result (λ r. r.1.now.child_interface ≢ None → objects.new.reserved ≡ true) }
+{
+    let Some((sender, opcode)) = socket.next_header() else {
+        return Err(MessageParseError::MissingData);
+    };
+    let Some(desc) = event_desc(protocol, objects, sender, opcode) else {
+        return Err(MessageParseError::Malformed);
+    };
+    let Ok(()) = converted.reserve(desc.signature.len()) else {
+        return Err(MessageParseError::OutOfMemory);
+    };
+    if desc.child_interface.is_some() {
+        let Ok(()) = objects.reserve() else {
+            return Err(MessageParseError::OutOfMemory);
+        };
+    }
+    match read_under(socket, desc.signature.as_slice()) {
+        Ok(message) => Ok((message, desc)),
+        Err(error) => Err(error),
+    }
 }
 
 impl<T: Transport + Drop, U: Drop> Session<T, U> {
@@ -100,6 +135,58 @@ impl<T: Transport + Drop, U: Drop> Session<T, U> {
                 Some(self.fail(error))
             }
             DisplayEvent::Unreadable => Some(self.fail_by(EventFault::Malformed)),
+        }
+    }
+
+    /// Takes the message at the front off the link and handles it.
+    pub fn turn(&mut self) -> Turn
+        ensures { Turns T.receives self.old result self.new }
+    {
+        let mut converted = SmallVec::new(*self.notes.allocator());
+        let (message, desc) = match take(
+            &self.protocol,
+            &mut self.objects,
+            &mut self.socket,
+            &mut converted,
+        ) {
+            Ok(taken) => taken,
+            Err(error) => return self.not_taken(error),
+        };
+        if message.sender_id == DISPLAY {
+            return match self.handle_display(&message) {
+                Some(end) => Turn::Ends(end),
+                None => Turn::GoesOn,
+            };
+        }
+        let handled = handle_event(
+            &mut self.objects,
+            &mut self.last_serial,
+            desc,
+            message,
+            converted,
+        );
+        match handled {
+            Handled::Swallowed => Turn::GoesOn,
+            Handled::Fault(fault) => Turn::Ends(self.fail_by(fault)),
+            Handled::Event(event, open_event) => {
+                self.open_event = Some(open_event);
+                Turn::Event(event)
+            }
+        }
+    }
+
+    /// What it comes to that no message was taken.
+    fn not_taken(&mut self, error: MessageParseError) -> Turn
+        requires { NotTaken self.old error }
+        ensures { Turns T.receives self.old result self.new }
+    {
+        match error {
+            MessageParseError::MissingData | MessageParseError::MissingFD => Turn::Lacks,
+            MessageParseError::Malformed => Turn::Ends(self.fail_by(EventFault::Malformed)),
+            MessageParseError::OutOfMemory => Turn::Ends(NoEvent {
+                error: EventError::OutOfMemory,
+                refused: true,
+            }),
         }
     }
 }
