@@ -1,1 +1,3 @@
 pub mod Vacating
+pub mod Handling
+pub mod Readings

@@ -13,10 +13,12 @@ use Rattle.wl_wire.specs.Table.{InterfaceRow, MessageRow, message_row}
 use Rattle.wl_link.specs.declared.object.Object.{Object}
 use Rattle.wl_link.specs.Exchange.{Queue}
 use Rattle.wl_link.specs.Identity.{Objects}
-use Rattle.wl_link.specs.Link.{LinkState, ReadOne}
+use Rattle.wl_link.specs.Link.{LinkState, ReadOne, FilledBy, counted_answer, count_of}
 use Rattle.wl_link.specs.Store.{Store, held}
 use Rattle.wl_wire.specs.declared.error.IoFault.{IoFault}
 use Rattle.wl_client.specs.declared.error.EventError.{EventError}
+use Rattle.wl_client.specs.declared.error.EventError.TheVariants as no_event
+use Rattle.wl_client.specs.declared.turn.NoEvent.{NoEvent}
 use Rattle.wl_client.specs.declared.kept.Kept.{Kept}
 use Rattle.wl_client.specs.declared.display.DisplayEvent.{DisplayEvent as ToldEvent}
 use Rattle.wl_client.specs.declared.display.DisplayEvent.TheVariants as told
@@ -26,7 +28,7 @@ use Rattle.wl_client.specs.declared.turn.Turn.{Turn as Turned}
 use Rattle.wl_client.specs.declared.turn.Turn.TheVariants as turned
 use Rattle.wl_client.specs.ObjectId.{IdParts}
 use Rattle.wl_client.specs.Events.{Outcome, Whole, Wrong, DisplayEvent, Fails, Deletes, Unreadable}
-use Rattle.wl_client.specs.Reading.{Turn, Ends, Handles, Lacks, Reads, ReadsAs, row_in, signature_in, with_link}
+use Rattle.wl_client.specs.Reading.{Turn, Ends, Faulted, Handles, Lacks, Reads, ReadsAs, row_in, signature_in, with_link}
 use Rattle.wl_client.specs.Requests.{SessionMessage, session_content}
 use Rattle.wl_client.specs.Session.{SessionState, id_at}
 
@@ -83,15 +85,50 @@ module _ {T U : Type 0} where
   abbrev pub NotTaken : SessionState T U → MessageParseError → Type 0
   NotTaken s e = e ≢ parse.OutOfMemory → ReadsAs s (Err e) s.link
 
+  -- the message was handled, and that comes to this
+  abbrev pub HandledTo : (T → ℕ → Result Queue IoFault → T → Type 0) → SessionState T U → WireMessage → Turned → SessionState T U → Type 0
+  HandledTo receives before m turned.Lacks after = ⊥
+  HandledTo receives before m turned.GoesOn after = (after.link ≡ before.link) × HandledOn receives before m after
+  HandledTo receives before m (turned.Event e) after = HandledLast receives before m (Ok (session_content e)) false after
+  HandledTo receives before m (turned.Ends end) after = HandledLast receives before m (Err end.error) end.refused after
+
+  -- no message was taken, and that comes to this
+  abbrev pub NotTakenTo : SessionState T U → Turned → SessionState T U → Type 0
+  NotTakenTo before turned.Lacks after = Lacks before × (after ≡ before)
+  NotTakenTo before turned.GoesOn after = ⊥
+  NotTakenTo before (turned.Event e) after = ⊥
+  NotTakenTo before (turned.Ends end) after = (left : ℕ) → Ends left before (Err end.error) end.refused after
+
   -- a turn of a reading
   abbrev pub Turns : (T → ℕ → Result Queue IoFault → T → Type 0) → SessionState T U → Turned → SessionState T U → Type 0
-  Turns receives before turned.Lacks after = Lacks before × (after ≡ before)
-  Turns receives before turned.GoesOn after =
-      (m : WireMessage) × (link : LinkState T) × ReadsAs before (Ok m) link × HandledOn receives (with_link before link) m after
-  Turns receives before (turned.Event e) after =
-      (m : WireMessage) × (link : LinkState T) × ReadsAs before (Ok m) link
-      × HandledLast receives (with_link before link) m (Ok (session_content e)) false after
-  Turns receives before (turned.Ends end) after =
-      ((m : WireMessage) × (link : LinkState T) × ReadsAs before (Ok m) link
-      × HandledLast receives (with_link before link) m (Err end.error) end.refused after)
-      ⊎ ((left : ℕ) → Ends left before (Err end.error) end.refused after)
+  Turns receives before turned after =
+      NotTakenTo before turned after
+      ⊎ ((m : WireMessage) × (link : LinkState T) × ReadsAs before (Ok m) link × HandledTo receives (with_link before link) m turned after)
+
+  -- where what is left of a reading may lead, the whole may
+  abbrev pub LeadsOn : (T → ℕ → Result Queue IoFault → T → Type 0) → SessionState T U → SessionState T U → Type 0
+  LeadsOn receives before after =
+      (left : ℕ) (rest : List Turn) (answer : Result SessionMessage EventError) (refused : Bool) (end : SessionState T U) →
+      Reads receives left after rest answer refused end → (turns : List Turn) × Reads receives left before turns answer refused end
+
+  -- a reading ends so, however many receives are left
+  abbrev pub EndsSo : (T → ℕ → Result Queue IoFault → T → Type 0) → SessionState T U → Result SessionMessage EventError → Bool
+      → SessionState T U → Type 0
+  EndsSo receives before answer refused after = (left : ℕ) → (turns : List Turn) × Reads receives left before turns answer refused after
+
+  -- all that waits whole was handled, and that comes to this
+  abbrev pub Waited : (T → ℕ → Result Queue IoFault → T → Type 0) → SessionState T U → Turned → SessionState T U → Type 0
+  Waited receives before turned.GoesOn after = ⊥
+  Waited receives before turned.Lacks after = Lacks after × LeadsOn receives before after
+  Waited receives before (turned.Event e) after = EndsSo receives before (Ok (session_content e)) false after
+  Waited receives before (turned.Ends end) after = EndsSo receives before (Err end.error) end.refused after
+
+  -- a receive was made, or there was no memory for it
+  abbrev pub ReceivedTo : (T → ℕ → Result Queue IoFault → T → Type 0) → SessionState T U → Option NoEvent → SessionState T U → Type 0
+  ReceivedTo receives before None after =
+      (r : Result Queue IoFault) × FilledBy receives before.link r (counted_answer (count_of r)) after.link
+      × (counted_answer (count_of r) ≡ Ok tt) × (after ≡ with_link before after.link)
+  ReceivedTo receives before (Some end) after =
+      ((r : Result Queue IoFault) × (link : LinkState T) × FilledBy receives before.link r (counted_answer (count_of r)) link
+      × ((f : IoFault) × (counted_answer (count_of r) ≡ Err f) × Faulted (with_link before link) f (Err end.error) end.refused after))
+      ⊎ ((end.error ≡ no_event.OutOfMemory) × (end.refused ≡ true) × (after ≡ before))

@@ -6,6 +6,7 @@ mod error;
 mod event;
 mod event_fault;
 mod kept;
+mod next_event;
 mod note;
 mod object_id;
 mod objects;

@@ -1,6 +1,6 @@
 //! One turn of a reading: the message at the front is taken off the link and handled.
 
-ghost use Rattle.std.specs.Prelude.{◌≡◌, ◌≢◌, [], true, false, None, Some, Ok, Err, MatchOption, MatchResult, length, IfOk};
+ghost use Rattle.std.specs.Prelude.{◌≡◌, ◌≢◌, [], true, false, None, Some, Ok, Err, MatchResult, length, IfOk};
 ghost use Rattle.smallvec.specs.SmallVec.{HasRoomFor};
 ghost use Rattle.wl_wire.specs.Message.{content};
 ghost use Rattle.wl_wire.specs.Table.{message_row};
@@ -10,7 +10,7 @@ ghost use Rattle.wl_client.specs.declared.error.EventError.TheVariants as no_eve
 ghost use Rattle.wl_client.specs.declared.error.WaylandError.TheVariants.{Io, Protocol as ProtocolFault};
 ghost use Rattle.wl_client.specs.Events.{error_of};
 ghost use Rattle.wl_client.specs.Reading.{Stores, row_in, with_error};
-ghost use Rattle.wl_client.specs.Turns.{HandledLast, HandledOn, NotTaken, TookWith, Turns};
+ghost use Rattle.wl_client.specs.Turns.{HandledTo, NotTaken, NotTakenTo, TookWith, Turns};
 
 use crate::display::{DisplayEvent, display_event};
 use crate::error::{EventError, WaylandError};
@@ -117,24 +117,22 @@ impl<T: Transport + Drop, U: Drop> Session<T, U> {
         self.fail(error)
     }
 
-    /// Handles an event of the display; the answer is why it ends the session, if it does.
-    fn handle_display(&mut self, message: &Message<u32, Token>) -> Option<NoEvent>
+    /// Handles an event of the display.
+    fn handle_display(&mut self, message: &Message<u32, Token>) -> Turn
         requires { message.now.sender_id ≡ 1 }
-        ensures { MatchOption result
-            (HandledOn T.receives self.old (content message.now) self.new)
-            (λ end. HandledLast T.receives self.old (content message.now) (Err end.error) end.refused self.new) }
+        ensures { HandledTo T.receives self.old (content message.now) result self.new }
     {
         match display_event(message) {
             DisplayEvent::Deletes(number) => {
                 delete_id(&mut self.objects, number);
-                None
+                Turn::GoesOn
             }
             DisplayEvent::Fails(code, number, text) => {
                 let alloc = *self.notes.allocator();
                 let error = told_error(alloc, &self.protocol, &self.objects, code, number, text);
-                Some(self.fail(error))
+                Turn::Ends(self.fail(error))
             }
-            DisplayEvent::Unreadable => Some(self.fail_by(EventFault::Malformed)),
+            DisplayEvent::Unreadable => Turn::Ends(self.fail_by(EventFault::Malformed)),
         }
     }
 
@@ -153,10 +151,7 @@ impl<T: Transport + Drop, U: Drop> Session<T, U> {
             Err(error) => return self.not_taken(error),
         };
         if message.sender_id == DISPLAY {
-            return match self.handle_display(&message) {
-                Some(end) => Turn::Ends(end),
-                None => Turn::GoesOn,
-            };
+            return self.handle_display(&message);
         }
         let handled = handle_event(
             &mut self.objects,
@@ -178,7 +173,7 @@ impl<T: Transport + Drop, U: Drop> Session<T, U> {
     /// What it comes to that no message was taken.
     fn not_taken(&mut self, error: MessageParseError) -> Turn
         requires { NotTaken self.old error }
-        ensures { Turns T.receives self.old result self.new }
+        ensures { NotTakenTo self.old result self.new }
     {
         match error {
             MessageParseError::MissingData | MessageParseError::MissingFD => Turn::Lacks,
