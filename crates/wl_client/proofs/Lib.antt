@@ -1,1 +1,2 @@
 pub mod Vacating
+mod Flushing
