@@ -1,3 +1,4 @@
 pub mod Vacating
 pub mod Handling
 pub mod Readings
+mod Flushing

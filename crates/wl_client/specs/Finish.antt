@@ -17,6 +17,19 @@ use Rattle.wl_client.specs.declared.open_event.OpenEvent.{OpenEvent}
 use Rattle.wl_client.specs.ObjectId.{IdParts}
 use Rattle.wl_client.specs.Session.{SessionState, named, noted, id_at, with_flags, with_user_data}
 
+module _ {U : Type 0} where
+  -- an object gets the data, if a number's object is there
+  abbrev pub data_given : Store (Kept U) → ℕ → Option (Object (Kept U)) → U → Store (Kept U)
+  data_given store n None u = store
+  data_given store n (Some x) u = rewritten store n (with_user_data u x)
+
+  -- why an event that made this object is not finished with these data, whatever memory there is
+  abbrev pub refusal : Option IdParts → Option U → Option FinishError
+  refusal None None = None
+  refusal None (Some _) = Some finish.UnexpectedData
+  refusal (Some _) None = Some finish.MissingObjectData
+  refusal (Some _) (Some _) = None
+
 module _ {T U : Type 0} where
   -- an object is destroyed by both sides, and noted if the client had not destroyed it and it has user data
   abbrev pub with_dead : SessionState T U → ℕ → Option (Object (Kept U)) → SessionState T U
@@ -30,10 +43,6 @@ module _ {T U : Type 0} where
   abbrev pub after_destructor : SessionState T U → OpenEvent → SessionState T U
   after_destructor s event =
       if event.is_destructor then with_dead s event.sender.number (named s.store event.sender) else s
-
-  abbrev pub data_given : Store (Kept U) → ℕ → Option (Object (Kept U)) → U → Store (Kept U)
-  data_given store n None u = store
-  data_given store n (Some x) u = rewritten store n (with_user_data u x)
 
   -- the object that the event made gets the data
   abbrev pub with_data_for : SessionState T U → Option IdParts → Option U → SessionState T U

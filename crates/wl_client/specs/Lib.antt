@@ -7,3 +7,4 @@ pub mod Reading
 pub mod Finish
 pub mod Conversion
 pub mod Turns
+pub mod Lending

@@ -1,10 +1,13 @@
 //! The client's session of the Wayland protocol: its ids and its errors so far.
 #![tactic(auto)]
 
+mod destroy;
 mod display;
 mod error;
 mod event;
 mod event_fault;
+mod finish;
+mod flush;
 mod kept;
 mod next_event;
 mod note;

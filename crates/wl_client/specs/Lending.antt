@@ -1,0 +1,14 @@
+-- A session that lends its transport.
+use Rattle.std.specs.Borrow.{Lends, MutBor, Fml}
+use denote.RattleType.{RattleType}
+use Rattle.wl_link.specs.Link.{with_transport}
+use Rattle.wl_client.specs.Session.{SessionState}
+use Rattle.wl_client.specs.contracts.session.Session.{the_row}
+
+-- the session with another value of its transport
+abbrev pub over_transport : {T U : Type 0} → SessionState T U → T → SessionState T U
+over_transport s transport = record s { link = with_transport s.link transport }
+
+-- the session ends with what was left in the transport, and with all else as it was
+abbrev pub LendsTransport : (T U : RattleType) → MutBor (SessionState T.Denot U.Denot) → MutBor T.Denot → Fml
+LendsTransport T U s transport = Lends (the_row T U) T s transport (λ t. over_transport s.now t)
