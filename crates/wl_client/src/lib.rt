@@ -8,6 +8,7 @@ mod note;
 mod object_id;
 mod objects;
 mod open_event;
+mod request;
 mod session;
 
 pub use error::{
