@@ -9,6 +9,7 @@ mod object_id;
 mod objects;
 mod open_event;
 mod request;
+mod send_request;
 mod session;
 
 pub use error::{
