@@ -30,17 +30,35 @@ abbrev pub fault_text : List InterfaceRow → EventFault → List ℕ
 fault_text table wrong.Malformed = codes "Malformed Wayland message."
 fault_text table (wrong.UnknownObject n) = codes "Unknown object " ++ decimal n ++ codes "."
 fault_text table (wrong.WrongInterface n asked i) =
-    codes "Protocol error: server sent object " ++ decimal n ++ codes " for interface " ++ name_of table asked.0
-    ++ codes ", but it has interface " ++ name_of table i.0 ++ codes "."
+    codes "Protocol error: server sent object "
+    ++ (decimal n
+    ++ (codes " for interface " ++ (name_of table asked.0 ++ (codes ", but it has interface " ++ (name_of table i.0 ++ codes ".")))))
 fault_text table (wrong.InvalidNewId n i) =
-    codes "Protocol error: server tried to create an object \"" ++ name_of table i.0 ++ codes "\" with invalid id "
-    ++ decimal n ++ codes "."
+    codes "Protocol error: server tried to create an object \""
+    ++ (name_of table i.0 ++ (codes "\" with invalid id " ++ (decimal n ++ codes ".")))
 
 -- the error that is stored: code 0, object 0, no interface
 abbrev pub error_of : List InterfaceRow → EventFault → ProtocolError
 error_of table wrong = record { code = 0; object_id = 0; object_interface = []; message = fault_text table wrong }
 
 -- ---- arguments
+
+-- how far the arguments were gone through: the objects so far, the interfaces not taken yet, the interface of the
+-- object that the event may yet make, and the one that it made
+pub record Converting (U : Type 0) : Type 0 where
+  pub objects : Objects (Kept U)
+  pub asked : List InterfaceId
+  pub child : Option InterfaceId
+  pub created : Option IdParts
+
+-- what an argument becomes, and how far that leads; or what is wrong with it
+abbrev pub Converted : Type 0 → Type 0
+Converted U = Result (Argument IdParts Token × Converting U) EventFault
+
+-- what the arguments come to; or what is wrong with the first that is wrong, and the objects as they then are
+pub data Outcome (U : Type 0) : Type 0 where
+  Whole : Converting U → List (Argument IdParts Token) → Outcome U
+  Wrong : EventFault → Objects (Kept U) → Outcome U
 
 module _ {U : Type 0} where
   abbrev pub object_argument_of : InterfaceId → ℕ → Option (Object (Kept U)) → Result IdParts EventFault
@@ -67,9 +85,8 @@ module _ {U : Type 0} where
       is_server_number n && (is_free (vacated objects.store n) n && not (objects.last_serial == last_possible_serial))
 
   -- the object that an event makes: of its receiver's version, and destroyed by the client if the receiver is
-  abbrev pub made_object : Object (Kept U) → InterfaceId → ℕ → Object (Kept U)
-  made_object receiver i serial =
-      with_flags receiver.value.client_destroyed false (fresh_object i receiver.version serial None)
+  abbrev pub made_object : ℕ → Bool → InterfaceId → ℕ → Object (Kept U)
+  made_object version destroyed i serial = with_flags destroyed false (fresh_object i version serial None)
 
   abbrev pub with_made_object : Objects (Kept U) → ℕ → Object (Kept U) → Objects (Kept U)
   with_made_object objects n x = record {
@@ -77,71 +94,50 @@ module _ {U : Type 0} where
     last_serial = objects.last_serial + 1;
   }
 
-  -- how far the arguments were gone through: the objects so far, the interfaces not taken yet, the interface of the
-  -- object that the event may yet make, the one that it made, and the arguments so far
-  pub record Converting : Type 0 where
-    pub objects : Objects (Kept U)
-    pub asked : List InterfaceId
-    pub child : Option InterfaceId
-    pub created : Option IdParts
-    pub args : List (Argument IdParts Token)
-
-  abbrev pub with_argument : Converting → Argument IdParts Token → Converting
-  with_argument c a = record c { args = c.args ++ a ∷ [] }
-
-  abbrev pub with_object_argument : Converting → Result IdParts EventFault → Result Converting EventFault
-  with_object_argument c (Ok id) = Ok (record c { asked = rest_of c.asked; args = c.args ++ arg.Object id ∷ [] })
+  abbrev pub with_object_argument : Converting U → Result IdParts EventFault → Converted U
+  with_object_argument c (Ok id) = Ok (arg.Object id, record c { asked = rest_of c.asked })
   with_object_argument c (Err wrong) = Err wrong
 
-  abbrev pub with_new_at : Object (Kept U) → Converting → ℕ → InterfaceId → Converting
-  with_new_at receiver c n i =
-      let x = made_object receiver i (c.objects.last_serial + 1) in
-      record {
-        objects = with_made_object c.objects n x;
-        asked = c.asked;
-        child = None;
-        created = Some (id_at n x);
-        args = c.args ++ arg.NewId (id_at n x) ∷ [];
-      }
+  abbrev pub with_new_at : ℕ → Bool → Converting U → ℕ → InterfaceId → Argument IdParts Token × Converting U
+  with_new_at version destroyed c n i =
+      let x = made_object version destroyed i (c.objects.last_serial + 1) in
+      (arg.NewId (id_at n x),
+        record { objects = with_made_object c.objects n x; asked = c.asked; child = None; created = Some (id_at n x) })
 
   -- an event makes one object at most, of the interface that the table names
-  abbrev pub with_new_argument : Object (Kept U) → Converting → ℕ → Option InterfaceId → Result Converting EventFault
-  with_new_argument receiver c n None = Err (wrong.InvalidNewId n ANONYMOUS_INTERFACE)
-  with_new_argument receiver c n (Some i) =
-      if is_valid_new c.objects n then Ok (with_new_at receiver c n i) else Err (wrong.InvalidNewId n i)
+  abbrev pub with_new_argument : ℕ → Bool → Converting U → ℕ → Option InterfaceId → Converted U
+  with_new_argument version destroyed c n None = Err (wrong.InvalidNewId n ANONYMOUS_INTERFACE)
+  with_new_argument version destroyed c n (Some i) =
+      if is_valid_new c.objects n then Ok (with_new_at version destroyed c n i) else Err (wrong.InvalidNewId n i)
 
-  -- one argument more
-  abbrev pub convert_one : Object (Kept U) → Converting → WireArgument → Result Converting EventFault
-  convert_one receiver c (arg.Int z) = Ok (with_argument c (arg.Int z))
-  convert_one receiver c (arg.Uint n) = Ok (with_argument c (arg.Uint n))
-  convert_one receiver c (arg.Fixed z) = Ok (with_argument c (arg.Fixed z))
-  convert_one receiver c (arg.Str text) = Ok (with_argument c (arg.Str text))
-  convert_one receiver c (arg.Object n) = with_object_argument c (object_argument c.objects.store (next_interface c.asked) n)
-  convert_one receiver c (arg.NewId n) = with_new_argument receiver c n c.child
-  convert_one receiver c (arg.Array bytes) = Ok (with_argument c (arg.Array bytes))
-  convert_one receiver c (arg.Fd token) = Ok (with_argument c (arg.Fd token))
+  -- an argument of an event whose receiver has this version, and was destroyed by the client or not
+  abbrev pub convert_one : ℕ → Bool → Converting U → WireArgument → Converted U
+  convert_one version destroyed c (arg.Int z) = Ok (arg.Int z, c)
+  convert_one version destroyed c (arg.Uint n) = Ok (arg.Uint n, c)
+  convert_one version destroyed c (arg.Fixed z) = Ok (arg.Fixed z, c)
+  convert_one version destroyed c (arg.Str text) = Ok (arg.Str text, c)
+  convert_one version destroyed c (arg.Object n) =
+      with_object_argument c (object_argument c.objects.store (next_interface c.asked) n)
+  convert_one version destroyed c (arg.NewId n) = with_new_argument version destroyed c n c.child
+  convert_one version destroyed c (arg.Array bytes) = Ok (arg.Array bytes, c)
+  convert_one version destroyed c (arg.Fd token) = Ok (arg.Fd token, c)
 
-  -- what the arguments come to, or what is wrong with the first that is wrong and the objects as they then are
-  pub data Converted : Type 0 where
-    Whole : Converting → Converted
-    Wrong : EventFault → Objects (Kept U) → Converted
+  abbrev pub going_on : Converted U → Objects (Kept U) → (Argument IdParts Token → Converting U → Outcome U) → Outcome U
+  going_on (Ok next) objects on = on next.0 next.1
+  going_on (Err wrong) objects on = Wrong wrong objects
 
-  abbrev pub converted_on : Result Converting EventFault → Objects (Kept U) → (Converting → Converted) → Converted
-  converted_on (Ok next) objects on = on next
-  converted_on (Err wrong) objects on = Wrong wrong objects
+  -- all arguments, from left to right, behind those that were gone through
+  abbrev pub convert : ℕ → Bool → Converting U → List (Argument IdParts Token) → List WireArgument → Outcome U
+  convert version destroyed c done [] = Whole c done
+  convert version destroyed c done (a ∷ args) =
+      going_on (convert_one version destroyed c a) c.objects (λ b next. convert version destroyed next (done ++ b ∷ []) args)
 
-  -- all arguments, from left to right
-  abbrev pub convert : Object (Kept U) → Converting → List WireArgument → Converted
-  convert receiver c [] = Whole c
-  convert receiver c (a ∷ args) = converted_on (convert_one receiver c a) c.objects (λ next. convert receiver next args)
-
-  abbrev pub start : Objects (Kept U) → MessageRow → Converting
+  abbrev pub start : Objects (Kept U) → MessageRow → Converting U
   start objects row = record {
     objects = objects;
     asked = row.arg_interfaces;
     child = row.child_interface;
     created = None;
-    args = [];
   }
 
 -- ---- events of the display
@@ -155,10 +151,17 @@ pub data DisplayEvent : Type 0 where
   -- an error without a text, or no event of the display
   Unreadable : DisplayEvent
 
+abbrev pub error_event : List WireArgument → DisplayEvent
+error_event (arg.Object n ∷ arg.Uint code ∷ arg.Str (Some text) ∷ []) = Fails code n text
+error_event _ = Unreadable
+
+abbrev pub delete_event : List WireArgument → DisplayEvent
+delete_event (arg.Uint n ∷ []) = Deletes n
+delete_event _ = Unreadable
+
 abbrev pub display_event : ℕ → List WireArgument → DisplayEvent
-display_event 0 (arg.Object n ∷ arg.Uint code ∷ arg.Str (Some text) ∷ []) = Fails code n text
-display_event 1 (arg.Uint n ∷ []) = Deletes n
-display_event _ _ = Unreadable
+display_event opcode args =
+    if opcode == 0 then error_event args else (if opcode == 1 then delete_event args else Unreadable)
 
 abbrev pub interface_name : {U : Type 0} → List InterfaceRow → Option (Object (Kept U)) → List ℕ
 interface_name table None = codes "<unknown>"

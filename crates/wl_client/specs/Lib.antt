@@ -6,3 +6,5 @@ pub mod Sending
 pub mod Events
 pub mod Reading
 pub mod Finish
+pub mod Conversion
+pub mod Turns

@@ -17,7 +17,7 @@ use Rattle.wl_wire.specs.Table.{InterfaceRow, MessageRow}
 use Rattle.wl_link.specs.declared.object.Object.{Object}
 use Rattle.wl_link.specs.Exchange.{Queue}
 use Rattle.wl_link.specs.Link.{LinkState, FilledBy, ReadOne, counted_answer, count_of}
-use Rattle.wl_link.specs.Store.{held}
+use Rattle.wl_link.specs.Store.{Store, held}
 use Rattle.wl_client.specs.declared.error.EventError.{EventError}
 use Rattle.wl_client.specs.declared.error.EventError.TheVariants as no_event
 use Rattle.wl_client.specs.declared.error.WaylandError.{WaylandError}
@@ -25,7 +25,7 @@ use Rattle.wl_client.specs.declared.error.WaylandError.TheVariants.{Io, Protocol
 use Rattle.wl_client.specs.declared.event_fault.EventFault.TheVariants as wrong
 use Rattle.wl_client.specs.declared.kept.Kept.{Kept}
 use Rattle.wl_client.specs.ObjectId.{IdParts}
-use Rattle.wl_client.specs.Events.{Converted, Whole, Wrong, convert, start, error_of, DisplayEvent, Fails, Deletes, Unreadable, display_event, told_error, deleted}
+use Rattle.wl_client.specs.Events.{Outcome, Whole, Wrong, convert, start, error_of, DisplayEvent, Fails, Deletes, Unreadable, display_event, told_error, deleted}
 use Rattle.wl_client.specs.Requests.{SessionMessage, session_content}
 use Rattle.wl_client.specs.Session.{SessionState, event_row, id_at, objects_of, with_objects}
 
@@ -49,13 +49,16 @@ abbrev pub row_in : {U : Type 0} → List InterfaceRow → Option (Object (Kept 
 row_in table None opcode = None
 row_in table (Some x) opcode = event_row table x.interface opcode
 
+abbrev pub signature_in : {U : Type 0} → List InterfaceRow → Store (Kept U) → ℕ → ℕ → Option (List ArgumentType)
+signature_in table store sender opcode = option_map (λ row. row.signature) (row_in table (held store sender) opcode)
+
 module _ {T U : Type 0} where
   -- the event of that opcode of the object that the number holds
   abbrev pub row_of : SessionState T U → ℕ → ℕ → Option MessageRow
   row_of s sender opcode = row_in s.table (held s.store sender) opcode
 
   abbrev pub signature_at : SessionState T U → ℕ → ℕ → Option (List ArgumentType)
-  signature_at s sender opcode = option_map (λ row. row.signature) (row_of s sender opcode)
+  signature_at s sender opcode = signature_in s.table s.store sender opcode
 
   abbrev pub with_link : SessionState T U → LinkState T → SessionState T U
   with_link s link = record s { link = link }
@@ -98,15 +101,15 @@ module _ {T U : Type 0} where
 
   -- an event whose arguments were gone through: it is handed out, and open from then on, or swallowed where the client
   -- destroyed its receiver
-  abbrev pub HandlesConverted : SessionState T U → WireMessage → Object (Kept U) → MessageRow → Converted → Type 0
+  abbrev pub HandlesConverted : SessionState T U → WireMessage → Object (Kept U) → MessageRow → Outcome U → Type 0
       → Result SessionMessage EventError → Bool → SessionState T U → (SessionState T U → Type 0) → Type 0
   HandlesConverted before m receiver row (Wrong w objects) last answer refused after on =
       last × Stores (with_objects before objects) (error_of before.table w) answer refused after
-  HandlesConverted before m receiver row (Whole c) last answer refused after on =
+  HandlesConverted before m receiver row (Whole c args) last answer refused after on =
       MatchBool receiver.value.client_destroyed
       (on (with_objects before c.objects))
       (last
-      × (answer ≡ Ok (record { sender = id_at m.sender receiver; opcode = m.opcode; args = c.args }))
+      × (answer ≡ Ok (record { sender = id_at m.sender receiver; opcode = m.opcode; args = args }))
       × (refused ≡ false)
       × (after ≡ record (with_objects before c.objects) {
         open_event = Some (record { sender = id_at m.sender receiver; is_destructor = row.is_destructor; created = c.created });
@@ -115,7 +118,7 @@ module _ {T U : Type 0} where
   abbrev pub HandlesEvent : SessionState T U → WireMessage → Option (Object (Kept U)) → Option MessageRow → Type 0
       → Result SessionMessage EventError → Bool → SessionState T U → (SessionState T U → Type 0) → Type 0
   HandlesEvent before m (Some receiver) (Some row) last answer refused after on =
-      HandlesConverted before m receiver row (convert receiver (start (objects_of before) row) m.args) last answer refused after on
+      HandlesConverted before m receiver row (convert receiver.version receiver.value.client_destroyed (start (objects_of before) row) [] m.args) last answer refused after on
   HandlesEvent before m _ _ last answer refused after on = ⊥
 
   -- the message was taken off the link, and is handled

@@ -1,16 +1,21 @@
 //! The client's session of the Wayland protocol: its ids and its errors so far.
 #![tactic(auto)]
 
+mod display;
 mod error;
+mod event;
 mod event_fault;
 mod kept;
 mod note;
 mod object_id;
 mod objects;
 mod open_event;
+mod reading;
+mod receive;
 mod request;
 mod send_request;
 mod session;
+mod turn;
 
 pub use error::{
     DestroyError, EventError, FinishError, FinishRefused, FlushError, InvalidId, RequestError,

@@ -59,9 +59,9 @@ impl<T: Drop, U: Drop> Session<T, U> {
         let socket = BufferedSocket::new(alloc, transport, None)?;
         let mut objects = ObjectMap::new(alloc);
         let display = fresh_object(WL_DISPLAY_INTERFACE, 1, 0, None);
-        if objects.insert_at(DISPLAY, display).is_err() {
+        let Ok(()) = objects.insert_at(DISPLAY, display) else {
             return Err(OutOfMemory);
-        }
+        };
         Ok(Session {
             protocol,
             socket,

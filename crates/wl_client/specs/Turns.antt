@@ -1,0 +1,97 @@
+-- What the functions of a reading say to each other.
+use Rattle.std.specs.Prelude.{◌≡◌, ◌≢◌, ℕ, ◌⊎◌, List, [], ◌∷◌, Bool, true, false, Option, None, Some, Result, Ok, Err, length}
+use Rattle.std.specs.Borrow.{Bor}
+use Rattle.smallvec.specs.SmallVec.{SmallVec, HasRoomFor}
+use Rattle.wl_wire.specs.declared.argument.Argument.{Argument}
+use Rattle.wl_wire.specs.declared.argument.Token.{Token}
+use Rattle.wl_wire.specs.declared.error.MessageParseError.{MessageParseError}
+use Rattle.wl_wire.specs.declared.error.MessageParseError.TheVariants as parse
+use Rattle.wl_wire.specs.declared.message.Message.{Message}
+use Rattle.wl_wire.specs.Message.{WireMessage, content}
+use Rattle.wl_wire.specs.declared.interface.MessageDesc.{MessageDesc}
+use Rattle.wl_wire.specs.Table.{InterfaceRow, MessageRow, message_row}
+use Rattle.wl_link.specs.declared.object.Object.{Object}
+use Rattle.wl_link.specs.Exchange.{Queue}
+use Rattle.wl_link.specs.Identity.{Objects}
+use Rattle.wl_link.specs.Link.{LinkState, ReadOne}
+use Rattle.wl_link.specs.Store.{Store, held}
+use Rattle.wl_wire.specs.declared.error.IoFault.{IoFault}
+use Rattle.wl_client.specs.declared.error.EventError.{EventError}
+use Rattle.wl_client.specs.declared.kept.Kept.{Kept}
+use Rattle.wl_client.specs.declared.display.DisplayEvent.{DisplayEvent as ToldEvent}
+use Rattle.wl_client.specs.declared.display.DisplayEvent.TheVariants as told
+use Rattle.wl_client.specs.declared.receive.Handled.{Handled}
+use Rattle.wl_client.specs.declared.receive.Handled.TheVariants as handled
+use Rattle.wl_client.specs.declared.turn.Turn.{Turn as Turned}
+use Rattle.wl_client.specs.declared.turn.Turn.TheVariants as turned
+use Rattle.wl_client.specs.ObjectId.{IdParts}
+use Rattle.wl_client.specs.Events.{Outcome, Whole, Wrong, DisplayEvent, Fails, Deletes, Unreadable}
+use Rattle.wl_client.specs.Reading.{Turn, Ends, Handles, Lacks, Reads, ReadsAs, row_in, signature_in, with_link}
+use Rattle.wl_client.specs.Requests.{SessionMessage, session_content}
+use Rattle.wl_client.specs.Session.{SessionState, id_at}
+
+-- what an event of the display tells, which the code keeps by reference
+abbrev pub told_by : ToldEvent → DisplayEvent
+told_by (told.Fails code number text) = Fails code number text.now
+told_by (told.Deletes number) = Deletes number
+told_by told.Unreadable = Unreadable
+
+module _ {U : Type 0} where
+  -- what an event came to whose arguments were gone through
+  abbrev pub HandledAs : WireMessage → Object (Kept U) → MessageRow → Outcome U → Handled → Objects (Kept U) → Type 0
+  HandledAs m receiver row (Whole c args) handled.Swallowed after =
+      (receiver.value.client_destroyed ≡ true) × (after ≡ c.objects)
+  HandledAs m receiver row (Whole c args) (handled.Event e opened) after =
+      (receiver.value.client_destroyed ≡ false)
+      × (session_content e ≡ record { sender = id_at m.sender receiver; opcode = m.opcode; args = args })
+      × (opened ≡ record { sender = id_at m.sender receiver; is_destructor = row.is_destructor; created = c.created })
+      × (after ≡ c.objects)
+  HandledAs m receiver row (Wrong w objects) (handled.Fault w') after = (w' ≡ w) × (after ≡ objects)
+  HandledAs m receiver row _ _ after = ⊥
+
+  -- what the read of the message at the front answers under the session's signatures
+  abbrev pub ReadsIn : {T : Type 0} → List InterfaceRow → Store (Kept U) → LinkState T → Result WireMessage MessageParseError → LinkState T → Type 0
+  ReadsIn table store before answer after = ReadOne (λ sender opcode found. found ≡ signature_in table store sender opcode) before answer after
+
+  -- the message at the front was taken, with what the table says of it; or it was not, and the link is as before
+  abbrev pub TookWith : {T : Type 0} → List InterfaceRow → Store (Kept U) → LinkState T
+      → Result (Message ℕ Token × Bor MessageDesc) MessageParseError → LinkState T → Type 0
+  TookWith table store before (Ok taken) after =
+      ReadsIn table store before (Ok (content taken.0)) after
+      × (row_in table (held store taken.0.sender_id) taken.0.opcode ≡ Some (message_row taken.1.now))
+  TookWith table store before (Err e) after =
+      (after ≡ before) × (e ≢ parse.OutOfMemory → ReadsIn table store before (Err e) before)
+
+abbrev pub no_turns : List Turn
+no_turns = []
+
+module _ {T U : Type 0} where
+  -- the message was handled, and the reading goes on
+  abbrev pub HandledOn : (T → ℕ → Result Queue IoFault → T → Type 0) → SessionState T U → WireMessage → SessionState T U → Type 0
+  HandledOn receives before m after =
+      (left : ℕ) (rest : List Turn) (answer : Result SessionMessage EventError) (refused : Bool) (end : SessionState T U) →
+      Reads receives left after rest answer refused end →
+      Handles before m (rest ≡ []) answer refused end (λ mid. Reads receives left mid rest answer refused end)
+
+  -- the message was handled, and the reading ends with it
+  abbrev pub HandledLast : (T → ℕ → Result Queue IoFault → T → Type 0) → SessionState T U → WireMessage
+      → Result SessionMessage EventError → Bool → SessionState T U → Type 0
+  HandledLast receives before m answer refused after =
+      (left : ℕ) → Handles before m (no_turns ≡ []) answer refused after (λ mid. Reads receives left mid [] answer refused after)
+
+  -- no message was taken, for this reason
+  abbrev pub NotTaken : SessionState T U → MessageParseError → Type 0
+  NotTaken s e = e ≢ parse.OutOfMemory → ReadsAs s (Err e) s.link
+
+  -- a turn of a reading
+  abbrev pub Turns : (T → ℕ → Result Queue IoFault → T → Type 0) → SessionState T U → Turned → SessionState T U → Type 0
+  Turns receives before turned.Lacks after = Lacks before × (after ≡ before)
+  Turns receives before turned.GoesOn after =
+      (m : WireMessage) × (link : LinkState T) × ReadsAs before (Ok m) link × HandledOn receives (with_link before link) m after
+  Turns receives before (turned.Event e) after =
+      (m : WireMessage) × (link : LinkState T) × ReadsAs before (Ok m) link
+      × HandledLast receives (with_link before link) m (Ok (session_content e)) false after
+  Turns receives before (turned.Ends end) after =
+      ((m : WireMessage) × (link : LinkState T) × ReadsAs before (Ok m) link
+      × HandledLast receives (with_link before link) m (Err end.error) end.refused after)
+      ⊎ ((left : ℕ) → Ends left before (Err end.error) end.refused after)

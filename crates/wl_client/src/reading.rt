@@ -1,0 +1,115 @@
+//! What a reading looks up, the errors that it stores, and the numbers that the server gives up.
+
+ghost use Rattle.std.specs.Prelude.{◌≡◌, Some, IfOk, option_copied, option_map};
+ghost use Rattle.wl_wire.specs.Table.{message_row};
+ghost use Rattle.wl_link.specs.Link.{ReadOne, read_content};
+ghost use Rattle.wl_link.specs.Store.{held};
+ghost use Rattle.std.specs.String.{string_bytes};
+ghost use Rattle.wl_client.specs.Events.{deleted, error_of, fault_text as text_of_fault, told_error as error_told};
+ghost use Rattle.wl_client.specs.Reading.{row_in};
+
+use crate::event_fault::EventFault;
+use crate::kept::Kept;
+use std::alloc::Global;
+use wl_link::{BufferedSocket, ObjectMap};
+use wl_wire::{
+    ArgumentType, CString, Message, MessageDesc, MessageParseError, OutOfMemory, Protocol,
+    ProtocolError, Text, Token,
+};
+
+/// The event of that opcode of the object that the number holds.
+pub fn event_desc<'p, U: Drop>(
+    protocol: &'p Protocol,
+    objects: &ObjectMap<Kept<U>>,
+    sender: u32,
+    opcode: u16,
+) -> Option<&'p MessageDesc>
+    ensures { option_map message_row (option_copied result) ≡ row_in protocol.now (held objects.now.store sender) opcode }
+{
+    let object = objects.find(sender)?;
+    let interface = protocol.get(object.interface)?;
+    interface.events.get(opcode as usize)
+}
+
+/// Reads the message at the front under the signature.
+pub fn read_under<T>(
+    socket: &mut BufferedSocket<T>,
+    signature: &[ArgumentType],
+) -> Result<Message<u32, Token>, MessageParseError>
+    ensures { ReadOne (λ _ _ found. found ≡ Some signature.now) socket.old (read_content result) socket.new }
+{
+    socket.read_one_message(|_, _| Some(signature))
+}
+
+/// What is stored where an event has a fault: code 0, object 0, no interface, and the fault's text.
+pub fn fault_error(
+    alloc: Global,
+    protocol: &Protocol,
+    fault: EventFault,
+) -> Result<ProtocolError, OutOfMemory>
+    ensures { IfOk result (λ e. e ≡ error_of protocol.now fault) }
+{
+    Ok(ProtocolError {
+        code: 0,
+        object_id: 0,
+        object_interface: Text::new(String::new(alloc)),
+        message: Text::new(fault_text(alloc, protocol, fault)?),
+    })
+}
+
+/// The text of a fault.
+fn fault_text(alloc: Global, protocol: &Protocol, fault: EventFault) -> Result<String, OutOfMemory>
+    ensures { IfOk result (λ text. string_bytes text ≡ text_of_fault protocol.now fault) }
+{
+    match fault {
+        EventFault::Malformed => Ok(String::from_str(alloc, "Malformed Wayland message.")?),
+        EventFault::UnknownObject(number) => Ok(format!(in alloc; "Unknown object {number}.")?),
+        EventFault::WrongInterface(number, asked, given) => {
+            let asked = protocol.name(asked);
+            let given = protocol.name(given);
+            Ok(format!(in alloc; "Protocol error: server sent object {number} for interface {asked}, but it has interface {given}.")?)
+        }
+        EventFault::InvalidNewId(number, interface) => {
+            let name = protocol.name(interface);
+            Ok(format!(in alloc; "Protocol error: server tried to create an object \"{name}\" with invalid id {number}.")?)
+        }
+    }
+}
+
+/// What is stored where the server tells an error: with the name of the interface of the object that it is about.
+pub fn told_error<U: Drop>(
+    alloc: Global,
+    protocol: &Protocol,
+    objects: &ObjectMap<Kept<U>>,
+    code: u32,
+    number: u32,
+    text: &CString,
+) -> Result<ProtocolError, OutOfMemory>
+    ensures { IfOk result (λ e. e ≡ error_told protocol.now objects.now.store code number text.now) }
+{
+    let name = match objects.find(number) {
+        Some(object) => protocol.name(object.interface),
+        None => "<unknown>",
+    };
+    Ok(ProtocolError {
+        code,
+        object_id: number,
+        object_interface: Text::new(String::from_str(alloc, name)?),
+        message: Text::new(text.to_string_lossy(alloc)?),
+    })
+}
+
+/// The server gave up the number: an object that the client destroyed leaves the map, another is flagged.
+pub fn delete_id<U: Drop>(objects: &mut ObjectMap<Kept<U>>, number: u32)
+    ensures { objects.new.store ≡ deleted objects.old.store number }
+{
+    let Some(object) = objects.find(number) else {
+        return;
+    };
+    if object.value.client_destroyed {
+        objects.remove(number);
+        return;
+    }
+    objects.with(number, |object| object.value.server_destroyed = true);
+}
+

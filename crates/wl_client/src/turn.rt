@@ -1,0 +1,192 @@
+//! One turn of a reading: the message at the front is taken off the link and handled.
+
+ghost use Rattle.std.specs.Prelude.{◌≡◌, ◌≢◌, [], true, false, None, Some, Ok, Err, MatchOption, MatchResult, length, IfOk};
+ghost use Rattle.smallvec.specs.SmallVec.{HasRoomFor};
+ghost use Rattle.wl_wire.specs.Message.{content};
+ghost use Rattle.wl_wire.specs.Table.{message_row};
+ghost use Rattle.wl_wire.specs.declared.error.IoFault.TheVariants as io;
+ghost use Rattle.wl_link.specs.Store.{held};
+ghost use Rattle.wl_client.specs.declared.error.EventError.TheVariants as no_event;
+ghost use Rattle.wl_client.specs.declared.error.WaylandError.TheVariants.{Io, Protocol as ProtocolFault};
+ghost use Rattle.wl_client.specs.Events.{error_of};
+ghost use Rattle.wl_client.specs.Reading.{Stores, row_in, with_error};
+ghost use Rattle.wl_client.specs.Turns.{HandledLast, HandledOn, NotTaken, TookWith, Turns};
+
+use crate::display::{DisplayEvent, display_event};
+use crate::error::{EventError, WaylandError};
+use crate::event_fault::EventFault;
+use crate::kept::Kept;
+use crate::object_id::ObjectId;
+use crate::reading::{delete_id, event_desc, fault_error, read_under, told_error};
+use crate::receive::{Handled, handle_event};
+use crate::session::{DISPLAY, Session};
+use smallvec::SmallVec;
+use wl_link::{BufferedSocket, ObjectMap, Transport};
+use wl_wire::{
+    Argument, INLINE_ARGS, IoFault, Message, MessageDesc, MessageParseError, OutOfMemory, Protocol,
+    ProtocolError, Token,
+};
+
+/// Why no event was handed out, and whether memory was refused.
+#[derive(Clone, Copy, Debug)]
+pub struct NoEvent {
+    /// The answer of the reading.
+    pub error: EventError,
+    /// Whether memory was refused.
+    pub refused: bool,
+}
+
+/// What a turn came to.
+#[derive(Debug, Drop)]
+pub enum Turn {
+    /// An event to hand out.
+    Event(Message<ObjectId, Token>),
+    /// A message was handled, and the reading goes on.
+    GoesOn,
+    /// No message waits whole.
+    Lacks,
+    /// The reading ends without an event.
+    Ends(NoEvent),
+}
+
+/// Takes the message at the front off the link, with room for what it becomes: for its arguments in `converted`, and
+/// for the object that it may make in the map.
+fn take<'p, T: Drop, U: Drop>(
+    protocol: &'p Protocol,
+    objects: &mut ObjectMap<Kept<U>>,
+    socket: &mut BufferedSocket<T>,
+    converted: &mut SmallVec<Argument<ObjectId, Token>, INLINE_ARGS>,
+) -> Result<(Message<u32, Token>, &'p MessageDesc), MessageParseError>
+    requires { converted.old.items ≡ [] }
+    ensures took { TookWith protocol.now objects.old.store socket.old result socket.new }
+    ensures store { objects.new.store ≡ objects.old.store }
+    ensures room { IfOk result (λ r. HasRoomFor converted.new (length r.0.args.items)) }
+    ensures empty { converted.new.items ≡ [] }
+    ensures can_make { IfOk result (λ r. r.1.now.child_interface ≢ None → objects.new.reserved ≡ true) }
+{
+    let Some((sender, opcode)) = socket.next_header() else {
+        return Err(MessageParseError::MissingData);
+    };
+    let Some(desc) = event_desc(protocol, objects, sender, opcode) else {
+        return Err(MessageParseError::Malformed);
+    };
+    let Ok(()) = converted.reserve(desc.signature.len()) else {
+        return Err(MessageParseError::OutOfMemory);
+    };
+    if desc.child_interface.is_some() {
+        let Ok(()) = objects.reserve() else {
+            return Err(MessageParseError::OutOfMemory);
+        };
+    }
+    match read_under(socket, desc.signature.as_slice()) {
+        Ok(message) => Ok((message, desc)),
+        Err(error) => Err(error),
+    }
+}
+
+impl<T: Transport + Drop, U: Drop> Session<T, U> {
+    /// Stores the error, or that there was no memory for its texts.
+    fn fail(&mut self, error: Result<ProtocolError, OutOfMemory>) -> NoEvent
+        ensures { MatchResult error
+            (λ e. (result ≡ record { error = no_event.Failed; refused = false }) × (self.new ≡ with_error self.old (ProtocolFault e)))
+            (λ _. (result ≡ record { error = no_event.Failed; refused = true }) × (self.new ≡ with_error self.old (Io io.OutOfMemory))) }
+    {
+        match error {
+            Ok(error) => {
+                self.error = Some(WaylandError::Protocol(error));
+                NoEvent {
+                    error: EventError::Failed,
+                    refused: false,
+                }
+            }
+            Err(OutOfMemory) => {
+                self.error = Some(WaylandError::Io(IoFault::OutOfMemory));
+                NoEvent {
+                    error: EventError::Failed,
+                    refused: true,
+                }
+            }
+        }
+    }
+
+    /// Stores the error of a fault.
+    fn fail_by(&mut self, fault: EventFault) -> NoEvent
+        ensures { Stores self.old (error_of self.old.table fault) (Err result.error) result.refused self.new }
+    {
+        let error = fault_error(*self.notes.allocator(), &self.protocol, fault);
+        self.fail(error)
+    }
+
+    /// Handles an event of the display; the answer is why it ends the session, if it does.
+    fn handle_display(&mut self, message: &Message<u32, Token>) -> Option<NoEvent>
+        requires { message.now.sender_id ≡ 1 }
+        ensures { MatchOption result
+            (HandledOn T.receives self.old (content message.now) self.new)
+            (λ end. HandledLast T.receives self.old (content message.now) (Err end.error) end.refused self.new) }
+    {
+        match display_event(message) {
+            DisplayEvent::Deletes(number) => {
+                delete_id(&mut self.objects, number);
+                None
+            }
+            DisplayEvent::Fails(code, number, text) => {
+                let alloc = *self.notes.allocator();
+                let error = told_error(alloc, &self.protocol, &self.objects, code, number, text);
+                Some(self.fail(error))
+            }
+            DisplayEvent::Unreadable => Some(self.fail_by(EventFault::Malformed)),
+        }
+    }
+
+    /// Takes the message at the front off the link and handles it.
+    pub fn turn(&mut self) -> Turn
+        ensures { Turns T.receives self.old result self.new }
+    {
+        let mut converted = SmallVec::new(*self.notes.allocator());
+        let (message, desc) = match take(
+            &self.protocol,
+            &mut self.objects,
+            &mut self.socket,
+            &mut converted,
+        ) {
+            Ok(taken) => taken,
+            Err(error) => return self.not_taken(error),
+        };
+        if message.sender_id == DISPLAY {
+            return match self.handle_display(&message) {
+                Some(end) => Turn::Ends(end),
+                None => Turn::GoesOn,
+            };
+        }
+        let handled = handle_event(
+            &mut self.objects,
+            &mut self.last_serial,
+            desc,
+            message,
+            converted,
+        );
+        match handled {
+            Handled::Swallowed => Turn::GoesOn,
+            Handled::Fault(fault) => Turn::Ends(self.fail_by(fault)),
+            Handled::Event(event, open_event) => {
+                self.open_event = Some(open_event);
+                Turn::Event(event)
+            }
+        }
+    }
+
+    /// What it comes to that no message was taken.
+    fn not_taken(&mut self, error: MessageParseError) -> Turn
+        requires { NotTaken self.old error }
+        ensures { Turns T.receives self.old result self.new }
+    {
+        match error {
+            MessageParseError::MissingData | MessageParseError::MissingFD => Turn::Lacks,
+            MessageParseError::Malformed => Turn::Ends(self.fail_by(EventFault::Malformed)),
+            MessageParseError::OutOfMemory => Turn::Ends(NoEvent {
+                error: EventError::OutOfMemory,
+                refused: true,
+            }),
+        }
+    }
+}
