@@ -1,3 +1,5 @@
+pub mod Requests
+pub mod Sending
 pub mod Vacating
 pub mod Handling
 pub mod Readings

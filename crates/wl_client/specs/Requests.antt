@@ -1,5 +1,5 @@
 -- What a request does to a session.
-use Rattle.std.specs.Prelude.{◌≡◌, ℕ, ◌+◌, ◌⊎◌, List, [], ◌∷◌, map, length, Bool, true, false, not, ◌==◌, ◌&&◌, slice_get, if◌then◌else◌, Option, None, Some, is_some, option_map, Result, Ok, Err, MatchOption, MatchResult, MatchBool}
+use Rattle.std.specs.Prelude.{◌≡◌, ℕ, ◌+◌, ◌⊎◌, List, [], ◌∷◌, map, Bool, true, false, ◌==◌, ◌&&◌, slice_get, if◌then◌else◌, Option, None, Some, is_some, option_map, Result, Ok, Err, MatchResult, MatchBool}
 use Rattle.std.specs.List.{list_all, list_any}
 use Rattle.wl_wire.specs.declared.argument.AllowNull.{AllowNull}
 use Rattle.wl_wire.specs.declared.argument.AllowNull.TheVariants.{Yes, No}
@@ -24,6 +24,7 @@ use Rattle.wl_client.specs.declared.error.RequestError.TheVariants as refused
 use Rattle.wl_client.specs.declared.error.WaylandError.{WaylandError}
 use Rattle.wl_client.specs.declared.error.WaylandError.TheVariants.{Io}
 use Rattle.wl_client.specs.declared.kept.Kept.{Kept}
+use Rattle.wl_client.specs.declared.request.Granted.{Granted}
 use Rattle.wl_client.specs.ObjectId.{IdParts}
 use Rattle.wl_client.specs.Objects.{given_up}
 use Rattle.wl_client.specs.Session.{SessionState, last_possible_serial, null_parts, named, alive, noted, id_at, fits, next_interface, rest_of, request_row, fresh_object}
@@ -117,11 +118,6 @@ matches (k ∷ kinds) [] = false
 matches [] (a ∷ args) = false
 matches (k ∷ kinds) (a ∷ args) = (type_number k == type_number (type_of a)) && matches kinds args
 
--- what a request that is not refused creates, and whether it ends its sender
-pub record Granted : Type 0 where
-  pub child : Option Spec
-  pub is_destructor : Bool
-
 abbrev pub creates : MessageRow → Bool
 creates row = list_any is_new_id row.signature
 
@@ -147,28 +143,26 @@ checked_args store row args (Err e) = Err e
 checked_args store row args (Ok child) = granted row child (first_fault store row.signature row.arg_interfaces args)
 
 -- what is looked at where sender and opcode are known, in this order
-abbrev pub checked_row : {T U : Type 0} → SessionState T U → Object (Kept U) → MessageRow → SessionMessage → Bool → Option Spec
-    → Result Granted RequestError
-checked_row s sender row m has_data spec =
-    if sender.value.client_destroyed then Err refused.InvalidId
-    else (if matches row.signature m.args
-    then checked_args s.store row m.args (checked_child s.table row sender.version spec has_data m.args)
-    else Err refused.BadSignature)
+module _ {U : Type 0} (table : List InterfaceRow) (store : Store (Kept U)) where
+  abbrev pub checked_row : Object (Kept U) → MessageRow → SessionMessage → Bool → Option Spec → Result Granted RequestError
+  checked_row sender row m has_data spec =
+      if sender.value.client_destroyed then Err refused.InvalidId
+      else (if matches row.signature m.args
+      then checked_args store row m.args (checked_child table row sender.version spec has_data m.args)
+      else Err refused.BadSignature)
 
-abbrev pub checked_opcode : {T U : Type 0} → SessionState T U → Object (Kept U) → Option MessageRow → SessionMessage → Bool → Option Spec
-    → Result Granted RequestError
-checked_opcode s sender None m has_data spec = Err refused.UnknownOpcode
-checked_opcode s sender (Some row) m has_data spec = checked_row s sender row m has_data spec
+  abbrev pub checked_opcode : Object (Kept U) → Option MessageRow → SessionMessage → Bool → Option Spec → Result Granted RequestError
+  checked_opcode sender None m has_data spec = Err refused.UnknownOpcode
+  checked_opcode sender (Some row) m has_data spec = checked_row sender row m has_data spec
 
-abbrev pub checked_sender : {T U : Type 0} → SessionState T U → Option (Object (Kept U)) → SessionMessage → Bool → Option Spec
-    → Result Granted RequestError
-checked_sender s None m has_data spec = Err refused.InvalidId
-checked_sender s (Some sender) m has_data spec =
-    checked_opcode s sender (request_row s.table sender.interface m.opcode) m has_data spec
+  abbrev pub checked_sender : Option (Object (Kept U)) → SessionMessage → Bool → Option Spec → Result Granted RequestError
+  checked_sender None m has_data spec = Err refused.InvalidId
+  checked_sender (Some sender) m has_data spec =
+      checked_opcode sender (request_row table sender.interface m.opcode) m has_data spec
 
--- what the request is granted, or the first reason for which it is refused
-abbrev pub request_check : {T U : Type 0} → SessionState T U → SessionMessage → Bool → Option Spec → Result Granted RequestError
-request_check s m has_data spec = checked_sender s (named s.store m.sender) m has_data spec
+  -- what the request is granted, or the first reason for which it is refused
+  abbrev pub request_check : SessionMessage → Bool → Option Spec → Result Granted RequestError
+  request_check m has_data spec = checked_sender (named store m.sender) m has_data spec
 
 -- ---- what a request does that is not refused
 
@@ -199,6 +193,20 @@ lacked_memory _ = false
 abbrev pub Numbered : Type 0 → Type 0
 Numbered U = ℕ × Object (Kept U)
 
+module _ {U : Type 0} where
+  abbrev pub id_of_new : Option (Numbered U) → IdParts
+  id_of_new None = null_parts
+  id_of_new (Some new) = id_at new.0 new.1
+
+  abbrev pub number_of_new : Option (Numbered U) → ℕ
+  number_of_new None = 0
+  number_of_new (Some new) = new.0
+
+  -- the sender, where the request ends it
+  abbrev pub ended_by : Store (Kept U) → SessionMessage → Bool → Option (Numbered U)
+  ended_by store m false = None
+  ended_by store m true = option_map (λ x. (m.sender.number, x)) (named store m.sender)
+
 module _ {T U : Type 0} where
   -- the new object is put at its number, and uses up a serial
   abbrev pub with_born : SessionState T U → Option (Numbered U) → SessionState T U
@@ -212,14 +220,6 @@ module _ {T U : Type 0} where
     store = given_up s.store ended.0 ended.1;
     notes = noted s.notes ended.1.value.user_data (id_at ended.0 ended.1);
   }
-
-  abbrev pub id_of_new : Option (Numbered U) → IdParts
-  id_of_new None = null_parts
-  id_of_new (Some new) = id_at new.0 new.1
-
-  abbrev pub number_of_new : Option (Numbered U) → ℕ
-  number_of_new None = 0
-  number_of_new (Some new) = new.0
 
   -- The message is written. Where there was memory for it, the new object is made and a destructor's sender given up,
   -- also where the write has a fault, which is then stored. Where there was none, the session is as before, but for
@@ -260,16 +260,11 @@ module _ {T U : Type 0} where
   SentAs sends before m (Some child) None ended answer after = ⊥
   SentAs sends before m (Some child) (Some u) ended answer after = SentWithChild sends before m child u ended answer after
 
-  -- the sender, where the request ends it
-  abbrev pub ended_by : Store (Kept U) → SessionMessage → Bool → Option (Numbered U)
-  ended_by store m false = None
-  ended_by store m true = option_map (λ x. (m.sender.number, x)) (named store m.sender)
-
   -- what a request with this user data and this wish for the new object does: it is refused and nothing is changed, or
   -- it is sent
   abbrev pub Requested : (T → Queue → Result ℕ IoFault → T → Type 0) → SessionState T U → SessionMessage → Option U → Option Spec
       → Result IdParts RequestError → SessionState T U → Type 0
   Requested sends before m u spec answer after =
-      MatchResult (request_check before m (is_some u) spec)
+      MatchResult (request_check before.table before.store m (is_some u) spec)
       (λ g. SentAs sends before m g.child u (ended_by before.store m g.is_destructor) answer after)
       (λ e. (answer ≡ Err e) × (after ≡ before))

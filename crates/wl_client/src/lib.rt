@@ -16,6 +16,8 @@ mod objects;
 mod open_event;
 mod reading;
 mod receive;
+mod request;
+mod send_request;
 mod session;
 mod turn;
 

@@ -1,0 +1,299 @@
+//! Which requests are refused, and what of a request goes on the wire.
+
+ghost use Rattle.std.specs.Prelude.{◌≡◌, ◌≤◌, length, IfOk, IsOk, option_copied, option_map};
+ghost use Rattle.wl_wire.specs.Message.{content};
+ghost use Rattle.std.specs.List.{list_all};
+ghost use Rattle.wl_wire.specs.Table.{message_row};
+ghost use Rattle.wl_client.specs.Session.{request_row, next_interface};
+ghost use Rattle.wl_client.specs.Requests.{child_of, named_child, creates, is_placeholder, object_fault, argument_fault, first_fault, left_after, checked_child, checked_row, request_check, matches, session_content, wire_argument, wire_message};
+
+use crate::error::RequestError;
+use crate::kept::Kept;
+use crate::object_id::ObjectId;
+use crate::objects::{live_in, named_in};
+use smallvec::SmallVec;
+use wl_link::{Object, ObjectMap};
+use wl_wire::{
+    ANONYMOUS_INTERFACE, AllowNull, Argument, ArgumentType, INLINE_ARGS, InterfaceId, Message,
+    MessageDesc, OutOfMemory, Protocol, Token, check_for_signature, same_interface_or_anonymous,
+};
+
+/// What a request that is not refused creates, and whether it ends its sender.
+#[derive(Clone, Copy, Debug)]
+pub struct Granted {
+    /// The interface and the version of the new object.
+    pub child: Option<(InterfaceId, u32)>,
+    /// Whether it ends its sender.
+    pub is_destructor: bool,
+}
+
+/// What the caller asks for the new object, where the table allows it.
+fn named_child(
+    child: Option<InterfaceId>,
+    spec: (InterfaceId, u32),
+    version: u32,
+) -> Result<(InterfaceId, u32), RequestError>
+    ensures { result ≡ named_child child spec version }
+{
+    match child {
+        None => Ok(spec),
+        Some(child) if child.0 != spec.0.0 => Err(RequestError::WrongChild),
+        Some(_) if version != spec.1 => Err(RequestError::WrongChildVersion),
+        Some(_) => Ok(spec),
+    }
+}
+
+/// The interface and the version of the object that a request with a new id creates: as the caller says and the table
+/// allows, or else as the table says. `version` is that of the sender.
+fn child_of(
+    protocol: &Protocol,
+    desc: &MessageDesc,
+    version: u32,
+    spec: Option<(InterfaceId, u32)>,
+) -> Result<(InterfaceId, u32), RequestError>
+    ensures { result ≡ child_of protocol.now (message_row desc.now) version spec }
+{
+    match (spec, desc.child_interface) {
+        (None, None) => Err(RequestError::MissingChildSpec),
+        (None, Some(child)) => Ok((child, version)),
+        (Some((interface, _)), _) if protocol.get(interface).is_none() => {
+            Err(RequestError::UnknownInterface)
+        }
+        (Some(spec), child) => named_child(child, spec, version),
+    }
+}
+
+/// Whether the request creates an object.
+fn creates(desc: &MessageDesc) -> bool
+    ensures { result ≡ creates (message_row desc.now) }
+{
+    desc.signature
+        .iter()
+        .any(|kind| matches!(kind, ArgumentType::NewId))
+}
+
+/// Whether the argument is no new id, or a null one.
+fn is_placeholder(arg: &Argument<ObjectId, Token>) -> bool
+    ensures { result ≡ is_placeholder arg.now }
+{
+    match arg {
+        Argument::NewId(id) => id.protocol_id() == 0,
+        _ => true,
+    }
+}
+
+/// Whether each new id is null.
+fn are_placeholders(args: &[Argument<ObjectId, Token>]) -> bool
+    ensures { result ≡ list_all is_placeholder args.now }
+{
+    args.iter().all(|arg| is_placeholder(arg))
+}
+
+/// Why an object argument is refused, where the signature says this of null and the table asks for this interface.
+fn object_fault<U: Drop>(
+    objects: &ObjectMap<Kept<U>>,
+    null: AllowNull,
+    asked: InterfaceId,
+    id: &ObjectId,
+) -> Option<RequestError>
+    ensures { result ≡ object_fault objects.now.store null asked id.now }
+{
+    if id.protocol_id() == 0 {
+        return match null {
+            AllowNull::Yes => None,
+            AllowNull::No => Some(RequestError::NullObject),
+        };
+    }
+    match live_in(objects, id) {
+        None => Some(RequestError::InvalidId),
+        Some(object) if same_interface_or_anonymous(asked, object.interface) => None,
+        Some(_) => Some(RequestError::WrongInterface),
+    }
+}
+
+/// Why an argument of that type is refused, where the table asks for this interface next.
+fn argument_fault<U: Drop>(
+    objects: &ObjectMap<Kept<U>>,
+    kind: ArgumentType,
+    asked: InterfaceId,
+    arg: &Argument<ObjectId, Token>,
+) -> Option<RequestError>
+    ensures { result ≡ argument_fault objects.now.store kind asked arg.now }
+{
+    match (kind, arg) {
+        (ArgumentType::Object(null), Argument::Object(id)) => {
+            object_fault(objects, null, asked, id)
+        }
+        _ => None,
+    }
+}
+
+/// The interface that the table asks for next: where it names none, the anonymous one, which any object fits.
+fn next_interface(asked: &[InterfaceId]) -> InterfaceId
+    ensures { result ≡ next_interface asked.now }
+{
+    match asked.first() {
+        Some(interface) => *interface,
+        None => ANONYMOUS_INTERFACE,
+    }
+}
+
+/// What the table asks for behind the argument: each object takes one of the interfaces.
+fn left_after<'a>(arg: &Argument<ObjectId, Token>, asked: &'a [InterfaceId]) -> &'a [InterfaceId]
+    ensures { result.now ≡ left_after arg.now asked.now }
+{
+    match (arg, asked) {
+        (Argument::Object(_), [_, rest @ ..]) => rest,
+        _ => asked,
+    }
+}
+
+/// Why the first of the arguments that is refused is, from left to right, where the table asks for these interfaces.
+fn first_fault<U: Drop>(
+    objects: &ObjectMap<Kept<U>>,
+    signature: &[ArgumentType],
+    interfaces: &[InterfaceId],
+    args: &[Argument<ObjectId, Token>],
+) -> Option<RequestError>
+    ensures { result ≡ first_fault objects.now.store signature.now interfaces.now args.now }
+{
+    let mut asked = interfaces;
+    for (kind, arg) in signature.iter().zip(args) {
+        if let Some(error) = argument_fault(objects, *kind, next_interface(asked), arg) {
+            return Some(error);
+        }
+        asked = left_after(arg, asked);
+    }
+    None
+}
+
+/// Whether the arguments fit the signature.
+fn fits_signature(signature: &[ArgumentType], args: &[Argument<ObjectId, Token>]) -> bool
+    ensures { result ≡ matches signature.now args.now }
+{
+    check_for_signature(signature, args)
+}
+
+/// What the request creates, where its interface and version can be told, it gets user data, and its id is null.
+fn checked_child(
+    protocol: &Protocol,
+    desc: &MessageDesc,
+    version: u32,
+    spec: Option<(InterfaceId, u32)>,
+    has_data: bool,
+    args: &[Argument<ObjectId, Token>],
+) -> Result<Option<(InterfaceId, u32)>, RequestError>
+    ensures { result ≡ checked_child protocol.now (message_row desc.now) version spec has_data args.now }
+{
+    if !creates(desc) {
+        return Ok(None);
+    }
+    match child_of(protocol, desc, version, spec) {
+        Err(error) => Err(error),
+        Ok(_) if !has_data => Err(RequestError::MissingObjectData),
+        Ok(_) if !are_placeholders(args) => Err(RequestError::NotPlaceholder),
+        Ok(child) => Ok(Some(child)),
+    }
+}
+
+/// What the request is granted, or why it is refused, where it is of that sender and that description.
+fn checked_row<U: Drop>(
+    protocol: &Protocol,
+    objects: &ObjectMap<Kept<U>>,
+    sender: &Object<Kept<U>>,
+    desc: &MessageDesc,
+    message: &Message<ObjectId, Token>,
+    has_data: bool,
+    spec: Option<(InterfaceId, u32)>,
+) -> Result<Granted, RequestError>
+    ensures { result ≡ checked_row protocol.now objects.now.store sender.now (message_row desc.now) (session_content message.now) has_data spec }
+{
+    if sender.value.client_destroyed {
+        return Err(RequestError::InvalidId);
+    }
+    let args = message.args.as_slice();
+    if !fits_signature(&desc.signature, args) {
+        return Err(RequestError::BadSignature);
+    }
+    match checked_child(protocol, desc, sender.version, spec, has_data, args) {
+        Err(error) => Err(error),
+        Ok(child) => match first_fault(objects, &desc.signature, &desc.arg_interfaces, args) {
+            Some(error) => Err(error),
+            None => Ok(Granted {
+                child,
+                is_destructor: desc.is_destructor,
+            }),
+        },
+    }
+}
+
+/// The description of the request of that opcode.
+fn request_desc(protocol: &Protocol, interface: InterfaceId, opcode: u16) -> Option<&MessageDesc>
+    ensures { option_map message_row (option_copied result) ≡ request_row protocol.now interface opcode }
+{
+    match protocol.get(interface) {
+        Some(row) => row.requests.get(opcode as usize),
+        None => None,
+    }
+}
+
+/// What the request is granted, or the first reason for which it is refused.
+pub(crate) fn check_request<U: Drop>(
+    protocol: &Protocol,
+    objects: &ObjectMap<Kept<U>>,
+    message: &Message<ObjectId, Token>,
+    has_data: bool,
+    spec: Option<(InterfaceId, u32)>,
+) -> Result<Granted, RequestError>
+    ensures { result ≡ request_check protocol.now objects.now.store (session_content message.now) has_data spec }
+{
+    let Some(sender) = named_in(objects, &message.sender_id) else {
+        return Err(RequestError::InvalidId);
+    };
+    match request_desc(protocol, sender.interface, message.opcode) {
+        None => Err(RequestError::UnknownOpcode),
+        Some(desc) => checked_row(protocol, objects, sender, desc, message, has_data, spec),
+    }
+}
+
+/// The argument as it goes on the wire, where the new object gets this number.
+fn wire_argument(number: u32, arg: Argument<ObjectId, Token>) -> Argument<u32, Token>
+    ensures { result ≡ wire_argument number arg }
+{
+    match arg {
+        Argument::Int(value) => Argument::Int(value),
+        Argument::Uint(value) => Argument::Uint(value),
+        Argument::Fixed(value) => Argument::Fixed(value),
+        Argument::Str(text) => Argument::Str(text),
+        Argument::Object(id) => Argument::Object(id.protocol_id()),
+        Argument::NewId(_) => Argument::NewId(number),
+        Argument::Array(bytes) => Argument::Array(bytes),
+        Argument::Fd(token) => Argument::Fd(token),
+    }
+}
+
+/// The message as it goes on the wire, where the new object gets this number. Up to four arguments take no memory.
+pub(crate) fn to_wire(
+    message: Message<ObjectId, Token>,
+    number: u32,
+) -> Result<Message<u32, Token>, OutOfMemory>
+    ensures content { IfOk result (λ wire. content wire ≡ wire_message number (session_content message)) }
+    ensures inline { length message.args.items ≤ INLINE_ARGS → IsOk result }
+{
+    let mut args = SmallVec::with_capacity(*message.args.allocator(), message.args.len())?;
+    let Message {
+        sender_id,
+        opcode,
+        args: mut old,
+    } = message;
+    // The first argument is then the last, which `pop` takes out without moving the others.
+    old.reverse();
+    while let Some(arg) = old.pop() {
+        args.push_reserved(wire_argument(number, arg));
+    }
+    Ok(Message {
+        sender_id: sender_id.protocol_id(),
+        opcode,
+        args,
+    })
+}

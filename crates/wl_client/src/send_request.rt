@@ -1,0 +1,234 @@
+//! The sending of a request.
+
+ghost use Rattle.std.specs.Prelude.{◌≡◌, ◌<◌, true, IfSome, IsSome, IsTrue, OnOk, MatchResult, is_some, vec_len, vec_capacity};
+ghost use Rattle.wl_wire.specs.Message.{content};
+ghost use Rattle.wl_link.specs.Store.{held};
+ghost use Rattle.wl_client.specs.Requests.{Requested, Sent, ended_by, id_of_new, number_of_new, session_content};
+ghost use Rattle.wl_client.specs.Sending.{IsNext, IsNextObject, LacksNext, WrittenTo, ending, given_up_at, is_noted, notes_ending, serial_with, store_ending, store_with};
+
+use crate::error::{RequestError, WaylandError};
+use crate::kept::Kept;
+use crate::note::Note;
+use crate::object_id::ObjectId;
+use crate::objects::{fresh_object, named_in};
+use crate::request::{check_request, to_wire};
+use crate::session::Session;
+use wl_link::{BufferedSocket, Object, ObjectMap, Transport};
+use wl_wire::{InterfaceId, IoFault, Message, OutOfMemory, Token};
+
+/// The sender, where the request ends it, and whether it has user data.
+fn ended_sender<U: Drop>(
+    objects: &ObjectMap<Kept<U>>,
+    message: &Message<ObjectId, Token>,
+    is_destructor: bool,
+) -> Option<(ObjectId, bool)>
+    ensures { result ≡ ending (ended_by objects.now.store (session_content message.now) is_destructor) }
+{
+    if !is_destructor {
+        return None;
+    }
+    match named_in(objects, &message.sender_id) {
+        Some(object) => {
+            let number = message.sender_id.protocol_id();
+            let id = ObjectId::from_parts(number, object.value.serial, object.interface);
+            Some((id, object.value.user_data.is_some()))
+        }
+        None => None,
+    }
+}
+
+/// Whether a note is kept of what ends.
+fn is_noted(ended: &Option<(ObjectId, bool)>) -> bool
+    ensures { result ≡ is_noted ended.now }
+{
+    match ended {
+        Some((_, has_data)) => *has_data,
+        None => false,
+    }
+}
+
+/// The number of the new object, and 0 where there is none.
+fn number_of<U>(new: &Option<(u32, Object<Kept<U>>)>) -> u32
+    ensures { result ≡ number_of_new new.now }
+{
+    match new {
+        Some((number, _)) => *number,
+        None => 0,
+    }
+}
+
+/// Makes room for a new object and for a note, where these are wanted.
+fn make_room<U: Drop>(
+    objects: &mut ObjectMap<Kept<U>>,
+    notes: &mut Vec<Note>,
+    creates: bool,
+    is_noted: bool,
+) -> Result<(), OutOfMemory>
+    ensures store { objects.new.store ≡ objects.old.store }
+    ensures notes { notes.new.items ≡ notes.old.items }
+    ensures reserved { OnOk result (IsTrue creates → objects.new.reserved ≡ true) }
+    ensures room { OnOk result (IsTrue is_noted → vec_len notes.new < vec_capacity notes.new) }
+{
+    if creates {
+        objects.reserve()?;
+    }
+    if is_noted {
+        notes.reserve(1)?;
+    }
+    Ok(())
+}
+
+/// Writes the message. A fault is kept in place of the last error, but for a want of memory, which is answered.
+fn write<T: Transport>(
+    socket: &mut BufferedSocket<T>,
+    error: &mut Option<WaylandError>,
+    message: &Message<u32, Token>,
+) -> Result<(), OutOfMemory>
+    ensures { WrittenTo T.sends socket.old error.old (content message.now) result socket.new error.new }
+{
+    match socket.write_message(message) {
+        Ok(()) => Ok(()),
+        Err(IoFault::OutOfMemory) => Err(OutOfMemory),
+        Err(fault) => {
+            *error = Some(WaylandError::Io(fault));
+            Ok(())
+        }
+    }
+}
+
+/// Puts the new object, if there is one, at its number, and uses up its serial. The answer is its id.
+fn put_new<U: Drop>(
+    objects: &mut ObjectMap<Kept<U>>,
+    last_serial: &mut u64,
+    new: Option<(u32, Object<Kept<U>>)>,
+) -> ObjectId
+    requires next { IfSome new (IsNext objects.old.store last_serial.old) }
+    requires room { IsSome new → objects.old.reserved ≡ true }
+    ensures store { objects.new.store ≡ store_with objects.old.store new }
+    ensures serial { last_serial.new ≡ serial_with last_serial.old new }
+    ensures id { result ≡ id_of_new new }
+{
+    let Some((number, object)) = new else {
+        return ObjectId::null();
+    };
+    let serial = object.value.serial;
+    let id = ObjectId::from_parts(number, serial, object.interface);
+    match objects.client_insert_new(object) {
+        Ok(_) => {
+            *last_serial = serial;
+            id
+        }
+        Err(_) => unreachable!(),
+    }
+}
+
+/// Flags the object of this number, if it holds one, as destroyed by the client.
+fn give_up<U: Drop>(objects: &mut ObjectMap<Kept<U>>, number: u32)
+    ensures { objects.new.store ≡ given_up_at objects.old.store number (held objects.old.store number) }
+{
+    objects.with(number, |object| {
+        object.value.client_destroyed = true;
+    });
+}
+
+/// Gives up the sender that the request ends, if it does, and notes it where it has user data.
+fn end_sender<U: Drop>(
+    objects: &mut ObjectMap<Kept<U>>,
+    notes: &mut Vec<Note>,
+    ended: Option<(ObjectId, bool)>,
+)
+    requires { IsTrue (is_noted ended) → vec_len notes.old < vec_capacity notes.old }
+    ensures store { objects.new.store ≡ store_ending objects.old.store ended }
+    ensures notes { notes.new.items ≡ notes_ending notes.old.items ended }
+{
+    let Some((id, has_data)) = ended else {
+        return;
+    };
+    give_up(objects, id.protocol_id());
+    if has_data {
+        notes.push_reserved(Note::Destroyed(id));
+    }
+}
+
+impl<T: Transport, U: Drop> Session<T, U> {
+    /// The next object of the client, with its number; nothing is changed.
+    fn next_object(
+        &mut self,
+        child: (InterfaceId, u32),
+        user_data: U,
+    ) -> Result<(u32, Object<Kept<U>>), RequestError>
+        ensures next { MatchResult result (IsNextObject self.old child user_data) (LacksNext self.old) }
+        ensures unchanged { self.new ≡ self.old }
+    {
+        let Some(number) = self.objects.next_client() else {
+            return Err(RequestError::IdsExhausted);
+        };
+        if self.last_serial == u64::MAX {
+            return Err(RequestError::SerialsExhausted);
+        }
+        let serial = self.last_serial + 1;
+        let object = fresh_object(child.0, child.1, serial, Some(user_data));
+        Ok((number, object))
+    }
+
+    /// Sends a request that was not refused: makes room for what the session keeps of it, writes it, and then puts the
+    /// new object and gives up the sender, where the request creates the one or ends the other. Where there is no
+    /// memory, neither is done.
+    fn send(
+        &mut self,
+        message: Message<ObjectId, Token>,
+        new: Option<(u32, Object<Kept<U>>)>,
+        is_destructor: bool,
+    ) -> Result<ObjectId, RequestError>
+        requires { IfSome new (IsNext self.old.store self.old.last_serial) }
+        ensures { Sent T.sends self.old (session_content message) new
+            (ended_by self.old.store (session_content message) is_destructor) result self.new }
+    {
+        let ended = ended_sender(&self.objects, &message, is_destructor);
+        let number = number_of(&new);
+        let creates = new.is_some();
+        let room = make_room(
+            &mut self.objects,
+            &mut self.notes,
+            creates,
+            is_noted(&ended),
+        );
+        if room.is_err() {
+            return Err(RequestError::OutOfMemory);
+        }
+        let Ok(message) = to_wire(message, number) else {
+            return Err(RequestError::OutOfMemory);
+        };
+        if write(&mut self.socket, &mut self.error, &message).is_err() {
+            return Err(RequestError::OutOfMemory);
+        }
+        let id = put_new(&mut self.objects, &mut self.last_serial, new);
+        end_sender(&mut self.objects, &mut self.notes, ended);
+        Ok(id)
+    }
+
+    /// Sends a request, and answers the id of the object that it creates, or the null id.
+    ///
+    /// A request that creates an object gives it the user data; what it is to be is `spec`, its interface and version,
+    /// or else what the table says. A request that is refused changes nothing. That the transport failed is kept as the
+    /// session's error, and the request counts as sent.
+    pub fn send_request(
+        &mut self,
+        message: Message<ObjectId, Token>,
+        user_data: Option<U>,
+        spec: Option<(InterfaceId, u32)>,
+    ) -> Result<ObjectId, RequestError>
+        ensures { Requested T.sends self.old (session_content message) user_data spec result self.new }
+    {
+        let has_data = user_data.is_some();
+        let granted = check_request(&self.protocol, &self.objects, &message, has_data, spec)?;
+        match (granted.child, user_data) {
+            (None, _) => self.send(message, None, granted.is_destructor),
+            (Some(_), None) => unreachable!(),
+            (Some(child), Some(user_data)) => {
+                let new = self.next_object(child, user_data)?;
+                self.send(message, Some(new), granted.is_destructor)
+            }
+        }
+    }
+}
