@@ -8,4 +8,5 @@ pub mod Reading
 pub mod Finish
 pub mod Conversion
 pub mod Turns
+pub mod Steps
 pub mod Lending

@@ -19,6 +19,7 @@ mod receive;
 mod request;
 mod send_request;
 mod session;
+mod step;
 mod turn;
 
 pub use error::{

@@ -1,0 +1,134 @@
+-- The calls of a session one after another.
+--
+-- A step is a call that changes the session, with its arguments; calls of a transport by script stand for what a
+-- program does to it. An entry of a run is a step, its reply, and whether memory was refused in it.
+use Rattle.std.specs.Prelude.{◌≡◌, ◌≢◌, ℕ, ◌<◌, ◌⊎◌, List, [], ◌∷◌, ◌++◌, length, map, Bool, true, false, Option, Some, None, Result, Ok, Err, ◌↔◌}
+use Rattle.wl_wire.specs.declared.error.OutOfMemory.{OutOfMemory}
+use Rattle.wl_wire.specs.declared.error.IoFault.{IoFault}
+use Rattle.wl_link.specs.declared.memory.ArriveError.{ArriveError}
+use Rattle.wl_link.specs.declared.memory.ArriveError.TheVariants as arrive
+use Rattle.wl_link.specs.Exchange.{Queue}
+use Rattle.wl_link.specs.Link.{LinkState, LimitSet, with_transport}
+use Rattle.wl_link.specs.Script.{Script, ScriptSends, ScriptReceives, parcel}
+use Rattle.wl_client.specs.declared.error.DestroyError.TheVariants as destroy
+use Rattle.wl_client.specs.declared.error.FinishError.TheVariants as finish
+use Rattle.wl_client.specs.declared.error.FinishRefused.{FinishRefused}
+use Rattle.wl_client.specs.declared.error.FlushError.TheVariants as flush
+use Rattle.wl_client.specs.declared.error.RequestError.TheVariants as request
+use Rattle.wl_client.specs.declared.step.Step.{Step}
+use Rattle.wl_client.specs.declared.step.Step.TheVariants as step
+use Rattle.wl_client.specs.declared.step.Reply.{Reply}
+use Rattle.wl_client.specs.declared.step.Reply.TheVariants as reply
+use Rattle.wl_client.specs.Finish.{Finishes, SessionFlushed}
+use Rattle.wl_client.specs.Objects.{DataSet, DestroyedBy}
+use Rattle.wl_client.specs.Reading.{NextEvent, event_content}
+use Rattle.wl_client.specs.Requests.{Requested, session_content}
+use Rattle.wl_client.specs.Session.{SessionState}
+
+-- ---- the transport's calls
+
+-- the answer of a call that only memory can refuse, and the script after it
+abbrev pub Scripted : Script → Script → Result (Unit {0}) OutOfMemory → Script → Type 0
+Scripted before longer (Ok _) after = after ≡ longer
+Scripted before longer (Err _) after = after ≡ before
+
+abbrev pub Arrived : Script → Queue → Result (Unit {0}) ArriveError → Script → Type 0
+Arrived before chunk (Ok _) after =
+    ¬ (28 < length chunk.tokens) × (after ≡ record before { arrivals = before.arrivals ++ Ok chunk ∷ [] })
+Arrived before chunk (Err arrive.TooManyTokens) after = (28 < length chunk.tokens) × (after ≡ before)
+Arrived before chunk (Err arrive.OutOfMemory) after = ¬ (28 < length chunk.tokens) × (after ≡ before)
+
+-- ---- whether memory was refused, by the answer
+
+abbrev pub refused_destroy : Result (Unit {0}) destroy.the_data → Bool
+refused_destroy (Err destroy.OutOfMemory) = true
+refused_destroy _ = false
+
+abbrev pub refused_request : {A : Type 0} → Result A request.the_data → Bool
+refused_request (Err request.OutOfMemory) = true
+refused_request _ = false
+
+abbrev pub refused_flush : Result (Unit {0}) flush.the_data → Bool
+refused_flush (Err flush.OutOfMemory) = true
+refused_flush _ = false
+
+abbrev pub is_memory : finish.the_data → Bool
+is_memory finish.OutOfMemory = true
+is_memory _ = false
+
+abbrev pub refused_finish : {U : Type 0} → Result (Unit {0}) (FinishRefused U) → Bool
+refused_finish (Ok _) = false
+refused_finish (Err e) = is_memory e.error
+
+abbrev pub refused_arrive : Result (Unit {0}) ArriveError → Bool
+refused_arrive (Err arrive.OutOfMemory) = true
+refused_arrive _ = false
+
+abbrev pub refused_script : Result (Unit {0}) OutOfMemory → Bool
+refused_script (Ok _) = false
+refused_script (Err _) = true
+
+-- ---- steps
+
+module _ {U : Type 0} where
+  -- the transport is another one, and all else as it was
+  abbrev pub with_script : SessionState Script U → Script → SessionState Script U
+  with_script s script = record s { link = with_transport s.link script }
+
+  -- a step, its reply, whether memory was refused, and the session after it
+  abbrev pub StepOf : SessionState Script U → Step U → Reply U → Bool → SessionState Script U → Type 0
+  StepOf before (step.SetData id u) answer refused after =
+      (r : _) × (answer ≡ reply.SetData r) × (refused ≡ false) × DataSet before id u r after
+  StepOf before (step.DestroyObject id) answer refused after =
+      (r : _) × (answer ≡ reply.DestroyObject r) × (refused ≡ refused_destroy r) × DestroyedBy before id r after
+  StepOf before (step.SendRequest m u spec) answer refused after =
+      (r : _) × (answer ≡ reply.SendRequest r) × (refused ≡ refused_request r) × Requested ScriptSends before (session_content m) u spec r after
+  StepOf before step.Flush answer refused after =
+      (r : _) × (answer ≡ reply.Flush r) × (refused ≡ refused_flush r) × SessionFlushed ScriptSends before r after
+  StepOf before step.NextEvent answer refused after =
+      (r : _) × (answer ≡ reply.NextEvent r) × NextEvent ScriptReceives before (event_content r) refused after
+  StepOf before (step.FinishEvent u) answer refused after =
+      (r : _) × (answer ≡ reply.FinishEvent r) × (refused ≡ refused_finish r) × Finishes before u r after
+  StepOf before step.DispatchInnerQueue answer refused after =
+      (answer ≡ reply.DispatchInnerQueue 0) × (refused ≡ false) × (after ≡ before)
+  StepOf before (step.SetMaxBufferSize limit) answer refused after =
+      (answer ≡ reply.SetMaxBufferSize) × (refused ≡ false)
+      × ((link : LinkState Script) × LimitSet before.link limit link × (after ≡ record before { link = link }))
+  StepOf before step.TakeNotes answer refused after =
+      (notes : _) × (answer ≡ reply.TakeNotes notes) × (refused ≡ false) × (notes.items ≡ before.notes) × (after ≡ record before { notes = [] })
+  StepOf before (step.Arrive bytes tokens) answer refused after =
+      (r : _) × (script : Script) × (answer ≡ reply.Arrive r) × (refused ≡ refused_arrive r)
+      × Arrived before.link.transport (record { bytes = bytes.items; tokens = tokens.items }) r script × (after ≡ with_script before script)
+  StepOf before (step.ArriveFault f) answer refused after =
+      (r : _) × (script : Script) × (answer ≡ reply.ArriveFault r) × (refused ≡ refused_script r)
+      × Scripted before.link.transport (record before.link.transport { arrivals = before.link.transport.arrivals ++ Err f ∷ [] }) r script
+      × (after ≡ with_script before script)
+  StepOf before (step.Accept n) answer refused after =
+      (r : _) × (script : Script) × (answer ≡ reply.Accept r) × (refused ≡ refused_script r)
+      × Scripted before.link.transport (record before.link.transport { answers = before.link.transport.answers ++ Ok n ∷ [] }) r script
+      × (after ≡ with_script before script)
+  StepOf before (step.AcceptFault f) answer refused after =
+      (r : _) × (script : Script) × (answer ≡ reply.AcceptFault r) × (refused ≡ refused_script r)
+      × Scripted before.link.transport (record before.link.transport { answers = before.link.transport.answers ++ Err f ∷ [] }) r script
+      × (after ≡ with_script before script)
+  StepOf before step.TakeSent answer refused after =
+      (sent : _) × (answer ≡ reply.TakeSent sent) × (refused ≡ false) × (map parcel sent.items ≡ before.link.transport.sent)
+      × (after ≡ with_script before (record before.link.transport { sent = [] }))
+
+-- a step of a run, its reply, and whether memory was refused in it
+pub record Entry (U : Type 0) : Type 0 where
+  pub step : Step U
+  pub answer : Reply U
+  pub refused : Bool
+
+-- the steps in which no memory was refused, with their replies
+abbrev pub entries : {U : Type 0} → List (Step U) → List (Reply U) → List (Entry U)
+entries [] replies = []
+entries (s ∷ steps) [] = []
+entries (s ∷ steps) (r ∷ replies) = record { step = s; answer = r; refused = false } ∷ entries steps replies
+
+-- the entries lead from one value of the session to another
+abbrev pub Leads : {U : Type 0} → SessionState Script U → List (Entry U) → SessionState Script U → Type 0
+Leads before [] after = after ≡ before
+Leads {U = U} before (e ∷ run) after =
+    (mid : SessionState Script U) × StepOf before e.step e.answer e.refused mid × Leads mid run after
