@@ -64,6 +64,15 @@ module _ {U : Type 0} where
   TookWith table store before (Err e) after =
       (after ≡ before) × (e ≢ parse.OutOfMemory → ReadsIn table store before (Err e) before)
 
+-- the answer of a reading, and whether memory was refused in it
+abbrev pub event_answer : Result (Message IdParts Token) NoEvent → Result SessionMessage EventError
+event_answer (Ok m) = Ok (session_content m)
+event_answer (Err end) = Err end.error
+
+abbrev pub event_refused : Result (Message IdParts Token) NoEvent → Bool
+event_refused (Ok m) = false
+event_refused (Err end) = end.refused
+
 abbrev pub no_turns : List Turn
 no_turns = []
 
@@ -117,11 +126,10 @@ module _ {T U : Type 0} where
   EndsSo receives before answer refused after = (left : ℕ) → (turns : List Turn) × Reads receives left before turns answer refused after
 
   -- all that waits whole was handled, and that comes to this
-  abbrev pub Waited : (T → ℕ → Result Queue IoFault → T → Type 0) → SessionState T U → Turned → SessionState T U → Type 0
-  Waited receives before turned.GoesOn after = ⊥
-  Waited receives before turned.Lacks after = Lacks after × LeadsOn receives before after
-  Waited receives before (turned.Event e) after = EndsSo receives before (Ok (session_content e)) false after
-  Waited receives before (turned.Ends end) after = EndsSo receives before (Err end.error) end.refused after
+  abbrev pub Waited : (T → ℕ → Result Queue IoFault → T → Type 0) → SessionState T U → Option (Result (Message IdParts Token) NoEvent)
+      → SessionState T U → Type 0
+  Waited receives before None after = Lacks after × LeadsOn receives before after
+  Waited receives before (Some r) after = EndsSo receives before (event_answer r) (event_refused r) after
 
   -- a receive was made, or there was no memory for it
   abbrev pub ReceivedTo : (T → ℕ → Result Queue IoFault → T → Type 0) → SessionState T U → Option NoEvent → SessionState T U → Type 0

@@ -11,7 +11,7 @@ returns g c =
       λ i. record {
         table = c.args.protocol;
         link = c.in_ok-socket.socket;
-        store = (c.in_ok.ensures.inserts.1 ∙ same) i;
+        store = (c.in-Ok.ensures.inserts.1 ∙ same) i;
         last_serial = 0;
         error = None;
         open_event = None;
