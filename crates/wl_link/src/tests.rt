@@ -2,6 +2,9 @@
 
 ghost use Rattle.std.specs.Prelude.{◌≡◌, length, min, Ok, Err};
 
+mod growth;
+mod many_descriptors;
+
 use crate::*;
 use smallvec::SmallVec;
 use std::alloc::Global;
