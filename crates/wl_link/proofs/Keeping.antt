@@ -307,6 +307,12 @@ module _ {D : Type 0} (c s : List (Option (Object D))) (w : Within c s) where
   pub unused_client : (n at : ℕ) → n ≡ client_range.first + at → n < client_range.end → at ≡ length c → n ≡ first_unused (store_of c s) n
   unused_client n at e h last = rw (is_client n h) (omega arith)
 
+  pub below_client : (n at : ℕ) → n ≡ client_range.first + at → n < client_range.end → at < length c → n < first_unused (store_of c s) n
+  below_client n at e h last = rw (is_client n h) (omega arith)
+
+  pub below_server : (n at : ℕ) → n ≡ server_range.first + at → at < length s → n < first_unused (store_of c s) n
+  below_server n at e last = rw (is_server n at e) (omega arith)
+
   pub unused_server : (n at : ℕ) → n ≡ server_range.first + at → at ≡ length s → n ≡ first_unused (store_of c s) n
   unused_server n at e last = rw (is_server n at e) (omega arith)
 

@@ -137,6 +137,16 @@ impl<T> BufferedSocket<T> {
         &mut self.transport
     }
 
+    /// The sender and the opcode of the message at the front of what was received; `None` where its header is not
+    /// there to its end.
+    pub fn next_header(&self) -> Option<(u32, u16)>
+        ensures { MatchOption result (length self.now.incoming.bytes < 8)
+            (λ x. (8 ≤ length self.now.incoming.bytes)
+            × (x.0 ≡ sender_of self.now.incoming.bytes) × (x.1 ≡ opcode_of self.now.incoming.bytes)) }
+    {
+        header(self.incoming.bytes())
+    }
+
     /// Reads the message at the front of what was received, under the signature that the closure gives for its sender
     /// and opcode.
     ///

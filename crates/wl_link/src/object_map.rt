@@ -1,9 +1,9 @@
 //! The objects of a session by their numbers.
 
-ghost use Rattle.std.specs.Prelude.{◌≡◌, false, true, Err, OnOk, OnErr, option_copied};
+ghost use Rattle.std.specs.Prelude.{◌≡◌, ◌<◌, false, true, Err, OnOk, OnErr, IsSome, option_copied};
 ghost use Rattle.std.specs.Fn.{FnOnceReturnsAtMut};
 ghost use Rattle.std.specs.FinMap as map;
-ghost use Rattle.wl_link.specs.Store.{client_range, server_range, empty_store, held, removed, IsWalk};
+ghost use Rattle.wl_link.specs.Store.{client_range, server_range, empty_store, first_unused, held, removed, IsWalk};
 ghost use Rattle.wl_link.specs.ObjectMap.{InsertsAt, InsertsNew, NextNew, Lends};
 ghost use Rattle.wl_link.specs.PlaceList.{IsPlaceOf};
 ghost use Rattle.wl_link.specs.declared.object_map.InsertError.TheVariants as insert;
@@ -111,6 +111,7 @@ impl<Data: Drop> ObjectMap<Data> {
     /// The object of this number. It takes no memory.
     pub fn find(&self, number: u32) -> Option<&Object<Data>>
         ensures found { option_copied result ≡ held self.now.store number }
+        ensures used { IsSome result → number < first_unused self.now.store number }
     {
         match place_of(number) {
             Place::Nowhere => None,

@@ -1,6 +1,6 @@
 //! The objects of one range of numbers, each at the place that its number has in the range.
 
-ghost use Rattle.std.specs.Prelude.{◌≡◌, ◌+◌, ◌≤◌, [], length, true, false, None, Some, Err, OnOk, OnErr, option_copied};
+ghost use Rattle.std.specs.Prelude.{◌≡◌, ◌+◌, ◌<◌, ◌≤◌, [], length, true, false, None, Some, Err, OnOk, OnErr, IsSome, option_copied};
 ghost use Rattle.std.specs.Fn.{FnOnceReturnsAtMut};
 ghost use Rattle.wl_link.specs.PlaceList.{has_room, place, put_len, Puts, PutsAt, LendsAt, IsFirstFree, entries_from};
 ghost use Rattle.wl_link.specs.declared.object_map.InsertError.TheVariants as insert;
@@ -29,7 +29,8 @@ impl<Data: Drop> Places<Data> {
 
     /// The object at this place.
     pub(crate) fn find(&self, at: usize) -> Option<&Object<Data>>
-        ensures { option_copied result ≡ place self.now.slots.items at }
+        ensures found { option_copied result ≡ place self.now.slots.items at }
+        ensures within { IsSome result → at < length self.now.slots.items }
     {
         match self.slots.get(at) {
             Some(slot) => slot.as_ref(),
