@@ -175,9 +175,26 @@ fn move_to_front(storage: &mut [u8], start: usize, end: usize)
     requires within { end ≤ length storage.old }
     ensures { slice_range storage.new 0 (end - start) ≡ slice_range storage.old start end }
 {
-    if start > 0 {
+    let count = end - start;
+    if start == 0 || count == 0 {
+        return;
+    }
+    if count <= start {
+        copy_to_front(storage, start, count);
+    } else {
         storage.copy_within(start..end, 0);
     }
+}
+
+/// Copies so many bytes from `start` on to the front, where they do not reach `start`.
+fn copy_to_front(storage: &mut [u8], start: usize, count: usize)
+    requires apart { count ≤ start }
+    requires within { start + count ≤ length storage.old }
+    ensures { take count storage.new ≡ take count (drop start storage.old) }
+{
+    let (front, behind) = storage.split_at_mut(start);
+    let (to, _) = front.split_at_mut(count);
+    to.copy_from_slice(&behind[..count]);
 }
 
 /// Writes the message behind the bytes from `start` to `end`, and puts its tokens behind those in the queue. Answers
