@@ -9,4 +9,5 @@ pub mod Finish
 pub mod Conversion
 pub mod Turns
 pub mod Steps
+pub mod Client
 pub mod Lending

@@ -90,7 +90,7 @@ module _ {U : Type 0} where
   StepOf before (step.FinishEvent u) answer refused after =
       (r : _) × (answer ≡ reply.FinishEvent r) × (refused ≡ refused_finish r) × Finishes before u r after
   StepOf before step.DispatchInnerQueue answer refused after =
-      (answer ≡ reply.DispatchInnerQueue 0) × (refused ≡ false) × (after ≡ before)
+      (answer ≡ reply.DispatchInnerQueue (Ok 0)) × (refused ≡ false) × (after ≡ before)
   StepOf before (step.SetMaxBufferSize limit) answer refused after =
       (answer ≡ reply.SetMaxBufferSize) × (refused ≡ false)
       × ((link : LinkState Script) × LimitSet before.link limit link × (after ≡ record before { link = link }))
@@ -132,3 +132,12 @@ abbrev pub Leads : {U : Type 0} → SessionState Script U → List (Entry U) →
 Leads before [] after = after ≡ before
 Leads {U = U} before (e ∷ run) after =
     (mid : SessionState Script U) × StepOf before e.step e.answer e.refused mid × Leads mid run after
+
+-- A run stopped in a step: there was no room for the replies, and nothing was done; or the steps before it were made
+-- with these replies, and it met a want of memory.
+abbrev pub StopsAt : {U : Type 0} → SessionState Script U → List (Step U) → ℕ → List (Reply U) → SessionState Script U → Type 0
+StopsAt {U = U} before steps n replies after =
+    ((n ≡ 0) × (replies ≡ []) × (after ≡ before))
+    ⊎ ((done : List (Step U)) × (next : Step U) × (left : List (Step U)) × (answer : Reply U) × (mid : SessionState Script U)
+    × (steps ≡ done ++ next ∷ left) × (n ≡ length done) × (n ≡ length replies)
+    × Leads before (entries done replies) mid × StepOf mid next answer true after)

@@ -1,6 +1,7 @@
-//! The client's session of the Wayland protocol: its ids and its errors so far.
+//! The client's session of the Wayland protocol.
 #![tactic(auto)]
 
+mod backend;
 mod destroy;
 mod display;
 mod error;
@@ -22,12 +23,14 @@ mod session;
 mod step;
 mod turn;
 
+pub use backend::Backend;
 pub use error::{
     DestroyError, EventError, FinishError, FinishRefused, FlushError, InvalidId, RequestError,
     WaylandError,
 };
 pub use note::Note;
 pub use object_id::ObjectId;
+pub use step::{Reply, Step, Stopped};
 
 #[cfg(test)]
 mod tests;

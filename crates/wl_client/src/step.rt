@@ -1,7 +1,7 @@
 //! The calls of a session as values, for a run of them.
 
 use crate::error::{
-    DestroyError, EventError, FinishRefused, FlushError, InvalidId, RequestError,
+    DestroyError, EventError, FinishRefused, FlushError, InvalidId, RequestError, WaylandError,
 };
 use crate::note::Note;
 use crate::object_id::ObjectId;
@@ -61,7 +61,7 @@ pub enum Reply<U> {
     /// To `Step::FinishEvent`.
     FinishEvent(Result<(), FinishRefused<U>>),
     /// To `Step::DispatchInnerQueue`.
-    DispatchInnerQueue(usize),
+    DispatchInnerQueue(Result<usize, WaylandError>),
     /// To `Step::SetMaxBufferSize`.
     SetMaxBufferSize,
     /// To `Step::TakeNotes`.
