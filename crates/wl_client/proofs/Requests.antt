@@ -1,5 +1,5 @@
 -- The checks of a request's arguments.
-use Rattle.std.proofs.Common.{◌≡◌, ℕ, ◌<◌, ◌≤◌, ◌∷◌, [], List, length, drop, map, None, Bool, true, false, ◌&&◌, eqb, zero, suc, refl, sym, ap, ◌∙◌, IsTrue, ◌↔◌, arith, inl, inr}
+use Rattle.std.proofs.Common.{◌≡◌, ℕ, ◌<◌, ◌≤◌, ◌∷◌, [], List, length, drop, map, Option, None, Bool, true, false, ◌&&◌, eqb, zero, suc, refl, sym, ap, ◌∙◌, IsTrue, ◌↔◌, arith, inl, inr}
 use Rattle.std.proofs.lemmas.List.{drop_all}
 use Rattle.std.proofs.lemmas.Bool.{cases_lt, eqb-true, eq-eqb, false≢true}
 use Rattle.std.proofs.lemmas.Bool.Decides.{same_from_decides}
@@ -12,6 +12,7 @@ use Rattle.wl_wire.specs.declared.argument.ArgumentType.{ArgumentType}
 use Rattle.wl_wire.specs.declared.argument.ArgumentType.TheVariants as kind
 use Rattle.wl_wire.specs.declared.argument.Token.{Token}
 use Rattle.wl_wire.specs.declared.interface.InterfaceId.{InterfaceId}
+use Rattle.wl_client.specs.declared.error.RequestError.{RequestError}
 use Rattle.wl_client.specs.declared.kept.Kept.{Kept}
 use Rattle.wl_client.specs.ObjectId.{IdParts}
 use Rattle.wl_client.specs.Requests.{first_fault, matches, type_number}
@@ -23,13 +24,19 @@ first_fault-no_args : {U : Type 0} (store : Store (Kept U)) (kinds : List Argume
 first_fault-no_args store [] asked = refl
 first_fault-no_args store (k ∷ kinds) asked = refl
 
-pub no_fault_left : {U : Type 0} (store : Store (Kept U)) (kinds : List ArgumentType) (asked : List InterfaceId) (args : List (Argument IdParts Token)) (i : ℕ)
+no_fault_left : {U : Type 0} (store : Store (Kept U)) (kinds : List ArgumentType) (asked : List InterfaceId) (args : List (Argument IdParts Token)) (i : ℕ)
     → (i < length kinds → i < length args → ⊥) → first_fault store (drop i kinds) asked (drop i args) ≡ None
 no_fault_left store kinds asked args i none =
     elim (cases_lt i (length kinds)) [
       | inl some ↦ let past : length args ≤ i = omega (arith, none some) in rw (drop_all i args past) (first_fault-no_args store (drop i kinds) asked)
       | inr past ↦ rw (drop_all i kinds past) refl
     ]
+
+-- so what was found so far is all
+pub no_fault : {U : Type 0} (store : Store (Kept U)) (kinds : List ArgumentType) (asked : List InterfaceId) (args : List (Argument IdParts Token)) (i : ℕ)
+    (total : Option RequestError) → (i < length kinds → i < length args → ⊥)
+    → first_fault store (drop i kinds) asked (drop i args) ≡ total → None ≡ total
+no_fault store kinds asked args i total none so_far = sym (no_fault_left store kinds asked args i none) ∙ so_far
 
 -- ---- whether the arguments fit the signature
 
