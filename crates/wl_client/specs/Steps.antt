@@ -25,19 +25,6 @@ use Rattle.wl_client.specs.Reading.{NextEvent, event_content}
 use Rattle.wl_client.specs.Requests.{Requested, session_content}
 use Rattle.wl_client.specs.Session.{SessionState}
 
--- ---- the transport's calls
-
--- the answer of a call that only memory can refuse, and the script after it
-abbrev pub Scripted : Script → Script → Result (Unit {0}) OutOfMemory → Script → Type 0
-Scripted before longer (Ok _) after = after ≡ longer
-Scripted before longer (Err _) after = after ≡ before
-
-abbrev pub Arrived : Script → Queue → Result (Unit {0}) ArriveError → Script → Type 0
-Arrived before chunk (Ok _) after =
-    ¬ (28 < length chunk.tokens) × (after ≡ record before { arrivals = before.arrivals ++ Ok chunk ∷ [] })
-Arrived before chunk (Err arrive.TooManyTokens) after = (28 < length chunk.tokens) × (after ≡ before)
-Arrived before chunk (Err arrive.OutOfMemory) after = ¬ (28 < length chunk.tokens) × (after ≡ before)
-
 -- ---- whether memory was refused, by the answer
 
 abbrev pub refused_destroy : Result (Unit {0}) destroy.the_data → Bool
@@ -75,6 +62,19 @@ module _ {U : Type 0} where
   abbrev pub with_script : SessionState Script U → Script → SessionState Script U
   with_script s script = record s { link = with_transport s.link script }
 
+  -- a call of the transport that only memory can refuse, and what it makes the script
+  abbrev pub Scripts : SessionState Script U → Script → Result (Unit {0}) OutOfMemory → SessionState Script U → Type 0
+  Scripts before script (Ok _) after = after ≡ with_script before script
+  Scripts before script (Err _) after = after ≡ before
+
+  -- a chunk arrives, unless it has more than 28 tokens or there is no memory for it
+  abbrev pub ArrivesWith : SessionState Script U → Queue → Result (Unit {0}) ArriveError → SessionState Script U → Type 0
+  ArrivesWith before chunk (Ok _) after =
+      ¬ (28 < length chunk.tokens)
+      × (after ≡ with_script before (record before.link.transport { arrivals = before.link.transport.arrivals ++ Ok chunk ∷ [] }))
+  ArrivesWith before chunk (Err arrive.TooManyTokens) after = (28 < length chunk.tokens) × (after ≡ before)
+  ArrivesWith before chunk (Err arrive.OutOfMemory) after = ¬ (28 < length chunk.tokens) × (after ≡ before)
+
   -- a step, its reply, whether memory was refused, and the session after it
   abbrev pub StepOf : SessionState Script U → Step U → Reply U → Bool → SessionState Script U → Type 0
   StepOf before (step.SetData id u) answer refused after =
@@ -97,20 +97,17 @@ module _ {U : Type 0} where
   StepOf before step.TakeNotes answer refused after =
       (notes : _) × (answer ≡ reply.TakeNotes notes) × (refused ≡ false) × (notes.items ≡ before.notes) × (after ≡ record before { notes = [] })
   StepOf before (step.Arrive bytes tokens) answer refused after =
-      (r : _) × (script : Script) × (answer ≡ reply.Arrive r) × (refused ≡ refused_arrive r)
-      × Arrived before.link.transport (record { bytes = bytes.items; tokens = tokens.items }) r script × (after ≡ with_script before script)
+      (r : _) × (answer ≡ reply.Arrive r) × (refused ≡ refused_arrive r)
+      × ArrivesWith before (record { bytes = bytes.items; tokens = tokens.items }) r after
   StepOf before (step.ArriveFault f) answer refused after =
-      (r : _) × (script : Script) × (answer ≡ reply.ArriveFault r) × (refused ≡ refused_script r)
-      × Scripted before.link.transport (record before.link.transport { arrivals = before.link.transport.arrivals ++ Err f ∷ [] }) r script
-      × (after ≡ with_script before script)
+      (r : _) × (answer ≡ reply.ArriveFault r) × (refused ≡ refused_script r)
+      × Scripts before (record before.link.transport { arrivals = before.link.transport.arrivals ++ Err f ∷ [] }) r after
   StepOf before (step.Accept n) answer refused after =
-      (r : _) × (script : Script) × (answer ≡ reply.Accept r) × (refused ≡ refused_script r)
-      × Scripted before.link.transport (record before.link.transport { answers = before.link.transport.answers ++ Ok n ∷ [] }) r script
-      × (after ≡ with_script before script)
+      (r : _) × (answer ≡ reply.Accept r) × (refused ≡ refused_script r)
+      × Scripts before (record before.link.transport { answers = before.link.transport.answers ++ Ok n ∷ [] }) r after
   StepOf before (step.AcceptFault f) answer refused after =
-      (r : _) × (script : Script) × (answer ≡ reply.AcceptFault r) × (refused ≡ refused_script r)
-      × Scripted before.link.transport (record before.link.transport { answers = before.link.transport.answers ++ Err f ∷ [] }) r script
-      × (after ≡ with_script before script)
+      (r : _) × (answer ≡ reply.AcceptFault r) × (refused ≡ refused_script r)
+      × Scripts before (record before.link.transport { answers = before.link.transport.answers ++ Err f ∷ [] }) r after
   StepOf before step.TakeSent answer refused after =
       (sent : _) × (answer ≡ reply.TakeSent sent) × (refused ≡ false) × (map parcel sent.items ≡ before.link.transport.sent)
       × (after ≡ with_script before (record before.link.transport { sent = [] }))

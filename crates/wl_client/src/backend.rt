@@ -30,8 +30,8 @@ use wl_wire::{
 /// hands out events, `send_request` and `flush` send.
 #[derive(Debug, Drop)]
 pub struct Backend<T, U> {
-    session: Session<T, U>,
-    refused: bool,
+    pub(crate) session: Session<T, U>,
+    pub(crate) refused: bool,
 }
 
 impl<T, U> Model for Backend<T, U> {

@@ -1,0 +1,14 @@
+use Rattle.std.proofs.Common.{◌≡◌, ◌+◌, ◌≤◌, false, length}
+use Rattle.std.specs.Prelude.{vec_len, vec_capacity}
+use Rattle.wl_client.proofs.Replaying.{SoFar}
+use Rattle.wl_client.proofs.replay.Backend+Memory+U.replay.Given as goal
+
+abbrev pub invariant-loop-step : goal.invariant-loop-step
+invariant-loop-step g l = record {
+  so_far : SoFar l.fn.self.session l.fn.steps.items l.replies.items l.rest.items l.self.session;
+  room : vec_len l.replies + vec_len l.rest ≤ vec_capacity l.replies;
+  calm : l.self.refused ≡ false;
+}
+
+abbrev pub decreases-loop-step : goal.decreases-loop-step
+decreases-loop-step g l = length l.rest.items

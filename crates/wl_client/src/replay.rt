@@ -1,0 +1,79 @@
+//! Runs of calls over a transport by script.
+
+ghost use Rattle.std.specs.Prelude.{◌≡◌, IfOk, IfErr, is_err, length};
+ghost use Rattle.wl_client.specs.Steps.{Leads, StepOf, StopsAt, entries};
+
+use crate::backend::Backend;
+use crate::step::{Reply, Step, Stopped};
+use std::alloc::Global;
+use wl_link::Memory;
+
+impl<U: Drop> Backend<Memory, U> {
+    /// Makes the call of a step.
+    fn perform(&mut self, step: Step<U>) -> Reply<U>
+        ensures { StepOf self.old.session step result self.new.refused self.new.session }
+    {
+        match step {
+            Step::SetData(id, user_data) => Reply::SetData(self.set_data(&id, user_data)),
+            Step::DestroyObject(id) => Reply::DestroyObject(self.destroy_object(&id)),
+            Step::SendRequest(message, user_data, child_spec) => {
+                Reply::SendRequest(self.send_request(message, user_data, child_spec))
+            }
+            Step::Flush => Reply::Flush(self.flush()),
+            Step::NextEvent => Reply::NextEvent(self.next_event()),
+            Step::FinishEvent(user_data) => Reply::FinishEvent(self.finish_event(user_data)),
+            Step::DispatchInnerQueue => Reply::DispatchInnerQueue(self.dispatch_inner_queue()),
+            Step::SetMaxBufferSize(max_buffer_size) => {
+                self.set_max_buffer_size(max_buffer_size);
+                Reply::SetMaxBufferSize
+            }
+            Step::TakeNotes => Reply::TakeNotes(self.take_notes()),
+            Step::Arrive(bytes, tokens) => Reply::Arrive(self.arrive(bytes, tokens)),
+            Step::ArriveFault(fault) => Reply::ArriveFault(self.arrive_fault(fault)),
+            Step::Accept(count) => Reply::Accept(self.accept(count)),
+            Step::AcceptFault(fault) => Reply::AcceptFault(self.accept_fault(fault)),
+            Step::TakeSent => Reply::TakeSent(self.take_sent()),
+        }
+    }
+
+    /// Makes the calls of the steps, one after another, and answers their replies.
+    ///
+    /// Room for the replies is made first. In the first step that meets a want of memory the run stops: `Stopped`
+    /// names that step and has the replies to those before it, and the later ones are dropped. Step 0 is named also
+    /// where there was no room for the replies; nothing was done then.
+    pub fn replay(
+        &mut self,
+        alloc: Global,
+        steps: Vec<Step<U>>,
+    ) -> Result<Vec<Reply<U>>, Stopped<U>>
+        ensures count { IfOk result (λ replies. length replies.items ≡ length steps.items) }
+        ensures steps { IfOk result (λ replies. Leads self.old.session (entries steps.items replies.items) self.new.session) }
+        ensures stopped { IfErr result (λ stopped. StopsAt self.old.session steps.items stopped.step stopped.replies.items self.new.session) }
+        ensures refused { self.new.refused ≡ is_err result }
+    {
+        let Ok(mut replies) = Vec::with_capacity(alloc, steps.len()) else {
+            self.refused = true;
+            return Err(Stopped {
+                step: 0,
+                replies: Vec::new(alloc),
+            });
+        };
+        let mut rest = steps;
+        // The first step is then the last, which is taken out without moving the others.
+        rest.reverse();
+        self.refused = false;
+        while let Some(step) = rest.pop() {
+            let reply = self.perform(step);
+            if self.refused {
+                return Err(Stopped {
+                    step: replies.len(),
+                    replies,
+                });
+            }
+            let Ok(()) = replies.push(reply) else {
+                unreachable!();
+            };
+        }
+        Ok(replies)
+    }
+}
