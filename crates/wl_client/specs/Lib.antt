@@ -9,4 +9,6 @@ pub mod Finish
 pub mod Conversion
 pub mod Turns
 pub mod Steps
+pub mod Handed
+pub mod IdentityLaws
 pub mod Lending
