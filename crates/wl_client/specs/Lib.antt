@@ -10,4 +10,6 @@ pub mod Conversion
 pub mod Turns
 pub mod Steps
 pub mod Client
+pub mod Handed
+pub mod IdentityLaws
 pub mod Lending

@@ -9,6 +9,7 @@ mod event;
 mod event_fault;
 mod finish;
 mod flush;
+mod identity;
 mod kept;
 mod next_event;
 mod note;
@@ -30,6 +31,7 @@ pub use error::{
     DestroyError, EventError, FinishError, FinishRefused, FlushError, InvalidId, RequestError,
     WaylandError,
 };
+pub use identity::each_id_names_its_own_object;
 pub use note::Note;
 pub use object_id::ObjectId;
 pub use step::{Reply, Step, Stopped};

@@ -1,0 +1,83 @@
+-- The ids that a session hands out, and what they name.
+--
+-- A session's changes are told step by step: an object is put at a number, leaves its number, is written to, or an id
+-- is made of it. Each id that a reply hands out was made by then, of the object that it names; and what an id names
+-- follows from the changes alone. No program stores them.
+use Rattle.std.specs.Prelude.{◌≢◌, List, [], ◌∷◌, ◌++◌, All, Result, Ok, Err}
+use Rattle.wl_wire.specs.declared.argument.Argument.{Argument}
+use Rattle.wl_wire.specs.declared.argument.Argument.TheVariants as arg
+use Rattle.wl_wire.specs.declared.argument.Token.{Token}
+use Rattle.wl_link.specs.Identity.{Change, IsMadeIn, RunLeads, HasIdentity, begun}
+use Rattle.wl_link.specs.Script.{Script}
+use Rattle.wl_client.specs.declared.error.EventError.{EventError}
+use Rattle.wl_client.specs.declared.error.RequestError.{RequestError}
+use Rattle.wl_client.specs.declared.kept.Kept.{Kept}
+use Rattle.wl_client.specs.declared.note.Note.{Note}
+use Rattle.wl_client.specs.declared.note.Note.TheVariants.{Destroyed}
+use Rattle.wl_client.specs.declared.step.Reply.{Reply}
+use Rattle.wl_client.specs.declared.step.Reply.TheVariants as reply
+use Rattle.wl_client.specs.ObjectId.{IdParts}
+use Rattle.wl_client.specs.Reading.{event_content}
+use Rattle.wl_client.specs.Requests.{SessionMessage}
+use Rattle.wl_client.specs.Session.{SessionState, id_of, serial_of, display_object, objects_of}
+use Rattle.wl_client.specs.Steps.{Entry}
+
+-- ---- the ids of a reply
+
+-- the ids among the arguments of an event
+abbrev pub argument_ids : List (Argument IdParts Token) → List IdParts
+argument_ids [] = []
+argument_ids (arg.Int _ ∷ args) = argument_ids args
+argument_ids (arg.Uint _ ∷ args) = argument_ids args
+argument_ids (arg.Fixed _ ∷ args) = argument_ids args
+argument_ids (arg.Str _ ∷ args) = argument_ids args
+argument_ids (arg.Object id ∷ args) = id ∷ argument_ids args
+argument_ids (arg.NewId id ∷ args) = id ∷ argument_ids args
+argument_ids (arg.Array _ ∷ args) = argument_ids args
+argument_ids (arg.Fd _ ∷ args) = argument_ids args
+
+-- the id of the object that a request made
+abbrev pub request_ids : Result IdParts RequestError → List IdParts
+request_ids (Ok id) = id ∷ []
+request_ids (Err e) = []
+
+-- the ids of an event: its sender's, and those among its arguments
+abbrev pub event_ids : Result SessionMessage EventError → List IdParts
+event_ids (Ok m) = m.sender ∷ argument_ids m.args
+event_ids (Err e) = []
+
+abbrev pub note_ids : List Note → List IdParts
+note_ids [] = []
+note_ids (Destroyed id ∷ notes) = id ∷ note_ids notes
+
+-- the ids that a reply hands out
+abbrev pub handed : {U : Type 0} → Reply U → List IdParts
+handed (reply.SendRequest r) = request_ids r
+handed (reply.NextEvent r) = event_ids (event_content r)
+handed (reply.TakeNotes notes) = note_ids notes.items
+handed _ = []
+
+-- ---- what they name
+
+module _ {U : Type 0} where
+  -- each of the ids was made in these steps; an id of the number 0 names none
+  abbrev pub AreMade : List (List (Change (Kept U))) → List IdParts → Type 0
+  AreMade changes ids = All (λ id. id.number ≢ 0 → IsMadeIn changes (id_of id)) ids
+
+  -- The changes of each entry of a run, after those of the steps before: each id that its reply hands out was made by
+  -- then.
+  abbrev pub Follows : List (List (Change (Kept U))) → List (List (Change (Kept U))) → List (Entry U) → Type 0
+  Follows before [] [] = Unit {0}
+  Follows before [] (e ∷ run) = ⊥
+  Follows before (changes ∷ rest) [] = ⊥
+  Follows before (changes ∷ rest) (e ∷ run) =
+      AreMade (before ++ changes ∷ []) (handed e.answer) × Follows (before ++ changes ∷ []) rest run
+
+  -- The session after a run has the objects that some changes leave, a list of them for each entry. So each kept serial
+  -- is one object's, and an id that was handed out names the object that it was made of exactly while that is kept, and
+  -- afterwards none.
+  pub record HasOwnIds (run : List (Entry U)) (s : SessionState Script U) : Type 0 where
+    pub changes : List (List (Change (Kept U)))
+    pub leads : RunLeads serial_of (begun display_object) changes (objects_of s)
+    pub identity : HasIdentity serial_of changes (objects_of s)
+    pub handed : Follows [] changes run

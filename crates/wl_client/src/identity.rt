@@ -1,0 +1,17 @@
+//! What an id names, over every run of a session.
+
+ghost use Rattle.std.specs.Prelude.{List};
+ghost use Rattle.wl_wire.specs.Table.{InterfaceRow};
+ghost use Rattle.wl_link.specs.Script.{Script};
+ghost use Rattle.wl_client.specs.Handed.{HasOwnIds};
+ghost use Rattle.wl_client.specs.Session.{SessionState, IsConnected};
+ghost use Rattle.wl_client.specs.Steps.{Entry, Leads};
+
+/// The identity law of a session.
+///
+/// Over every run of calls from the connecting on, each id that a reply hands out names the object that it was made
+/// of exactly while that is kept, and afterwards none. The call itself does nothing.
+pub fn each_id_names_its_own_object<U>()
+    ensures { (table : List InterfaceRow) (transport : Script) (before after : SessionState Script U) (run : List (Entry U)) →
+        IsConnected table transport before → Leads before run after → HasOwnIds run after }
+{}
