@@ -23,7 +23,6 @@ use Rattle.wl_client.specs.declared.error.EventError.{EventError}
 use Rattle.wl_client.specs.declared.event_fault.EventFault.{EventFault}
 use Rattle.wl_client.specs.declared.kept.Kept.{Kept}
 use Rattle.wl_client.specs.declared.open_event.OpenEvent.{OpenEvent}
-
 use Rattle.wl_client.specs.declared.receive.Handled.{Handled}
 use Rattle.wl_client.specs.declared.receive.Handled.TheVariants as handled
 use Rattle.wl_client.specs.ObjectId.{IdParts}
@@ -64,7 +63,7 @@ ok_answer m = Ok m
 
 as_many_at : {T : Type 0} (b : Bool) (signature : List ArgumentType) (before : LinkState T) (m : WireMessage) (after : LinkState T)
     → MatchBool b ((found : Option (List ArgumentType)) × (found ≡ Some signature) × ReadFound found before (Ok m) after)
-      ((ok_answer m ≡ Err errors.MissingData) × (after ≡ before))
+    ((ok_answer m ≡ Err errors.MissingData) × (after ≡ before))
     → length m.args ≡ length signature
 as_many_at true signature before m after (found, is, read) = as_many_found signature found before m after is read
 as_many_at false signature before m after (answer, same) = absurd (ok_err answer)
@@ -100,13 +99,13 @@ module _ {T U : Type 0} where
   pub handled_by : (before : SessionState T U) (m : WireMessage) (map : MapState (Kept U)) (row : MessageRow) (h : Handled) (after : Objects (Kept U))
       → map.store ≡ before.store
       → MatchOption (held map.store m.sender) ⊥
-        (λ x. HandledAs m x row (convert x.version x.value.client_destroyed (start (objects_in map before.last_serial) row) [] m.args) h after)
+      (λ x. HandledAs m x row (convert x.version x.value.client_destroyed (start (objects_in map before.last_serial) row) [] m.args) h after)
       → HandledBy before m row h after
   handled_by before m map row h after same fact =
       known (held before.store m.sender)
       (subst (λ (s : Store (Kept U)). MatchOption (held s m.sender) ⊥
-        (λ x. HandledAs m x row (convert x.version x.value.client_destroyed (start (record { store = s; last_serial = before.last_serial }) row) [] m.args) h after))
-        same fact)
+      (λ x. HandledAs m x row (convert x.version x.value.client_destroyed (start (record { store = s; last_serial = before.last_serial }) row) [] m.args) h after))
+      same fact)
 
   -- the words that the cases share: the session, the message, its row, and how the reading may end
   module _ (before : SessionState T U) (m : WireMessage) (row : MessageRow) (answer : Result SessionMessage EventError) (refused : Bool)
@@ -117,7 +116,7 @@ module _ {T U : Type 0} where
         → Handles before m last answer refused end on
     handles_event last x other receiver is c =
         subst (λ (b : Bool). MatchBool b (HandlesDisplay before (display_event m.opcode m.args) last answer refused end on)
-          (HandlesEvent before m (held before.store m.sender) (row_of before m.sender m.opcode) last answer refused end on)) (sym other)
+        (HandlesEvent before m (held before.store m.sender) (row_of before m.sender m.opcode) last answer refused end on)) (sym other)
         (subst (λ (o : Option (Object (Kept U))). HandlesEvent before m o (row_of before m.sender m.opcode) last answer refused end on) (sym receiver)
         (subst (λ (r : Option MessageRow). HandlesEvent before m (Some x) r last answer refused end on) (sym is) c))
 
@@ -133,10 +132,11 @@ module _ {T U : Type 0} where
         → HandledAs m x row outcome (handled.Fault w) objects → Stores (with_objects before objects) (error_of before.table w) answer refused end
         → HandlesConverted before m x row outcome (no_turns ≡ []) answer refused end on
     faults x (Whole c args) w objects f s = absurd f
-    faults x (Wrong w' o) w objects (same_fault, same) s =
-        (refl,
-        subst (λ (o' : Objects (Kept U)). Stores (with_objects before o') (error_of before.table w') answer refused end) same
-        (subst (λ (v : EventFault). Stores (with_objects before objects) (error_of before.table v) answer refused end) same_fault s))
+    faults x (Wrong w' o) w objects (same_fault, same) s = (
+      refl,
+      subst (λ (o' : Objects (Kept U)). Stores (with_objects before o') (error_of before.table w') answer refused end) same
+          (subst (λ (v : EventFault). Stores (with_objects before objects) (error_of before.table v) answer refused end) same_fault s),
+    )
 
     pub swallowed : (last : Type 0) (objects : Objects (Kept U)) → eqb m.sender 1 ≡ false → row_of before m.sender m.opcode ≡ Some row
         → HandledBy before m row handled.Swallowed objects → on (with_objects before objects)
@@ -190,9 +190,11 @@ module _ {T U : Type 0} where
 
       pub swallowed_turns : Came handled.Swallowed → Turns receives before turned.GoesOn (with_objects (with_link before link) objects)
       swallowed_turns came =
-          turns_by turned.GoesOn (with_objects (with_link before link) objects)
-          (refl, λ left rest answer refused end goes. swallowed (with_link before link) m row answer refused end
-            (λ mid. Reads receives left mid rest answer refused end) (rest ≡ []) objects (ne_eqb m.sender 1 other) is (by handled.Swallowed came) goes)
+          turns_by turned.GoesOn (with_objects (with_link before link) objects) (
+            refl,
+            λ left rest answer refused end goes. swallowed (with_link before link) m row answer refused end
+                (λ mid. Reads receives left mid rest answer refused end) (rest ≡ []) objects (ne_eqb m.sender 1 other) is (by handled.Swallowed came) goes,
+          )
 
       pub faulted_turns : (w : EventFault) (end : NoEvent) (after : SessionState T U) → Came (handled.Fault w)
           → Stores (with_objects (with_link before link) objects) (error_of before.table w) (Err end.error) end.refused after
@@ -200,12 +202,12 @@ module _ {T U : Type 0} where
       faulted_turns w end after came stores =
           turns_by (turned.Ends end) after
           (λ left. faulted (with_link before link) m row (Err end.error) end.refused after
-            (λ mid. Reads receives left mid [] (Err end.error) end.refused after) w objects (ne_eqb m.sender 1 other) is (by (handled.Fault w) came) stores)
+          (λ mid. Reads receives left mid [] (Err end.error) end.refused after) w objects (ne_eqb m.sender 1 other) is (by (handled.Fault w) came) stores)
 
       pub handed_turns : (e : Message IdParts Token) (opened : OpenEvent) → Came (handled.Event e opened)
           → Turns receives before (turned.Event e) (record (with_objects (with_link before link) objects) { open_event = Some opened })
       handed_turns e opened came =
           turns_by (turned.Event e) (record (with_objects (with_link before link) objects) { open_event = Some opened })
           (λ left. handed_out (with_link before link) m row
-            (λ mid. Reads receives left mid [] (Ok (session_content e)) false (record (with_objects (with_link before link) objects) { open_event = Some opened }))
-            e opened objects (ne_eqb m.sender 1 other) is (by (handled.Event e opened) came))
+          (λ mid. Reads receives left mid [] (Ok (session_content e)) false (record (with_objects (with_link before link) objects) { open_event = Some opened }))
+          e opened objects (ne_eqb m.sender 1 other) is (by (handled.Event e opened) came))

@@ -49,7 +49,7 @@ shorter_found (Some signature) before m after (reads, left) =
 
 shorter_at : {T : Type 0} (b : Bool) (looks_up : Option (List ArgumentType) → Type 0) (before : LinkState T) (m : WireMessage) (after : LinkState T)
     → MatchBool b ((found : Option (List ArgumentType)) × looks_up found × ReadFound found before (Ok m) after)
-      ((ok_answer m ≡ Err errors.MissingData) × (after ≡ before))
+    ((ok_answer m ≡ Err errors.MissingData) × (after ≡ before))
     → length after.incoming.bytes < length before.incoming.bytes
 shorter_at true looks_up before m after (found, is, read) = shorter_found found before m after read
 shorter_at false looks_up before m after (impossible, same) = absurd (ok_err impossible)
@@ -109,7 +109,7 @@ module _ {T U : Type 0} (receives : T → ℕ → Result Queue IoFault → T →
       inl (r, link, (made.0, refl, made.2), (f, sym made.1, faulted))
   received_fault before link f end after (inr (answer_is, same)) faulted =
       inr (faulted_of before link end after same
-        (subst (λ (g : IoFault). Faulted (with_link before link) g (Err end.error) end.refused after) (ap fault_of_answer answer_is) faulted))
+      (subst (λ (g : IoFault). Faulted (with_link before link) g (Err end.error) end.refused after) (ap fault_of_answer answer_is) faulted))
 
   -- a fault after which no more may come is stored
   pub fault_stored : (s after : SessionState T U) (f : IoFault) → f ≢ fault.WouldBlock → f ≢ fault.OutOfMemory
@@ -128,23 +128,41 @@ module _ {T U : Type 0} (receives : T → ℕ → Result Queue IoFault → T →
       → (rest : List Turn) (answer : Result SessionMessage EventError) (refused : Bool) (end : SessionState T U)
       → Reads receives left after rest answer refused end → (turns : List Turn) × Reads receives (suc left) start turns answer refused end
   received_on start before after left lacks leads (r, made, came, is) rest answer refused end reads =
-      leads (suc left) (Received r ∷ rest) answer refused end
-      (lacks, (left, refl, (after.link, made,
-        subst (λ (c : Result (Unit {0}) IoFault). MatchResult c
-          (λ _. Reads receives left (with_link before after.link) rest answer refused end)
-          (λ f. (rest ≡ []) × Faulted (with_link before after.link) f answer refused end)) (sym came)
-        (subst (λ (s : SessionState T U). Reads receives left s rest answer refused end) is reads))))
+      leads (suc left) (Received r ∷ rest) answer refused end (
+        lacks,
+        (
+          left,
+          refl,
+          (
+            after.link,
+            made,
+            subst (λ (c : Result (Unit {0}) IoFault). MatchResult c
+                (λ _. Reads receives left (with_link before after.link) rest answer refused end)
+                (λ f. (rest ≡ []) × Faulted (with_link before after.link) f answer refused end)) (sym came)
+                (subst (λ (s : SessionState T U). Reads receives left s rest answer refused end) is reads),
+          ),
+        ),
+      )
 
   -- a receive that ends the reading
   pub received_ends : (start before : SessionState T U) (left : ℕ) (end : NoEvent) (after : SessionState T U) → Lacks before
       → LeadsOn receives start before → ReceivedTo receives before (Some end) after
       → (turns : List Turn) × Reads receives (suc left) start turns (Err end.error) end.refused after
   received_ends start before left end after lacks leads (inl (r, link, made, (f, came, faulted))) =
-      leads (suc left) (Received r ∷ []) (Err end.error) end.refused after
-      (lacks, (left, refl, (link, made,
-        subst (λ (c : Result (Unit {0}) IoFault). MatchResult c
-          (λ _. Reads receives left (with_link before link) [] (Err end.error) end.refused after)
-          (λ g. (no_turns ≡ []) × Faulted (with_link before link) g (Err end.error) end.refused after)) (sym came) (refl, faulted))))
+      leads (suc left) (Received r ∷ []) (Err end.error) end.refused after (
+        lacks,
+        (
+          left,
+          refl,
+          (
+            link,
+            made,
+            subst (λ (c : Result (Unit {0}) IoFault). MatchResult c
+                (λ _. Reads receives left (with_link before link) [] (Err end.error) end.refused after)
+                (λ g. (no_turns ≡ []) × Faulted (with_link before link) g (Err end.error) end.refused after)) (sym came) (refl, faulted),
+          ),
+        ),
+      )
   received_ends start before left end after lacks leads (inr (error_is, refused_is, same)) =
       leads (suc left) [] (Err end.error) end.refused after (inr (inr (ap Err error_is, refused_is, same)))
 

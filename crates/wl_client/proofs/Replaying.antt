@@ -1,5 +1,5 @@
 -- A run of steps, so far as it was made.
-use Rattle.std.proofs.Common.{◌≡◌, ℕ, suc, Bool, true, false, List, [], ◌∷◌, ◌++◌, length, reverse, refl, sym, ap, subst, ◌∙◌, arith, append_assoc, append-nil, length-append}
+use Rattle.std.proofs.Common.{◌≡◌, ℕ, suc, ◌<◌, Bool, true, false, List, [], ◌∷◌, ◌++◌, length, reverse, refl, sym, ap, subst, ◌∙◌, arith, append_assoc, append-nil, length-append}
 use mathlib.Core.Logic.{inr}
 use Rattle.std.proofs.lemmas.List.{reverse-reverse, reverse-append}
 use Rattle.wl_link.specs.Script.{Script}
@@ -7,6 +7,10 @@ use Rattle.wl_client.specs.declared.step.Step.{Step}
 use Rattle.wl_client.specs.declared.step.Reply.{Reply}
 use Rattle.wl_client.specs.Session.{SessionState}
 use Rattle.wl_client.specs.Steps.{Entry, Leads, StepOf, StopsAt, entries}
+
+pub empty_of : {A : Type 0} (n : ℕ) (xs : List A) → n ≡ length xs → ¬ (0 < n) → xs ≡ []
+empty_of n [] counted none = refl
+empty_of n (x ∷ xs) counted none = absurd (none (omega (arith, counted)))
 
 module _ {U : Type 0} where
   -- these steps were made and have these replies; what is left is kept with the last of it first
@@ -39,12 +43,13 @@ module _ {U : Type 0} where
   pub more : (start now after : SessionState Script U) (steps : List (Step U)) (replies : List (Reply U)) (rest rest' : List (Step U))
       (x : Step U) (r : Reply U) → rest ≡ rest' ++ x ∷ [] → SoFar start steps replies rest now → StepOf now x r false after
       → SoFar start steps (replies ++ r ∷ []) rest' after
-  more start now after steps replies rest rest' x r split (done, whole, same, leads) made =
-      (done ++ x ∷ [],
-        whole ∙ ap (λ l. done ++ l) (turned_rest rest rest' x split) ∙ sym (append_assoc done (x ∷ []) (reverse rest')),
-        omega (arith, same, length-append done (x ∷ []), length-append replies (r ∷ [])),
-        subst (λ (run : List (Entry U)). Leads start run after) (sym (entries_more done replies x r same))
-        (leads_more start now after (entries done replies) (record { step = x; answer = r; refused = false }) leads made))
+  more start now after steps replies rest rest' x r split (done, whole, same, leads) made = (
+    done ++ x ∷ [],
+    whole ∙ ap (λ l. done ++ l) (turned_rest rest rest' x split) ∙ sym (append_assoc done (x ∷ []) (reverse rest')),
+    omega (arith, same, length-append done (x ∷ []), length-append replies (r ∷ [])),
+    subst (λ (run : List (Entry U)). Leads start run after) (sym (entries_more done replies x r same))
+        (leads_more start now after (entries done replies) (record { step = x; answer = r; refused = false }) leads made),
+  )
 
   pub ends : (start now : SessionState Script U) (steps : List (Step U)) (replies : List (Reply U)) (rest : List (Step U))
       → rest ≡ [] → SoFar start steps replies rest now → Leads start (entries steps replies) now × (length replies ≡ length steps)
@@ -57,3 +62,9 @@ module _ {U : Type 0} where
       → StopsAt start steps (length replies) replies after
   stops start now after steps replies rest rest' x r split (done, whole, same, leads) made =
       inr (done, x, reverse rest', r, now, whole ∙ ap (λ l. done ++ l) (turned_rest rest rest' x split), sym same, refl, leads, made)
+
+  -- one run behind another
+  pub joins : (start mid after : SessionState Script U) (run others : List (Entry U)) → Leads start run mid → Leads mid others after
+      → Leads start (run ++ others) after
+  joins start mid after [] others same leads = subst (λ (s : SessionState Script U). Leads s others after) same leads
+  joins start mid after (e ∷ run) others (next, first, rest) leads = (next, first, joins next mid after run others rest leads)

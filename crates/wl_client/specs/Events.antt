@@ -100,9 +100,10 @@ module _ {U : Type 0} where
 
   abbrev pub with_new_at : ℕ → Bool → Converting U → ℕ → InterfaceId → Argument IdParts Token × Converting U
   with_new_at version destroyed c n i =
-      let x = made_object version destroyed i (c.objects.last_serial + 1) in
-      (arg.NewId (id_at n x),
-        record { objects = with_made_object c.objects n x; asked = c.asked; child = None; created = Some (id_at n x) })
+      let x = made_object version destroyed i (c.objects.last_serial + 1) in (
+        arg.NewId (id_at n x),
+        record { objects = with_made_object c.objects n x; asked = c.asked; child = None; created = Some (id_at n x) },
+      )
 
   -- an event makes one object at most, of the interface that the table names
   abbrev pub with_new_argument : ℕ → Bool → Converting U → ℕ → Option InterfaceId → Converted U

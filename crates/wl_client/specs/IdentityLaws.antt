@@ -18,6 +18,7 @@ use Rattle.wl_link.specs.Exchange.{Queue}
 use Rattle.wl_link.specs.Identity.{Id, Objects, Change, Born, Gone, Wrote, Made, begun, named_in, names, StepLeads, RunLeads, IsMadeInStep, IsMadeIn}
 use Rattle.wl_link.specs.IdentityLaw.{identity_law, step_joins}
 use Rattle.wl_link.specs.Link.{counted_answer, count_of}
+use Rattle.wl_link.specs.declared.memory.ArriveError.TheVariants as arrive
 use Rattle.wl_link.specs.Script.{Script, ScriptSends, ScriptReceives}
 use Rattle.wl_link.specs.Store.{Store, held, is_free, is_server_number, removed, rewritten, stored}
 use Rattle.wl_link.specs.StoreLaws.{stored_here, stored_other}
@@ -681,11 +682,16 @@ module _ {U : Type 0} where
           hands = subst (λ i. Known now i) (sym (ap handed is ∙ ap note_ids taken)) (known_more K now (note_ids s.notes) (λ id k. inl k) known);
           notes = subst (λ (a : SessionState Script U). Known now (note_ids a.notes)) (sym same) tt;
         }
-    step_makes (step.Arrive bytes tokens) reply refused after (r, script, is, no_memory, h, same) = by_quiet reply after _ (ap handed is) same (quiet s _ refl refl)
-    step_makes (step.ArriveFault f) reply refused after (r, script, is, no_memory, h, same) = by_quiet reply after _ (ap handed is) same (quiet s _ refl refl)
-    step_makes (step.Accept n) reply refused after (r, script, is, no_memory, h, same) = by_quiet reply after _ (ap handed is) same (quiet s _ refl refl)
-    step_makes (step.AcceptFault f) reply refused after (r, script, is, no_memory, h, same) = by_quiet reply after _ (ap handed is) same (quiet s _ refl refl)
-    step_makes step.TakeSent reply refused after (sent, is, no_memory, h, same) = by_quiet reply after _ (ap handed is) same (quiet s _ refl refl)
+    step_makes (step.Arrive bytes tokens) reply refused after (Ok u, is, no_memory, h) = by_quiet reply after _ (ap handed is) h.1 (quiet s _ refl refl)
+    step_makes (step.Arrive bytes tokens) reply refused after (Err arrive.TooManyTokens, is, no_memory, h) = by_quiet reply after _ (ap handed is) h.1 (quiet s _ refl refl)
+    step_makes (step.Arrive bytes tokens) reply refused after (Err arrive.OutOfMemory, is, no_memory, h) = by_quiet reply after _ (ap handed is) h.1 (quiet s _ refl refl)
+    step_makes (step.ArriveFault f) reply refused after (Ok u, is, no_memory, same) = by_quiet reply after _ (ap handed is) same (quiet s _ refl refl)
+    step_makes (step.ArriveFault f) reply refused after (Err e, is, no_memory, same) = by_quiet reply after _ (ap handed is) same (quiet s _ refl refl)
+    step_makes (step.Accept n) reply refused after (Ok u, is, no_memory, same) = by_quiet reply after _ (ap handed is) same (quiet s _ refl refl)
+    step_makes (step.Accept n) reply refused after (Err e, is, no_memory, same) = by_quiet reply after _ (ap handed is) same (quiet s _ refl refl)
+    step_makes (step.AcceptFault f) reply refused after (Ok u, is, no_memory, same) = by_quiet reply after _ (ap handed is) same (quiet s _ refl refl)
+    step_makes (step.AcceptFault f) reply refused after (Err e, is, no_memory, same) = by_quiet reply after _ (ap handed is) same (quiet s _ refl refl)
+    step_makes step.TakeSent reply refused after (taken, is, no_memory, h, same) = by_quiet reply after _ (ap handed is) same (quiet s _ refl refl)
 
 -- ---- a run
 

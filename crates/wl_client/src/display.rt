@@ -28,9 +28,14 @@ pub fn display_event(message: &Message<u32, Token>) -> DisplayEvent<'_>
     ensures { told_by result ≡ display_event message.now.opcode message.now.args.items }
 {
     match (message.opcode, message.args.as_slice()) {
-        (ERROR, [Argument::Object(number), Argument::Uint(code), Argument::Str(Some(text))]) => {
-            DisplayEvent::Fails(*code, *number, text)
-        }
+        (
+            ERROR,
+            [
+                Argument::Object(number),
+                Argument::Uint(code),
+                Argument::Str(Some(text)),
+            ],
+        ) => { DisplayEvent::Fails(*code, *number, text) }
         (DELETE_ID, [Argument::Uint(number)]) => DisplayEvent::Deletes(*number),
         _ => DisplayEvent::Unreadable,
     }

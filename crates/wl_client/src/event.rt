@@ -54,11 +54,7 @@ fn object_argument<U: Drop>(
     if !same_interface_or_anonymous(asked, object.interface) {
         return Err(EventFault::WrongInterface(number, asked, object.interface));
     }
-    Ok(ObjectId::from_parts(
-        number,
-        object.value.serial,
-        object.interface,
-    ))
+    Ok(ObjectId::from_parts(number, object.value.serial, object.interface))
 }
 
 /// Frees the number where the client destroyed its object.
@@ -188,10 +184,10 @@ pub fn convert<U: Drop>(
     requires room { HasRoomFor converted.old (length args.items) }
     ensures { MatchResult result
         (λ created. EndsWhole
-            (convert receiver.version receiver.client_destroyed (state objects.old last_serial.old progress.old) converted.old.items (reverse args.items))
-            (objects_in objects.new last_serial.new) created converted.new.items)
+        (convert receiver.version receiver.client_destroyed (state objects.old last_serial.old progress.old) converted.old.items (reverse args.items))
+        (objects_in objects.new last_serial.new) created converted.new.items)
         (λ wrong. convert receiver.version receiver.client_destroyed (state objects.old last_serial.old progress.old) converted.old.items (reverse args.items)
-            ≡ Wrong wrong (objects_in objects.new last_serial.new)) }
+        ≡ Wrong wrong (objects_in objects.new last_serial.new)) }
 {
     let mut args = args;
     while let Some(arg) = args.pop() {

@@ -67,11 +67,15 @@ fn fault_text(alloc: Global, protocol: &Protocol, fault: EventFault) -> Result<S
         EventFault::WrongInterface(number, asked, given) => {
             let asked = protocol.name(asked);
             let given = protocol.name(given);
-            Ok(format!(in alloc; "Protocol error: server sent object {number} for interface {asked}, but it has interface {given}.")?)
+            Ok(format!(in alloc;
+                "Protocol error: server sent object {number} for interface {asked}, but it has interface {given}."
+            )?)
         }
         EventFault::InvalidNewId(number, interface) => {
             let name = protocol.name(interface);
-            Ok(format!(in alloc; "Protocol error: server tried to create an object \"{name}\" with invalid id {number}.")?)
+            Ok(format!(in alloc;
+                "Protocol error: server tried to create an object \"{name}\" with invalid id {number}."
+            )?)
         }
     }
 }
@@ -112,4 +116,3 @@ pub fn delete_id<U: Drop>(objects: &mut ObjectMap<Kept<U>>, number: u32)
     }
     objects.with(number, |object| object.value.server_destroyed = true);
 }
-

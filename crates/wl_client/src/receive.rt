@@ -43,8 +43,8 @@ pub fn handle_event<U: Drop>(
     requires room { HasRoomFor converted (length message.args.items) }
     ensures { MatchOption (held objects.old.store message.sender_id) ⊥
         (λ x. HandledAs (content message) x (message_row desc.now)
-            (outcome_of x.version x.value.client_destroyed (start (objects_in objects.old last_serial.old) (message_row desc.now)) [] message.args.items)
-            result (objects_in objects.new last_serial.new)) }
+        (outcome_of x.version x.value.client_destroyed (start (objects_in objects.old last_serial.old) (message_row desc.now)) [] message.args.items)
+        result (objects_in objects.new last_serial.new)) }
 {
     let Some(object) = objects.find(message.sender_id) else {
         return Handled::Swallowed;

@@ -1,7 +1,11 @@
 //! Runs of calls over a transport by script.
 
-ghost use Rattle.std.specs.Prelude.{◌≡◌, IfOk, IfErr, is_err, length};
-ghost use Rattle.wl_client.specs.Steps.{Leads, StepOf, StopsAt, entries};
+ghost use Rattle.std.specs.Prelude.{◌≡◌, ◌++◌, List, IfOk, IfErr, is_err, length};
+ghost use Rattle.wl_wire.specs.Table.{InterfaceRow};
+ghost use Rattle.wl_link.specs.Script.{Script};
+ghost use Rattle.wl_client.specs.Handed.{HasOwnIds};
+ghost use Rattle.wl_client.specs.Session.{IsConnected, SessionState};
+ghost use Rattle.wl_client.specs.Steps.{Entry, Leads, StepOf, StopsAt, entries};
 
 use crate::backend::Backend;
 use crate::step::{Reply, Step, Stopped};
@@ -41,6 +45,9 @@ impl<U: Drop> Backend<Memory, U> {
     /// Room for the replies is made first. In the first step that meets a want of memory the run stops: `Stopped`
     /// names that step and has the replies to those before it, and the later ones are dropped. Step 0 is named also
     /// where there was no room for the replies; nothing was done then.
+    ///
+    /// The run joins the runs before it. So each id that was handed out since the connecting, by a reply, an event or
+    /// a note, names the object that it was made of exactly while that is kept, and afterwards none.
     pub fn replay(
         &mut self,
         alloc: Global,
@@ -48,6 +55,12 @@ impl<U: Drop> Backend<Memory, U> {
     ) -> Result<Vec<Reply<U>>, Stopped<U>>
         ensures count { IfOk result (λ replies. length replies.items ≡ length steps.items) }
         ensures steps { IfOk result (λ replies. Leads self.old.session (entries steps.items replies.items) self.new.session) }
+        ensures joined { IfOk result (λ replies. (begun : SessionState Script U) (run : List (Entry U)) →
+            Leads begun run self.old.session → Leads begun (run ++ entries steps.items replies.items) self.new.session) }
+        ensures identity { IfOk result (λ replies.
+            (table : List InterfaceRow) (transport : Script) (begun : SessionState Script U) (run : List (Entry U)) →
+            IsConnected table transport begun → Leads begun run self.old.session →
+            HasOwnIds (run ++ entries steps.items replies.items) self.new.session) }
         ensures stopped { IfErr result (λ stopped. StopsAt self.old.session steps.items stopped.step stopped.replies.items self.new.session) }
         ensures refused { self.new.refused ≡ is_err result }
     {

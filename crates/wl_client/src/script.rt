@@ -10,11 +10,7 @@ use wl_wire::{IoFault, OutOfMemory, Token};
 
 impl<U: Drop> Backend<Memory, U> {
     /// Puts a chunk behind the arrivals.
-    pub(crate) fn arrive(
-        &mut self,
-        bytes: Vec<u8>,
-        tokens: Vec<Token>,
-    ) -> Result<(), ArriveError>
+    pub(crate) fn arrive(&mut self, bytes: Vec<u8>, tokens: Vec<Token>) -> Result<(), ArriveError>
         ensures arrived { ArrivesWith self.old.session (record { bytes = bytes.items; tokens = tokens.items }) result self.new.session }
         ensures refused { self.new.refused ≡ refused_arrive result }
     {

@@ -16,11 +16,7 @@ pub enum Step<U> {
     /// `Backend::destroy_object`.
     DestroyObject(ObjectId),
     /// `Backend::send_request`.
-    SendRequest(
-        Message<ObjectId, Token>,
-        Option<U>,
-        Option<(InterfaceId, u32)>,
-    ),
+    SendRequest(Message<ObjectId, Token>, Option<U>, Option<(InterfaceId, u32)>),
     /// `Backend::flush`.
     Flush,
     /// `Backend::next_event`.

@@ -6,8 +6,9 @@ use Rattle.wl_client.proofs.session.Session.connect.Goals as goal
 pub returns : goal.returns
 returns g c =
     let same = ap (λ store. stored store 1 c.fresh_object-display.result) c.new-objects.ensures
-        ∙ ap (λ x. stored empty_store 1 x) c.fresh_object-display.ensures in
-    (c.in_ok-socket.socket, c.in_ok-socket.ensures,
+    ∙ ap (λ x. stored empty_store 1 x) c.fresh_object-display.ensures in (
+      c.in_ok-socket.socket,
+      c.in_ok-socket.ensures,
       λ i. record {
         table = c.args.protocol;
         link = c.in_ok-socket.socket;
@@ -16,4 +17,5 @@ returns g c =
         error = None;
         open_event = None;
         notes = c.new-2.ensures.items i;
-      })
+      },
+    )

@@ -16,4 +16,4 @@ pub returns-in_default-fault : goal.returns-in_default-fault
 returns-in_default-fault g c =
     rw (← c.self.view_is)
     (received_fault g.T.Transport.receives _ c.fill_incoming_buffers.new.self c.in-Err.fault _ _ c.in-Err.ensures
-      (fault_stored g.T.Transport.receives _ _ c.in-Err.fault c.in_default-fault.not-WouldBlock c.in_default-fault.not-OutOfMemory refl))
+    (fault_stored g.T.Transport.receives _ _ c.in-Err.fault c.in_default-fault.not-WouldBlock c.in_default-fault.not-OutOfMemory refl))
