@@ -32,6 +32,7 @@ pub use error::{
     WaylandError,
 };
 pub use identity::each_id_names_its_own_object;
+pub use next_event::READ_TURNS;
 pub use note::Note;
 pub use object_id::ObjectId;
 pub use step::{Reply, Step, Stopped};

@@ -12,7 +12,7 @@ use wl_link::Transport;
 use wl_wire::{IoFault, Message, Token};
 
 /// How many receives a reading makes at most.
-const READ_TURNS: u32 = 64;
+pub const READ_TURNS: u32 = 64;
 
 impl<T: Transport + Drop, U: Drop> Session<T, U> {
     /// Handles messages until the reading ends, or no message waits whole.
