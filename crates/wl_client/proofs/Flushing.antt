@@ -1,5 +1,5 @@
 -- What a session makes of the answer of its link's flush.
-use Rattle.std.proofs.Common.{◌≡◌, ℕ, Option, None, Some, Result, Ok, Err, MatchOption, refl, is_some, false}
+use Rattle.std.proofs.Common.{◌≡◌, ℕ, Option, None, Some, Result, Err, MatchOption, refl, is_some, false}
 use Rattle.wl_wire.specs.declared.error.IoFault.{IoFault}
 use Rattle.wl_wire.specs.declared.error.IoFault.TheVariants as fault
 use Rattle.wl_link.specs.Exchange.{Queue}

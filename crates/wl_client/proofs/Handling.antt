@@ -10,7 +10,6 @@ use Rattle.wl_wire.specs.declared.error.MessageParseError.TheVariants as errors
 use Rattle.wl_wire.specs.declared.message.Message.{Message}
 use Rattle.wl_wire.specs.Argument.{WireArgument}
 use Rattle.wl_wire.specs.Message.{WireMessage}
-use Rattle.wl_wire.specs.Parse.{ReadsMessage}
 use Rattle.wl_wire.specs.Reading.{Reads as ReadsArgs}
 use Rattle.wl_wire.specs.Table.{MessageRow}
 use Rattle.wl_link.specs.declared.object.Object.{Object}

@@ -1,12 +1,12 @@
 -- How turns and receives join to a reading.
-use Rattle.std.proofs.Common.{◌≡◌, ◌≢◌, ◌∙◌, ℕ, suc, ◌+◌, ◌-◌, ◌<◌, ◌≤◌, Bool, Option, None, Some, List, [], ◌∷◌, length, drop, Result, Ok, Err, refl, sym, ap, subst, arith, nat_le, MatchBool, MatchResult, true, false, true≢false, is_ok}
+use Rattle.std.proofs.Common.{◌≡◌, ◌≢◌, ◌∙◌, ℕ, suc, ◌+◌, ◌-◌, ◌<◌, ◌≤◌, Bool, Option, None, Some, List, [], ◌∷◌, length, Result, Ok, Err, refl, sym, ap, subst, arith, MatchBool, MatchResult, true, false, true≢false, is_ok}
 use mathlib.Core.Logic.{inl, inr}
 use Rattle.wl_wire.specs.declared.error.IoFault.{IoFault}
 use Rattle.wl_wire.specs.declared.error.MessageParseError.{MessageParseError}
 use Rattle.wl_wire.specs.declared.error.MessageParseError.TheVariants as errors
 use Rattle.wl_wire.specs.Message.{WireMessage}
 use Rattle.wl_link.specs.Exchange.{Queue}
-use Rattle.wl_link.specs.Link.{LinkState, Filled, FilledBy, ReadFound, counted_answer, count_of}
+use Rattle.wl_link.specs.Link.{LinkState, Filled, ReadFound}
 use Rattle.std.proofs.lemmas.List.{length-drop}
 use Rattle.wl_wire.specs.declared.argument.ArgumentType.{ArgumentType}
 use Rattle.wl_wire.specs.declared.error.IoFault.TheVariants as fault
@@ -15,15 +15,14 @@ use Rattle.wl_client.specs.declared.error.EventError.{EventError}
 use Rattle.wl_client.specs.declared.error.EventError.TheVariants as no_event
 use Rattle.wl_client.specs.declared.error.WaylandError.TheVariants.{Io}
 use Rattle.wl_client.specs.declared.turn.NoEvent.{NoEvent}
-use Rattle.wl_client.specs.declared.turn.Turn.{Turn as Turned}
 use Rattle.wl_client.specs.declared.turn.Turn.TheVariants as turned
-use Rattle.wl_client.specs.Reading.{Turn, Received, Handled, Faulted, Lacks, Reads, ReadsAs, receives_allowed, with_error, with_link}
+use Rattle.wl_client.specs.Reading.{Turn, Received, Handled, Faulted, Lacks, Reads, receives_allowed, with_error, with_link}
 use Rattle.wl_wire.specs.declared.argument.Token.{Token}
 use Rattle.wl_wire.specs.declared.message.Message.{Message}
 use Rattle.wl_client.specs.ObjectId.{IdParts}
 use Rattle.wl_client.specs.Requests.{SessionMessage, session_content}
 use Rattle.wl_client.specs.Session.{SessionState}
-use Rattle.wl_client.specs.Turns.{EndsSo, HandledTo, LeadsOn, NotTakenTo, ReceivedTo, Turns, no_turns}
+use Rattle.wl_client.specs.Turns.{EndsSo, LeadsOn, ReceivedTo, Turns, no_turns}
 
 abbrev ok_answer : WireMessage → Result WireMessage MessageParseError
 ok_answer m = Ok m

@@ -1,5 +1,5 @@
 -- A run of steps, so far as it was made.
-use Rattle.std.proofs.Common.{◌≡◌, ℕ, suc, ◌<◌, Bool, true, false, List, [], ◌∷◌, ◌++◌, length, reverse, refl, sym, ap, subst, ◌∙◌, arith, append_assoc, append-nil, length-append}
+use Rattle.std.proofs.Common.{◌≡◌, ℕ, ◌<◌, true, false, List, [], ◌∷◌, ◌++◌, length, reverse, refl, sym, ap, subst, ◌∙◌, arith, append_assoc, append-nil, length-append}
 use mathlib.Core.Logic.{inr}
 use Rattle.std.proofs.lemmas.List.{reverse-reverse, reverse-append}
 use Rattle.wl_link.specs.Script.{Script}

@@ -1,5 +1,5 @@
 -- A number whose object was taken out is free.
-use Rattle.std.proofs.Common.{◌≡◌, ℕ, ◌<◌, ◌≤◌, true, refl, arith}
+use Rattle.std.proofs.Common.{◌≡◌, ℕ, ◌<◌, true, refl, arith}
 use Rattle.std.proofs.lemmas.Bool.{lt-ltb, le-leb}
 use Rattle.wl_link.specs.Store.{Store, first_unused, is_free, removed}
 use Rattle.wl_link.specs.StoreLaws.{removed_here}

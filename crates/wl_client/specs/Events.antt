@@ -2,7 +2,7 @@
 --
 -- Its arguments go from left to right. The number of an object becomes the id of the object that holds it; each object
 -- argument takes the next of the table's interfaces. A new id makes an object.
-use Rattle.std.specs.Prelude.{◌≡◌, ℕ, ◌+◌, List, [], ◌∷◌, ◌++◌, Bool, true, false, not, ◌==◌, ◌&&◌, if◌then◌else◌, Option, None, Some, is_some, Result, Ok, Err, codes}
+use Rattle.std.specs.Prelude.{ℕ, ◌+◌, List, [], ◌∷◌, ◌++◌, Bool, true, false, not, ◌==◌, ◌&&◌, if◌then◌else◌, Option, None, Some, Result, Ok, Err, codes}
 use Rattle.std.specs.Fmt.{decimal}
 use Rattle.std.specs.Str.Lossy.{utf8_lossy}
 use Rattle.wl_wire.specs.declared.argument.Argument.{Argument}
@@ -12,7 +12,6 @@ use Rattle.wl_wire.specs.declared.interface.InterfaceId.{InterfaceId}
 use Rattle.wl_wire.specs.declared.interface.TheConstants.{ANONYMOUS_INTERFACE}
 use Rattle.wl_wire.specs.declared.error.ProtocolError.{ProtocolError}
 use Rattle.wl_wire.specs.Argument.{WireArgument}
-use Rattle.wl_wire.specs.Message.{WireMessage}
 use Rattle.wl_wire.specs.Table.{InterfaceRow, MessageRow, name_of}
 use Rattle.wl_link.specs.declared.object.Object.{Object}
 use Rattle.wl_link.specs.Identity.{Objects}

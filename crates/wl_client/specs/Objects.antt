@@ -1,5 +1,5 @@
 -- What the calls on a session's objects answer, and what they change.
-use Rattle.std.specs.Prelude.{◌≡◌, ℕ, ◌⊎◌, Bool, true, false, ◌==◌, if◌then◌else◌, Option, None, Some, IsSome, Result, Ok, Err, MatchOption}
+use Rattle.std.specs.Prelude.{◌≡◌, ℕ, ◌⊎◌, true, ◌==◌, if◌then◌else◌, Option, None, Some, IsSome, Result, Ok, Err, MatchOption}
 use Rattle.wl_wire.specs.declared.interface.ObjectInfo.{ObjectInfo}
 use Rattle.wl_link.specs.declared.object.Object.{Object}
 use Rattle.wl_link.specs.Store.{Store, rewritten}

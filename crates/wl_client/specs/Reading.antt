@@ -3,7 +3,7 @@
 --
 -- A reading is a list of receives and handled messages. A receive stands only where what waits lacks data or tokens,
 -- and only the last entry gives an event or a fault.
-use Rattle.std.specs.Prelude.{◌≡◌, ℕ, suc, List, [], ◌∷◌, Bool, true, false, ◌==◌, if◌then◌else◌, ◌⊎◌, Option, None, Some, option_map, Result, Ok, Err, MatchOption, MatchResult, MatchBool}
+use Rattle.std.specs.Prelude.{◌≡◌, ℕ, suc, List, [], ◌∷◌, Bool, true, false, ◌==◌, ◌⊎◌, Option, None, Some, option_map, Result, Ok, Err, MatchOption, MatchResult, MatchBool}
 use Rattle.wl_wire.specs.declared.argument.ArgumentType.{ArgumentType}
 use Rattle.wl_wire.specs.declared.argument.Token.{Token}
 use Rattle.wl_wire.specs.declared.error.IoFault.{IoFault}

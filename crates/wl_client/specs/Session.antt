@@ -1,14 +1,12 @@
 -- What a client session holds, and the look-ups that its calls share.
-use Rattle.std.specs.Prelude.{◌≡◌, ℕ, List, [], Bool, false, true, Option, None, Some, ◌==◌, if◌then◌else◌, slice_get, map, ◌++◌, ◌∷◌}
-use Rattle.std.specs.Coded.{Coded, code_by, coded×, coded_ℕ, coded_bool}
-use Rattle.wl_wire.specs.declared.argument.ArgumentType.{ArgumentType}
+use Rattle.std.specs.Prelude.{◌≡◌, ℕ, List, [], Bool, false, true, Option, None, Some, ◌==◌, if◌then◌else◌, slice_get, ◌++◌, ◌∷◌}
 use Rattle.wl_wire.specs.declared.interface.InterfaceId.{InterfaceId}
 use Rattle.wl_wire.specs.declared.interface.TheConstants.{ANONYMOUS_INTERFACE, WL_DISPLAY_INTERFACE}
 use Rattle.wl_wire.specs.Table.{InterfaceRow, MessageRow}
 use Rattle.wl_link.specs.declared.object.Object.{Object}
 use Rattle.wl_link.specs.Identity.{Id, Objects, names}
 use Rattle.wl_link.specs.Link.{LinkState, IsFresh}
-use Rattle.wl_link.specs.Store.{Store, empty_store, held, stored}
+use Rattle.wl_link.specs.Store.{Store, empty_store, stored}
 use Rattle.wl_client.specs.declared.error.WaylandError.{WaylandError}
 use Rattle.wl_client.specs.declared.kept.Kept.{Kept}
 use Rattle.wl_client.specs.declared.note.Note.{Note}

@@ -1,4 +1,4 @@
-use Rattle.std.proofs.Common.{arith, Some, refl}
+use Rattle.std.proofs.Common.{arith}
 use Rattle.wl_wire.specs.Message.{content}
 use Rattle.wl_client.proofs.Handling.{as_many}
 use Rattle.wl_client.proofs.turn.take.Goals as goal

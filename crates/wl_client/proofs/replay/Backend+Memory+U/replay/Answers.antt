@@ -1,4 +1,4 @@
-use Rattle.std.proofs.Common.{◌≡◌, ◌++◌, [], arith, ap, refl, sym, subst, length, ◌∙◌, ℕ}
+use Rattle.std.proofs.Common.{◌≡◌, ◌++◌, [], arith, ap, refl, sym, subst, ◌∙◌, ℕ}
 use Rattle.std.proofs.lemmas.Bool.{false≢true}
 use Rattle.wl_client.specs.Steps.{StepOf, StopsAt, entries}
 use Rattle.wl_client.specs.IdentityLaws.{own_ids}

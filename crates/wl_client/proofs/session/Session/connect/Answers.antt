@@ -1,6 +1,5 @@
 use Rattle.std.proofs.Common.{None, ap, ◌∙◌}
 use Rattle.wl_link.specs.Store.{empty_store, stored}
-use Rattle.wl_client.specs.Session.{SessionState}
 use Rattle.wl_client.proofs.session.Session.connect.Goals as goal
 
 pub returns : goal.returns
