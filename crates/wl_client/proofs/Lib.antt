@@ -5,3 +5,4 @@ pub mod Handling
 pub mod Readings
 mod Flushing
 pub mod Replaying
+mod Rows
