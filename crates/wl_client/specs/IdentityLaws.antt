@@ -45,7 +45,7 @@ use Rattle.wl_client.specs.Steps.{Entry, Leads, StepOf}
 
 -- ---- options and truth values
 
-none_some : {A : Type 0} {x : A} → None ≡ Some x → ⊥
+pub none_some : {A : Type 0} {x : A} → None ≡ Some x → ⊥
 none_some e = true≢false (sym (ap is_some e))
 
 not_some : {A : Type 0} (o : Option A) (b : Bool) → (not (is_some o) && b) ≡ true → o ≡ None
@@ -56,15 +56,15 @@ both : (a b : Bool) → (a && b) ≡ true → (a ≡ true) × (b ≡ true)
 both true b e = (refl, e)
 both false b e = absurd (true≢false (sym e))
 
-either_option : {A P : Type 0} {Q : A → Type 0} (o : Option A) → MatchOption o P Q → ((o ≡ None) × P) ⊎ ((x : A) × (o ≡ Some x) × Q x)
+pub either_option : {A P : Type 0} {Q : A → Type 0} (o : Option A) → MatchOption o P Q → ((o ≡ None) × P) ⊎ ((x : A) × (o ≡ Some x) × Q x)
 either_option None p = inl (refl, p)
 either_option (Some x) q = inr (x, refl, q)
 
-either_result : {A E : Type 0} {P : A → Type 0} {Q : E → Type 0} (r : Result A E) → MatchResult r P Q → ((x : A) × P x) ⊎ ((e : E) × Q e)
+pub either_result : {A E : Type 0} {P : A → Type 0} {Q : E → Type 0} (r : Result A E) → MatchResult r P Q → ((x : A) × P x) ⊎ ((e : E) × Q e)
 either_result (Ok x) p = inl (x, p)
 either_result (Err e) q = inr (e, q)
 
-either_bool : {P Q : Type 0} (b : Bool) → MatchBool b P Q → P ⊎ Q
+pub either_bool : {P Q : Type 0} (b : Bool) → MatchBool b P Q → P ⊎ Q
 either_bool true p = inl p
 either_bool false q = inr q
 
@@ -163,7 +163,7 @@ module _ {U : Type 0} where
   }
 
   -- an object that an id names
-  named_held : (store : Store (Kept U)) (id : IdParts) (x : Object (Kept U)) → named store id ≡ Some x → held store id.number ≡ Some x
+  pub named_held : (store : Store (Kept U)) (id : IdParts) (x : Object (Kept U)) → named store id ≡ Some x → held store id.number ≡ Some x
   named_held store id x e = go (eqb id.number 0) (held store id.number) e
     where
       one : (c : Bool) (y : Object (Kept U)) → cond c (Some y) None ≡ Some x → Some y ≡ Some x
@@ -461,7 +461,7 @@ module _ {T U : Type 0} where
             (only_objects s _ [] (wrote (objects_of s) id.number (with_user_data u x) x (named_held s.store id x some) refl) refl)
       ]
 
-  destroyable_held : (s : SessionState T U) (id : IdParts) (x : Object (Kept U)) → destroyable s id ≡ Some x → held s.store id.number ≡ Some x
+  pub destroyable_held : (s : SessionState T U) (id : IdParts) (x : Object (Kept U)) → destroyable s id ≡ Some x → held s.store id.number ≡ Some x
   destroyable_held s id x e = named_held s.store id x (alive_is (named s.store id) x (go (eqb id.number 1) e))
     where
       go : (b : Bool) → cond b None (alive (named s.store id)) ≡ Some x → alive (named s.store id) ≡ Some x

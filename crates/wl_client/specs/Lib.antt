@@ -12,4 +12,6 @@ pub mod Steps
 pub mod Client
 pub mod Handed
 pub mod IdentityLaws
+pub mod Noted
+pub mod NotedLaws
 pub mod Lending

@@ -1,9 +1,10 @@
-//! What an id names, over every run of a session.
+//! What an id names, and how often an object is noted, over every run of a session.
 
 ghost use Rattle.std.specs.Prelude.{List};
 ghost use Rattle.wl_wire.specs.Table.{InterfaceRow};
 ghost use Rattle.wl_link.specs.Script.{Script};
 ghost use Rattle.wl_client.specs.Handed.{HasOwnIds};
+ghost use Rattle.wl_client.specs.Noted.{NotedOnce};
 ghost use Rattle.wl_client.specs.Session.{SessionState, IsConnected};
 ghost use Rattle.wl_client.specs.Steps.{Entry, Leads};
 
@@ -14,4 +15,13 @@ ghost use Rattle.wl_client.specs.Steps.{Entry, Leads};
 pub fn each_id_names_its_own_object<U>()
     ensures { (table : List InterfaceRow) (transport : Script) (before after : SessionState Script U) (run : List (Entry U)) →
         IsConnected table transport before → Leads before run after → HasOwnIds run after }
+{}
+
+/// The law of a session's notes.
+///
+/// Over every run of calls from the connecting on, no object is noted twice: the ids of the notes that were taken,
+/// and of those that still wait, differ pairwise in number or serial. The call itself does nothing.
+pub fn each_object_is_noted_once<U>()
+    ensures { (table : List InterfaceRow) (transport : Script) (before after : SessionState Script U) (run : List (Entry U)) →
+        IsConnected table transport before → Leads before run after → NotedOnce run after }
 {}

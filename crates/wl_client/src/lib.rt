@@ -31,7 +31,7 @@ pub use error::{
     DestroyError, EventError, FinishError, FinishRefused, FlushError, InvalidId, RequestError,
     WaylandError,
 };
-pub use identity::each_id_names_its_own_object;
+pub use identity::{each_id_names_its_own_object, each_object_is_noted_once};
 pub use next_event::READ_TURNS;
 pub use note::Note;
 pub use object_id::ObjectId;
