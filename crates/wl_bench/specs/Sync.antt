@@ -1,11 +1,17 @@
 -- The first exchange of a client and a server.
 use Rattle.std.specs.Prelude.{ℕ, List, [], ◌∷◌}
+use Rattle.std.specs.List.{flat_map}
 use Rattle.wl_wire.specs.Argument.{WireArgument}
 use Rattle.wl_wire.specs.Message.{WireMessage}
+use Rattle.wl_link.specs.Exchange.{Queue}
 
 -- a message of one argument
 abbrev pub one_argument : ℕ → ℕ → WireArgument → WireMessage
 one_argument sender opcode argument = record { sender = sender; opcode = opcode; args = argument ∷ [] }
+
+-- the bytes of what was sent, one send behind another
+abbrev pub all_bytes : List Queue → List ℕ
+all_bytes sent = flat_map (λ (q : Queue). q.bytes) sent
 
 -- `wl_display.sync` with the new object 2
 abbrev pub request_bytes : List ℕ

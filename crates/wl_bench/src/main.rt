@@ -1,6 +1,7 @@
 //! The program `wl-bench`.
 //!
-//! `wl-bench sync` prints the bytes of a client's first `wl_display.sync`, and those of the server's answer, a line each.
+//! `wl-bench sync` prints the bytes that a fresh client sends for its first `wl_display.sync`, and those of the server's
+//! answer, a line each.
 //! It ends with status 0; with 2 and its usage on standard error where the arguments are others; with 3 and `failed`
 //! there where memory, input or output failed.
 #![tactic(auto)]
@@ -42,8 +43,8 @@ fn requested(rt: &(impl Env + Alloc)) -> Result<Command, Stop> {
 /// Prints the first exchange.
 fn print_sync(rt: &(impl Print + AllocGlobal)) -> Result<(), Stop> {
     let alloc = rt.alloc();
-    let table = Protocol::new(alloc, Vec::new(alloc)).map_err(|_| Stop::Failed)?;
-    let request = hex_line(alloc, sync::request(alloc, &table)?.as_slice())?;
+    let request = hex_line(alloc, sync::request(alloc)?.as_slice())?;
+    let table = Protocol::new(alloc, Vec::new(alloc))?;
     let answer = hex_line(alloc, sync::answer(alloc, &table)?.as_slice())?;
     println!(rt; "{request}")?;
     println!(rt; "{answer}")?;

@@ -2,7 +2,8 @@
 
 use std::alloc::{AllocError, AllocFailed};
 use std::io;
-use wl_wire::MessageWriteError;
+use wl_client::{FlushError, RequestError};
+use wl_wire::{MessageWriteError, OutOfMemory, TableError};
 
 /// Why the program ends before its work is done.
 #[derive(Clone, Copy, Debug, PartialEq, Eq)]
@@ -25,14 +26,38 @@ impl<T: Drop> From<AllocFailed<T>> for Stop {
     }
 }
 
+impl From<OutOfMemory> for Stop {
+    fn from(_e: OutOfMemory) -> Stop {
+        Stop::Failed
+    }
+}
+
 impl From<io::Error> for Stop {
     fn from(_e: io::Error) -> Stop {
         Stop::Failed
     }
 }
 
+impl From<TableError> for Stop {
+    fn from(_e: TableError) -> Stop {
+        Stop::Failed
+    }
+}
+
 impl From<MessageWriteError> for Stop {
     fn from(_e: MessageWriteError) -> Stop {
+        Stop::Failed
+    }
+}
+
+impl From<RequestError> for Stop {
+    fn from(_e: RequestError) -> Stop {
+        Stop::Failed
+    }
+}
+
+impl From<FlushError> for Stop {
+    fn from(_e: FlushError) -> Stop {
         Stop::Failed
     }
 }

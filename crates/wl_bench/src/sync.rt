@@ -2,11 +2,13 @@
 
 ghost use Rattle.std.specs.Prelude.{◌≡◌, ◌++◌, [], ◌∷◌, IfOk, OnOk};
 ghost use Rattle.wl_wire.specs.Message.{content, spelling};
-ghost use Rattle.wl_bench.specs.Sync.{one_argument, request_bytes, answer_bytes};
+ghost use Rattle.wl_bench.specs.Sync.{one_argument, all_bytes, request_bytes, answer_bytes};
 
 use crate::stop::Stop;
 use smallvec::SmallVec;
 use std::alloc::Global;
+use wl_client::{Backend, ObjectId};
+use wl_link::Memory;
 use wl_wire::{
     Argument, ArgumentType, InterfaceId, Message, Protocol, Token, WL_CALLBACK_INTERFACE,
     WL_DISPLAY_INTERFACE, check_for_signature, message_size, write_to_buffers,
@@ -75,16 +77,34 @@ fn event_signature(
     Some(event.signature.as_slice())
 }
 
-/// The bytes of the first `wl_display.sync` of a fresh client.
-pub fn request(alloc: Global, table: &Protocol) -> Result<Vec<u8>, Stop>
+/// All bytes that were sent over the transport.
+fn sent_bytes(alloc: Global, transport: &Memory) -> Result<Vec<u8>, Stop>
+    ensures { IfOk result (λ v. v.items ≡ all_bytes transport.now.sent) }
+{
+    let mut bytes = Vec::new(alloc);
+    let sent = transport.sent();
+    for (chunk, _) in sent {
+        bytes.extend_from_slice(chunk)?;
+    }
+    Ok(bytes)
+}
+
+/// The bytes that a fresh client sends for its first `wl_display.sync`.
+pub fn request(alloc: Global) -> Result<Vec<u8>, Stop>
     ensures { IfOk result (λ v. v.items ≡ request_bytes) }
 {
-    let display = table.get(WL_DISPLAY_INTERFACE).ok_or(Stop::Failed)?;
-    let request = display.requests.get(usize::from(SYNC)).ok_or(Stop::Failed)?;
-    let mut out = Vec::new(alloc);
-    let sync = one(alloc, DISPLAY, SYNC, Argument::NewId(CALLBACK))?;
-    append(&mut out, Some(request.signature.as_slice()), &sync)?;
-    Ok(out)
+    let table = Protocol::new(alloc, Vec::new(alloc))?;
+    let mut client: Backend<Memory, ()> = Backend::connect(alloc, table, Memory::new(alloc))?;
+    let mut args = SmallVec::new(alloc);
+    args.push(Argument::NewId(ObjectId::null()))?;
+    let sync = Message {
+        sender_id: client.display_id(),
+        opcode: SYNC,
+        args,
+    };
+    let _callback = client.send_request(sync, Some(()), None)?;
+    client.flush()?;
+    sent_bytes(alloc, client.transport())
 }
 
 /// The bytes of the server's answer: the callback is done, and its number is free again.
