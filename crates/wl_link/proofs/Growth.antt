@@ -1,8 +1,8 @@
 -- A storage that is doubled again and again.
-use Rattle.std.proofs.Common.{◌≡◌, ℕ, zero, suc, ◌+◌, ◌*◌, ◌^◌, ◌-◌, ◌<◌, ◌≤◌, Option, refl, sym, ◌∙◌, ap, subst, arith, below_more}
+use Rattle.std.proofs.Common.{◌≡◌, ℕ, ◌+◌, ◌*◌, ◌^◌, ◌<◌, Option, sym, ◌∙◌, ap, subst, below_more}
 use Rattle.std.proofs.lemmas.Grind.{pow_more}
 use Rattle.std.proofs.Math.Nat.{mul_assoc}
-use Rattle.wl_link.specs.Link.{Wants, Grows}
+use Rattle.wl_link.specs.Link.{Wants}
 
 -- so far each doubling was wanted
 pub record Doubled (limit : Option ℕ) (needed size now : ℕ) : Type 0 where

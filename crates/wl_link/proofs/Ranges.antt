@@ -1,6 +1,6 @@
 -- Parts of a storage.
-use Rattle.std.proofs.Common.{◌≡◌, ℕ, ◌+◌, ◌-◌, ◌≤◌, List, ◌++◌, length, take, drop, slice_range, sym, ◌∙◌, ap, arith}
-use Rattle.std.proofs.lemmas.List.{drop-drop, drop-take, length-take, length-drop}
+use Rattle.std.proofs.Common.{◌≡◌, ℕ, ◌+◌, ◌-◌, ◌≤◌, List, length, take, drop, slice_range, sym, ◌∙◌, ap, arith}
+use Rattle.std.proofs.lemmas.List.{drop-drop, drop-take, length-take}
 
 -- where a part begins later, what stood before is dropped
 pub slice_range_later : (xs : List ℕ) (start end n : ℕ) → start ≤ end → n ≤ length (slice_range xs start end)

@@ -1,8 +1,7 @@
 -- A message written behind the bytes that wait in a storage.
-use Rattle.std.proofs.Common.{◌≡◌, ◌≢◌, ◌↔◌, ℕ, ◌+◌, ◌*◌, ◌-◌, ◌<◌, ◌≤◌, List, [], ◌++◌, length, take, drop, slice_range, Result, Ok, Err, IfOk, OnOk, OnErr, refl, sym, ◌∙◌, ap, subst, arith, length-append, append-nil}
-use Rattle.std.proofs.lemmas.List.{length-take, length-take-le, length-drop, take-append-le, take_at, drop-append-le}
+use Rattle.std.proofs.Common.{◌≡◌, ◌≢◌, ◌↔◌, ℕ, ◌+◌, ◌-◌, ◌<◌, ◌≤◌, List, [], ◌++◌, length, take, drop, slice_range, Result, Ok, Err, IfOk, OnOk, OnErr, refl, sym, ◌∙◌, ap, arith, length-append, append-nil}
+use Rattle.std.proofs.lemmas.List.{length-take, length-take-le, length-drop, take_at, drop-append-le}
 use Rattle.std.proofs.lemmas.Slice.{between_is}
-use Rattle.std.proofs.Math.Nat.{add-zero}
 use borrow.Rule.Slice.PartMut.{put_mid, post_of}
 use Rattle.wl_wire.specs.declared.argument.Token.{Token}
 use Rattle.wl_wire.specs.declared.error.MessageWriteError.{MessageWriteError}

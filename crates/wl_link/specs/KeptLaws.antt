@@ -1,7 +1,7 @@
 -- That a flush and a write lose nothing, and what a flush that ends leaves.
-use Rattle.std.specs.Prelude.{◌≡◌, ◌≢◌, ℕ, ◌+◌, ◌*◌, ◌-◌, ◌<◌, ◌≤◌, ◌⊎◌, List, [], ◌∷◌, ◌++◌, length, take, drop, nat_le, ◌==◌, Bool, true, false, MatchBool, MatchResult, Result, Ok, Err, if◌then◌else◌}
+use Rattle.std.specs.Prelude.{◌≡◌, ◌≢◌, ℕ, ◌+◌, ◌*◌, ◌<◌, ◌≤◌, ◌⊎◌, List, [], ◌∷◌, ◌++◌, length, take, drop, nat_le, ◌==◌, true, false, MatchBool, MatchResult, Result, Ok, Err}
 use Rattle.std.proofs.Common.{refl, sym, ◌∙◌, ap, subst, inl, inr, arith, append_assoc}
-use Rattle.std.proofs.lemmas.Bool.{cases_Bool, ne_eqb, MatchBool-at_true, MatchBool-at_false, eqb-true, eqb-false, leb-true, leb-false}
+use Rattle.std.proofs.lemmas.Bool.{cases_Bool, ne_eqb, MatchBool-at_true, MatchBool-at_false, eqb-true, leb-true}
 use Rattle.std.proofs.lemmas.List.{append-nil, take-append-le, take-append-drop, length-take, length-drop, drop-drop, drop_all}
 use Rattle.wl_wire.specs.declared.argument.Token.{Token}
 use Rattle.wl_wire.specs.declared.error.IoFault.{IoFault}

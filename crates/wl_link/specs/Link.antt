@@ -3,7 +3,7 @@
 -- The sends of a call are a list, which the transport's relation chains from its value before the call to its value
 -- after. Each relation comes with its sends as an argument (`FlushedBy`, `WroteBy`) and with them hidden (`Flushed`,
 -- `Wrote`).
-use Rattle.std.specs.Prelude.{◌≡◌, ◌≢◌, ℕ, zero, suc, ◌+◌, ◌-◌, ◌*◌, ◌^◌, ◌<◌, ◌≤◌, ◌⊎◌, List, [], ◌∷◌, ◌++◌, length, take, drop, Bool, nat_le, ◌==◌, Option, Some, None, Result, Ok, Err, MatchBool, MatchOption, MatchResult, if◌then◌else◌}
+use Rattle.std.specs.Prelude.{◌≡◌, ◌≢◌, ℕ, ◌+◌, ◌-◌, ◌*◌, ◌^◌, ◌<◌, ◌≤◌, ◌⊎◌, List, [], ◌∷◌, length, take, drop, Bool, nat_le, ◌==◌, Option, Some, None, Result, Ok, Err, MatchBool, MatchResult, if◌then◌else◌}
 use Rattle.std.specs.Int.{IsPowerOfTwo}
 use Rattle.std.specs.Option.{option_copied}
 use Rattle.std.specs.Borrow.{Bor}

@@ -1,18 +1,14 @@
 -- Where a transport's answers follow from its value, so does what a call does.
 --
 -- Memory may always be refused, so this is said of answers other than the one that tells it.
-use Rattle.std.specs.Prelude.{◌≡◌, ◌≢◌, ℕ, ◌*◌, ◌^◌, ◌<◌, ◌≤◌, ◌⊎◌, List, [], ◌∷◌, ◌++◌, length, nat_le, ◌==◌, Bool, true, false, Option, Some, None, MatchBool, MatchOption, MatchResult, Result, Ok, Err}
-use Rattle.std.proofs.Common.{refl, sym, ◌∙◌, ap, subst, inl, inr, arith}
+use Rattle.std.specs.Prelude.{◌≡◌, ◌≢◌, ℕ, ◌*◌, ◌^◌, ◌<◌, ◌⊎◌, List, [], ◌∷◌, nat_le, ◌==◌, true, false, Option, MatchBool, MatchResult, Result, Ok, Err}
+use Rattle.std.proofs.Common.{refl, sym, ◌∙◌, ap, subst, inl, inr}
 use Rattle.std.proofs.lemmas.Bool.{cases_Bool, cases_order, MatchBool-at_true, MatchBool-at_false}
-use Rattle.wl_wire.specs.declared.argument.ArgumentType.{ArgumentType}
-use Rattle.wl_wire.specs.declared.argument.Token.{Token}
 use Rattle.wl_wire.specs.declared.error.IoFault.{IoFault}
 use Rattle.wl_wire.specs.declared.error.IoFault.TheVariants as fault
-use Rattle.wl_wire.specs.declared.error.MessageParseError.{MessageParseError}
-use Rattle.wl_wire.specs.declared.error.MessageParseError.TheVariants as errors
 use Rattle.wl_wire.specs.Message.{WireMessage, size}
-use Rattle.wl_link.specs.Exchange.{Queue, Sending, Chain, joined}
-use Rattle.wl_link.specs.Link.{LinkState, with_outgoing, with_storage, with_incoming, offer_of, left_of, Goes, Flushes, FlushedBy, Flushed, Wants, Grows, Grown, Put, PlacedBy, WroteBy, Wrote, FilledBy, Filled, counted_answer, count_of, with_came, spelled, has_room, ignoring, needed}
+use Rattle.wl_link.specs.Exchange.{Queue, Sending, Chain}
+use Rattle.wl_link.specs.Link.{LinkState, with_outgoing, with_storage, with_incoming, left_of, Goes, Flushes, FlushedBy, Wants, Grows, Grown, Put, PlacedBy, WroteBy, FilledBy, counted_answer, count_of, with_came, has_room, ignoring, needed}
 
 -- two sends of one offer, neither refused for want of memory, have one answer and leave one value
 abbrev pub IsFunction : {T : Type 0} → (T → Queue → Result ℕ IoFault → T → Type 0) → Type 0

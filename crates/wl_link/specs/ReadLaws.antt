@@ -1,5 +1,5 @@
 -- What a read gives.
-use Rattle.std.specs.Prelude.{◌≡◌, ◌≢◌, ℕ, ◌-◌, ◌≤◌, ◌⊎◌, List, [], ◌∷◌, ◌++◌, length, drop, nat_le, Bool, true, false, MatchBool, MatchOption, Option, Some, None, Result, Ok, Err}
+use Rattle.std.specs.Prelude.{◌≡◌, ◌≢◌, ℕ, ◌-◌, ◌≤◌, ◌⊎◌, List, [], ◌∷◌, ◌++◌, length, drop, nat_le, true, false, Option, Some, None, Result, Ok, Err}
 use Rattle.std.proofs.Common.{refl, sym, ◌∙◌, ap, subst, inl, inr, arith, append_assoc, length-append}
 use Rattle.std.proofs.lemmas.Bool.{le-leb, cases_Bool, MatchBool-at_true, MatchBool-at_false}
 use Rattle.std.proofs.lemmas.List.{length-drop}
@@ -13,8 +13,7 @@ use Rattle.wl_wire.specs.Reading.{Reads}
 use Rattle.wl_wire.specs.CursorLaws.{reads_tokens}
 use Rattle.wl_wire.specs.Laws.{one_message_lem}
 use Rattle.wl_wire.specs.Parse.{length_of, sender_of, opcode_of, payload_of, fd_count, IsWhole, IsInline, ReadsMessage, RefusesMessage}
-use Rattle.wl_link.specs.Exchange.{Queue}
-use Rattle.wl_link.specs.Link.{LinkState, with_incoming, behind_first, ReadUnder, ReadFound, ReadOne}
+use Rattle.wl_link.specs.Link.{LinkState, with_incoming, ReadUnder, ReadFound, ReadOne}
 
 -- the answer of a parser, of the bytes and tokens that wait
 module _ {T : Type 0} (looks_up : ℕ → ℕ → Option (List ArgumentType) → Type 0) (before : LinkState T) (bytes : List ℕ)

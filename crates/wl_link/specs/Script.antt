@@ -1,5 +1,5 @@
 -- The transport by script: what each of its calls answers is a function of its value.
-use Rattle.std.specs.Prelude.{◌≡◌, ◌≢◌, ℕ, zero, suc, ◌≤◌, ◌⊎◌, min, List, [], ◌∷◌, ◌++◌, length, take, drop, Bool, nat_le, ◌==◌, Result, Ok, Err, IfOk, MatchBool, if◌then◌else◌, Vec}
+use Rattle.std.specs.Prelude.{◌≡◌, ◌≢◌, ℕ, zero, suc, ◌≤◌, ◌⊎◌, min, List, [], ◌∷◌, ◌++◌, length, take, drop, nat_le, ◌==◌, Result, Ok, Err, IfOk, if◌then◌else◌, Vec}
 use Rattle.std.specs.Global.{Global}
 use Rattle.wl_wire.specs.declared.argument.Token.{Token}
 use Rattle.wl_wire.specs.declared.error.IoFault.{IoFault}

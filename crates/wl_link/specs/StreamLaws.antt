@@ -1,5 +1,5 @@
 -- The stream law and the cutting law.
-use Rattle.std.specs.Prelude.{◌≡◌, ◌≢◌, ◌↔◌, ℕ, ◌-◌, ◌/◌, ◌%◌, ◌≤◌, ◌⊎◌, List, [], ◌∷◌, ◌++◌, length, take, drop, nat_le, Bool, true, false, MatchBool, MatchOption, MatchResult, Option, Some, None, Result, Ok, Err}
+use Rattle.std.specs.Prelude.{◌≡◌, ◌≢◌, ℕ, ◌/◌, ◌%◌, ◌≤◌, ◌⊎◌, List, [], ◌∷◌, ◌++◌, length, take, drop, nat_le, true, false, MatchOption, Option, Some, None, Result, Ok, Err}
 use Rattle.std.specs.List.{AllByRecursion}
 use Rattle.std.specs.Int.{w32, from_le_bytes}
 use Rattle.std.proofs.Common.{refl, sym, ◌∙◌, ap, subst, inl, inr, arith, append_assoc, length-append}
@@ -12,16 +12,16 @@ use Rattle.wl_wire.specs.declared.error.MessageParseError.{MessageParseError}
 use Rattle.wl_wire.specs.declared.error.MessageParseError.TheVariants as errors
 use Rattle.wl_wire.specs.Argument.{Matches}
 use Rattle.wl_wire.specs.Message.{WireMessage, size, spelling, tokens}
-use Rattle.wl_wire.specs.Parse.{length_of, second_word, sender_of, opcode_of, payload_of, fd_count, ReadsMessage, RefusesMessage}
+use Rattle.wl_wire.specs.Parse.{length_of, second_word, sender_of, opcode_of, payload_of, fd_count, ReadsMessage}
 use Rattle.wl_wire.specs.Stream.{Stream}
 use Rattle.wl_wire.specs.CursorLaws.{reads_tokens}
 use Rattle.wl_wire.specs.Laws.{length-spelling, sender-spelling, length_of-spelling, opcode_of-spelling, written_is_read_lem, one_message_lem}
 use Rattle.wl_link.specs.Exchange.{Queue, Sending, joined, nothing}
-use Rattle.wl_link.specs.Link.{LinkState, with_transport, FlushedBy, WroteBy, FilledBy, with_came, behind_first, ReadUnder, ReadFound, ReadOne, spelled}
-use Rattle.wl_link.specs.Kept.{taken, gone, NoZero, Kept, queued_by}
+use Rattle.wl_link.specs.Link.{LinkState, with_transport, FlushedBy, WroteBy, with_came, behind_first, ReadFound, ReadOne, spelled}
+use Rattle.wl_link.specs.Kept.{taken, NoZero, Kept, queued_by}
 use Rattle.wl_link.specs.KeptLaws.{Within, flush_kept, write_kept, gone-taken}
-use Rattle.wl_link.specs.ReadLaws.{reads_front, reads_enough, refused_though_read, read_under_other}
-use Rattle.wl_link.specs.Sides.{SenderCall, SenderStep, SenderRun, written_by, written, all_taken, NoneZero, ReceiverCall, Filling, Reading, ReceiverStep, ReceiverRun, came_by, all_came, read_by, messages_read, spelled_all, IsReadable, StreamLaw, AllReadLaw, CuttingLaw, TakesFirst, ReadTakes}
+use Rattle.wl_link.specs.ReadLaws.{reads_enough, refused_though_read, read_under_other}
+use Rattle.wl_link.specs.Sides.{SenderCall, SenderRun, written_by, written, all_taken, NoneZero, ReceiverCall, Filling, Reading, ReceiverStep, ReceiverRun, came_by, all_came, messages_read, spelled_all, IsReadable, StreamLaw, AllReadLaw, CuttingLaw, TakesFirst, ReadTakes}
 
 -- ---- queues behind one another
 

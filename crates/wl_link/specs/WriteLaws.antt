@@ -1,12 +1,12 @@
 -- A write, and when it needs no growth and no flush.
-use Rattle.std.specs.Prelude.{◌≡◌, ◌≢◌, ℕ, ◌+◌, ◌*◌, ◌^◌, ◌<◌, ◌≤◌, ◌⊎◌, List, [], length, Option, Some, None, Bool, true, false, Result, Ok, Err}
-use Rattle.std.proofs.Common.{refl, sym, ◌∙◌, ap, subst, inl, inr, arith}
+use Rattle.std.specs.Prelude.{◌≡◌, ℕ, ◌<◌, ◌≤◌, [], Option, Some, None, true, false, Result, Ok, Err}
+use Rattle.std.proofs.Common.{refl, inl, inr, arith}
 use Rattle.std.proofs.lemmas.Bool.{le-leb, lt-leb}
 use Rattle.wl_wire.specs.declared.error.IoFault.{IoFault}
 use Rattle.wl_wire.specs.declared.error.IoFault.TheVariants as fault
 use Rattle.wl_wire.specs.Message.{WireMessage, size}
-use Rattle.wl_link.specs.Exchange.{Queue, Sending}
-use Rattle.wl_link.specs.Link.{LinkState, Wants, Grows, Grown, Put, PlacedBy, Placed, WroteBy, Wrote, Flushed, has_room, ignoring, needed}
+use Rattle.wl_link.specs.Exchange.{Queue}
+use Rattle.wl_link.specs.Link.{LinkState, Wants, Grows, Grown, Put, Placed, Wrote, Flushed, has_room, ignoring, needed}
 
 not_wanted : (limit : Option ℕ) (needed size : ℕ) → needed ≤ size → ¬ (Wants limit needed size)
 not_wanted None needed size le wants = omega arith

@@ -1,5 +1,4 @@
-use Rattle.std.proofs.Common.{ℕ, ◌≡◌, ◌*◌, ◌^◌, ◌-◌, ◌<◌}
-use Rattle.wl_link.specs.Link.{Wants}
+use Rattle.std.proofs.Common.{◌-◌, ◌<◌}
 use Rattle.wl_link.proofs.Growth.{Doubled}
 use Rattle.wl_link.proofs.limit.grown_size.Given as goal
 

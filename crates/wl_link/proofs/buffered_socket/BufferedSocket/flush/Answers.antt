@@ -1,4 +1,4 @@
-use Rattle.std.proofs.Common.{ℕ, Result, Ok, Err, sym, subst, arith}
+use Rattle.std.proofs.Common.{ℕ, Ok, Err, subst, arith}
 use Rattle.std.proofs.lemmas.List.{nil_from_length}
 use Rattle.wl_link.specs.Exchange.{Queue}
 use Rattle.wl_link.specs.Link.{offer_of}
