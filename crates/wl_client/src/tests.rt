@@ -1,4 +1,8 @@
-//! The texts of ids and errors.
+//! The texts of ids and errors; the session's tests stand in the modules.
+
+mod example;
+mod program;
+mod quad;
 
 use crate::*;
 use std::alloc::Global;
