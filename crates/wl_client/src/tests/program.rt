@@ -73,6 +73,12 @@ pub fn flush(client: &mut Backend<Memory, u32>) -> Result<Result<(), FlushError>
     Ok(answer)
 }
 
+/// Flushes, which goes well. The bytes that were sent since the last call.
+pub fn flushed(alloc: Global, client: &mut Backend<Memory, u32>) -> Result<Vec<u8>, Fail> {
+    flush(client)??;
+    sent_bytes(alloc, client)
+}
+
 pub fn next(
     client: &mut Backend<Memory, u32>,
 ) -> Result<Result<Message<ObjectId, Token>, EventError>, Fail> {
@@ -114,6 +120,16 @@ pub fn data_of(client: &Backend<Memory, u32>, id: &ObjectId) -> Option<u32> {
         Ok(data) => Some(*data),
         Err(InvalidId) => None,
     }
+}
+
+/// Whether the id names an object that the client has not destroyed.
+pub fn is_known(client: &Backend<Memory, u32>, id: &ObjectId) -> bool {
+    client.info(id).is_ok()
+}
+
+/// Takes the notes; whether there is one, of that object.
+pub fn one_note(client: &mut Backend<Memory, u32>, id: ObjectId) -> bool {
+    client.take_notes().as_slice() == [Note::Destroyed(id)].as_slice()
 }
 
 /// Whether that error ended the session.
