@@ -1,4 +1,12 @@
-//! The texts of ids and errors.
+//! The texts of ids and errors; the session's tests stand in the modules.
+
+mod events;
+mod example;
+mod faults;
+mod objects;
+mod program;
+mod quad;
+mod requests;
 
 use crate::*;
 use std::alloc::Global;
