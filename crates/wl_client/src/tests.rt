@@ -1,12 +1,9 @@
 //! The texts of ids and errors; the session's tests stand in the modules.
 
-mod events;
 mod example;
-mod faults;
-mod objects;
-mod program;
 mod quad;
-mod requests;
+mod runs;
+mod told;
 
 use crate::*;
 use std::alloc::Global;
