@@ -56,7 +56,7 @@ const LONG_HEADER: [u8; 8] = [2, 0, 0, 0, 0, 0, 0x88, 0x13];
 /// Puts the bytes and zeros behind them, of that length in all, behind what is to arrive.
 fn long(alloc: Global, client: &mut Client, bytes: &[u8], len: usize) -> Result<(), Fail> {
     let mut padded = Vec::from_slice(alloc, bytes)?;
-    while padded.len() < len {
+    for _ in bytes.len()..len {
         padded.push(0)?;
     }
     client.transport_mut().arrive(padded, Vec::new(alloc))?;
