@@ -1,4 +1,9 @@
-//! The client's session of the Wayland protocol.
+//! The client's session of the Wayland protocol: objects by id, requests, events.
+//!
+//! A program makes a `Backend` of its table of interfaces and a transport. It sends requests with `send_request` and
+//! `flush`, reads events with `next_event`, ends each with `finish_event`, and takes notes of what was destroyed with
+//! `take_notes`. `backend` is the place to read first; `request` and `send_request` have the way of a request,
+//! `next_event`, `turn` and `receive` that of an event.
 #![tactic(auto)]
 
 mod backend;

@@ -1,4 +1,9 @@
-//! The texts of ids and errors.
+//! The texts of ids and errors; the session's tests stand in the modules.
+
+mod example;
+mod quad;
+mod runs;
+mod told;
 
 use crate::*;
 use std::alloc::Global;
