@@ -3,11 +3,11 @@
 -- A session's changes are told step by step: an object is put at a number, leaves its number, is written to, or an id
 -- is made of it. Each id that a reply hands out was made by then, of the object that it names; and what an id names
 -- follows from the changes alone. No program stores them.
-use Rattle.std.specs.Prelude.{◌≢◌, List, [], ◌∷◌, ◌++◌, All, Result, Ok, Err}
+use Rattle.std.specs.Prelude.{◌≡◌, ◌≢◌, List, [], ◌∷◌, ◌++◌, All, Result, Ok, Err}
 use Rattle.wl_wire.specs.declared.argument.Argument.{Argument}
 use Rattle.wl_wire.specs.declared.argument.Argument.TheVariants as arg
 use Rattle.wl_wire.specs.declared.argument.Token.{Token}
-use Rattle.wl_link.specs.Identity.{Change, IsMadeIn, RunLeads, HasIdentity, begun}
+use Rattle.wl_link.specs.Identity.{Change, IsMadeIn, StepLeads, RunLeads, HasIdentity, begun}
 use Rattle.wl_link.specs.Script.{Script}
 use Rattle.wl_client.specs.declared.error.EventError.{EventError}
 use Rattle.wl_client.specs.declared.error.RequestError.{RequestError}
@@ -20,7 +20,7 @@ use Rattle.wl_client.specs.ObjectId.{IdParts}
 use Rattle.wl_client.specs.Reading.{event_content}
 use Rattle.wl_client.specs.Requests.{SessionMessage}
 use Rattle.wl_client.specs.Session.{SessionState, id_of, serial_of, display_object, objects_of}
-use Rattle.wl_client.specs.Steps.{Entry}
+use Rattle.wl_client.specs.Steps.{Entry, StepOf}
 
 -- ---- the ids of a reply
 
@@ -64,20 +64,23 @@ module _ {U : Type 0} where
   abbrev pub AreMade : List (List (Change (Kept U))) → List IdParts → Type 0
   AreMade changes ids = All (λ id. id.number ≢ 0 → IsMadeIn changes (id_of id)) ids
 
-  -- The changes of each entry of a run, after those of the steps before: each id that its reply hands out was made by
-  -- then.
-  abbrev pub Follows : List (List (Change (Kept U))) → List (List (Change (Kept U))) → List (Entry U) → Type 0
-  Follows before [] [] = Unit {0}
-  Follows before [] (e ∷ run) = ⊥
-  Follows before (changes ∷ rest) [] = ⊥
-  Follows before (changes ∷ rest) (e ∷ run) =
-      AreMade (before ++ changes ∷ []) (handed e.answer) × Follows (before ++ changes ∷ []) rest run
+  -- The entries of a run lead from one value of the session to another, and the objects by these changes, a list of them
+  -- for each entry, behind those of the steps before. Each id that a reply hands out was made by then.
+  abbrev pub Follows : List (List (Change (Kept U))) → SessionState Script U → List (Entry U) → List (List (Change (Kept U)))
+      → SessionState Script U → Type 0
+  Follows before s [] [] after = after ≡ s
+  Follows before s [] (changes ∷ rest) after = ⊥
+  Follows before s (e ∷ run) [] after = ⊥
+  Follows before s (e ∷ run) (changes ∷ rest) after =
+      (mid : SessionState Script U) × StepOf s e.step e.answer e.refused mid
+      × StepLeads serial_of (objects_of s) changes (objects_of mid)
+      × AreMade (before ++ changes ∷ []) (handed e.answer) × Follows (before ++ changes ∷ []) mid run rest after
 
-  -- The session after a run has the objects that some changes leave, a list of them for each entry. So each kept serial
-  -- is one object's, and an id that was handed out names the object that it was made of exactly while that is kept, and
-  -- afterwards none.
-  pub record HasOwnIds (run : List (Entry U)) (s : SessionState Script U) : Type 0 where
+  -- A run from the connecting on has changes, a list of them for each entry, by which its objects come to what they are.
+  -- Each kept serial is one object's, and each id that was handed out names the object that it was made of exactly
+  -- while that is kept, and afterwards none.
+  pub record HasOwnIds (begins : SessionState Script U) (run : List (Entry U)) (ends : SessionState Script U) : Type 0 where
     pub changes : List (List (Change (Kept U)))
-    pub leads : RunLeads serial_of (begun display_object) changes (objects_of s)
-    pub identity : HasIdentity serial_of changes (objects_of s)
-    pub handed : Follows [] changes run
+    pub handed : Follows [] begins run changes ends
+    pub leads : RunLeads serial_of (begun display_object) changes (objects_of ends)
+    pub identity : HasIdentity serial_of changes (objects_of ends)

@@ -700,11 +700,11 @@ module _ {U : Type 0} where
   record RunMakes (done : List (List (Change (Kept U)))) (s : SessionState Script U) (run : List (Entry U)) (after : SessionState Script U) : Type 0 where
     changes : List (List (Change (Kept U)))
     leads : RunLeads serial_of (objects_of s) changes (objects_of after)
-    follows : Follows done changes run
+    follows : Follows done s run changes after
 
   run_makes : (done : List (List (Change (Kept U)))) (s : SessionState Script U) (run : List (Entry U)) (after : SessionState Script U)
       → Known (IsMadeIn done) (note_ids s.notes) → Leads s run after → RunMakes done s run after
-  run_makes done s [] after known same = record { changes = []; leads = ap objects_of same; follows = tt }
+  run_makes done s [] after known same = record { changes = []; leads = ap objects_of same; follows = same }
   run_makes done s (e ∷ run) after known (mid, by, leads) =
       let first = step_makes (IsMadeIn done) s known e.step e.answer e.refused mid by in
       let now = done ++ first.changes ∷ [] in
@@ -715,6 +715,9 @@ module _ {U : Type 0} where
         changes = first.changes ∷ rest.changes;
         leads = (objects_of mid, first.leads, rest.leads);
         follows = (
+          mid,
+          by,
+          first.leads,
           known_all (IsMadeIn now) (handed e.answer) (known_more _ (IsMadeIn now) (handed e.answer) made first.hands),
           rest.follows,
         );
@@ -722,7 +725,7 @@ module _ {U : Type 0} where
 
   -- every run from the connecting on has ids of its own
   pub own_ids : (table : List InterfaceRow) (transport : Script) (before after : SessionState Script U) (run : List (Entry U))
-      → IsConnected table transport before → Leads before run after → HasOwnIds run after
+      → IsConnected table transport before → Leads before run after → HasOwnIds before run after
   own_ids table transport before after run (link, fresh, same) leads =
       let known : Known (IsMadeIn {D = Kept U} []) (note_ids before.notes) =
       subst (λ (s : SessionState Script U). Known (IsMadeIn {D = Kept U} []) (note_ids s.notes)) (sym same) tt in

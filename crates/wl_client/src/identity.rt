@@ -14,7 +14,7 @@ ghost use Rattle.wl_client.specs.Steps.{Entry, Leads};
 /// of exactly while that is kept, and afterwards none. The call itself does nothing.
 pub fn each_id_names_its_own_object<U>()
     ensures { (table : List InterfaceRow) (transport : Script) (before after : SessionState Script U) (run : List (Entry U)) →
-        IsConnected table transport before → Leads before run after → HasOwnIds run after }
+        IsConnected table transport before → Leads before run after → HasOwnIds before run after }
 {}
 
 /// The law of a session's notes.

@@ -60,7 +60,7 @@ impl<U: Drop> Backend<Memory, U> {
         ensures identity { IfOk result (λ replies.
             (table : List InterfaceRow) (transport : Script) (begun : SessionState Script U) (run : List (Entry U)) →
             IsConnected table transport begun → Leads begun run self.old.session →
-            HasOwnIds (run ++ entries steps.items replies.items) self.new.session) }
+            HasOwnIds begun (run ++ entries steps.items replies.items) self.new.session) }
         ensures stopped { IfErr result (λ stopped. StopsAt self.old.session steps.items stopped.step stopped.replies.items self.new.session) }
         ensures refused { self.new.refused ≡ is_err result }
     {
