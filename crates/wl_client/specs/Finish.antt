@@ -1,5 +1,5 @@
 -- What the end of an event does, and a flush.
-use Rattle.std.specs.Prelude.{◌≡◌, ℕ, ◌⊎◌, true, if◌then◌else◌, Option, None, Some, Result, Ok, Err, MatchOption}
+use Rattle.std.specs.Prelude.{◌≡◌, ℕ, ◌⊎◌, true, if◌then◌else◌, Option, None, Some, IsSome, Result, Ok, Err, MatchOption}
 use Rattle.wl_wire.specs.declared.error.IoFault.{IoFault}
 use Rattle.wl_wire.specs.declared.error.IoFault.TheVariants as fault
 use Rattle.wl_link.specs.declared.object.Object.{Object}
@@ -15,7 +15,7 @@ use Rattle.wl_client.specs.declared.error.WaylandError.TheVariants.{Io}
 use Rattle.wl_client.specs.declared.kept.Kept.{Kept}
 use Rattle.wl_client.specs.declared.open_event.OpenEvent.{OpenEvent}
 use Rattle.wl_client.specs.ObjectId.{IdParts}
-use Rattle.wl_client.specs.Session.{SessionState, named, noted, id_at, with_flags, with_user_data}
+use Rattle.wl_client.specs.Session.{SessionState, named, alive, noted, id_at, with_flags, with_user_data}
 
 module _ {U : Type 0} where
   -- an object gets the data, if a number's object is there
@@ -56,11 +56,16 @@ module _ {T U : Type 0} where
   abbrev pub Refuses : SessionState T U → Option U → FinishError → Result (Unit {0}) (FinishRefused U) → SessionState T U → Type 0
   Refuses before u e answer after = (answer ≡ Err (record { error = e; user_data = u })) × (after ≡ before)
 
+  -- the event ends an object that is noted then
+  abbrev pub NotesEnd : SessionState T U → OpenEvent → Type 0
+  NotesEnd s event =
+      (event.is_destructor ≡ true) × MatchOption (alive (named s.store event.sender)) ⊥ (λ x. IsSome x.value.user_data)
+
   -- the event is closed; for the note of an object that it ends there may be no memory
   abbrev pub Closes : SessionState T U → OpenEvent → Option U → Result (Unit {0}) (FinishRefused U) → SessionState T U → Type 0
   Closes before event u answer after =
       ((answer ≡ Ok tt) × (after ≡ closed before event u))
-      ⊎ ((event.is_destructor ≡ true) × Refuses before u finish.OutOfMemory answer after)
+      ⊎ (NotesEnd before event × Refuses before u finish.OutOfMemory answer after)
 
   -- data are given exactly where the event made an object; a refusal gives them back, and the event stays open
   abbrev pub Finishes : SessionState T U → Option U → Result (Unit {0}) (FinishRefused U) → SessionState T U → Type 0

@@ -1,13 +1,13 @@
 -- The ids that a session hands out, and what they name.
 --
 -- A session's changes are told step by step: an object is put at a number, leaves its number, is written to, or an id
--- is made of it. Each id that a reply hands out was made by then, of the object that it names; and what an id names
--- follows from the changes alone. No program stores them.
+-- is made of it, which then names it. Each id that a reply hands out is one of these; and what an id names follows from
+-- the changes alone. No program stores them.
 use Rattle.std.specs.Prelude.{◌≡◌, ◌≢◌, List, [], ◌∷◌, ◌++◌, All, Result, Ok, Err}
 use Rattle.wl_wire.specs.declared.argument.Argument.{Argument}
 use Rattle.wl_wire.specs.declared.argument.Argument.TheVariants as arg
 use Rattle.wl_wire.specs.declared.argument.Token.{Token}
-use Rattle.wl_link.specs.Identity.{Change, IsMadeIn, StepLeads, RunLeads, HasIdentity, begun}
+use Rattle.wl_link.specs.Identity.{Change, IsMadeIn, IsMadeInStep, StepLeads, RunLeads, HasIdentity, begun}
 use Rattle.wl_link.specs.Script.{Script}
 use Rattle.wl_client.specs.declared.error.EventError.{EventError}
 use Rattle.wl_client.specs.declared.error.RequestError.{RequestError}
@@ -50,22 +50,31 @@ abbrev pub note_ids : List Note → List IdParts
 note_ids [] = []
 note_ids (Destroyed id ∷ notes) = id ∷ note_ids notes
 
--- the ids that a reply hands out
-abbrev pub handed : {U : Type 0} → Reply U → List IdParts
-handed (reply.SendRequest r) = request_ids r
-handed (reply.NextEvent r) = event_ids (event_content r)
-handed (reply.TakeNotes notes) = note_ids notes.items
-handed _ = []
+-- the ids that a reply makes, of objects that are there then
+abbrev pub made_by : {U : Type 0} → Reply U → List IdParts
+made_by (reply.SendRequest r) = request_ids r
+made_by (reply.NextEvent r) = event_ids (event_content r)
+made_by _ = []
+
+-- the ids of the notes that a reply gives, which were made with the notes
+abbrev pub noted_by : {U : Type 0} → Reply U → List IdParts
+noted_by (reply.TakeNotes notes) = note_ids notes.items
+noted_by _ = []
 
 -- ---- what they name
 
 module _ {U : Type 0} where
-  -- each of the ids was made in these steps; an id of the number 0 names none
+  -- each of the ids was made in this step; an id of the number 0 names none
+  abbrev pub AreMadeInStep : List (Change (Kept U)) → List IdParts → Type 0
+  AreMadeInStep changes ids = All (λ id. id.number ≢ 0 → IsMadeInStep changes (id_of id)) ids
+
+  -- each of the ids was made in one of these steps
   abbrev pub AreMade : List (List (Change (Kept U))) → List IdParts → Type 0
-  AreMade changes ids = All (λ id. id.number ≢ 0 → IsMadeIn changes (id_of id)) ids
+  AreMade steps ids = All (λ id. id.number ≢ 0 → IsMadeIn steps (id_of id)) ids
 
   -- The entries of a run lead from one value of the session to another, and the objects by these changes, a list of them
-  -- for each entry, behind those of the steps before. Each id that a reply hands out was made by then.
+  -- for each entry, behind those of the steps before. The ids of a request's or an event's reply are made in that step,
+  -- and those of notes were made before.
   abbrev pub Follows : List (List (Change (Kept U))) → SessionState Script U → List (Entry U) → List (List (Change (Kept U)))
       → SessionState Script U → Type 0
   Follows before s [] [] after = after ≡ s
@@ -74,7 +83,8 @@ module _ {U : Type 0} where
   Follows before s (e ∷ run) (changes ∷ rest) after =
       (mid : SessionState Script U) × StepOf s e.step e.answer e.refused mid
       × StepLeads serial_of (objects_of s) changes (objects_of mid)
-      × AreMade (before ++ changes ∷ []) (handed e.answer) × Follows (before ++ changes ∷ []) mid run rest after
+      × AreMadeInStep changes (made_by e.answer) × AreMade before (noted_by e.answer)
+      × Follows (before ++ changes ∷ []) mid run rest after
 
   -- A run from the connecting on has changes, a list of them for each entry, by which its objects come to what they are.
   -- Each kept serial is one object's, and each id that was handed out names the object that it was made of exactly

@@ -36,7 +36,7 @@ use Rattle.wl_client.specs.declared.step.Step.TheVariants as step
 use Rattle.wl_client.specs.ObjectId.{IdParts}
 use Rattle.wl_client.specs.Events.{Converting, Converted, Outcome, Whole, Wrong, object_argument_of, is_destroyed, vacated, is_valid_new, made_object, with_object_argument, with_new_at, with_new_argument, convert_one, going_on, convert, start, DisplayEvent, Fails, Deletes, Unreadable, display_event, deleted, after_delete}
 use Rattle.wl_client.specs.Finish.{Closes, Finishes, FlushEnds, SessionFlushed, after_destructor, data_given, with_data_for, with_dead}
-use Rattle.wl_client.specs.Handed.{Follows, HasOwnIds, argument_ids, event_ids, handed, note_ids, request_ids}
+use Rattle.wl_client.specs.Handed.{Follows, HasOwnIds, argument_ids, event_ids, made_by, note_ids, noted_by, request_ids}
 use Rattle.wl_client.specs.Objects.{DataSet, DestroyedBy, destroyable}
 use Rattle.wl_client.specs.Reading.{Turn, Received, Handled, Ends, Faulted, Handles, HandlesConverted, HandlesDisplay, HandlesEvent, NextEvent, Reads, Stores, event_content, receives_allowed, row_of, with_link}
 use Rattle.wl_client.specs.Requests.{Numbered, Requested, error_after, Sent, SentAs, SentWithChild, SessionMessage, Spec, Written, ended_by, id_of_new, lacked_memory, new_child, number_of_new, request_check, session_content, wire_message, with_born, with_ended}
@@ -518,7 +518,7 @@ module _ {T U : Type 0} where
         ]
 
     sent : (new o : Option (Numbered U)) → IsNew s new → Held s o → Sent sends s m new o answer after → Hands s (request_ids answer) after
-    sent new o fresh h (inl (is, same)) = refuses _ _ is same (quiet s s refl refl)
+    sent new o fresh h (inl (is, same, asks)) = refuses _ _ is same (quiet s s refl refl)
     sent new o fresh h (inr w) = written new o fresh h w
 
     sent_with_child : (child : Spec) (u : U) (o : Option (Numbered U)) → Held s o → SentWithChild sends s m child u o answer after
@@ -634,64 +634,70 @@ module _ {T U : Type 0} where
 -- ---- a step
 
 module _ {U : Type 0} where
-  -- the changes of a step: of each id that it hands out, and of those of the notes after it, this was known or is made
-  record StepMakes (K : Id → Type 0) (s : SessionState Script U) (ids : List IdParts) (after : SessionState Script U) : Type 0 where
+  -- the changes of a step: they make each id of its reply but those of notes, which were known; of the notes after it
+  -- each id was known or is made
+  record StepMakes (K : Id → Type 0) (s : SessionState Script U) (reply : Reply U) (after : SessionState Script U) : Type 0 where
     changes : List (Change (Kept U))
     leads : StepLeads serial_of (objects_of s) changes (objects_of after)
-    hands : Known (λ id. K id ⊎ IsMadeInStep changes id) ids
+    makes : Known (IsMadeInStep changes) (made_by reply)
+    gives : Known K (noted_by reply)
     notes : Known (λ id. K id ⊎ IsMadeInStep changes id) (note_ids after.notes)
 
   module _ (K : Id → Type 0) (s : SessionState Script U) (known : Known K (note_ids s.notes)) where
     abbrev no_changes : List (Change (Kept U))
     no_changes = []
 
-    by_moves : (reply : Reply U) (ids : List IdParts) (after : SessionState Script U) → handed reply ≡ ids → Hands s ids after → StepMakes K s (handed reply) after
-    by_moves reply ids after is (others, moves) =
+    by_moves : (reply : Reply U) (ids : List IdParts) (after : SessionState Script U) → made_by reply ≡ ids → noted_by reply ≡ []
+        → Hands s ids after → StepMakes K s reply after
+    by_moves reply ids after makes gives (others, moves) =
         let changes = moves.moved.changes in
         let now : Id → Type 0 = λ id. K id ⊎ IsMadeInStep changes id in
         let made : Known now (ids ++ others) = known_more (IsMadeInStep changes) now (ids ++ others) (λ id m. inr m) moves.moved.made in
         record {
           changes = changes;
           leads = moves.moved.leads;
-          hands = subst (λ i. Known now i) (sym is) (known_first now ids others made);
+          makes = subst (λ i. Known (IsMadeInStep changes) i) (sym makes) (known_first (IsMadeInStep changes) ids others moves.moved.made);
+          gives = subst (λ i. Known K i) (sym gives) tt;
           notes = moves.notes now made (known_more K now (note_ids s.notes) (λ id k. inl k) known);
         }
 
-    by_quiet : (reply : Reply U) (after after' : SessionState Script U) → handed reply ≡ [] → after ≡ after' → Moves s [] after' → StepMakes K s (handed reply) after
-    by_quiet reply after after' is same moves = by_moves reply [] after is ([], lands s [] [] after' after refl same moves)
+    by_quiet : (reply : Reply U) (after after' : SessionState Script U) → made_by reply ≡ [] → noted_by reply ≡ [] → after ≡ after'
+        → Moves s [] after' → StepMakes K s reply after
+    by_quiet reply after after' makes gives same moves = by_moves reply [] after makes gives ([], lands s [] [] after' after refl same moves)
 
     step_makes : (call : Step U) (reply : Reply U) (refused : Bool) (after : SessionState Script U) → StepOf s call reply refused after
-        → StepMakes K s (handed reply) after
-    step_makes (step.SetData id u) reply refused after (r, is, no_memory, h) = by_moves reply [] after (ap handed is) ([], sets s id u r after h)
-    step_makes (step.DestroyObject id) reply refused after (r, is, no_memory, h) = by_moves reply [] after (ap handed is) (destroys s id r after h)
+        → StepMakes K s reply after
+    step_makes (step.SetData id u) reply refused after (r, is, no_memory, h) = by_moves reply [] after (ap made_by is) (ap noted_by is) ([], sets s id u r after h)
+    step_makes (step.DestroyObject id) reply refused after (r, is, no_memory, h) = by_moves reply [] after (ap made_by is) (ap noted_by is) (destroys s id r after h)
     step_makes (step.SendRequest m u spec) reply refused after (r, is, no_memory, h) =
-        by_moves reply (request_ids r) after (ap handed is) (requested ScriptSends s (session_content m) r after u spec h)
-    step_makes step.Flush reply refused after (r, is, no_memory, h) = by_moves reply [] after (ap handed is) ([], flushes ScriptSends s r after h)
+        by_moves reply (request_ids r) after (ap made_by is) (ap noted_by is) (requested ScriptSends s (session_content m) r after u spec h)
+    step_makes step.Flush reply refused after (r, is, no_memory, h) = by_moves reply [] after (ap made_by is) (ap noted_by is) ([], flushes ScriptSends s r after h)
     step_makes step.NextEvent reply refused after (r, is, h) =
         let ids = event_ids (event_content r) in
-        by_moves reply ids after (ap handed is)
+        by_moves reply ids after (ap made_by is) (ap noted_by is)
         ([], subst (λ i. Moves s i after) (sym (append-nil ids)) (next_event ScriptReceives (event_content r) refused after s h))
-    step_makes (step.FinishEvent u) reply refused after (r, is, no_memory, h) = by_moves reply [] after (ap handed is) (finishes s u r after h)
-    step_makes step.DispatchInnerQueue reply refused after (is, no_memory, same) = by_quiet reply after _ (ap handed is) same (quiet s s refl refl)
-    step_makes (step.SetMaxBufferSize limit) reply refused after (is, no_memory, (link, set, same)) = by_quiet reply after _ (ap handed is) same (quiet s _ refl refl)
+    step_makes (step.FinishEvent u) reply refused after (r, is, no_memory, h) = by_moves reply [] after (ap made_by is) (ap noted_by is) (finishes s u r after h)
+    step_makes step.DispatchInnerQueue reply refused after (is, no_memory, same) = by_quiet reply after _ (ap made_by is) (ap noted_by is) same (quiet s s refl refl)
+    step_makes (step.SetMaxBufferSize limit) reply refused after (is, no_memory, (link, set, same)) = by_quiet reply after _ (ap made_by is) (ap noted_by is) same (quiet s _ refl refl)
     step_makes step.TakeNotes reply refused after (notes, is, no_memory, taken, same) =
         let now : Id → Type 0 = λ id. K id ⊎ IsMadeInStep no_changes id in
         record {
           changes = no_changes;
           leads = ap objects_of same;
-          hands = subst (λ i. Known now i) (sym (ap handed is ∙ ap note_ids taken)) (known_more K now (note_ids s.notes) (λ id k. inl k) known);
+          makes = subst (λ i. Known (IsMadeInStep no_changes) i) (sym (ap made_by is)) tt;
+          gives = subst (λ i. Known K i) (sym (ap noted_by is ∙ ap note_ids taken)) known;
           notes = subst (λ (a : SessionState Script U). Known now (note_ids a.notes)) (sym same) tt;
         }
-    step_makes (step.Arrive bytes tokens) reply refused after (Ok u, is, no_memory, h) = by_quiet reply after _ (ap handed is) h.1 (quiet s _ refl refl)
-    step_makes (step.Arrive bytes tokens) reply refused after (Err arrive.TooManyTokens, is, no_memory, h) = by_quiet reply after _ (ap handed is) h.1 (quiet s _ refl refl)
-    step_makes (step.Arrive bytes tokens) reply refused after (Err arrive.OutOfMemory, is, no_memory, h) = by_quiet reply after _ (ap handed is) h.1 (quiet s _ refl refl)
-    step_makes (step.ArriveFault f) reply refused after (Ok u, is, no_memory, same) = by_quiet reply after _ (ap handed is) same (quiet s _ refl refl)
-    step_makes (step.ArriveFault f) reply refused after (Err e, is, no_memory, same) = by_quiet reply after _ (ap handed is) same (quiet s _ refl refl)
-    step_makes (step.Accept n) reply refused after (Ok u, is, no_memory, same) = by_quiet reply after _ (ap handed is) same (quiet s _ refl refl)
-    step_makes (step.Accept n) reply refused after (Err e, is, no_memory, same) = by_quiet reply after _ (ap handed is) same (quiet s _ refl refl)
-    step_makes (step.AcceptFault f) reply refused after (Ok u, is, no_memory, same) = by_quiet reply after _ (ap handed is) same (quiet s _ refl refl)
-    step_makes (step.AcceptFault f) reply refused after (Err e, is, no_memory, same) = by_quiet reply after _ (ap handed is) same (quiet s _ refl refl)
-    step_makes step.TakeSent reply refused after (taken, is, no_memory, h, same) = by_quiet reply after _ (ap handed is) same (quiet s _ refl refl)
+    step_makes (step.Arrive bytes tokens) reply refused after (Ok u, is, no_memory, h) = by_quiet reply after _ (ap made_by is) (ap noted_by is) h.1 (quiet s _ refl refl)
+    step_makes (step.Arrive bytes tokens) reply refused after (Err arrive.TooManyTokens, is, no_memory, h) = by_quiet reply after _ (ap made_by is) (ap noted_by is) h.1 (quiet s _ refl refl)
+    step_makes (step.Arrive bytes tokens) reply refused after (Err arrive.OutOfMemory, is, no_memory, h) = by_quiet reply after _ (ap made_by is) (ap noted_by is) h.1 (quiet s _ refl refl)
+    step_makes (step.ArriveFault f) reply refused after (Ok u, is, no_memory, same) = by_quiet reply after _ (ap made_by is) (ap noted_by is) same (quiet s _ refl refl)
+    step_makes (step.ArriveFault f) reply refused after (Err e, is, no_memory, same) = by_quiet reply after _ (ap made_by is) (ap noted_by is) same (quiet s _ refl refl)
+    step_makes (step.Accept n) reply refused after (Ok u, is, no_memory, same) = by_quiet reply after _ (ap made_by is) (ap noted_by is) same (quiet s _ refl refl)
+    step_makes (step.Accept n) reply refused after (Err e, is, no_memory, same) = by_quiet reply after _ (ap made_by is) (ap noted_by is) same (quiet s _ refl refl)
+    step_makes (step.AcceptFault f) reply refused after (Ok u, is, no_memory, same) = by_quiet reply after _ (ap made_by is) (ap noted_by is) same (quiet s _ refl refl)
+    step_makes (step.AcceptFault f) reply refused after (Err e, is, no_memory, same) = by_quiet reply after _ (ap made_by is) (ap noted_by is) same (quiet s _ refl refl)
+    step_makes step.TakeSent reply refused after (taken, is, no_memory, h, same) = by_quiet reply after _ (ap made_by is) (ap noted_by is) same (quiet s _ refl refl)
 
 -- ---- a run
 
@@ -718,7 +724,8 @@ module _ {U : Type 0} where
           mid,
           by,
           first.leads,
-          known_all (IsMadeIn now) (handed e.answer) (known_more _ (IsMadeIn now) (handed e.answer) made first.hands),
+          known_all (IsMadeInStep first.changes) (made_by e.answer) first.makes,
+          known_all (IsMadeIn done) (noted_by e.answer) first.gives,
           rest.follows,
         );
       }

@@ -515,7 +515,7 @@ module _ {T U : Type 0} where
         ]
 
     sent : (new o : Option (Numbered U)) → IsNew s new → IsAlive s o → Sent sends s m new o answer after → Goes s after
-    sent new o fresh h (inl (is, same)) = lands s s after same (quiet s s refl refl)
+    sent new o fresh h (inl (is, same, asks)) = lands s s after same (quiet s s refl refl)
     sent new o fresh h (inr w) = written new o fresh h w
 
     sent_with_child : (child : Spec) (u : U) (o : Option (Numbered U)) → IsAlive s o → SentWithChild sends s m child u o answer after → Goes s after

@@ -1,5 +1,5 @@
 -- What a request does to a session.
-use Rattle.std.specs.Prelude.{◌≡◌, ℕ, ◌+◌, ◌⊎◌, List, [], ◌∷◌, map, Bool, true, false, ◌==◌, ◌&&◌, slice_get, if◌then◌else◌, Option, None, Some, is_some, option_map, Result, Ok, Err, MatchResult, MatchBool}
+use Rattle.std.specs.Prelude.{◌≡◌, ℕ, ◌+◌, ◌<◌, ◌⊎◌, length, List, [], ◌∷◌, map, Bool, true, false, ◌==◌, ◌&&◌, slice_get, if◌then◌else◌, Option, None, Some, IsSome, is_some, option_map, Result, Ok, Err, MatchResult, MatchBool, MatchOption}
 use Rattle.std.specs.List.{list_all, list_any}
 use Rattle.wl_wire.specs.declared.argument.AllowNull.{AllowNull}
 use Rattle.wl_wire.specs.declared.argument.AllowNull.TheVariants.{Yes, No}
@@ -44,12 +44,13 @@ session_content m = record { sender = m.sender_id; opcode = m.opcode; args = m.a
 abbrev pub Spec : Type 0
 Spec = InterfaceId × ℕ
 
--- what a request creates that names no child interface of its own
+-- what a request creates for which the caller names an interface and a version
 abbrev pub named_child : Option InterfaceId → Spec → ℕ → Result Spec RequestError
 named_child None spec version = Ok spec
 named_child (Some child) spec version =
     if child.0 == spec.0.0 then (if version == spec.1 then Ok spec else Err refused.WrongChildVersion) else Err refused.WrongChild
 
+-- what a request creates for which the caller names none
 abbrev pub known_child : Option InterfaceId → ℕ → Result Spec RequestError
 known_child None version = Err refused.MissingChildSpec
 known_child (Some child) version = Ok (child, version)
@@ -207,6 +208,11 @@ module _ {U : Type 0} where
   ended_by store m false = None
   ended_by store m true = option_map (λ x. (m.sender.number, x)) (named store m.sender)
 
+  -- what asks for memory before the write: a new object, the note of one that ends, and arguments beyond four
+  abbrev pub AsksForMemory : SessionMessage → Option (Numbered U) → Option (Numbered U) → Type 0
+  AsksForMemory m new ended =
+      IsSome new ⊎ (MatchOption ended ⊥ (λ e. IsSome e.1.value.user_data) ⊎ (4 < length m.args))
+
 module _ {T U : Type 0} where
   -- the new object is put at its number, and uses up a serial
   abbrev pub with_born : SessionState T U → Option (Numbered U) → SessionState T U
@@ -233,11 +239,11 @@ module _ {T U : Type 0} where
       ((answer ≡ Ok (id_of_new new))
       × (after ≡ with_ended (with_born (record before { link = link; error = error_after before.error written }) new) ended))
 
-  -- or there was no memory for what the session keeps of it, and nothing is changed
+  -- or there was no memory before the write, and nothing is changed
   abbrev pub Sent : (T → Queue → Result ℕ IoFault → T → Type 0) → SessionState T U → SessionMessage → Option (Numbered U)
       → Option (Numbered U) → Result IdParts RequestError → SessionState T U → Type 0
   Sent sends before m new ended answer after =
-      ((answer ≡ Err refused.OutOfMemory) × (after ≡ before))
+      ((answer ≡ Err refused.OutOfMemory) × (after ≡ before) × AsksForMemory m new ended)
       ⊎ Written sends before (wire_message (number_of_new new) m) new ended answer after
 
   abbrev pub new_child : SessionState T U → Spec → U → Object (Kept U)
