@@ -1,7 +1,7 @@
 //! The end of an event that was handed out.
 
-ghost use Rattle.std.specs.Prelude.{◌≡◌, MatchResult};
-ghost use Rattle.wl_client.specs.Session.{named};
+ghost use Rattle.std.specs.Prelude.{◌≡◌, IsSome, MatchOption, MatchResult};
+ghost use Rattle.wl_client.specs.Session.{alive, named};
 ghost use Rattle.wl_client.specs.Finish.{Finishes, with_dead, refusal};
 
 use crate::destroy::note_end;
@@ -55,7 +55,7 @@ impl<T, U: Drop> Session<T, U> {
     fn end_object(&mut self, id: &ObjectId) -> Result<(), OutOfMemory>
         ensures { MatchResult result
             (λ _. self.new ≡ with_dead self.old id.now.number (named self.old.store id.now))
-            (λ _. self.new ≡ self.old) }
+            (λ _. (self.new ≡ self.old) × MatchOption (alive (named self.old.store id.now)) ⊥ (λ x. IsSome x.value.user_data)) }
     {
         let number = id.protocol_id();
         let Some(object) = named_in(&self.objects, id) else {

@@ -1,6 +1,6 @@
 //! The sending of a request.
 
-ghost use Rattle.std.specs.Prelude.{◌≡◌, ◌<◌, true, IfSome, IsSome, IsTrue, OnOk, MatchResult, is_some, vec_len, vec_capacity};
+ghost use Rattle.std.specs.Prelude.{◌≡◌, ◌<◌, ◌⊎◌, true, IfSome, IsSome, IsTrue, OnErr, OnOk, MatchResult, is_some, vec_len, vec_capacity};
 ghost use Rattle.wl_wire.specs.Message.{content};
 ghost use Rattle.wl_link.specs.Store.{held};
 ghost use Rattle.wl_client.specs.Requests.{Requested, Sent, ended_by, id_of_new, number_of_new, session_content};
@@ -66,6 +66,7 @@ fn make_room<U: Drop>(
 ) -> Result<(), OutOfMemory>
     ensures store { objects.new.store ≡ objects.old.store }
     ensures notes { notes.new.items ≡ notes.old.items }
+    ensures asked { OnErr result (IsTrue creates ⊎ IsTrue is_noted) }
     ensures reserved { OnOk result (IsTrue creates → objects.new.reserved ≡ true) }
     ensures room { OnOk result (IsTrue is_noted → vec_len notes.new < vec_capacity notes.new) }
 {
