@@ -1,6 +1,6 @@
 //! Runs of calls over a transport by script.
 
-ghost use Rattle.std.specs.Prelude.{◌≡◌, ◌++◌, List, IfOk, IfErr, is_err, length};
+ghost use Rattle.std.specs.Prelude.{◌≡◌, ◌++◌, List, [], IfOk, IfErr, IsOk, is_err, length};
 ghost use Rattle.wl_wire.specs.Table.{InterfaceRow};
 ghost use Rattle.wl_link.specs.Script.{Script};
 ghost use Rattle.wl_client.specs.Handed.{HasOwnIds};
@@ -9,7 +9,6 @@ ghost use Rattle.wl_client.specs.Steps.{Entry, Leads, StepOf, StopsAt, entries};
 
 use crate::backend::Backend;
 use crate::step::{Reply, Step, Stopped};
-use std::alloc::Global;
 use wl_link::Memory;
 
 impl<U: Drop> Backend<Memory, U> {
@@ -44,15 +43,12 @@ impl<U: Drop> Backend<Memory, U> {
     ///
     /// Room for the replies is made first. In the first step that meets a want of memory the run stops: `Stopped`
     /// names that step and has the replies to those before it, and the later ones are dropped. Step 0 is named also
-    /// where there was no room for the replies; nothing was done then.
+    /// where there was no room for the replies; nothing was done then. A run of no steps needs none.
     ///
     /// The run joins the runs before it. So each id that was handed out since the connecting, by a reply, an event or
     /// a note, names the object that it was made of exactly while that is kept, and afterwards none.
-    pub fn replay(
-        &mut self,
-        alloc: Global,
-        steps: Vec<Step<U>>,
-    ) -> Result<Vec<Reply<U>>, Stopped<U>>
+    pub fn replay(&mut self, steps: Vec<Step<U>>) -> Result<Vec<Reply<U>>, Stopped<U>>
+        ensures none { steps.items ≡ [] → IsOk result }
         ensures count { IfOk result (λ replies. length replies.items ≡ length steps.items) }
         ensures steps { IfOk result (λ replies. Leads self.old.session (entries steps.items replies.items) self.new.session) }
         ensures joined { IfOk result (λ replies. (begun : SessionState Script U) (run : List (Entry U)) →
@@ -64,6 +60,7 @@ impl<U: Drop> Backend<Memory, U> {
         ensures stopped { IfErr result (λ stopped. StopsAt self.old.session steps.items stopped.step stopped.replies.items self.new.session) }
         ensures refused { self.new.refused ≡ is_err result }
     {
+        let alloc = *self.session.notes.allocator();
         let Ok(mut replies) = Vec::with_capacity(alloc, steps.len()) else {
             self.refused = true;
             return Err(Stopped {
