@@ -2,6 +2,9 @@
 
 mod example;
 mod quad;
+mod received;
+mod replayed;
+mod requested;
 mod runs;
 mod told;
 

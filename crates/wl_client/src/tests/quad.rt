@@ -1,4 +1,4 @@
-//! A table with one interface of the program's own, `quad`, of version 3.
+//! A table with two interfaces of the program's own: `quad`, of version 3, and `pair`.
 
 use crate::ObjectId;
 use smallvec::SmallVec;
@@ -12,20 +12,20 @@ use wl_wire::{
 /// The interface `quad`, the first of the program's own.
 pub const QUAD: InterfaceId = InterfaceId(4);
 
+/// The interface `pair`.
+pub const PAIR: InterfaceId = InterfaceId(5);
+
 /// The opcode of `quad.make`.
 pub const MAKE: u16 = 1;
+
+/// The opcode of `quad.destroy`.
+pub const DESTROY: u16 = 2;
 
 /// The opcode of `quad.link`.
 pub const LINK: u16 = 3;
 
 /// The opcode of `quad.give`.
 pub const GIVE: u16 = 4;
-
-/// The opcode of the event `quad.made`.
-pub const MADE: u16 = 1;
-
-/// The opcode of the event `quad.gone`.
-pub const GONE: u16 = 2;
 
 /// A message that the first version has, and that neither makes nor ends an object.
 fn plain(
@@ -94,9 +94,28 @@ fn quad(alloc: Global) -> Result<Interface, AllocError> {
     })
 }
 
+/// `pair`, whose event `joined` has two quads, a string, bytes and a descriptor.
+fn pair(alloc: Global) -> Result<Interface, AllocError> {
+    let payload = [
+        ArgumentType::Object(AllowNull::No),
+        ArgumentType::Object(AllowNull::No),
+        ArgumentType::Str(AllowNull::No),
+        ArgumentType::Array,
+        ArgumentType::Fd,
+    ];
+    let joined = plain(alloc, "joined", &payload, &[QUAD, QUAD])?;
+    Ok(Interface {
+        name: String::from_str(alloc, "pair")?,
+        version: 1,
+        requests: Vec::new(alloc),
+        events: vec![in alloc; joined]?,
+    })
+}
+
 /// The table.
 pub fn quad_table(alloc: Global) -> Result<Protocol, Fail> {
-    Ok(Protocol::new(alloc, vec![in alloc; quad(alloc)?]?)?)
+    let interfaces = vec![in alloc; quad(alloc)?, pair(alloc)?]?;
+    Ok(Protocol::new(alloc, interfaces)?)
 }
 
 /// A request or event of no arguments yet.

@@ -12,13 +12,13 @@ use wl_link::Memory;
 use wl_wire::{Argument, InterfaceId, IoFault, WL_CALLBACK_INTERFACE, WL_REGISTRY_INTERFACE};
 
 /// A client of the table of `quad` in which nothing has happened, over an empty script.
-fn connected(alloc: Global) -> Result<Client, Fail> {
+pub fn connected(alloc: Global) -> Result<Client, Fail> {
     let table = quad_table(alloc)?;
     Ok(Backend::connect(alloc, table, Memory::new(alloc))?)
 }
 
 /// `quad.made` of the `quad` 3, with the first number of the server's range.
-const MADE_BYTES: [u8; 12] = [3, 0, 0, 0, 1, 0, 12, 0, 0, 0, 0, 255];
+pub const MADE_BYTES: [u8; 12] = [3, 0, 0, 0, 1, 0, 12, 0, 0, 0, 0, 255];
 
 /// `quad.made` of the `quad` 3, with the number 5.
 const MADE_5_BYTES: [u8; 12] = [3, 0, 0, 0, 1, 0, 12, 0, 5, 0, 0, 0];
@@ -30,12 +30,12 @@ const MOVED_BYTES: [u8; 12] = [3, 0, 0, 0, 0, 0, 12, 0, 7, 0, 0, 0];
 const GONE_BYTES: [u8; 8] = [3, 0, 0, 0, 2, 0, 8, 0];
 
 /// `wl_callback.done` of object 2, and `wl_display.delete_id` of object 2.
-const DONE_BYTES: [u8; 24] = [
+pub const DONE_BYTES: [u8; 24] = [
     2, 0, 0, 0, 0, 0, 12, 0, 0, 0, 0, 0, 1, 0, 0, 0, 1, 0, 12, 0, 2, 0, 0, 0,
 ];
 
 /// `wl_display.delete_id` of object 3.
-const DELETE_3_BYTES: [u8; 12] = [1, 0, 0, 0, 1, 0, 12, 0, 3, 0, 0, 0];
+pub const DELETE_3_BYTES: [u8; 12] = [1, 0, 0, 0, 1, 0, 12, 0, 3, 0, 0, 0];
 
 /// `wl_display.delete_id` of objects 1 and 99.
 const DELETE_1_AND_99_BYTES: [u8; 24] = [
@@ -91,6 +91,27 @@ fn first_sync(rt: HostRuntime) -> Result<(), Fail> {
     assert_eq!(rt;
         log.as_str(),
         "sent: 2, 1\nflushed\n0100000000000c0002000000\n"
+    );
+    Ok(())
+}
+
+/// The registry and its first object.
+fn first_bind_run(alloc: Global, client: &mut Client, log: &mut String) -> Result<(), Fail> {
+    bound(alloc, client, log)?;
+    text_of(alloc, client, log, quad())?;
+    flush(client, log)?;
+    first_sent(client, log)
+}
+
+#[test]
+fn first_bind(rt: HostRuntime) -> Result<(), Fail> {
+    let alloc = rt.alloc();
+    let mut log = String::new(alloc);
+    let mut client = connected(alloc)?;
+    first_bind_run(alloc, &mut client, &mut log)?;
+    assert_eq!(rt;
+        log.as_str(),
+        "sent: 2, 1\nsent: 3, 2\nquad@3\nflushed\n0100000001000c00020000000200000000002000010000000500000071756164000000000300000003000000\n"
     );
     Ok(())
 }
@@ -190,7 +211,7 @@ fn refused_syncs(rt: HostRuntime) -> Result<(), Fail> {
 /// Binds and object arguments that are refused.
 fn refused_objects_run(alloc: Global, client: &mut Client, log: &mut String) -> Result<(), Fail> {
     bound(alloc, client, log)?;
-    bind(alloc, client, log, registry(), Some((InterfaceId(5), 1)))?;
+    bind(alloc, client, log, registry(), Some((InterfaceId(6), 1)))?;
     bind(alloc, client, log, registry(), None)?;
     link(alloc, client, log, ObjectId::null(), registry())?;
     link(alloc, client, log, quad(), ObjectId::null())?;
