@@ -163,7 +163,7 @@ module _ {T U : Type 0} (receives : T → ℕ → Result Queue IoFault → T →
         ),
       )
   received_ends start before left end after lacks leads (inr (error_is, refused_is, same)) =
-      leads (suc left) [] (Err end.error) end.refused after (inr (inr (ap Err error_is, refused_is, same)))
+      leads (suc left) [] (Err end.error) end.refused after (inr (inr (ap Err error_is, refused_is, same, inr (inr (lacks, omega (arith))))))
 
   -- no receive is left
   pub none_left : (start before : SessionState T U) → Lacks before → LeadsOn receives start before

@@ -350,7 +350,7 @@ module _ {T U : Type 0} where
       → Ends left s answer refused after → Moves s (event_ids answer) after
   ends left s answer refused after (inl (lacks, none, is, unasked, same)) = lands s [] (event_ids answer) _ after (ap event_ids is) same (quiet s _ refl refl)
   ends left s answer refused after (inr (inl (read, kept))) = stores s _ answer refused after kept
-  ends left s answer refused after (inr (inr (is, refused_now, same))) = lands s [] (event_ids answer) _ after (ap event_ids is) same (quiet s _ refl refl)
+  ends left s answer refused after (inr (inr (is, refused_now, same, asks))) = lands s [] (event_ids answer) _ after (ap event_ids is) same (quiet s _ refl refl)
 
   module _ (s : SessionState T U) (answer : Result SessionMessage EventError) (refused : Bool) (after : SessionState T U) (on : SessionState T U → Type 0)
       (goes : (between : SessionState T U) → on between → Moves between (event_ids answer) after) where

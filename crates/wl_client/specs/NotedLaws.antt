@@ -376,7 +376,7 @@ module _ {T U : Type 0} where
       → Ends left s answer refused after → Goes s after
   ends left s answer refused after (inl (lacks, none, is, unasked, same)) = lands s _ after same (quiet s _ refl refl)
   ends left s answer refused after (inr (inl (read, kept))) = stores s _ answer refused after kept
-  ends left s answer refused after (inr (inr (is, refused_now, same))) = lands s _ after same (quiet s _ refl refl)
+  ends left s answer refused after (inr (inr (is, refused_now, same, asks))) = lands s _ after same (quiet s _ refl refl)
 
   module _ (s : SessionState T U) (answer : Result SessionMessage EventError) (refused : Bool) (after : SessionState T U) (on : SessionState T U → Type 0)
       (goes : (between : SessionState T U) → on between → Goes between after) where

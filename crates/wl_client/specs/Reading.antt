@@ -3,7 +3,7 @@
 --
 -- A reading is a list of receives and handled messages. A receive stands only where what waits lacks data or tokens,
 -- and only the last entry gives an event or a fault.
-use Rattle.std.specs.Prelude.{◌≡◌, ℕ, suc, List, [], ◌∷◌, Bool, true, false, ◌==◌, ◌⊎◌, Option, None, Some, option_map, Result, Ok, Err, MatchOption, MatchResult, MatchBool}
+use Rattle.std.specs.Prelude.{◌≡◌, ◌≢◌, ℕ, suc, ◌<◌, length, List, [], ◌∷◌, Bool, true, false, ◌==◌, ◌⊎◌, Option, None, Some, option_map, Result, Ok, Err, MatchOption, MatchResult, MatchBool}
 use Rattle.wl_wire.specs.declared.argument.ArgumentType.{ArgumentType}
 use Rattle.wl_wire.specs.declared.argument.Token.{Token}
 use Rattle.wl_wire.specs.declared.error.IoFault.{IoFault}
@@ -13,6 +13,7 @@ use Rattle.wl_wire.specs.declared.error.MessageParseError.TheVariants as parse
 use Rattle.wl_wire.specs.declared.error.ProtocolError.{ProtocolError}
 use Rattle.wl_wire.specs.declared.message.Message.{Message}
 use Rattle.wl_wire.specs.Message.{WireMessage}
+use Rattle.wl_wire.specs.Parse.{opcode_of, sender_of}
 use Rattle.wl_wire.specs.Table.{InterfaceRow, MessageRow}
 use Rattle.wl_link.specs.declared.object.Object.{Object}
 use Rattle.wl_link.specs.Exchange.{Queue}
@@ -52,6 +53,15 @@ row_in table (Some x) opcode = event_row table x.interface opcode
 abbrev pub signature_in : {U : Type 0} → List InterfaceRow → Store (Kept U) → ℕ → ℕ → Option (List ArgumentType)
 signature_in table store sender opcode = option_map (λ row. row.signature) (row_in table (held store sender) opcode)
 
+-- the event at the front of the bytes, if the number there holds an object that has it
+abbrev pub front_row : {U : Type 0} → List InterfaceRow → Store (Kept U) → List ℕ → Option MessageRow
+front_row table store bytes = row_in table (held store (sender_of bytes)) (opcode_of bytes)
+
+-- an event asks for memory before it is read: for the object that it makes, or for arguments beyond four
+abbrev pub RowAsks : Option MessageRow → Type 0
+RowAsks None = ⊥
+RowAsks (Some row) = (row.child_interface ≢ None) ⊎ (4 < length row.signature)
+
 module _ {T U : Type 0} where
   -- the event of that opcode of the object that the number holds
   abbrev pub row_of : SessionState T U → ℕ → ℕ → Option MessageRow
@@ -73,6 +83,13 @@ module _ {T U : Type 0} where
   -- what waits lacks data or tokens
   abbrev pub Lacks : SessionState T U → Type 0
   Lacks s = ReadsAs s (Err parse.MissingData) s.link ⊎ ReadsAs s (Err parse.MissingFD) s.link
+
+  -- With so many receives left, memory is asked for: by the event at the front before it is read, by its strings and
+  -- arrays, or for the tokens of a receive.
+  abbrev pub AsksForMemory : ℕ → SessionState T U → Type 0
+  AsksForMemory left s =
+      RowAsks (front_row s.table s.store s.link.incoming.bytes)
+      ⊎ (ReadsAs s (Err parse.OutOfMemory) s.link ⊎ (Lacks s × (0 < left)))
 
   -- the error is stored; where there is no memory for its texts, that is stored in its place
   abbrev pub Stores : SessionState T U → ProtocolError → Result SessionMessage EventError → Bool → SessionState T U → Type 0
@@ -134,7 +151,7 @@ module _ {T U : Type 0} where
   Ends left before answer refused after =
       (Lacks before × (left ≡ 0) × (answer ≡ Err no_event.WouldBlock) × (refused ≡ false) × (after ≡ before))
       ⊎ ((ReadsAs before (Err parse.Malformed) before.link × Stores before (error_of before.table wrong.Malformed) answer refused after)
-      ⊎ ((answer ≡ Err no_event.OutOfMemory) × (refused ≡ true) × (after ≡ before)))
+      ⊎ ((answer ≡ Err no_event.OutOfMemory) × (refused ≡ true) × (after ≡ before) × AsksForMemory left before))
 
   -- a reading with so many receives left makes these turns
   abbrev pub Reads : (T → ℕ → Result Queue IoFault → T → Type 0) → ℕ → SessionState T U → List Turn

@@ -1,5 +1,5 @@
 -- What the functions of a reading say to each other.
-use Rattle.std.specs.Prelude.{◌≡◌, ◌≢◌, ℕ, ◌⊎◌, List, [], Bool, true, false, Option, None, Some, Result, Ok, Err}
+use Rattle.std.specs.Prelude.{◌≡◌, ℕ, ◌⊎◌, List, [], Bool, true, false, Option, None, Some, Result, Ok, Err}
 use Rattle.std.specs.Borrow.{Bor}
 use Rattle.wl_wire.specs.declared.argument.Token.{Token}
 use Rattle.wl_wire.specs.declared.error.MessageParseError.{MessageParseError}
@@ -26,7 +26,7 @@ use Rattle.wl_client.specs.declared.turn.Turn.{Turn as Turned}
 use Rattle.wl_client.specs.declared.turn.Turn.TheVariants as turned
 use Rattle.wl_client.specs.ObjectId.{IdParts}
 use Rattle.wl_client.specs.Events.{Outcome, Whole, Wrong, DisplayEvent, Fails, Deletes, Unreadable}
-use Rattle.wl_client.specs.Reading.{Turn, Ends, Faulted, Handles, Lacks, Reads, ReadsAs, row_in, signature_in, with_link}
+use Rattle.wl_client.specs.Reading.{Turn, Ends, Faulted, Handles, Lacks, Reads, ReadsAs, RowAsks, front_row, row_in, signature_in, with_link}
 use Rattle.wl_client.specs.Requests.{SessionMessage, session_content}
 use Rattle.wl_client.specs.Session.{SessionState, id_at}
 
@@ -60,7 +60,9 @@ module _ {U : Type 0} where
       ReadsIn table store before (Ok (content taken.0)) after
       × (row_in table (held store taken.0.sender_id) taken.0.opcode ≡ Some (message_row taken.1.now))
   TookWith table store before (Err e) after =
-      (after ≡ before) × (e ≢ parse.OutOfMemory → ReadsIn table store before (Err e) before)
+      (after ≡ before)
+      × (ReadsIn table store before (Err e) before
+      ⊎ ((e ≡ parse.OutOfMemory) × RowAsks (front_row table store before.incoming.bytes)))
 
 -- the answer of a reading, and whether memory was refused in it
 abbrev pub event_answer : Result (Message IdParts Token) NoEvent → Result SessionMessage EventError
@@ -90,7 +92,8 @@ module _ {T U : Type 0} where
 
   -- no message was taken, for this reason
   abbrev pub NotTaken : SessionState T U → MessageParseError → Type 0
-  NotTaken s e = e ≢ parse.OutOfMemory → ReadsAs s (Err e) s.link
+  NotTaken s e =
+      ReadsAs s (Err e) s.link ⊎ ((e ≡ parse.OutOfMemory) × RowAsks (front_row s.table s.store s.link.incoming.bytes))
 
   -- the message was handled, and that comes to this
   abbrev pub HandledTo : (T → ℕ → Result Queue IoFault → T → Type 0) → SessionState T U → WireMessage → Turned → SessionState T U → Type 0

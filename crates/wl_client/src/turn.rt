@@ -1,6 +1,6 @@
 //! One turn of a reading: the message at the front is taken off the link and handled.
 
-ghost use Rattle.std.specs.Prelude.{◌≡◌, ◌≢◌, [], true, false, None, Some, Ok, Err, MatchResult, length, IfOk};
+ghost use Rattle.std.specs.Prelude.{◌≡◌, ◌≢◌, ◌≤◌, [], true, false, None, Some, Ok, Err, MatchResult, length, IfOk};
 ghost use Rattle.smallvec.specs.SmallVec.{HasRoomFor};
 ghost use Rattle.wl_wire.specs.Message.{content};
 ghost use Rattle.wl_wire.specs.Table.{message_row};
@@ -57,7 +57,8 @@ fn take<'p, T: Drop, U: Drop>(
     socket: &mut BufferedSocket<T>,
     converted: &mut SmallVec<Argument<ObjectId, Token>, INLINE_ARGS>,
 ) -> Result<(Message<u32, Token>, &'p MessageDesc), MessageParseError>
-    requires { converted.old.items ≡ [] }
+    requires items { converted.old.items ≡ [] }
+    requires inline { INLINE_ARGS ≤ converted.old.capacity }
     ensures took { TookWith protocol.now objects.old.store socket.old result socket.new }
     ensures store { objects.new.store ≡ objects.old.store }
     ensures room { IfOk result (λ r. HasRoomFor converted.new (length r.0.args.items)) }
