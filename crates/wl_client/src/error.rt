@@ -11,7 +11,8 @@ pub struct InvalidId;
 /// What a session keeps as its last error.
 #[derive(Debug, PartialEq, Eq, Drop, Error)]
 pub enum WaylandError {
-    /// The transport failed, or the memory for an error's text was not there.
+    /// The transport failed; or a request was too long to be sent (`TooBig`), or there was no memory for an error's text
+    /// (`OutOfMemory`).
     #[error("Io error: {0}")]
     Io(IoFault),
     /// The server sent an error, or broke the protocol.
@@ -30,7 +31,10 @@ pub enum DestroyError {
     OutOfMemory,
 }
 
-/// Why a request was not sent, in the order in which the reasons are looked at.
+/// Why a request was not sent.
+///
+/// The reasons are looked at in the order of the variants, but that a sender which the client has destroyed is looked at
+/// behind the opcode, and object arguments one after another behind `NotPlaceholder`: the first with a reason tells it.
 #[derive(Clone, Copy, Debug, PartialEq, Eq, Error)]
 pub enum RequestError {
     /// The sender, or an object argument, names no object, or one that the client has destroyed.

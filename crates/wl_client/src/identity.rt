@@ -1,4 +1,4 @@
-//! What an id names, and how often an object is noted, over every run of a session.
+//! What an id names, and how often an object is noted, over every run of a session with a transport by script.
 
 ghost use Rattle.std.specs.Prelude.{List};
 ghost use Rattle.wl_wire.specs.Table.{InterfaceRow};
@@ -10,8 +10,8 @@ ghost use Rattle.wl_client.specs.Steps.{Entry, Leads};
 
 /// The identity law of a session.
 ///
-/// Over every run of calls from the connecting on, each id that a reply hands out names the object that it was made
-/// of exactly while that is kept, and afterwards none. The call itself does nothing.
+/// Over every run of calls from the connecting on, over the transport by script, each id that a reply hands out names
+/// the object that it was made of exactly while that is kept, and afterwards none. The call itself does nothing.
 pub fn each_id_names_its_own_object<U>()
     ensures { (table : List InterfaceRow) (transport : Script) (before after : SessionState Script U) (run : List (Entry U)) →
         IsConnected table transport before → Leads before run after → HasOwnIds before run after }
@@ -19,8 +19,9 @@ pub fn each_id_names_its_own_object<U>()
 
 /// The law of a session's notes.
 ///
-/// Over every run of calls from the connecting on, no object is noted twice: the ids of the notes that were taken,
-/// and of those that still wait, differ pairwise in number or serial. The call itself does nothing.
+/// Over every run of calls from the connecting on, over the transport by script, no object is noted twice: the ids of
+/// the notes that were taken, and of those that still wait, differ pairwise in number or serial. The call itself does
+/// nothing.
 pub fn each_object_is_noted_once<U>()
     ensures { (table : List InterfaceRow) (transport : Script) (before after : SessionState Script U) (run : List (Entry U)) →
         IsConnected table transport before → Leads before run after → NotedOnce run after }
