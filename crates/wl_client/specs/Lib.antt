@@ -14,4 +14,6 @@ pub mod Handed
 pub mod IdentityLaws
 pub mod Noted
 pub mod NotedLaws
+pub mod Failed
+pub mod FailedLaws
 pub mod Lending

@@ -1,8 +1,10 @@
-//! What an id names, and how often an object is noted, over every run of a session.
+//! What follows from the definitions of a session alone, over every run of it. Each function has a law as its
+//! contract, and does nothing.
 
-ghost use Rattle.std.specs.Prelude.{List};
+ghost use Rattle.std.specs.Prelude.{List, IsSome};
 ghost use Rattle.wl_wire.specs.Table.{InterfaceRow};
 ghost use Rattle.wl_link.specs.Script.{Script};
+ghost use Rattle.wl_client.specs.Failed.{StaysFailed};
 ghost use Rattle.wl_client.specs.Handed.{HasOwnIds};
 ghost use Rattle.wl_client.specs.Noted.{NotedOnce};
 ghost use Rattle.wl_client.specs.Session.{SessionState, IsConnected};
@@ -24,4 +26,13 @@ pub fn each_id_names_its_own_object<U>()
 pub fn each_object_is_noted_once<U>()
     ensures { (table : List InterfaceRow) (transport : Script) (before after : SessionState Script U) (run : List (Entry U)) →
         IsConnected table transport before → Leads before run after → NotedOnce run after }
+{}
+
+/// The law of a session's error.
+///
+/// Over every run of calls, a session that has an error keeps one, and answers each reading and each flush by `Failed`.
+/// The call itself does nothing.
+pub fn a_failed_session_stays_failed<U>()
+    ensures { (before after : SessionState Script U) (run : List (Entry U)) →
+        IsSome before.error → Leads before run after → StaysFailed run after }
 {}
