@@ -16,4 +16,7 @@ pub mod Noted
 pub mod NotedLaws
 pub mod Failed
 pub mod FailedLaws
+pub mod Replies
+pub mod ReadingLaws
+pub mod OutcomeLaws
 pub mod Lending

@@ -38,6 +38,7 @@ pub use error::{
 };
 pub use laws::{
     a_failed_session_stays_failed, each_id_names_its_own_object, each_object_is_noted_once,
+    each_run_has_one_outcome,
 };
 pub use next_event::READ_TURNS;
 pub use note::Note;
