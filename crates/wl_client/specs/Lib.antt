@@ -14,4 +14,9 @@ pub mod Handed
 pub mod IdentityLaws
 pub mod Noted
 pub mod NotedLaws
+pub mod Failed
+pub mod FailedLaws
+pub mod Replies
+pub mod ReadingLaws
+pub mod OutcomeLaws
 pub mod Lending

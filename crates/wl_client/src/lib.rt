@@ -14,8 +14,8 @@ mod event;
 mod event_fault;
 mod finish;
 mod flush;
-mod identity;
 mod kept;
+mod laws;
 mod next_event;
 mod note;
 mod object_id;
@@ -36,7 +36,10 @@ pub use error::{
     DestroyError, EventError, FinishError, FinishRefused, FlushError, InvalidId, RequestError,
     WaylandError,
 };
-pub use identity::{each_id_names_its_own_object, each_object_is_noted_once};
+pub use laws::{
+    a_failed_session_stays_failed, each_id_names_its_own_object, no_object_is_noted_twice,
+    each_run_has_one_outcome,
+};
 pub use next_event::READ_TURNS;
 pub use note::Note;
 pub use object_id::ObjectId;

@@ -2,6 +2,7 @@ use Rattle.std.proofs.Common.{◌≡◌, ◌++◌, [], arith, ap, refl, sym, sub
 use Rattle.std.proofs.lemmas.Bool.{false≢true}
 use Rattle.wl_client.specs.Steps.{StepOf, StopsAt, entries}
 use Rattle.wl_client.specs.IdentityLaws.{own_ids}
+use Rattle.wl_client.specs.OutcomeLaws.{run_one}
 use Rattle.wl_client.proofs.Replaying.{begins, empty_of, ends, joins, more, stops}
 use Rattle.wl_client.proofs.replay.Backend+Memory+U.replay.Goals as goal
 
@@ -46,3 +47,9 @@ pub returns-clause-identity : goal.returns-clause-identity
 returns-clause-identity g c table transport begun run connected before =
     own_ids table transport begun c.loop-step.self.session (run ++ entries c.args.steps.items c.loop-step.replies.items) connected
     (returns-clause-joined g c begun run before)
+
+pub returns-clause-outcome : goal.returns-clause-outcome
+returns-clause-outcome g c others other as_many leads =
+    let none : c.loop-step.rest.items ≡ [] = empty_of c.loop-step.rest.len c.loop-step.rest.items c.loop-step.rest.ok.0 (λ some. false≢true (c.in_default-pop.ensures.variant.1 some)) in
+    let made = ends c.args.self.now.session c.loop-step.self.session c.args.steps.items c.loop-step.replies.items c.loop-step.rest.items none c.loop-step.invariant.so_far in
+    run_one c.args.self.now.session c.loop-step.self.session other c.args.steps.items c.loop-step.replies.items others made.1 as_many made.0 leads

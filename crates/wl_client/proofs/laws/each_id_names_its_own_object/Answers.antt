@@ -1,5 +1,5 @@
 use Rattle.wl_client.specs.IdentityLaws.{own_ids}
-use Rattle.wl_client.proofs.identity.each_id_names_its_own_object.Goals as goal
+use Rattle.wl_client.proofs.laws.each_id_names_its_own_object.Goals as goal
 
 pub returns : goal.returns
 returns g c = own_ids

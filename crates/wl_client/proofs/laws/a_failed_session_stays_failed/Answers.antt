@@ -1,0 +1,5 @@
+use Rattle.wl_client.specs.FailedLaws.{stays_failed}
+use Rattle.wl_client.proofs.laws.a_failed_session_stays_failed.Goals as goal
+
+pub returns : goal.returns
+returns g c = λ before after run failed leads. stays_failed before after run failed leads

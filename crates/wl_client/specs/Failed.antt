@@ -1,0 +1,27 @@
+-- What a session that has an error answers, over a run.
+use Rattle.std.specs.Prelude.{◌≡◌, List, [], ◌∷◌, IsSome, Err}
+use Rattle.wl_link.specs.Script.{Script}
+use Rattle.wl_client.specs.declared.error.EventError.TheVariants as no_event
+use Rattle.wl_client.specs.declared.error.FlushError.TheVariants as flush
+use Rattle.wl_client.specs.declared.step.Reply.{Reply}
+use Rattle.wl_client.specs.declared.step.Reply.TheVariants as reply
+use Rattle.wl_client.specs.declared.step.Step.{Step}
+use Rattle.wl_client.specs.declared.step.Step.TheVariants as step
+use Rattle.wl_client.specs.Session.{SessionState}
+use Rattle.wl_client.specs.Steps.{Entry}
+
+module _ {U : Type 0} where
+  -- a reading or a flush is answered by the failure; nothing is said of other steps
+  abbrev pub AnswersFailed : Step U → Reply U → Type 0
+  AnswersFailed step.NextEvent answer = answer ≡ reply.NextEvent (Err no_event.Failed)
+  AnswersFailed step.Flush answer = answer ≡ reply.Flush (Err flush.Failed)
+  AnswersFailed _ answer = Unit {0}
+
+  -- so is each reading and each flush of the run
+  abbrev pub AllFail : List (Entry U) → Type 0
+  AllFail [] = Unit {0}
+  AllFail (e ∷ run) = AnswersFailed e.step e.answer × AllFail run
+
+  -- the run hands out no event and flushes nothing, and the session has an error after it
+  abbrev pub StaysFailed : List (Entry U) → SessionState Script U → Type 0
+  StaysFailed run after = AllFail run × IsSome after.error
