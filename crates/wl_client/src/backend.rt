@@ -121,8 +121,11 @@ impl<T: Drop, U: Drop> Backend<T, U> {
         }
     }
 
-    /// The error that ended the session, if it has one: a fault of the transport, an error that the server told, or
-    /// what was wrong with an event.
+    /// The session's error, if it has one: a fault of the transport, an error that the server told, or what was wrong
+    /// with an event.
+    ///
+    /// A session that has an error reads and flushes no more. Its other calls go on, and a later fault of a request's
+    /// write takes the error's place.
     pub fn last_error(&self) -> Option<&WaylandError>
         ensures { option_copied result ≡ self.now.session.error }
     {
@@ -140,7 +143,7 @@ impl<T: Drop, U: Drop> Backend<T, U> {
     }
 
     /// Destroys the object that the id names, on the client's side: it is noted, if it has user data, and leaves the
-    /// map when the server gives up its number.
+    /// map when the server gives up its number after that.
     ///
     /// `InvalidId` where the id names none, or the display, or an object that the client has destroyed already;
     /// `OutOfMemory` where there is none for the note. A refusal changes nothing.
@@ -213,8 +216,9 @@ impl<T: Transport + Drop, U: Drop> Backend<T, U> {
     ///
     /// The refusals are those of `RequestError`, decided in the order of its variants, but that an unknown sender
     /// comes before an unknown opcode and a destroyed one after it; object arguments are looked at from left to
-    /// right, before the new object is made. A refusal changes nothing; after `OutOfMemory` what was sent is gone
-    /// from the link. A fault of the transport is stored as the last error, and the answer is `Ok`.
+    /// right, before the new object is made. A refusal changes nothing, but that after `OutOfMemory` what a flush of the
+    /// write sent is gone from the link, and a storage that grew stays so. A fault of the transport is stored as the
+    /// session's error, and the answer is `Ok`; so is `TooBig`, where the request is too long.
     pub fn send_request(
         &mut self,
         message: Message<ObjectId, Token>,
@@ -229,7 +233,8 @@ impl<T: Transport + Drop, U: Drop> Backend<T, U> {
         answer
     }
 
-    /// Sends what waits, as far as the transport takes it.
+    /// Sends what waits, as far as the transport takes it. `Ok` says that all was sent, or that the transport answered 0
+    /// to a send: the rest then still waits, but for the descriptors that this send was offered.
     ///
     /// `Failed` where the session has an error, or gets one now: a fault of the transport but `WouldBlock` and
     /// `OutOfMemory` is stored. After these two what was not sent still waits.
@@ -247,7 +252,8 @@ impl<T: Transport + Drop, U: Drop> Backend<T, U> {
     /// Events of the display are handled and not handed out, and neither are those for an object that the client has
     /// destroyed. The refusals are, in this order: `Failed` where the session has an error; `EventOpen`; then what
     /// the reading comes to: `Failed` where it stores an error, `WouldBlock` where the transport would block or
-    /// no whole message waits after 64 receives, `OutOfMemory`.
+    /// no whole message waits after 64 receives, `OutOfMemory`. After the last two what was handled stays handled, and
+    /// what waits is read by the next call.
     pub fn next_event(&mut self) -> Result<Message<ObjectId, Token>, EventError>
         ensures read { NextEvent T.receives self.old.session (event_content result) self.new.refused self.new.session }
     {
