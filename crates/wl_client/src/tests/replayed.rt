@@ -77,41 +77,67 @@ fn replay(client: &mut Client, log: &mut String, steps: Vec<Step<u32>>) -> Resul
     Ok(())
 }
 
+/// Puts a step behind the others.
+fn push(steps: &mut Vec<Step<u32>>, step: Step<u32>) -> Result<(), Fail> {
+    steps.push(step)?;
+    Ok(())
+}
+
 /// `wl_display.sync`, whose callback has the data 5.
-fn sync_step(alloc: Global) -> Result<Step<u32>, Fail> {
+fn push_sync(alloc: Global, steps: &mut Vec<Step<u32>>) -> Result<(), Fail> {
     let message = of_one(alloc, display(), 0, Argument::NewId(ObjectId::null()))?;
-    Ok(Step::SendRequest(message, Some(5), None))
+    push(steps, Step::SendRequest(message, Some(5), None))
 }
 
 /// A chunk of bytes that is to arrive.
-fn arrival(alloc: Global, bytes: &[u8]) -> Result<Step<u32>, Fail> {
-    Ok(Step::Arrive(Vec::from_slice(alloc, bytes)?, Vec::new(alloc)))
+fn push_arrival(alloc: Global, steps: &mut Vec<Step<u32>>, bytes: &[u8]) -> Result<(), Fail> {
+    let bytes = Vec::from_slice(alloc, bytes)?;
+    push(steps, Step::Arrive(bytes, Vec::new(alloc)))
 }
 
-/// A callback's life, and each step once.
-fn life_of_a_callback(alloc: Global) -> Result<Vec<Step<u32>>, Fail> {
+/// A sync whose flush would block after five bytes.
+fn sent_sync(alloc: Global, steps: &mut Vec<Step<u32>>) -> Result<(), Fail> {
+    push_sync(alloc, steps)?;
+    push(steps, Step::Accept(5))?;
+    push(steps, Step::AcceptFault(IoFault::WouldBlock))?;
+    push(steps, Step::Flush)?;
+    push(steps, Step::Flush)?;
+    push(steps, Step::TakeSent)
+}
+
+/// The end of its callback.
+fn ended_callback(alloc: Global, steps: &mut Vec<Step<u32>>) -> Result<(), Fail> {
     let callback = ObjectId::from_parts(2, 1, WL_CALLBACK_INTERFACE);
-    Ok(vec![in alloc;
-        sync_step(alloc)?,
-        Step::Accept(5),
-        Step::AcceptFault(IoFault::WouldBlock),
-        Step::Flush,
-        Step::Flush,
-        Step::TakeSent,
-        arrival(alloc, &DONE_BYTES)?,
-        Step::ArriveFault(IoFault::WouldBlock),
-        Step::NextEvent,
-        Step::SetData(callback, 6),
-        Step::FinishEvent(Some(7)),
-        Step::FinishEvent(None),
-        Step::DestroyObject(callback),
-        Step::TakeNotes,
-        Step::NextEvent,
-        Step::SetData(callback, 8),
-        Step::SetMaxBufferSize(Some(0)),
-        Step::DispatchInnerQueue,
-        sync_step(alloc)?,
-    ]?)
+    push_arrival(alloc, steps, &DONE_BYTES)?;
+    push(steps, Step::ArriveFault(IoFault::WouldBlock))?;
+    push(steps, Step::NextEvent)?;
+    push(steps, Step::SetData(callback, 6))?;
+    push(steps, Step::FinishEvent(Some(7)))?;
+    push(steps, Step::FinishEvent(None))?;
+    push(steps, Step::DestroyObject(callback))?;
+    push(steps, Step::TakeNotes)?;
+    push(steps, Step::NextEvent)?;
+    push(steps, Step::SetData(callback, 8))
+}
+
+/// What is left of the steps, and another sync.
+fn another_sync(alloc: Global, steps: &mut Vec<Step<u32>>) -> Result<(), Fail> {
+    push(steps, Step::SetMaxBufferSize(Some(0)))?;
+    push(steps, Step::DispatchInnerQueue)?;
+    push_sync(alloc, steps)
+}
+
+/// A callback's life, in a run that has each step.
+fn life_of_a_callback_run(
+    alloc: Global,
+    client: &mut Client,
+    log: &mut String,
+) -> Result<(), Fail> {
+    let mut steps = Vec::new(alloc);
+    sent_sync(alloc, &mut steps)?;
+    ended_callback(alloc, &mut steps)?;
+    another_sync(alloc, &mut steps)?;
+    replay(client, log, steps)
 }
 
 #[test]
@@ -119,8 +145,7 @@ fn each_step_has_its_reply(rt: HostRuntime) -> Result<(), Fail> {
     let alloc = rt.alloc();
     let mut log = String::new(alloc);
     let mut client = connected(alloc)?;
-    let steps = life_of_a_callback(alloc)?;
-    replay(&mut client, &mut log, steps)?;
+    life_of_a_callback_run(alloc, &mut client, &mut log)?;
     assert_eq!(rt;
         log.as_str(),
         "sent: 2, 1\ndone\ndone\nwould block\nflushed\n0100000000\n000c0002000000\ndone\ndone\nevent 0 of 2: 0\ndone\nthere is no new object for the user data, 7 is back\nfinished\nInvalid ObjectId\nnotes: 2, 1\nwould block\nInvalid ObjectId\nlimit set\n0 dispatched\nsent: 2, 2\nrefused: false\n"
@@ -128,26 +153,35 @@ fn each_step_has_its_reply(rt: HostRuntime) -> Result<(), Fail> {
     Ok(())
 }
 
-/// Wants of memory of the transport, in a flush and in a reading.
+/// A flush for which the transport lacks memory.
+fn stopped_flush(alloc: Global, client: &mut Client, log: &mut String) -> Result<(), Fail> {
+    let mut steps = Vec::new(alloc);
+    push_sync(alloc, &mut steps)?;
+    push(&mut steps, Step::AcceptFault(IoFault::OutOfMemory))?;
+    push(&mut steps, Step::Flush)?;
+    push(&mut steps, Step::NextEvent)?;
+    replay(client, log, steps)
+}
+
+/// A reading for which the transport lacks memory.
+fn stopped_reading(alloc: Global, client: &mut Client, log: &mut String) -> Result<(), Fail> {
+    let mut steps = Vec::new(alloc);
+    push(&mut steps, Step::Flush)?;
+    push(&mut steps, Step::TakeSent)?;
+    push(&mut steps, Step::ArriveFault(IoFault::OutOfMemory))?;
+    push_arrival(alloc, &mut steps, &DONE_BYTES)?;
+    push(&mut steps, Step::NextEvent)?;
+    replay(client, log, steps)
+}
+
+/// Wants of memory of the transport, a run of no steps after the first, and the next reading after the second.
 fn stopped_runs_run(alloc: Global, client: &mut Client, log: &mut String) -> Result<(), Fail> {
-    let flushed = vec![in alloc;
-        sync_step(alloc)?,
-        Step::AcceptFault(IoFault::OutOfMemory),
-        Step::Flush,
-        Step::NextEvent,
-    ]?;
-    replay(client, log, flushed)?;
+    stopped_flush(alloc, client, log)?;
     replay(client, log, Vec::new(alloc))?;
-    let read = vec![in alloc;
-        Step::Flush,
-        Step::TakeSent,
-        Step::ArriveFault(IoFault::OutOfMemory),
-        arrival(alloc, &DONE_BYTES)?,
-        Step::NextEvent,
-    ]?;
-    replay(client, log, read)?;
-    let again = vec![in alloc; Step::NextEvent]?;
-    replay(client, log, again)
+    stopped_reading(alloc, client, log)?;
+    let mut steps = Vec::new(alloc);
+    push(&mut steps, Step::NextEvent)?;
+    replay(client, log, steps)
 }
 
 #[test]
