@@ -1,6 +1,7 @@
 //! Reading a message from bytes and tokens.
 
-ghost use Rattle.std.specs.Prelude.{None, ◌≡◌, ◌≢◌, ◌↔◌, ◌<◌, ◌≤◌, ◌++◌, length, drop, IsTrue, IsOk, IsSome, IfSome, is_some, All, IfOk, IfErr, OnOk, OnErr, option_map, slice_get, vec_len};
+ghost use Rattle.std.specs.Prelude.{None, ◌≡◌, ◌≢◌, ◌↔◌, ◌<◌, ◌≤◌, ◌++◌, length, drop, IsTrue, IsOk, IsSome, IfSome, is_some, All, IfOk, IfErr, OnOk, OnErr, option_map, slice_index_or};
+ghost use Rattle.std.specs.VecDeque.{deque_len};
 ghost use Rattle.std.specs.List.{count_by};
 ghost use Rattle.wl_wire.specs.declared.error.MessageParseError.TheVariants as errors;
 ghost use Rattle.wl_wire.specs.declared.error.MessageParseError.TheVariants.{OutOfMemory};
@@ -79,6 +80,15 @@ fn text_in(bytes: &[u8]) -> Option<Option<&[u8]>>
     Some(Some(text))
 }
 
+/// The token at that place, which most messages do not ask for.
+#[inline(never)]
+fn token_at(fds: &VecDeque<Token>, at: usize) -> Option<Token>
+    ensures there { IsSome result ↔ (at < deque_len fds.now) }
+    ensures token { IfSome result (λ token. token ≡ slice_index_or fds.now.items at token) }
+{
+    fds.get(at).copied()
+}
+
 /// An argument that was read, the bytes that are left, and how many tokens were used.
 type Read<'b> = (Argument<u32, Token>, &'b [u8], usize);
 
@@ -131,8 +141,8 @@ fn read_argument<'b>(
             Ok((Argument::Array(bytes), rest, used))
         }
         ArgumentType::Fd => {
-            let fd = fds.get(used).ok_or(MessageParseError::Malformed)?;
-            Ok((Argument::Fd(*fd), payload, used + 1))
+            let fd = token_at(fds, used).ok_or(MessageParseError::Malformed)?;
+            Ok((Argument::Fd(fd), payload, used + 1))
         }
     }
 }
@@ -322,14 +332,15 @@ pub fn parse_message<'a>(
     let header = read_header(raw)?;
     let (whole, rest) = raw.split_at(header.len);
     let payload = &whole[8..];
-    let mut message = Message {
-        sender_id: header.sender_id,
-        opcode: header.opcode,
-        args: SmallVec::new(alloc),
-    };
-    let Ok(taken) = read_arguments(alloc, signature, payload, fds, &mut message.args) else {
+    let mut args = SmallVec::new(alloc);
+    let Ok(taken) = read_arguments(alloc, signature, payload, fds, &mut args) else {
         return Err(refusal(signature, payload, fds.make_contiguous()));
     };
     take_tokens(fds, taken);
+    let message = Message {
+        sender_id: header.sender_id,
+        opcode: header.opcode,
+        args,
+    };
     Ok((message, rest))
 }

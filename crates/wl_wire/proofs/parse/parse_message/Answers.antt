@@ -16,8 +16,8 @@ returns-in_default-clause-refused c =
 pub returns-clause-found : goal.returns-clause-found
 returns-clause-found c =
     let left = drop c.in-Ok.taken c.args.fds.now.items in
-    let found = found_whole c.args.raw.now c.split_at.result.0.now c.in_ok-header.header.len c.args.signature.now c.args.fds.now.items c.new.result.items c.read_arguments.new.args.items left
-    c.in_ok-header.ensures.words.2 c.split_at.ensures.front c.new.ensures.items c.in-Ok.ensures.found in
+    let found = found_whole c.args.raw.now c.split_at.result.0.now c.in_ok-header.header.len c.args.signature.now c.args.fds.now.items c.new-args.result.items c.read_arguments.new.args.items left
+    c.in_ok-header.ensures.words.2 c.split_at.ensures.front c.new-args.ensures.items c.in-Ok.ensures.found in
     record {
       whole = c.in_ok-header.ensures.whole;
       sender = c.in_ok-header.ensures.words.0;
@@ -28,6 +28,6 @@ returns-clause-found c =
 pub returns-clause-tokens : goal.returns-clause-tokens
 returns-clause-tokens c =
     let left = drop c.in-Ok.taken c.args.fds.now.items in
-    let found = found_whole c.args.raw.now c.split_at.result.0.now c.in_ok-header.header.len c.args.signature.now c.args.fds.now.items c.new.result.items c.read_arguments.new.args.items left
-    c.in_ok-header.ensures.words.2 c.split_at.ensures.front c.new.ensures.items c.in-Ok.ensures.found in
+    let found = found_whole c.args.raw.now c.split_at.result.0.now c.in_ok-header.header.len c.args.signature.now c.args.fds.now.items c.new-args.result.items c.read_arguments.new.args.items left
+    c.in_ok-header.ensures.words.2 c.split_at.ensures.front c.new-args.ensures.items c.in-Ok.ensures.found in
     c.take_tokens.ensures ∙ left_is c.args.signature.now (payload_of c.args.raw.now) c.args.fds.now.items c.read_arguments.new.args.items left found
