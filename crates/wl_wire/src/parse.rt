@@ -250,6 +250,8 @@ fn fd_places(signature: &[ArgumentType]) -> usize
 /// Which error it is where the arguments were not given out.
 ///
 /// Too few tokens come first, then bytes that do not read, and last the memory that was not there.
+#[cold]
+#[inline(never)]
 fn refusal(signature: &[ArgumentType], payload: &[u8], fds: &[Token]) -> MessageParseError
     ensures refused { RefusesArguments signature.now payload.now fds.now result }
     ensures memory { arguments_at signature.now payload.now fds.now ≡ None → result ≢ OutOfMemory }
