@@ -1,5 +1,5 @@
 -- A message that was read whole: what the parser found is the message at the front.
-use Rattle.std.proofs.Common.{◌≡◌, ℕ, ◌-◌, ◌≤◌, List, [], length, take, drop, Option, Some, None, sym, ap, ◌∙◌, arith, length-append, inr}
+use Rattle.std.proofs.Common.{◌≡◌, ℕ, ◌-◌, List, [], length, take, drop, Option, Some, None, sym, ap, ◌∙◌, arith, inr}
 use Rattle.std.proofs.lemmas.List.{take_all, length-drop, drop_at}
 use Rattle.wl_wire.specs.declared.argument.ArgumentType.{ArgumentType}
 use Rattle.wl_wire.specs.declared.argument.Token.{Token}
