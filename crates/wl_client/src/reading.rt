@@ -42,6 +42,8 @@ pub fn read_under<T>(
 }
 
 /// What is stored where an event has a fault: code 0, object 0, no interface, and the fault's text.
+#[cold]
+#[inline(never)]
 pub fn fault_error(
     alloc: Global,
     protocol: &Protocol,
@@ -81,6 +83,8 @@ fn fault_text(alloc: Global, protocol: &Protocol, fault: EventFault) -> Result<S
 }
 
 /// What is stored where the server tells an error: with the name of the interface of the object that it is about.
+#[cold]
+#[inline(never)]
 pub fn told_error<U: Drop>(
     alloc: Global,
     protocol: &Protocol,

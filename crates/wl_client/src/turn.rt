@@ -87,6 +87,8 @@ fn take<'p, T: Drop, U: Drop>(
 
 impl<T: Transport + Drop, U: Drop> Session<T, U> {
     /// Stores the error, or that there was no memory for its texts.
+    #[cold]
+    #[inline(never)]
     fn fail(&mut self, error: Result<ProtocolError, OutOfMemory>) -> NoEvent
         ensures { MatchResult error
             (λ e. (result ≡ record { error = no_event.Failed; refused = false }) × (self.new ≡ with_error self.old (ProtocolFault e)))
@@ -111,6 +113,8 @@ impl<T: Transport + Drop, U: Drop> Session<T, U> {
     }
 
     /// Stores the error of a fault.
+    #[cold]
+    #[inline(never)]
     fn fail_by(&mut self, fault: EventFault) -> NoEvent
         ensures { Stores self.old (error_of self.old.table fault) (Err result.error) result.refused self.new }
     {
@@ -139,6 +143,17 @@ impl<T: Transport + Drop, U: Drop> Session<T, U> {
 
     /// Takes the message at the front off the link and handles it.
     pub fn turn(&mut self) -> Turn
+        ensures { Turns T.receives self.old result self.new }
+    {
+        if self.socket.next_header().is_none() {
+            return self.not_taken(MessageParseError::MissingData);
+        }
+        self.turn_at_header()
+    }
+
+    /// The same where a header waits. It is apart, so that a reading that waits does not pay for what it keeps.
+    #[inline(never)]
+    fn turn_at_header(&mut self) -> Turn
         ensures { Turns T.receives self.old result self.new }
     {
         let mut converted = SmallVec::new(*self.notes.allocator());

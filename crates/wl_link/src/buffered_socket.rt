@@ -280,6 +280,7 @@ impl<T: Transport> BufferedSocket<T> {
     }
 
     /// Writes the message where there may be too little room behind what waits.
+    #[inline(never)]
     fn make_room_and_write(&mut self, message: &Message<u32, Token>) -> Result<(), IoFault>
         requires { size (content message.now) ≤ 65535 }
         ensures { Wrote T.sends self.old (content message.now) result self.new }

@@ -1,6 +1,6 @@
 -- How long the pieces of arguments are, and how one is written behind another.
-use Rattle.std.proofs.Common.{◌≡◌, ℕ, ◌+◌, ◌≤◌, ◌<◌, List, [], ◌∷◌, ◌++◌, length, get_or, take, drop, replicate, Some, None, refl, sym, ap, subst, ◌∙◌, append_assoc, arith, length-append, add-zero, zero-add}
-use Rattle.std.proofs.lemmas.List.{append-nil, length-replicate, replicate-append-replicate, take_more, length-take-le, length-drop, take_at, drop_at, drop-drop, take-append-drop}
+use Rattle.std.proofs.Common.{◌≡◌, ℕ, ◌+◌, ◌-◌, ◌≤◌, ◌<◌, List, [], ◌∷◌, ◌++◌, length, get_or, take, drop, replicate, Some, None, refl, sym, ap, subst, ◌∙◌, append_assoc, arith, length-append, add-zero, zero-add}
+use Rattle.std.proofs.lemmas.List.{append-nil, length-replicate, replicate-append-replicate, take_more, length-take-le, length-drop, take_at, drop_at, drop-drop, take-append-drop, take-append-le, take-take, drop-append-le, drop-replicate}
 use Rattle.std.proofs.lemmas.Grind.{flat_map-append}
 use Rattle.wl_wire.specs.declared.argument.Argument.TheVariants as arg
 use Rattle.wl_wire.specs.declared.argument.Token.{Token}
@@ -11,6 +11,10 @@ use Rattle.wl_wire.specs.Buffer.{overwritten, counted_len, piece_len}
 pub length-word : (n : ℕ) → length (word n) ≡ 4
 unfolding word
 length-word n = refl
+
+word-zero : word 0 ≡ replicate 4 0
+unfolding word
+word-zero = refl
 
 pub length-counted : (bytes : List ℕ) → length (counted bytes) ≡ counted_len (length bytes)
 length-counted bytes =
@@ -82,26 +86,51 @@ pub overwritten-front : (old xs : List ℕ) → overwritten old 0 xs ≡ xs ++ d
 unfolding overwritten
 overwritten-front old xs = rw (zero-add (length xs)) refl
 
--- a count, the counted bytes with so many zeros at their end, and the padding
-pub overwritten-counted : (old : List ℕ) (at : ℕ) (bytes : List ℕ) (ending n : ℕ) → n ≡ length bytes + ending → at + counted_len n ≤ length old
-    → overwritten (overwritten (overwritten old at (word n)) (at + 4) bytes) (at + 4 + length bytes) (replicate (ending + pad_len n) 0)
+-- a write over one that begins in it and does not end behind it
+pub overwritten-over : (old : List ℕ) (at before : ℕ) (xs under : List ℕ) (k : ℕ) → at ≤ before → at + length xs ≡ before + k → k ≤ length under
+    → before + length under ≤ length old
+    → overwritten (overwritten old before under) at xs ≡ overwritten old at (xs ++ drop k under)
+unfolding overwritten
+overwritten-over old at before xs under k starts ends within le =
+    let tail : List ℕ = drop (before + length under) old in
+    let front-len : length (take before old) ≡ before = length-take-le before old (omega arith) in
+    let both-len : length (take before old ++ under) ≡ before + length under = omega (arith, length-append (take before old) under) in
+    let front-is : take at ((take before old ++ under) ++ tail) ≡ take at old
+    = take-append-le at (take before old ++ under) tail (omega arith)
+    ∙ take-append-le at (take before old) under (omega arith)
+    ∙ take-take at before old starts in
+    let back-is : drop (at + length xs) ((take before old ++ under) ++ tail) ≡ drop k under ++ tail
+    = ap (λ (n : ℕ). drop n ((take before old ++ under) ++ tail)) ends
+    ∙ drop-append-le (before + k) (take before old ++ under) tail (omega arith)
+    ∙ ap (λ (p : List ℕ). p ++ tail) (sym (drop-drop k before (take before old ++ under)) ∙ ap (drop k) (drop_at (take before old) under before front-len)) in
+    let tail-is : tail ≡ drop (at + length (xs ++ drop k under)) old
+    = ap (λ (n : ℕ). drop n old) (omega (arith, length-append xs (drop k under), length-drop k under)) in
+    rw (front-is, back-is)
+    (ap (λ (p : List ℕ). (take at old ++ xs) ++ (drop k under ++ p)) tail-is ∙ simp append_assoc)
+
+-- a last word of zeros, a count and the counted bytes: what is left of the zeros ends the bytes and pads them
+pub overwritten-counted : (old : List ℕ) (at : ℕ) (bytes : List ℕ) (ending n : ℕ) → n ≡ length bytes + ending → ending ≤ 1 → at + counted_len n ≤ length old
+    → overwritten (overwritten (overwritten old (at + n + pad_len n) (word 0)) at (word n)) (at + 4) bytes
     ≡ overwritten old at (counted (bytes ++ replicate ending 0))
-overwritten-counted old at bytes ending n n-is le =
+overwritten-counted old at bytes ending n n-is few le =
     let zeros : List ℕ = replicate ending 0 in
-    let padding : List ℕ = replicate (pad_len n) 0 in
-    let whole-len : length (bytes ++ zeros) ≡ n = omega (arith, length-append bytes zeros, length-replicate {A = ℕ} ending 0) in
+    let last : ℕ = at + n + pad_len n in
+    let under : List ℕ = overwritten old last (word 0) in
     let word-len : length (word n) ≡ 4 = length-word n in
+    let under-len : length under ≡ length old = length-overwritten old last (word 0) (omega (arith, length-word 0)) in
     let two-len : length (word n ++ bytes) ≡ 4 + length bytes = omega (arith, length-append (word n) bytes) in
-    let zeros-is : replicate (ending + pad_len n) 0 ≡ zeros ++ padding = sym (replicate-append-replicate {A = ℕ} ending (pad_len n) 0) in
-    let tail-len : length (replicate {A = ℕ} (ending + pad_len n) 0) ≡ ending + pad_len n = length-replicate {A = ℕ} (ending + pad_len n) 0 in
-    let first : overwritten (overwritten old at (word n)) (at + 4) bytes ≡ overwritten old at (word n ++ bytes)
-    = subst (λ (k : ℕ). overwritten (overwritten old at (word n)) (at + k) bytes ≡ overwritten old at (word n ++ bytes)) word-len (overwritten-append old at (word n) bytes (omega arith)) in
-    let second : overwritten (overwritten old at (word n ++ bytes)) (at + 4 + length bytes) (replicate (ending + pad_len n) 0) ≡ overwritten old at ((word n ++ bytes) ++ replicate (ending + pad_len n) 0)
-    = subst (λ (k : ℕ). overwritten (overwritten old at (word n ++ bytes)) k (replicate (ending + pad_len n) 0) ≡ overwritten old at ((word n ++ bytes) ++ replicate (ending + pad_len n) 0)) (omega arith)
-    (overwritten-append old at (word n ++ bytes) (replicate (ending + pad_len n) 0) (omega arith)) in
-    let content-is : (word n ++ bytes) ++ replicate (ending + pad_len n) 0 ≡ counted (bytes ++ zeros)
+    let whole-len : length (bytes ++ zeros) ≡ n = omega (arith, length-append bytes zeros, length-replicate {A = ℕ} ending 0) in
+    let left : ℕ = 4 - (ending + pad_len n) in
+    let small : ending + pad_len n ≤ 4 = omega arith in
+    let first : overwritten (overwritten under at (word n)) (at + 4) bytes ≡ overwritten under at (word n ++ bytes)
+    = subst (λ (k : ℕ). overwritten (overwritten under at (word n)) (at + k) bytes ≡ overwritten under at (word n ++ bytes)) word-len (overwritten-append under at (word n) bytes (omega arith)) in
+    let second : overwritten under at (word n ++ bytes) ≡ overwritten old at ((word n ++ bytes) ++ drop left (word 0))
+    = overwritten-over old at last (word n ++ bytes) (word 0) left (omega arith) (omega arith) (omega (arith, length-word 0)) (omega (arith, length-word 0)) in
+    let zeros-is : drop left (word 0) ≡ zeros ++ replicate (pad_len n) 0
+    = ap (drop left) word-zero ∙ drop-replicate {X = ℕ} left 4 0 ∙ ap (λ (k : ℕ). replicate k 0) (omega arith) ∙ sym (replicate-append-replicate {A = ℕ} ending (pad_len n) 0) in
+    let content-is : (word n ++ bytes) ++ drop left (word 0) ≡ counted (bytes ++ zeros)
     = rw (whole-len, zeros-is) (simp append_assoc) in
-    rw first (second ∙ ap (overwritten old at) content-is)
+    first ∙ second ∙ ap (overwritten old at) content-is
 
 -- one more argument is written behind the others
 pub overwritten-more : (old now new : List ℕ) (args : List WireArgument) (i at : ℕ) (a : WireArgument) → i < length args → a ≡ get_or args i a

@@ -1,11 +1,10 @@
 -- Worked messages, computed from the definitions: they say what was meant.
-use Rattle.std.proofs.Common.{◌≡◌, ℕ, ◌<◌, ◌≤◌, List, [], ◌∷◌, ◌++◌, length, Some, None, refl, inl, inr, lit<, lit≤}
+use Rattle.std.proofs.Common.{◌≡◌, ℕ, List, [], ◌∷◌, Some, None, refl, inl, inr, lit<, lit≤}
 use Rattle.std.specs.Prelude.{codes, negsuc, pos}
 use Rattle.wl_wire.specs.declared.argument.AllowNull.TheVariants.{No}
 use Rattle.wl_wire.specs.declared.argument.ArgumentType.{ArgumentType}
 use Rattle.wl_wire.specs.declared.argument.ArgumentType.TheVariants as kind
 use Rattle.wl_wire.specs.declared.argument.Argument.TheVariants as arg
-use Rattle.wl_wire.specs.declared.argument.Token.{Token}
 use Rattle.wl_wire.specs.declared.error.MessageParseError.TheVariants as errors
 use Rattle.wl_wire.specs.Argument.{WireArgument}
 use Rattle.wl_wire.specs.Message.{WireMessage, word, pad_len, counted, piece, pieces, tokens, size, spelling}

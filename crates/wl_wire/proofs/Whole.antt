@@ -1,6 +1,6 @@
 -- A message that was read whole: what the parser found is the message at the front.
-use Rattle.std.proofs.Common.{◌≡◌, ℕ, ◌-◌, ◌≤◌, List, [], length, take, drop, Option, Some, None, sym, ap, ◌∙◌, arith, length-append, inr}
-use Rattle.std.proofs.lemmas.List.{take_all, length-drop}
+use Rattle.std.proofs.Common.{◌≡◌, ℕ, ◌-◌, List, [], length, take, drop, Option, Some, None, sym, ap, ◌∙◌, arith, inr}
+use Rattle.std.proofs.lemmas.List.{take_all, length-drop, drop_at}
 use Rattle.wl_wire.specs.declared.argument.ArgumentType.{ArgumentType}
 use Rattle.wl_wire.specs.declared.argument.Token.{Token}
 use Rattle.wl_wire.specs.declared.error.MessageParseError.{MessageParseError}
@@ -22,23 +22,21 @@ pub payload-is : (raw front : List ℕ) (len : ℕ) → len ≡ length_of raw �
 payload-is raw front len len-is front-is =
     take_all (length front - 8) (drop 8 front) (omega (arith, length-drop {A = ℕ} 8 front)) ∙ ap (drop 8) (front-is ∙ ap (λ (n : ℕ). take n raw) len-is)
 
--- what was found there, among the tokens that wait
-pub found_whole : (raw front : List ℕ) (len : ℕ) (signature : List ArgumentType) (waiting fds : List Token) (before args : List WireArgument) (left : List Token)
-    → len ≡ length_of raw → front ≡ take len raw → waiting ≡ fds → before ≡ []
-    → with_front before (arguments_at signature (take (length front - 8) (drop 8 front)) waiting) ≡ Some (args, left)
+-- what was found there
+pub found_whole : (raw front : List ℕ) (len : ℕ) (signature : List ArgumentType) (fds : List Token) (before args : List WireArgument) (left : List Token)
+    → len ≡ length_of raw → front ≡ take len raw → before ≡ []
+    → with_front before (arguments_at signature (take (length front - 8) (drop 8 front)) fds) ≡ Some (args, left)
     → arguments_at signature (payload_of raw) fds ≡ Some (args, left)
-found_whole raw front len signature waiting fds before args left len-is front-is waiting-is none found =
-    sym (ap (λ (p : List ℕ). arguments_at signature p waiting) (payload-is raw front len len-is front-is) ∙ ap (arguments_at signature (payload_of raw)) waiting-is)
-    ∙ with_no_front before (arguments_at signature (take (length front - 8) (drop 8 front)) waiting) (args, left) none found
+found_whole raw front len signature fds before args left len-is front-is none found =
+    sym (ap (λ (p : List ℕ). arguments_at signature p fds) (payload-is raw front len len-is front-is))
+    ∙ with_no_front before (arguments_at signature (take (length front - 8) (drop 8 front)) fds) (args, left) none found
 
 -- the tokens that are left are those behind the message's
 pub left_is : (signature : List ArgumentType) (payload : List ℕ) (fds : List Token) (args : List WireArgument) (left : List Token)
-    → arguments_at signature payload fds ≡ Some (args, left) → (length left ≤ length fds) × (drop (length fds - length left) fds ≡ drop (fd_count signature) fds)
+    → arguments_at signature payload fds ≡ Some (args, left) → left ≡ drop (fd_count signature) fds
 left_is signature payload fds args left found =
     let read = arguments_read signature payload fds args left found in
-    let parts = ap length read.1 ∙ length-append (tokens args) left in
-    let count : length fds - length left ≡ fd_count signature = omega (arith, parts, reads_tokens signature args payload fds read.0) in
-    (omega (arith, parts), ap (λ (n : ℕ). drop n fds) count)
+    sym (ap (drop (fd_count signature)) read.1 ∙ drop_at (tokens args) left (fd_count signature) (reads_tokens signature args payload fds read.0))
 
 -- an error behind the header is one of the whole message
 pub refuses : (raw : List ℕ) (signature : List ArgumentType) (fds : List Token) (e : MessageParseError)

@@ -1,6 +1,7 @@
 //! Reading a message from bytes and tokens.
 
-ghost use Rattle.std.specs.Prelude.{None, ◌≡◌, ◌≢◌, ◌↔◌, ◌<◌, ◌≤◌, ◌++◌, length, drop, IsTrue, IsSome, IfSome, is_some, All, IfOk, IfErr, OnOk, OnErr, option_map, slice_get, vec_len};
+ghost use Rattle.std.specs.Prelude.{None, ◌≡◌, ◌≢◌, ◌↔◌, ◌<◌, ◌≤◌, ◌++◌, length, drop, IsTrue, IsOk, IsSome, IfSome, is_some, All, IfOk, IfErr, OnOk, OnErr, option_map, slice_index_or};
+ghost use Rattle.std.specs.VecDeque.{deque_len};
 ghost use Rattle.std.specs.List.{count_by};
 ghost use Rattle.wl_wire.specs.declared.error.MessageParseError.TheVariants as errors;
 ghost use Rattle.wl_wire.specs.declared.error.MessageParseError.TheVariants.{OutOfMemory};
@@ -79,84 +80,111 @@ fn text_in(bytes: &[u8]) -> Option<Option<&[u8]>>
     Some(Some(text))
 }
 
-/// An argument that was read, and what is left of the bytes and of the tokens.
-type Read<'b, 't> = (Argument<u32, Token>, &'b [u8], &'t [Token]);
+/// The token at that place, which most messages do not ask for.
+#[inline(never)]
+fn token_at(fds: &VecDeque<Token>, at: usize) -> Option<Token>
+    ensures there { IsSome result ↔ (at < deque_len fds.now) }
+    ensures token { IfSome result (λ token. token ≡ slice_index_or fds.now.items at token) }
+{
+    fds.get(at).copied()
+}
 
-/// The argument of that type at the front of the bytes or of the tokens.
+/// An argument that was read, the bytes that are left, and how many tokens were used.
+type Read<'b> = (Argument<u32, Token>, &'b [u8], usize);
+
+/// The argument of that type at the front of the bytes or of the tokens, of which so many were used before.
 #[tactic(auto, unfolding(crate::specs::Cursor::argument_at))]
-fn read_argument<'b, 't>(
+fn read_argument<'b>(
     alloc: Global,
     kind: ArgumentType,
     payload: &'b [u8],
-    fds: &'t [Token],
-) -> Result<Read<'b, 't>, MessageParseError>
-    ensures found { Gives (λ x. (x.0, x.1.now, x.2.now)) result (argument_at kind payload.now fds.now) }
+    fds: &VecDeque<Token>,
+    used: usize,
+) -> Result<Read<'b>, MessageParseError>
+    ensures found { Gives (λ x. (x.0, x.1.now, drop x.2 fds.now.items)) result (argument_at kind payload.now (drop used fds.now.items)) }
     ensures small { IsSmall kind → IfErr result (λ e. e ≢ OutOfMemory) }
 {
     match kind {
         ArgumentType::Int => {
             let (word, rest) = read_word(payload).ok_or(MessageParseError::Malformed)?;
-            Ok((Argument::Int(word.cast_signed()), rest, fds))
+            Ok((Argument::Int(word.cast_signed()), rest, used))
         }
         ArgumentType::Uint => {
             let (word, rest) = read_word(payload).ok_or(MessageParseError::Malformed)?;
-            Ok((Argument::Uint(word), rest, fds))
+            Ok((Argument::Uint(word), rest, used))
         }
         ArgumentType::Fixed => {
             let (word, rest) = read_word(payload).ok_or(MessageParseError::Malformed)?;
-            Ok((Argument::Fixed(word.cast_signed()), rest, fds))
+            Ok((Argument::Fixed(word.cast_signed()), rest, used))
         }
         ArgumentType::Str(_) => {
             let (bytes, rest) = read_counted(payload).ok_or(MessageParseError::Malformed)?;
             match text_in(bytes).ok_or(MessageParseError::Malformed)? {
-                None => Ok((Argument::Str(None), rest, fds)),
+                None => Ok((Argument::Str(None), rest, used)),
                 Some(text) => {
                     let text = CString::copied(alloc, text)?;
-                    Ok((Argument::Str(Some(text)), rest, fds))
+                    Ok((Argument::Str(Some(text)), rest, used))
                 }
             }
         }
         ArgumentType::Object(_) => {
             let (word, rest) = read_word(payload).ok_or(MessageParseError::Malformed)?;
-            Ok((Argument::Object(word), rest, fds))
+            Ok((Argument::Object(word), rest, used))
         }
         ArgumentType::NewId => {
             let (word, rest) = read_word(payload).ok_or(MessageParseError::Malformed)?;
-            Ok((Argument::NewId(word), rest, fds))
+            Ok((Argument::NewId(word), rest, used))
         }
         ArgumentType::Array => {
             let (bytes, rest) = read_counted(payload).ok_or(MessageParseError::Malformed)?;
             let bytes = ByteArray::new(Vec::from_slice(alloc, bytes)?);
-            Ok((Argument::Array(bytes), rest, fds))
+            Ok((Argument::Array(bytes), rest, used))
         }
         ArgumentType::Fd => {
-            let (fd, fds) = fds.split_first().ok_or(MessageParseError::Malformed)?;
-            Ok((Argument::Fd(*fd), payload, fds))
+            let fd = token_at(fds, used).ok_or(MessageParseError::Malformed)?;
+            Ok((Argument::Fd(fd), payload, used + 1))
         }
     }
 }
 
-/// Reads the arguments into `args`, which is to be empty, and answers the tokens that are left.
-fn read_arguments<'t>(
+/// Makes room for so many arguments. Up to four have it, and take no memory.
+fn make_room(
+    args: &mut SmallVec<Argument<u32, Token>, INLINE_ARGS>,
+    count: usize,
+) -> Result<(), AllocError>
+    requires { HasRoomFor args.old INLINE_ARGS }
+    ensures items { args.new.items ≡ args.old.items }
+    ensures room { OnOk result (HasRoomFor args.new count) }
+    ensures inline { HasRoomFor args.old count → IsOk result }
+{
+    if count > INLINE_ARGS {
+        args.reserve(count)?;
+    }
+    Ok(())
+}
+
+/// Reads the arguments into `args`, which is to be empty, and answers how many tokens they use.
+fn read_arguments(
     alloc: Global,
     signature: &[ArgumentType],
     payload: &[u8],
-    fds: &'t [Token],
+    fds: &VecDeque<Token>,
     args: &mut SmallVec<Argument<u32, Token>, INLINE_ARGS>,
-) -> Result<&'t [Token], MessageParseError>
-    ensures found { Gives (λ left. (args.new.items, left.now)) result (with_front args.old.items (arguments_at signature.now payload.now fds.now)) }
+) -> Result<usize, MessageParseError>
+    requires { HasRoomFor args.old INLINE_ARGS }
+    ensures found { Gives (λ used. (args.new.items, drop used fds.now.items)) result (with_front args.old.items (arguments_at signature.now payload.now fds.now.items)) }
     ensures inline { All IsSmall signature.now → HasRoomFor args.old (length signature.now) → IfErr result (λ e. e ≢ OutOfMemory) }
 {
-    args.reserve(signature.len())?;
+    make_room(args, signature.len())?;
     let mut rest = payload;
-    let mut left = fds;
+    let mut used = 0;
     for kind in signature {
-        let (arg, after, others) = read_argument(alloc, *kind, rest, left)?;
+        let (arg, after, so_far) = read_argument(alloc, *kind, rest, fds, used)?;
         args.push_reserved(arg);
         rest = after;
-        left = others;
+        used = so_far;
     }
-    Ok(left)
+    Ok(used)
 }
 
 /// What follows the argument of that type at the front of the bytes or of the tokens.
@@ -222,6 +250,8 @@ fn fd_places(signature: &[ArgumentType]) -> usize
 /// Which error it is where the arguments were not given out.
 ///
 /// Too few tokens come first, then bytes that do not read, and last the memory that was not there.
+#[cold]
+#[inline(never)]
 fn refusal(signature: &[ArgumentType], payload: &[u8], fds: &[Token]) -> MessageParseError
     ensures refused { RefusesArguments signature.now payload.now fds.now result }
     ensures memory { arguments_at signature.now payload.now fds.now ≡ None → result ≢ OutOfMemory }
@@ -304,18 +334,15 @@ pub fn parse_message<'a>(
     let header = read_header(raw)?;
     let (whole, rest) = raw.split_at(header.len);
     let payload = &whole[8..];
-    let mut message = Message {
-        sender_id: header.sender_id,
-        opcode: header.opcode,
-        args: SmallVec::new(alloc),
-    };
-    let taken = {
-        let waiting: &[Token] = fds.make_contiguous();
-        match read_arguments(alloc, signature, payload, waiting, &mut message.args) {
-            Ok(left) => waiting.len() - left.len(),
-            Err(_) => return Err(refusal(signature, payload, waiting)),
-        }
+    let mut args = SmallVec::new(alloc);
+    let Ok(taken) = read_arguments(alloc, signature, payload, fds, &mut args) else {
+        return Err(refusal(signature, payload, fds.make_contiguous()));
     };
     take_tokens(fds, taken);
+    let message = Message {
+        sender_id: header.sender_id,
+        opcode: header.opcode,
+        args,
+    };
     Ok((message, rest))
 }

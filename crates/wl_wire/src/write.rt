@@ -1,6 +1,6 @@
 //! Writing a message as bytes and tokens.
 
-ghost use Rattle.std.specs.Prelude.{◌≡◌, ◌≢◌, ◌↔◌, ◌+◌, ◌<◌, ◌≤◌, ◌++◌, [], Err, length, drop, replicate, IfOk, OnOk, OnErr, MatchOption, vec_len, vec_capacity};
+ghost use Rattle.std.specs.Prelude.{◌≡◌, ◌≢◌, ◌↔◌, ◌+◌, ◌<◌, ◌≤◌, ◌^◌, ◌++◌, [], Err, length, drop, replicate, IfOk, OnOk, OnErr, MatchOption, vec_len, vec_capacity};
 ghost use Rattle.wl_wire.specs.declared.error.MessageWriteError.TheVariants.{OutOfMemory};
 ghost use Rattle.wl_wire.specs.Message.{content, counted, pad_len, piece, pieces, size, spelling, token, tokens, word};
 ghost use Rattle.wl_wire.specs.Buffer.{overwritten, counted_len, piece_len};
@@ -22,36 +22,40 @@ impl From<AllocError> for MessageWriteError {
     }
 }
 
-/// How many bytes the argument takes.
-fn piece_len(arg: &Argument<u32, Token>) -> usize
-    ensures { result ≡ piece_len arg.now }
+/// How many bytes so many counted ones take, with their count and their padding.
+fn counted_len(len: usize) -> usize
+    requires { len ≤ 2 ^ 63 }
+    ensures { result ≡ counted_len len }
 {
-    match arg {
-        Argument::Int(_)
-        | Argument::Uint(_)
-        | Argument::Fixed(_)
-        | Argument::Object(_)
-        | Argument::NewId(_)
-        | Argument::Str(None) => 4,
-        Argument::Str(Some(text)) => {
-            let len = text.as_bytes().len() + 1;
-            4 + len + padding(len)
-        }
-        Argument::Array(bytes) => {
-            let len = bytes.as_slice().len();
-            4 + len + padding(len)
-        }
-        Argument::Fd(_) => 0,
-    }
+    4 + len + padding(len)
 }
 
-/// How many tokens the argument takes: one or none.
-fn token_count(arg: &Argument<u32, Token>) -> usize
-    ensures { result ≡ length (token arg.now) }
-{
-    match arg {
-        Argument::Fd(_) => 1,
-        _ => 0,
+/// How many bytes a message takes, and how many tokens.
+#[derive(Clone, Copy)]
+struct Measure {
+    bytes: usize,
+    tokens: usize,
+}
+
+impl Measure {
+    /// Counts the argument in.
+    fn add(&mut self, arg: &Argument<u32, Token>)
+        requires small { self.old.bytes ≤ 65535 }
+        requires few { self.old.tokens < usize.MAX }
+        ensures bytes { self.new.bytes ≡ self.old.bytes + piece_len arg.now }
+        ensures tokens { self.new.tokens ≡ self.old.tokens + length (token arg.now) }
+    {
+        match arg {
+            Argument::Int(_)
+            | Argument::Uint(_)
+            | Argument::Fixed(_)
+            | Argument::Object(_)
+            | Argument::NewId(_)
+            | Argument::Str(None) => self.bytes += 4,
+            Argument::Str(Some(text)) => self.bytes += counted_len(text.as_bytes().len() + 1),
+            Argument::Array(bytes) => self.bytes += counted_len(bytes.as_slice().len()),
+            Argument::Fd(_) => self.tokens += 1,
+        }
     }
 }
 
@@ -62,15 +66,6 @@ fn put_bytes(payload: &mut [u8], at: usize, bytes: &[u8])
     ensures { payload.new ≡ overwritten payload.old at bytes.now }
 {
     payload[at..at + bytes.len()].copy_from_slice(bytes);
-}
-
-/// Writes so many zeros at that place.
-#[tactic(auto, unfolding(crate::specs::Buffer::overwritten))]
-fn put_zeros(payload: &mut [u8], at: usize, count: usize)
-    requires { at + count ≤ length payload.old }
-    ensures { payload.new ≡ overwritten payload.old at (replicate count 0) }
-{
-    payload[at..at + count].fill(0);
 }
 
 /// Writes the word at that place, and answers the place behind it.
@@ -86,28 +81,40 @@ fn put_word(payload: &mut [u8], at: usize, n: u32) -> usize
 
 /// Writes counted bytes at that place, and answers the place behind their padding.
 ///
-/// So many zeros follow the bytes and count with them.
+/// So many zeros follow the bytes and count with them. These and the padding are what a last word of zeros has left
+/// once the count and the bytes are written over it.
+#[inline(never)]
 fn put_counted(payload: &mut [u8], at: usize, bytes: &[u8], ending: usize) -> usize
     requires room { at + counted_len (length bytes.now + ending) ≤ length payload.old }
     requires small { length bytes.now + ending ≤ 65535 }
+    requires ending { ending ≤ 1 }
     ensures bytes { payload.new ≡ overwritten payload.old at (counted (bytes.now ++ replicate ending 0)) }
     ensures next { result ≡ at + counted_len (length bytes.now + ending) }
 {
     let len = bytes.len() + ending;
-    let zeros = ending + padding(len);
-    let at = put_word(payload, at, len as u32);
-    put_bytes(payload, at, bytes);
-    put_zeros(payload, at + bytes.len(), zeros);
-    at + bytes.len() + zeros
+    let last = at + len + padding(len);
+    put_word(payload, last, 0);
+    let start = put_word(payload, at, len as u32);
+    put_bytes(payload, start, bytes);
+    last + 4
 }
 
-/// Writes the argument's bytes at that place, and answers the place behind them.
+/// Writes the argument's bytes at that place, and answers the place behind them; appends its token, if it has one.
 #[tactic(auto, unfolding(crate::specs::Message::piece))]
-fn put_argument(payload: &mut [u8], at: usize, arg: &Argument<u32, Token>) -> usize
+fn put_argument(
+    payload: &mut [u8],
+    at: usize,
+    fds: &mut Vec<Token>,
+    arg: &Argument<u32, Token>,
+) -> usize
     requires room { at + piece_len arg.now ≤ length payload.old }
     requires small { piece_len arg.now ≤ 65535 }
+    requires reserved { vec_len fds.old + length (token arg.now) ≤ vec_capacity fds.old }
     ensures bytes { payload.new ≡ overwritten payload.old at (piece arg.now) }
     ensures next { result ≡ at + piece_len arg.now }
+    ensures items { fds.new.items ≡ fds.old.items ++ token arg.now }
+    ensures len { vec_len fds.new ≡ vec_len fds.old + length (token arg.now) }
+    ensures capacity { vec_capacity fds.new ≡ vec_capacity fds.old }
 {
     match arg {
         Argument::Int(n) => put_word(payload, at, n.cast_unsigned()),
@@ -118,19 +125,10 @@ fn put_argument(payload: &mut [u8], at: usize, arg: &Argument<u32, Token>) -> us
         Argument::Object(n) => put_word(payload, at, *n),
         Argument::NewId(n) => put_word(payload, at, *n),
         Argument::Array(bytes) => put_counted(payload, at, bytes.as_slice(), 0),
-        Argument::Fd(_) => at,
-    }
-}
-
-/// Appends the argument's token, if it has one.
-fn put_token(fds: &mut Vec<Token>, arg: &Argument<u32, Token>)
-    requires { vec_len fds.old + length (token arg.now) ≤ vec_capacity fds.old }
-    ensures items { fds.new.items ≡ fds.old.items ++ token arg.now }
-    ensures len { vec_len fds.new ≡ vec_len fds.old + length (token arg.now) }
-    ensures capacity { vec_capacity fds.new ≡ vec_capacity fds.old }
-{
-    if let Argument::Fd(fd) = arg {
-        fds.push_reserved(*fd);
+        Argument::Fd(fd) => {
+            fds.push_reserved(*fd);
+            at
+        }
     }
 }
 
@@ -144,33 +142,25 @@ fn put_arguments(payload: &mut [u8], fds: &mut Vec<Token>, args: &[Argument<u32,
 {
     let mut at = 8;
     for arg in args {
-        at = put_argument(payload, at, arg);
-        put_token(fds, arg);
+        at = put_argument(payload, at, fds, arg);
     }
-}
-
-/// How many bytes a message takes, and how many tokens.
-#[derive(Clone, Copy)]
-struct Measure {
-    bytes: usize,
-    tokens: usize,
 }
 
 /// How much a message of these arguments takes; `None` where it takes more than a message may have.
 fn measure_of(args: &[Argument<u32, Token>]) -> Option<Measure>
     ensures { MatchOption result (65535 < 8 + length (pieces args.now)) (λ m. (m.bytes ≡ 8 + length (pieces args.now)) × (m.bytes ≤ 65535) × (m.tokens ≡ length (tokens args.now))) }
 {
-    let mut bytes = 8;
-    let mut tokens = 0;
+    let mut measure = Measure {
+        bytes: 8,
+        tokens: 0,
+    };
     for arg in args {
-        let len = piece_len(arg);
-        if len > MAX_MESSAGE_SIZE - bytes {
+        measure.add(arg);
+        if measure.bytes > MAX_MESSAGE_SIZE {
             return None;
         }
-        bytes += len;
-        tokens += token_count(arg);
     }
-    Some(Measure { bytes, tokens })
+    Some(measure)
 }
 
 /// How many bytes the message takes; `None` where it takes more than 65535.

@@ -1,4 +1,4 @@
-use Rattle.std.proofs.Common.{◌-◌, length, drop, List, ℕ, ap, ◌∙◌, subst}
+use Rattle.std.proofs.Common.{drop, List, ℕ, ◌∙◌, subst}
 use Rattle.wl_wire.specs.declared.argument.Token.{Token}
 use Rattle.wl_wire.specs.Parse.{payload_of}
 use Rattle.wl_wire.specs.Cursor.{RefusesArguments}
@@ -6,14 +6,8 @@ use Rattle.wl_wire.specs.CursorLaws.{arguments_read}
 use Rattle.wl_wire.proofs.Whole.{payload-is, found_whole, left_is, refuses}
 use Rattle.wl_wire.proofs.parse.parse_message.Goals as goal
 
-pub overflow_sub-taken : goal.overflow_sub-taken
-overflow_sub-taken c =
-    let found = found_whole c.args.raw.now c.split_at.result.0.now c.in_ok-header.header.len c.args.signature.now c.make_contiguous.result.now c.args.fds.now.items c.new.result.items c.read_arguments.new.args.items c.in-Ok.left.now
-    c.in_ok-header.ensures.words.2 c.split_at.ensures.front c.make_contiguous.ensures.value c.new.ensures.items c.in-Ok.ensures.found in
-    rw c.make_contiguous.ensures.value (left_is _ _ _ _ _ found).0
-
-pub returns-in-Err-clause-refused : goal.returns-in-Err-clause-refused
-returns-in-Err-clause-refused c =
+pub returns-in_default-clause-refused : goal.returns-in_default-clause-refused
+returns-in_default-clause-refused c =
     let payload = payload-is c.args.raw.now c.split_at.result.0.now c.in_ok-header.header.len c.in_ok-header.ensures.words.2 c.split_at.ensures.front in
     let at_payload = subst (λ (p : List ℕ). RefusesArguments c.args.signature.now p c.make_contiguous.result.now c.refusal.result) payload c.refusal.ensures.refused in
     refuses c.args.raw.now c.args.signature.now c.args.fds.now.items c.refusal.result c.in_ok-header.ensures.whole
@@ -21,21 +15,19 @@ returns-in-Err-clause-refused c =
 
 pub returns-clause-found : goal.returns-clause-found
 returns-clause-found c =
-    let found = found_whole c.args.raw.now c.split_at.result.0.now c.in_ok-header.header.len c.args.signature.now c.make_contiguous.result.now c.args.fds.now.items c.new.result.items c.read_arguments.new.args.items c.in-Ok.left.now
-    c.in_ok-header.ensures.words.2 c.split_at.ensures.front c.make_contiguous.ensures.value c.new.ensures.items c.in-Ok.ensures.found in
+    let left = drop c.in-Ok.taken c.args.fds.now.items in
+    let found = found_whole c.args.raw.now c.split_at.result.0.now c.in_ok-header.header.len c.args.signature.now c.args.fds.now.items c.new-args.result.items c.read_arguments.new.args.items left
+    c.in_ok-header.ensures.words.2 c.split_at.ensures.front c.new-args.ensures.items c.in-Ok.ensures.found in
     record {
       whole = c.in_ok-header.ensures.whole;
       sender = c.in_ok-header.ensures.words.0;
       opcode = c.in_ok-header.ensures.words.1;
-      args = (arguments_read c.args.signature.now (payload_of c.args.raw.now) c.args.fds.now.items c.read_arguments.new.args.items c.in-Ok.left.now found).0;
+      args = (arguments_read c.args.signature.now (payload_of c.args.raw.now) c.args.fds.now.items c.read_arguments.new.args.items left found).0;
     }
 
 pub returns-clause-tokens : goal.returns-clause-tokens
 returns-clause-tokens c =
-    let found = found_whole c.args.raw.now c.split_at.result.0.now c.in_ok-header.header.len c.args.signature.now c.make_contiguous.result.now c.args.fds.now.items c.new.result.items c.read_arguments.new.args.items c.in-Ok.left.now
-    c.in_ok-header.ensures.words.2 c.split_at.ensures.front c.make_contiguous.ensures.value c.new.ensures.items c.in-Ok.ensures.found in
-    let back = c.make_contiguous.ensures.writes_back c.make_contiguous.result.now c.make_contiguous.ensures.len ∙ c.make_contiguous.ensures.value in
-    c.take_tokens.ensures
-    ∙ ap (drop (length c.make_contiguous.result.now - length c.in-Ok.left.now)) back
-    ∙ ap (λ (t : List Token). drop (length t - length c.in-Ok.left.now) c.args.fds.now.items) c.make_contiguous.ensures.value
-    ∙ (left_is _ _ _ _ _ found).1
+    let left = drop c.in-Ok.taken c.args.fds.now.items in
+    let found = found_whole c.args.raw.now c.split_at.result.0.now c.in_ok-header.header.len c.args.signature.now c.args.fds.now.items c.new-args.result.items c.read_arguments.new.args.items left
+    c.in_ok-header.ensures.words.2 c.split_at.ensures.front c.new-args.ensures.items c.in-Ok.ensures.found in
+    c.take_tokens.ensures ∙ left_is c.args.signature.now (payload_of c.args.raw.now) c.args.fds.now.items c.read_arguments.new.args.items left found

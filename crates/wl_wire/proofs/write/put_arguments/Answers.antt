@@ -15,8 +15,8 @@ pub put_argument-at-requires-clause-small : goal.put_argument-at-requires-clause
 put_argument-at-requires-clause-small c =
     omega (arith, c.requires.small, length-piece c.arg-item.result, length-pieces-more c.args.args.now c.loop-arg.arg-index c.arg-item.result c.loop-arg-test.true c.arg-item.is)
 
-pub put_token-requires : goal.put_token-requires
-put_token-requires c =
+pub put_argument-at-requires-clause-reserved : goal.put_argument-at-requires-clause-reserved
+put_argument-at-requires-clause-reserved c =
     omega (arith, c.loop-arg.invariant.3, c.loop-arg.invariant.4, c.requires.tokens, length-tokens-more c.args.args.now c.loop-arg.arg-index c.arg-item.result c.loop-arg-test.true c.arg-item.is)
 
 pub loop-arg-preserved : goal.loop-arg-preserved
@@ -26,7 +26,7 @@ loop-arg-preserved c =
     let before = tokens (take c.loop-arg.arg-index c.args.args.now) in (
       omega (arith, c.loop-arg.invariant.0, c.put_argument-at.ensures.next, length-piece a, ap length (pieces-more c.args.args.now c.loop-arg.arg-index a c.loop-arg-test.true c.arg-item.is), length-append (pieces (take c.loop-arg.arg-index c.args.args.now)) (piece a)),
       overwritten-more c.args.payload.now c.loop-arg.payload c.put_argument-at.new.payload c.args.args.now c.loop-arg.arg-index c.loop-arg.at a c.loop-arg-test.true c.arg-item.is c.requires.bytes c.loop-arg.invariant.0 c.loop-arg.invariant.1 c.put_argument-at.ensures.bytes,
-      rw (c.put_token.ensures.items, c.loop-arg.invariant.2, more) (append_assoc c.args.fds.now.items before (token a)),
-      omega (arith, c.put_token.ensures.len, c.loop-arg.invariant.3, ap length more, length-append before (token a)),
-      c.put_token.ensures.capacity ∙ c.loop-arg.invariant.4,
+      rw (c.put_argument-at.ensures.items, c.loop-arg.invariant.2, more) (append_assoc c.args.fds.now.items before (token a)),
+      omega (arith, c.put_argument-at.ensures.len, c.loop-arg.invariant.3, ap length more, length-append before (token a)),
+      c.put_argument-at.ensures.capacity ∙ c.loop-arg.invariant.4,
     )
