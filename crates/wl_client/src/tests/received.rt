@@ -165,8 +165,8 @@ fn fault_of_a_receive_run(
     client: &mut Client,
     log: &mut String,
 ) -> Result<(), Fail> {
-    client.transport_mut().arrive_fault(IoFault::WouldBlock)?;
-    client.transport_mut().arrive_fault(IoFault::Other(3))?;
+    arrive_fault(client, IoFault::WouldBlock)?;
+    arrive_fault(client, IoFault::Other(3))?;
     next(client, log)?;
     next(client, log)?;
     last_error(client, log)?;

@@ -424,8 +424,8 @@ fn new_id_of_the_client(rt: HostRuntime) -> Result<(), Fail> {
 /// A flush that would block, and one that fails.
 fn faults_of_a_flush_run(alloc: Global, client: &mut Client, log: &mut String) -> Result<(), Fail> {
     sync(alloc, client, log)?;
-    client.transport_mut().accept_fault(IoFault::WouldBlock)?;
-    client.transport_mut().accept_fault(IoFault::Other(5))?;
+    accept_fault(client, IoFault::WouldBlock)?;
+    accept_fault(client, IoFault::Other(5))?;
     flush(client, log)?;
     last_error(client, log)?;
     flush(client, log)?;

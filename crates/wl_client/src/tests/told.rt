@@ -6,7 +6,9 @@ use std::alloc::{AllocError, Global};
 use std::fmt::Write;
 use std::test::Fail;
 use wl_link::Memory;
-use wl_wire::{Argument, ByteArray, CString, InterfaceId, Message, Token, WL_DISPLAY_INTERFACE};
+use wl_wire::{
+    Argument, ByteArray, CString, InterfaceId, IoFault, Message, Token, WL_DISPLAY_INTERFACE,
+};
 
 /// A client whose objects have numbers as their data.
 pub type Client = Backend<Memory, u32>;
@@ -56,6 +58,18 @@ pub fn send(
     let answer = client.send_request(message, data, spec);
     let written = write_sent(log, &answer);
     told(client, written)
+}
+
+/// Puts a fault behind what is to arrive.
+pub fn arrive_fault(client: &mut Client, fault: IoFault) -> Result<(), Fail> {
+    client.transport_mut().arrive_fault(fault)?;
+    Ok(())
+}
+
+/// Puts a fault behind the answers to sends.
+pub fn accept_fault(client: &mut Client, fault: IoFault) -> Result<(), Fail> {
+    client.transport_mut().accept_fault(fault)?;
+    Ok(())
 }
 
 /// Sends a request of one argument.
