@@ -2,10 +2,11 @@
 use Rattle.std.proofs.Common.{◌≡◌, ℕ, ◌+◌, ◌-◌, ◌≤◌, ◌<◌, List, [], ◌∷◌, ◌++◌, length, get_or, take, drop, replicate, Some, None, refl, sym, ap, subst, ◌∙◌, append_assoc, arith, length-append, add-zero, zero-add}
 use Rattle.std.proofs.lemmas.List.{append-nil, length-replicate, replicate-append-replicate, take_more, length-take-le, length-drop, take_at, drop_at, drop-drop, take-append-drop, take-append-le, take-take, drop-append-le, drop-replicate}
 use Rattle.std.proofs.lemmas.Grind.{flat_map-append}
+use Rattle.std.specs.List.{AllByRecursion}
 use Rattle.wl_wire.specs.declared.argument.Argument.TheVariants as arg
 use Rattle.wl_wire.specs.declared.argument.Token.{Token}
 use Rattle.wl_wire.specs.Argument.{WireArgument}
-use Rattle.wl_wire.specs.Message.{word, pad_len, counted, piece, pieces, token, tokens}
+use Rattle.wl_wire.specs.Message.{IsArgument, word, pad_len, counted, piece, pieces, token, tokens}
 use Rattle.wl_wire.specs.Buffer.{overwritten, counted_len, piece_len}
 
 pub length-word : (n : ℕ) → length (word n) ≡ 4
@@ -55,6 +56,16 @@ pub length-tokens-more : (args : List WireArgument) (i : ℕ) (a : WireArgument)
 length-tokens-more args i a lt is =
     let whole : tokens (take (i + 1) args) ++ tokens (drop (i + 1) args) ≡ tokens args = sym (flat_map-append token (take (i + 1) args) (drop (i + 1) args)) ∙ ap tokens (take-append-drop (i + 1) args) in
     omega (arith, ap length whole, length-append (tokens (take (i + 1) args)) (tokens (drop (i + 1) args)), ap length (tokens-more args i a lt is), length-append (tokens (take i args)) (token a))
+
+-- each of so many arguments, and one more, is one of its type
+all_behind : (args : List WireArgument) (a : WireArgument) → AllByRecursion IsArgument args → IsArgument a → AllByRecursion IsArgument (args ++ a ∷ [])
+all_behind [] a all one = (one, tt)
+all_behind (b ∷ args) a all one = (all.0, all_behind args a all.1 one)
+
+pub values-more : (args : List WireArgument) (i : ℕ) (a : WireArgument) → i < length args → a ≡ get_or args i a
+    → AllByRecursion IsArgument (take i args) → IsArgument a → AllByRecursion IsArgument (take (i + 1) args)
+values-more args i a lt is all one =
+    subst (AllByRecursion IsArgument) (sym (take_more args i a lt ∙ ap (λ (x : WireArgument). take i args ++ x ∷ []) (sym is))) (all_behind (take i args) a all one)
 
 -- ---- one write behind another is one write
 

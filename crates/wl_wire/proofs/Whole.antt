@@ -1,14 +1,15 @@
 -- A message that was read whole: what the parser found is the message at the front.
-use Rattle.std.proofs.Common.{◌≡◌, ℕ, ◌-◌, List, [], length, take, drop, Option, Some, None, sym, ap, ◌∙◌, arith, inr}
+use Rattle.std.proofs.Common.{◌≡◌, ℕ, ◌-◌, List, [], ◌++◌, length, take, drop, Option, Some, None, refl, sym, ap, subst, ◌∙◌, ◌≤◌, arith, length-append, inl, inr}
 use Rattle.std.proofs.lemmas.List.{take_all, length-drop, drop_at}
 use Rattle.wl_wire.specs.declared.argument.ArgumentType.{ArgumentType}
 use Rattle.wl_wire.specs.declared.argument.Token.{Token}
 use Rattle.wl_wire.specs.declared.error.MessageParseError.{MessageParseError}
 use Rattle.wl_wire.specs.declared.error.MessageParseError.TheVariants as errors
-use Rattle.wl_wire.specs.Argument.{WireArgument}
-use Rattle.wl_wire.specs.Message.{tokens}
-use Rattle.wl_wire.specs.Parse.{IsWhole, RefusesMessage, length_of, payload_of, fd_count}
-use Rattle.wl_wire.specs.Cursor.{arguments_at, with_front, RefusesArguments}
+use Rattle.wl_wire.specs.Argument.{Matches, WireArgument}
+use Rattle.wl_wire.specs.Message.{WireMessage, IsMessage, spelling, tokens}
+use Rattle.wl_wire.specs.Laws.{whole-spelling, drop-spelling, one_message_lem, written_is_read_lem}
+use Rattle.wl_wire.specs.Parse.{ReadsMessage, IsWhole, RefusesMessage, length_of, payload_of, fd_count}
+use Rattle.wl_wire.specs.Cursor.{RefusesHeader, arguments_at, with_front, RefusesArguments}
 use Rattle.wl_wire.specs.CursorLaws.{arguments_read, reads_tokens}
 
 -- nothing was read before
@@ -45,3 +46,49 @@ refuses raw signature fds errors.MissingFD whole r = (whole, r)
 refuses raw signature fds errors.Malformed whole r = inr ((whole, r.0), r.1)
 refuses raw signature fds errors.OutOfMemory whole r = ((whole, r.0), r.1)
 refuses raw signature fds errors.MissingData whole r = absurd r
+
+-- ---- what was written
+
+-- a message that is there is refused for want of memory alone
+read_not_refused : (m : WireMessage) (raw : List ℕ) (signature : List ArgumentType) (fds : List Token) (e : MessageParseError)
+    → ReadsMessage raw signature fds m → fd_count signature ≤ length fds → RefusesMessage raw signature fds e → e ≡ errors.OutOfMemory
+read_not_refused m raw signature fds errors.MissingData read enough (inl short) = absurd (omega (arith, short, read.whole.header))
+read_not_refused m raw signature fds errors.MissingData read enough (inr part) = absurd (omega (arith, part.2, read.whole.there))
+read_not_refused m raw signature fds errors.MissingFD read enough few = absurd (omega (arith, few.1, enough))
+read_not_refused m raw signature fds errors.Malformed read enough (inl low) = absurd (omega (arith, low.1, read.whole.counts_header))
+read_not_refused m raw signature fds errors.Malformed read enough (inr none) = absurd (none.1 m.args read.args)
+read_not_refused m raw signature fds errors.OutOfMemory read enough refused = refl
+
+-- nor is its header
+pub header_not_refused : {Y : Type 0} (m : WireMessage) (raw behind : List ℕ) (e : MessageParseError) → IsMessage m → raw ≡ spelling m ++ behind
+    → RefusesHeader raw e → Y
+header_not_refused m raw behind e ok bytes refused = not_whole raw e (subst IsWhole (sym bytes) (whole-spelling m behind ok)) refused
+  where
+    not_whole : {Y : Type 0} (raw : List ℕ) (e : MessageParseError) → IsWhole raw → RefusesHeader raw e → Y
+    not_whole raw errors.MissingData whole (inl short) = absurd (omega (arith, short, whole.header))
+    not_whole raw errors.MissingData whole (inr part) = absurd (omega (arith, part.2, whole.there))
+    not_whole raw errors.Malformed whole low = absurd (omega (arith, low.1, whole.counts_header))
+    not_whole raw e whole refused = absurd refused
+
+-- where the message and its tokens stand at the front, only memory can be wanting
+pub only_memory : (m : WireMessage) (raw behind : List ℕ) (signature : List ArgumentType) (fds others : List Token) (e : MessageParseError) → IsMessage m
+    → Matches signature m.args → raw ≡ spelling m ++ behind → fds ≡ tokens m.args ++ others → RefusesMessage raw signature fds e → e ≡ errors.OutOfMemory
+only_memory m raw behind signature fds others e ok same bytes tokens_are refused =
+    let read = written_is_read_lem m signature behind others ok same in
+    let here : ReadsMessage raw signature fds m = subst (λ (r : List ℕ). ReadsMessage r signature fds m) (sym bytes)
+    (subst (λ (t : List Token). ReadsMessage (spelling m ++ behind) signature t m) (sym tokens_are) read) in
+    let enough : fd_count signature ≤ length fds = omega (arith, ap length tokens_are, length-append (tokens m.args) others, reads_tokens signature m.args (payload_of raw) fds here.args) in
+    read_not_refused m raw signature fds e here enough refused
+
+-- what was read is the message, what follows it, and the other tokens
+pub reads_back : (m n : WireMessage) (raw behind : List ℕ) (signature : List ArgumentType) (fds others : List Token) → IsMessage m → Matches signature m.args
+    → raw ≡ spelling m ++ behind → fds ≡ tokens m.args ++ others → ReadsMessage raw signature fds n
+    → (n ≡ m) × (drop (length_of raw) raw ≡ behind) × (drop (fd_count signature) fds ≡ others)
+reads_back m n raw behind signature fds others ok same bytes tokens_are read =
+    let written = written_is_read_lem m signature behind others ok same in
+    let here : ReadsMessage raw signature fds m = subst (λ (r : List ℕ). ReadsMessage r signature fds m) (sym bytes)
+    (subst (λ (t : List Token). ReadsMessage (spelling m ++ behind) signature t m) (sym tokens_are) written) in (
+      one_message_lem n m raw signature fds read here,
+      ap (λ (r : List ℕ). drop (length_of r) r) bytes ∙ drop-spelling m behind ok,
+      ap (drop (fd_count signature)) tokens_are ∙ drop_at (tokens m.args) others (fd_count signature) (reads_tokens signature m.args (payload_of raw) fds here.args),
+    )

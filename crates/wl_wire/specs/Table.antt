@@ -9,7 +9,6 @@ use Rattle.std.specs.List.{list_any}
 use Rattle.std.specs.Option.{option_map_or, option_to_list}
 use Rattle.std.specs.Str.{bytes_eq}
 use Rattle.std.specs.String.{string_bytes}
-use Rattle.wl_wire.specs.declared.interface.TheConstants.{ANONYMOUS_INTERFACE, WL_REGISTRY_INTERFACE, WL_CALLBACK_INTERFACE}
 use Rattle.wl_wire.specs.declared.argument.AllowNull.TheVariants.{No}
 use Rattle.wl_wire.specs.declared.argument.ArgumentType.{ArgumentType}
 use Rattle.wl_wire.specs.declared.argument.ArgumentType.TheVariants.{Uint, Str, Object, NewId}
@@ -60,6 +59,23 @@ interface_rows interfaces = map interface_row interfaces
 
 -- ---- the fixed interfaces
 
+-- the interface at a place of the table
+abbrev pub interface_at : ℕ → InterfaceId
+interface_at n = record { 0 = n }
+
+-- the interface of objects of which nothing more is known; it stands for any in what a message asks of an object
+abbrev pub anonymous_id : InterfaceId
+anonymous_id = interface_at 0
+
+abbrev pub display_id : InterfaceId
+display_id = interface_at 1
+
+abbrev pub registry_id : InterfaceId
+registry_id = interface_at 2
+
+abbrev pub callback_id : InterfaceId
+callback_id = interface_at 3
+
 -- a message that the first version has, and that ends no object
 abbrev pub first_message : List ℕ → List ArgumentType → Option InterfaceId → List InterfaceId → MessageRow
 first_message name signature child_interface arg_interfaces = record {
@@ -79,11 +95,11 @@ display_row = record {
   name = codes "wl_display";
   version = 1;
   requests =
-      first_message (codes "sync") (NewId ∷ []) (Some WL_CALLBACK_INTERFACE) []
-      ∷ first_message (codes "get_registry") (NewId ∷ []) (Some WL_REGISTRY_INTERFACE) []
+      first_message (codes "sync") (NewId ∷ []) (Some callback_id) []
+      ∷ first_message (codes "get_registry") (NewId ∷ []) (Some registry_id) []
       ∷ [];
   events =
-      first_message (codes "error") (Object No ∷ Uint ∷ Str No ∷ []) None (ANONYMOUS_INTERFACE ∷ [])
+      first_message (codes "error") (Object No ∷ Uint ∷ Str No ∷ []) None (anonymous_id ∷ [])
       ∷ first_message (codes "delete_id") (Uint ∷ []) None []
       ∷ [];
 }

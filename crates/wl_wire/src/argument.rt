@@ -5,6 +5,7 @@ ghost use Rattle.wl_wire.specs.Argument.{kind_of, type_of};
 
 use crate::byte_array::ByteArray;
 use crate::c_string::CString;
+use std::fmt;
 
 /// Whether a string or an object argument may be null.
 #[derive(Clone, Copy, Debug, PartialEq, Eq)]
@@ -56,7 +57,7 @@ impl ArgumentType {
 pub struct Token(pub i32);
 
 /// An argument of a message, over the type `Id` of object ids and `Fd` of descriptors.
-#[derive(Debug, PartialEq, Eq, Drop)]
+#[derive(PartialEq, Eq, Drop)]
 pub enum Argument<Id, Fd> {
     /// A signed number.
     Int(i32),
@@ -90,6 +91,30 @@ impl<Id, Fd> Argument<Id, Fd> {
             Argument::NewId(_) => ArgumentType::NewId,
             Argument::Array(_) => ArgumentType::Array,
             Argument::Fd(_) => ArgumentType::Fd,
+        }
+    }
+}
+
+/// Writes a variant of that name with its one value.
+fn write_variant<W: fmt::Write, T: fmt::Debug>(
+    f: &mut fmt::Formatter<W>,
+    name: &str,
+    value: &T,
+) -> fmt::Result {
+    write!(f, "{name}({value:?})")
+}
+
+impl<Id: fmt::Debug, Fd: fmt::Debug> fmt::Debug for Argument<Id, Fd> {
+    fn fmt<W: fmt::Write>(&self, f: &mut fmt::Formatter<W>) -> fmt::Result {
+        match self {
+            Argument::Int(value) => write_variant(f, "Int", value),
+            Argument::Uint(value) => write_variant(f, "Uint", value),
+            Argument::Fixed(value) => write_variant(f, "Fixed", value),
+            Argument::Str(text) => write_variant(f, "Str", text),
+            Argument::Object(id) => write_variant(f, "Object", id),
+            Argument::NewId(id) => write_variant(f, "NewId", id),
+            Argument::Array(bytes) => write_variant(f, "Array", bytes),
+            Argument::Fd(fd) => write_variant(f, "Fd", fd),
         }
     }
 }

@@ -1,7 +1,7 @@
 //! The fixed interfaces of the protocol, which each table begins with.
 
-ghost use Rattle.std.specs.Prelude.{◌≡◌, IfOk};
-ghost use Rattle.wl_wire.specs.Table.{anonymous_row, callback_row, display_row, first_message, fixed_rows, interface_row, interface_rows, message_row, registry_row};
+ghost use Rattle.std.specs.Prelude.{[], ◌≡◌, ◌++◌, ◌∷◌, IfOk, OnOk, map};
+ghost use Rattle.wl_wire.specs.Table.{callback_row, display_row, first_message, fixed_rows, interface_row, interface_rows, message_row, registry_row};
 
 use crate::argument::{AllowNull, ArgumentType};
 use crate::interface::{
@@ -30,45 +30,74 @@ fn first_message(
     })
 }
 
-/// The interface of objects of which nothing more is known.
-fn anonymous(alloc: Global) -> Result<Interface, AllocError>
-    ensures { IfOk result (λ i. interface_row i ≡ anonymous_row) }
+/// Puts a message that the first version has, and that ends no object, behind the others.
+fn push_first(
+    messages: &mut Vec<MessageDesc>,
+    name: &str,
+    signature: &[ArgumentType],
+    child_interface: Option<InterfaceId>,
+    arg_interfaces: &[InterfaceId],
+) -> Result<(), AllocError>
+    ensures { OnOk result (map message_row messages.new.items
+        ≡ map message_row messages.old.items ++ first_message name.now signature.now child_interface arg_interfaces.now ∷ []) }
+{
+    let alloc = *messages.allocator();
+    let message = first_message(alloc, name, signature, child_interface, arg_interfaces)?;
+    messages.push(message)?;
+    Ok(())
+}
+
+/// An interface that has no messages yet.
+fn named(alloc: Global, name: &str, version: u32) -> Result<Interface, AllocError>
+    ensures { IfOk result (λ i. interface_row i ≡ record { name = name.now; version = version; requests = []; events = [] }) }
 {
     Ok(Interface {
-        name: String::from_str(alloc, "<anonymous>")?,
-        version: 0,
+        name: String::from_str(alloc, name)?,
+        version,
         requests: Vec::new(alloc),
         events: Vec::new(alloc),
     })
 }
 
-/// `wl_display`.
-fn display(alloc: Global) -> Result<Interface, AllocError>
-    ensures { IfOk result (λ i. interface_row i ≡ display_row) }
+/// Puts the requests of `wl_display` behind the others.
+fn push_display_requests(messages: &mut Vec<MessageDesc>) -> Result<(), AllocError>
+    ensures { OnOk result (map message_row messages.new.items ≡ map message_row messages.old.items ++ display_row.requests) }
 {
     let new_id = [ArgumentType::NewId];
-    let sync = first_message(alloc, "sync", &new_id, Some(WL_CALLBACK_INTERFACE), &[])?;
+    push_first(messages, "sync", &new_id, Some(WL_CALLBACK_INTERFACE), &[])?;
     let registry = Some(WL_REGISTRY_INTERFACE);
-    let get_registry = first_message(alloc, "get_registry", &new_id, registry, &[])?;
+    push_first(messages, "get_registry", &new_id, registry, &[])?;
+    Ok(())
+}
+
+/// Puts the events of `wl_display` behind the others.
+fn push_display_events(messages: &mut Vec<MessageDesc>) -> Result<(), AllocError>
+    ensures { OnOk result (map message_row messages.new.items ≡ map message_row messages.old.items ++ display_row.events) }
+{
     let object_code_text = [
         ArgumentType::Object(AllowNull::No),
         ArgumentType::Uint,
         ArgumentType::Str(AllowNull::No),
     ];
     let of_any = [ANONYMOUS_INTERFACE];
-    let error = first_message(alloc, "error", &object_code_text, None, &of_any)?;
-    let delete_id = first_message(alloc, "delete_id", &[ArgumentType::Uint], None, &[])?;
-    Ok(Interface {
-        name: String::from_str(alloc, "wl_display")?,
-        version: 1,
-        requests: vec![in alloc; sync, get_registry]?,
-        events: vec![in alloc; error, delete_id]?,
-    })
+    push_first(messages, "error", &object_code_text, None, &of_any)?;
+    push_first(messages, "delete_id", &[ArgumentType::Uint], None, &[])?;
+    Ok(())
 }
 
-/// `wl_registry`.
-fn registry(alloc: Global) -> Result<Interface, AllocError>
-    ensures { IfOk result (λ i. interface_row i ≡ registry_row) }
+/// `wl_display`.
+fn display(alloc: Global) -> Result<Interface, AllocError>
+    ensures { IfOk result (λ i. interface_row i ≡ display_row) }
+{
+    let mut display = named(alloc, "wl_display", 1)?;
+    push_display_requests(&mut display.requests)?;
+    push_display_events(&mut display.events)?;
+    Ok(display)
+}
+
+/// Puts the requests of `wl_registry` behind the others.
+fn push_registry_requests(messages: &mut Vec<MessageDesc>) -> Result<(), AllocError>
+    ensures { OnOk result (map message_row messages.new.items ≡ map message_row messages.old.items ++ registry_row.requests) }
 {
     let name_interface_version_object = [
         ArgumentType::Uint,
@@ -76,34 +105,55 @@ fn registry(alloc: Global) -> Result<Interface, AllocError>
         ArgumentType::Uint,
         ArgumentType::NewId,
     ];
-    let bind = first_message(alloc, "bind", &name_interface_version_object, None, &[])?;
+    push_first(messages, "bind", &name_interface_version_object, None, &[])
+}
+
+/// Puts the events of `wl_registry` behind the others.
+fn push_registry_events(messages: &mut Vec<MessageDesc>) -> Result<(), AllocError>
+    ensures { OnOk result (map message_row messages.new.items ≡ map message_row messages.old.items ++ registry_row.events) }
+{
     let name_interface_version = [
         ArgumentType::Uint,
         ArgumentType::Str(AllowNull::No),
         ArgumentType::Uint,
     ];
-    let global = first_message(alloc, "global", &name_interface_version, None, &[])?;
-    let global_remove = first_message(alloc, "global_remove", &[ArgumentType::Uint], None, &[])?;
-    Ok(Interface {
-        name: String::from_str(alloc, "wl_registry")?,
-        version: 1,
-        requests: vec![in alloc; bind]?,
-        events: vec![in alloc; global, global_remove]?,
-    })
+    push_first(messages, "global", &name_interface_version, None, &[])?;
+    push_first(messages, "global_remove", &[ArgumentType::Uint], None, &[])?;
+    Ok(())
+}
+
+/// `wl_registry`.
+fn registry(alloc: Global) -> Result<Interface, AllocError>
+    ensures { IfOk result (λ i. interface_row i ≡ registry_row) }
+{
+    let mut registry = named(alloc, "wl_registry", 1)?;
+    push_registry_requests(&mut registry.requests)?;
+    push_registry_events(&mut registry.events)?;
+    Ok(registry)
 }
 
 /// `wl_callback`.
 fn callback(alloc: Global) -> Result<Interface, AllocError>
     ensures { IfOk result (λ i. interface_row i ≡ callback_row) }
 {
+    let mut callback = named(alloc, "wl_callback", 1)?;
     let mut done = first_message(alloc, "done", &[ArgumentType::Uint], None, &[])?;
     done.is_destructor = true;
-    Ok(Interface {
-        name: String::from_str(alloc, "wl_callback")?,
-        version: 1,
-        requests: Vec::new(alloc),
-        events: vec![in alloc; done]?,
-    })
+    callback.events.push(done)?;
+    Ok(callback)
+}
+
+/// Puts the fixed interfaces behind the others, in the order of their ids.
+fn push_fixed(interfaces: &mut Vec<Interface>) -> Result<(), AllocError>
+    ensures { OnOk result (interface_rows interfaces.new.items ≡ interface_rows interfaces.old.items ++ fixed_rows) }
+{
+    let alloc = *interfaces.allocator();
+    // The interface of objects of which nothing more is known.
+    interfaces.push(named(alloc, "<anonymous>", 0)?)?;
+    interfaces.push(display(alloc)?)?;
+    interfaces.push(registry(alloc)?)?;
+    interfaces.push(callback(alloc)?)?;
+    Ok(())
 }
 
 /// The fixed interfaces, in the order of their ids.
@@ -111,9 +161,6 @@ pub(crate) fn fixed_interfaces(alloc: Global) -> Result<Vec<Interface>, AllocErr
     ensures { IfOk result (λ v. interface_rows v.items ≡ fixed_rows) }
 {
     let mut fixed = Vec::with_capacity(alloc, 4)?;
-    fixed.push(anonymous(alloc)?)?;
-    fixed.push(display(alloc)?)?;
-    fixed.push(registry(alloc)?)?;
-    fixed.push(callback(alloc)?)?;
+    push_fixed(&mut fixed)?;
     Ok(fixed)
 }

@@ -25,30 +25,40 @@ impl<T: Drop> From<AllocFailed<T>> for OutOfMemory {
 }
 
 /// What a transport answers where it could not send or receive, and what a session adds to it.
-#[derive(Clone, Copy, Debug, PartialEq, Eq, Error)]
+#[derive(Clone, Copy, Debug, PartialEq, Eq)]
 pub enum IoFault {
     /// Nothing can be sent or received now.
-    #[error("would block")]
     WouldBlock,
     /// The other side is gone.
-    #[error("broken pipe")]
     Pipe,
     /// A message is longer than a message or the buffer may be.
-    #[error("message too big")]
     TooBig,
     /// The other side broke the protocol.
-    #[error("protocol fault")]
     Proto,
     /// The call was not one that could be made.
-    #[error("invalid input")]
     InvalidInput,
     /// There was no memory.
-    #[error("out of memory")]
     OutOfMemory,
     /// Any other error of the system, by its number.
-    #[error("os error {0}")]
     Other(i32),
 }
+
+impl fmt::Display for IoFault {
+    fn fmt<W: fmt::Write>(&self, f: &mut fmt::Formatter<W>) -> fmt::Result {
+        let text = match self {
+            IoFault::WouldBlock => "would block",
+            IoFault::Pipe => "broken pipe",
+            IoFault::TooBig => "message too big",
+            IoFault::Proto => "protocol fault",
+            IoFault::InvalidInput => "invalid input",
+            IoFault::OutOfMemory => "out of memory",
+            IoFault::Other(number) => return write!(f, "os error {number}"),
+        };
+        f.write_str(text)
+    }
+}
+
+impl std::error::Error for IoFault {}
 
 /// Why a message was not written.
 #[derive(Clone, Copy, Debug, PartialEq, Eq, Error)]

@@ -19,7 +19,7 @@ pub const WL_REGISTRY_INTERFACE: InterfaceId = InterfaceId(2);
 pub const WL_CALLBACK_INTERFACE: InterfaceId = InterfaceId(3);
 
 /// An interface: its requests and events, each with its opcode as its place.
-#[derive(Debug, Drop)]
+#[derive(Drop)]
 pub struct Interface {
     /// The name.
     pub name: String,
@@ -32,7 +32,7 @@ pub struct Interface {
 }
 
 /// A request or an event of an interface.
-#[derive(Debug, Drop)]
+#[derive(Drop)]
 pub struct MessageDesc {
     /// The name.
     pub name: String,

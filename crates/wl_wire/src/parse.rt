@@ -1,12 +1,14 @@
 //! Reading a message from bytes and tokens.
 
-ghost use Rattle.std.specs.Prelude.{None, ◌≡◌, ◌≢◌, ◌↔◌, ◌<◌, ◌≤◌, ◌++◌, length, drop, IsTrue, IsOk, IsSome, IfSome, is_some, All, IfOk, IfErr, OnOk, OnErr, option_map, slice_index_or};
+ghost use Rattle.std.specs.Prelude.{None, ℕ, List, MatchResult, ◌≡◌, ◌≢◌, ◌↔◌, ◌<◌, ◌≤◌, ◌++◌, length, drop, IsTrue, IsOk, IsSome, IfSome, is_some, All, IfOk, IfErr, OnOk, OnErr, option_map, slice_index_or};
 ghost use Rattle.std.specs.VecDeque.{deque_len};
 ghost use Rattle.std.specs.List.{count_by};
 ghost use Rattle.wl_wire.specs.declared.error.MessageParseError.TheVariants as errors;
 ghost use Rattle.wl_wire.specs.declared.error.MessageParseError.TheVariants.{OutOfMemory};
 ghost use Rattle.smallvec.specs.SmallVec.{HasRoomFor};
-ghost use Rattle.wl_wire.specs.Message.{content, pad_len};
+ghost use Rattle.wl_wire.specs.declared.argument.Token.{Token as WireToken};
+ghost use Rattle.wl_wire.specs.Argument.{Matches};
+ghost use Rattle.wl_wire.specs.Message.{WireMessage, IsMessage, content, pad_len, spelling, tokens};
 ghost use Rattle.wl_wire.specs.Parse.{fd_count, is_fd, IsInline, IsSmall, length_of, payload_of, sender_of, opcode_of, ReadsMessage, RefusesMessage, IsWhole};
 ghost use Rattle.wl_wire.specs.Text.{HasNoZero};
 ghost use Rattle.wl_wire.specs.Cursor.{word_at, counted_at, text_of, argument_at, arguments_at, rests, with_front, Gives, Fails, RefusesArguments, RefusesHeader};
@@ -326,6 +328,11 @@ pub fn parse_message<'a>(
     ensures found { IfOk result (λ x. ReadsMessage raw.now signature.now fds.old.items (content x.0)) }
     ensures rest { IfOk result (λ x. x.1.now ≡ drop (length_of raw.now) raw.now) }
     ensures tokens { OnOk result (fds.new.items ≡ drop (fd_count signature.now) fds.old.items) }
+
+    // What was written is read, and leaves what follows it.
+    ensures written { (m : WireMessage) (behind : List ℕ) (others : List WireToken) → IsMessage m → Matches signature.now m.args
+        → raw.now ≡ spelling m ++ behind → fds.old.items ≡ tokens m.args ++ others
+        → MatchResult result (λ x. (content x.0 ≡ m) × (x.1.now ≡ behind) × (fds.new.items ≡ others)) (λ e. e ≡ OutOfMemory) }
 
     ensures refused { IfErr result (RefusesMessage raw.now signature.now fds.old.items) }
     ensures inline { IsInline signature.now → IfErr result (λ e. e ≢ OutOfMemory) }

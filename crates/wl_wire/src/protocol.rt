@@ -1,47 +1,67 @@
 //! The table of the interfaces that a session knows.
 
-ghost use Rattle.std.specs.Prelude.{◌≡◌, ◌≢◌, ◌↔◌, ◌⊎◌, IsTrue, IfOk, slice_get, option_map};
+ghost use Rattle.std.specs.Prelude.{Some, ◌≡◌, ◌≢◌, ◌↔◌, ◌⊎◌, IsTrue, IfOk, slice_get, option_map};
 ghost use Rattle.std.specs.Option.{option_copied};
 ghost use Rattle.wl_wire.specs.Argument.{Matches};
-ghost use Rattle.wl_wire.specs.Table.{IsAcceptedTable, IsFirstFault, interface_row, name_of, table_of};
+ghost use Rattle.wl_wire.specs.Table.{anonymous_id, anonymous_row, callback_row, display_row, registry_row, IsAcceptedTable, IsFirstFault, interface_row, name_of, table_of};
 ghost use Rattle.wl_wire.specs.declared.protocol.TableError.{TableError as Fault};
 ghost use Rattle.wl_wire.specs.declared.protocol.TableError.TheVariants.{OutOfMemory};
 
 use crate::argument::{Argument, ArgumentType};
 use crate::core_interfaces::fixed_interfaces;
-use crate::interface::{ANONYMOUS_INTERFACE, Interface, InterfaceId};
+use crate::interface::{
+    ANONYMOUS_INTERFACE, Interface, InterfaceId, WL_CALLBACK_INTERFACE, WL_DISPLAY_INTERFACE,
+    WL_REGISTRY_INTERFACE,
+};
 use crate::table_check::check;
 use std::alloc::{AllocError, Global};
+use std::fmt;
 use std::marker::Model;
-use thiserror::Error;
 
 /// Why a list of interfaces was refused as a table.
 ///
 /// The number is the interface's place in the caller's list, counted from 0.
-#[derive(Clone, Copy, Debug, PartialEq, Eq, Error)]
+#[derive(Clone, Copy, Debug, PartialEq, Eq)]
 pub enum TableError {
     /// Its name, or that of one of its messages, holds a zero byte.
-    #[error("interface {0}: a name holds a zero byte")]
     ZeroInName(usize),
     /// A fixed interface has its name, or an earlier one of the list.
-    #[error("interface {0}: the name is taken")]
     DuplicateName(usize),
     /// A child or argument interface of one of its messages is outside the table.
-    #[error("interface {0}: a message names an interface outside the table")]
     UnknownInterface(usize),
     /// One of its messages creates more than one object.
-    #[error("interface {0}: a message has more than one new id")]
     TooManyNewIds(usize),
     /// One of its messages creates an object, and has no child interface.
-    #[error("interface {0}: a message with a new id has no child interface")]
     MissingChild(usize),
     /// One of its messages has not as many argument interfaces as object arguments.
-    #[error("interface {0}: a message has not one argument interface for each object")]
     ArgInterfaces(usize),
     /// There was no memory for the table.
-    #[error("out of memory")]
     OutOfMemory,
 }
+
+impl fmt::Display for TableError {
+    fn fmt<W: fmt::Write>(&self, f: &mut fmt::Formatter<W>) -> fmt::Result {
+        let (at, text) = match self {
+            TableError::ZeroInName(at) => (at, "a name holds a zero byte"),
+            TableError::DuplicateName(at) => (at, "the name is taken"),
+            TableError::UnknownInterface(at) => {
+                (at, "a message names an interface outside the table")
+            }
+            TableError::TooManyNewIds(at) => (at, "a message has more than one new id"),
+            TableError::MissingChild(at) => (at, "a message with a new id has no child interface"),
+            TableError::ArgInterfaces(at) => {
+                (
+                    at,
+                    "a message has not one argument interface for each object",
+                )
+            }
+            TableError::OutOfMemory => return f.write_str("out of memory"),
+        };
+        write!(f, "interface {at}: {text}")
+    }
+}
+
+impl std::error::Error for TableError {}
 
 impl From<AllocError> for TableError {
     ghost from_gives = { λ _ e. e ≡ OutOfMemory };
@@ -52,7 +72,7 @@ impl From<AllocError> for TableError {
 }
 
 /// The interfaces that a session knows: four fixed ones, and the caller's after them.
-#[derive(Debug, Drop)]
+#[derive(Drop)]
 pub struct Protocol {
     interfaces: Vec<Interface>,
 }
@@ -72,10 +92,16 @@ impl Protocol {
     /// The table of these interfaces, after the fixed ones.
     ///
     /// It answers the first fault of the first interface that has one, in the order of `TableError`'s variants, and
-    /// `OutOfMemory` only for a table without a fault.
+    /// `OutOfMemory` only for a table without a fault. In a table the fixed interfaces stand at the places that their
+    /// constants name.
     pub fn new(alloc: Global, interfaces: Vec<Interface>) -> Result<Self, TableError>
         ensures table { IfOk result (λ table. table ≡ table_of interfaces.items) }
         ensures accepted { IfOk result IsAcceptedTable }
+        ensures anonymous { IfOk result (λ table. slice_get table ANONYMOUS_INTERFACE.0 ≡ Some anonymous_row) }
+        ensures display { IfOk result (λ table. slice_get table WL_DISPLAY_INTERFACE.0 ≡ Some display_row) }
+        ensures registry { IfOk result (λ table. slice_get table WL_REGISTRY_INTERFACE.0 ≡ Some registry_row) }
+        ensures callback { IfOk result (λ table. slice_get table WL_CALLBACK_INTERFACE.0 ≡ Some callback_row) }
+
         ensures refused { (fault : Fault) → fault ≢ OutOfMemory
             → (result ≡ Err fault) ↔ IsFirstFault (table_of interfaces.items) fault }
         ensures memory { result ≡ Err OutOfMemory → IsAcceptedTable (table_of interfaces.items) }
@@ -116,7 +142,7 @@ pub fn same_interface(a: InterfaceId, b: InterfaceId) -> bool
 
 /// Whether the two ids are of the same interface, or the first is of the anonymous one.
 pub fn same_interface_or_anonymous(a: InterfaceId, b: InterfaceId) -> bool
-    ensures { IsTrue result ↔ ((a ≡ b) ⊎ (a ≡ ANONYMOUS_INTERFACE)) }
+    ensures { IsTrue result ↔ ((a ≡ b) ⊎ (a ≡ anonymous_id)) }
 {
     same_interface(a, b) || same_interface(a, ANONYMOUS_INTERFACE)
 }

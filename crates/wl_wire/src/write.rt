@@ -2,7 +2,8 @@
 
 ghost use Rattle.std.specs.Prelude.{◌≡◌, ◌≢◌, ◌↔◌, ◌+◌, ◌<◌, ◌≤◌, ◌^◌, ◌++◌, [], Err, length, drop, replicate, IfOk, OnOk, OnErr, MatchOption, vec_len, vec_capacity};
 ghost use Rattle.wl_wire.specs.declared.error.MessageWriteError.TheVariants.{OutOfMemory};
-ghost use Rattle.wl_wire.specs.Message.{content, counted, pad_len, piece, pieces, size, spelling, token, tokens, word};
+ghost use Rattle.std.specs.List.{AllByRecursion};
+ghost use Rattle.wl_wire.specs.Message.{content, IsArgument, IsMessage, counted, pad_len, piece, pieces, size, spelling, token, tokens, word};
 ghost use Rattle.wl_wire.specs.Buffer.{overwritten, counted_len, piece_len};
 
 use crate::argument::{Argument, Token};
@@ -115,6 +116,7 @@ fn put_argument(
     ensures items { fds.new.items ≡ fds.old.items ++ token arg.now }
     ensures len { vec_len fds.new ≡ vec_len fds.old + length (token arg.now) }
     ensures capacity { vec_capacity fds.new ≡ vec_capacity fds.old }
+    ensures value { IsArgument arg.now }
 {
     match arg {
         Argument::Int(n) => put_word(payload, at, n.cast_unsigned()),
@@ -139,6 +141,8 @@ fn put_arguments(payload: &mut [u8], fds: &mut Vec<Token>, args: &[Argument<u32,
     requires tokens { vec_len fds.old + length (tokens args.now) ≤ vec_capacity fds.old }
     ensures bytes { payload.new ≡ overwritten payload.old 8 (pieces args.now) }
     ensures tokens { fds.new.items ≡ fds.old.items ++ tokens args.now }
+    ensures capacity { vec_capacity fds.new ≡ vec_capacity fds.old }
+    ensures values { AllByRecursion IsArgument args.now }
 {
     let mut at = 8;
     for arg in args {
@@ -183,6 +187,7 @@ pub fn write_to_buffers(
 ) -> Result<usize, MessageWriteError>
     ensures written { IfOk result (λ n. (n ≡ size (content message.now)) × (payload.new ≡ spelling (content message.now) ++ drop n payload.old)) }
     ensures tokens { OnOk result (fds.new.items ≡ fds.old.items ++ tokens message.now.args.items) }
+    ensures message { OnOk result (IsMessage (content message.now)) }
 
     ensures too_long { (result ≡ Err MessageWriteError.TooLong) ↔ (65535 < size (content message.now)) }
     ensures too_small { (result ≡ Err MessageWriteError.BufferTooSmall) ↔ ((size (content message.now) ≤ 65535) × (length payload.old < size (content message.now))) }
@@ -191,6 +196,10 @@ pub fn write_to_buffers(
     ensures memory { (result ≡ Err MessageWriteError.OutOfMemory) → (vec_capacity fds.old < vec_len fds.old + length (tokens message.now.args.items)) }
     ensures no_tokens { tokens message.now.args.items ≡ [] → result ≢ Err MessageWriteError.OutOfMemory }
     ensures unchanged { OnErr result ((payload.new ≡ payload.old) × (fds.new.items ≡ fds.old.items)) }
+
+    // The room for tokens stays as it was but where a message is written whose tokens do not fit.
+    ensures refused_room { OnErr result (vec_capacity fds.new ≡ vec_capacity fds.old) }
+    ensures room { vec_len fds.old + length (tokens message.now.args.items) ≤ vec_capacity fds.old → vec_capacity fds.new ≡ vec_capacity fds.old }
 {
     let args = message.args.as_slice();
     let Some(measure) = measure_of(args) else {
@@ -199,7 +208,7 @@ pub fn write_to_buffers(
     if payload.len() < measure.bytes {
         return Err(MessageWriteError::BufferTooSmall);
     }
-    if measure.tokens > 0 {
+    if measure.tokens > fds.capacity() - fds.len() {
         fds.reserve(measure.tokens)?;
     }
     let opcode = message.opcode;

@@ -1,9 +1,9 @@
-use Rattle.std.proofs.Common.{drop, List, ℕ, ◌∙◌, subst}
+use Rattle.std.proofs.Common.{ap, drop, List, ℕ, ◌∙◌, subst}
 use Rattle.wl_wire.specs.declared.argument.Token.{Token}
 use Rattle.wl_wire.specs.Parse.{payload_of}
 use Rattle.wl_wire.specs.Cursor.{RefusesArguments}
 use Rattle.wl_wire.specs.CursorLaws.{arguments_read}
-use Rattle.wl_wire.proofs.Whole.{payload-is, found_whole, left_is, refuses}
+use Rattle.wl_wire.proofs.Whole.{header_not_refused, only_memory, reads_back, payload-is, found_whole, left_is, refuses}
 use Rattle.wl_wire.proofs.parse.parse_message.Goals as goal
 
 pub returns-in_default-clause-refused : goal.returns-in_default-clause-refused
@@ -31,3 +31,16 @@ returns-clause-tokens c =
     let found = found_whole c.args.raw.now c.split_at.result.0.now c.in_ok-header.header.len c.args.signature.now c.args.fds.now.items c.new-args.result.items c.read_arguments.new.args.items left
     c.in_ok-header.ensures.words.2 c.split_at.ensures.front c.new-args.ensures.items c.in-Ok.ensures.found in
     c.take_tokens.ensures ∙ left_is c.args.signature.now (payload_of c.args.raw.now) c.args.fds.now.items c.read_arguments.new.args.items left found
+
+pub returns-in_err-header-clause-written : goal.returns-in_err-header-clause-written
+returns-in_err-header-clause-written c = λ m behind others ok same bytes tokens_are.
+    header_not_refused m c.args.raw.now behind _ ok bytes c.in_err-header.ensures.refused
+
+pub returns-in_default-clause-written : goal.returns-in_default-clause-written
+returns-in_default-clause-written c = λ m behind others ok same bytes tokens_are.
+    only_memory m c.args.raw.now behind c.args.signature.now c.args.fds.now.items others c.refusal.result ok same bytes tokens_are (returns-in_default-clause-refused c)
+
+pub returns-clause-written : goal.returns-clause-written
+returns-clause-written c = λ m behind others ok same bytes tokens_are.
+    let back = reads_back m _ c.args.raw.now behind c.args.signature.now c.args.fds.now.items others ok same bytes tokens_are (returns-clause-found c) in
+    (back.0, c.split_at.ensures.back ∙ ap (λ n. drop n c.args.raw.now) c.in_ok-header.ensures.words.2 ∙ back.1, returns-clause-tokens c ∙ back.2)

@@ -1,11 +1,11 @@
 use Rattle.std.proofs.Common.{length, take, refl, sym, ap, ◌∙◌, append_assoc, arith, length-append}
 use Rattle.std.proofs.lemmas.List.{append-nil}
 use Rattle.wl_wire.specs.Message.{piece, pieces, token, tokens}
-use Rattle.wl_wire.proofs.Pieces.{length-piece, length-pieces-more, length-tokens-more, pieces-more, tokens-more, overwritten-nil, overwritten-more}
+use Rattle.wl_wire.proofs.Pieces.{values-more, length-piece, length-pieces-more, length-tokens-more, pieces-more, tokens-more, overwritten-nil, overwritten-more}
 use Rattle.wl_wire.proofs.write.put_arguments.Goals as goal
 
 pub loop-arg-init : goal.loop-arg-init
-loop-arg-init c = (refl, sym (overwritten-nil c.args.payload.now 8), sym (append-nil c.args.fds.now.items), omega arith, refl)
+loop-arg-init c = (refl, sym (overwritten-nil c.args.payload.now 8), sym (append-nil c.args.fds.now.items), omega arith, refl, tt)
 
 pub put_argument-at-requires-clause-room : goal.put_argument-at-requires-clause-room
 put_argument-at-requires-clause-room c =
@@ -29,4 +29,5 @@ loop-arg-preserved c =
       rw (c.put_argument-at.ensures.items, c.loop-arg.invariant.2, more) (append_assoc c.args.fds.now.items before (token a)),
       omega (arith, c.put_argument-at.ensures.len, c.loop-arg.invariant.3, ap length more, length-append before (token a)),
       c.put_argument-at.ensures.capacity ∙ c.loop-arg.invariant.4,
+      values-more c.args.args.now c.loop-arg.arg-index a c.loop-arg-test.true c.arg-item.is c.loop-arg.invariant.5 c.put_argument-at.ensures.value,
     )

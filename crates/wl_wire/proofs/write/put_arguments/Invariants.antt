@@ -1,5 +1,6 @@
 use Rattle.std.proofs.Common.{◌≡◌, ◌+◌, ◌++◌, length, take, vec_len, vec_capacity}
-use Rattle.wl_wire.specs.Message.{pieces, tokens}
+use Rattle.std.specs.List.{AllByRecursion}
+use Rattle.wl_wire.specs.Message.{IsArgument, pieces, tokens}
 use Rattle.wl_wire.specs.Buffer.{overwritten}
 use Rattle.wl_wire.proofs.write.put_arguments.Given as goal
 
@@ -10,3 +11,4 @@ invariant-loop-arg l =
     × (l.fds.items ≡ l.fn.fds.items ++ tokens (take l.arg-index l.args))
     × (vec_len l.fds ≡ vec_len l.fn.fds + length (tokens (take l.arg-index l.args)))
     × (vec_capacity l.fds ≡ vec_capacity l.fn.fds)
+    × AllByRecursion IsArgument (take l.arg-index l.args)
