@@ -9,10 +9,9 @@ use Rattle.wl_wire.specs.declared.argument.Argument.{Argument}
 use Rattle.wl_wire.specs.declared.argument.Argument.TheVariants as arg
 use Rattle.wl_wire.specs.declared.argument.Token.{Token}
 use Rattle.wl_wire.specs.declared.interface.InterfaceId.{InterfaceId}
-use Rattle.wl_wire.specs.declared.interface.TheConstants.{ANONYMOUS_INTERFACE}
 use Rattle.wl_wire.specs.declared.error.ProtocolError.{ProtocolError}
 use Rattle.wl_wire.specs.Argument.{WireArgument}
-use Rattle.wl_wire.specs.Table.{InterfaceRow, MessageRow, name_of}
+use Rattle.wl_wire.specs.Table.{InterfaceRow, MessageRow, anonymous_id, name_of}
 use Rattle.wl_link.specs.declared.object.Object.{Object}
 use Rattle.wl_link.specs.Identity.{Objects}
 use Rattle.wl_link.specs.Store.{Store, held, is_free, is_server_number, removed, rewritten, stored}
@@ -106,7 +105,7 @@ module _ {U : Type 0} where
 
   -- an event makes one object at most, of the interface that the table names
   abbrev pub with_new_argument : ℕ → Bool → Converting U → ℕ → Option InterfaceId → Converted U
-  with_new_argument version destroyed c n None = Err (wrong.InvalidNewId n ANONYMOUS_INTERFACE)
+  with_new_argument version destroyed c n None = Err (wrong.InvalidNewId n anonymous_id)
   with_new_argument version destroyed c n (Some i) =
       if is_valid_new c.objects n then Ok (with_new_at version destroyed c n i) else Err (wrong.InvalidNewId n i)
 

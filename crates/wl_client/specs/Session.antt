@@ -1,8 +1,7 @@
 -- What a client session holds, and the look-ups that its calls share.
 use Rattle.std.specs.Prelude.{◌≡◌, ℕ, List, [], Bool, false, true, Option, None, Some, ◌==◌, if◌then◌else◌, slice_get, ◌++◌, ◌∷◌}
 use Rattle.wl_wire.specs.declared.interface.InterfaceId.{InterfaceId}
-use Rattle.wl_wire.specs.declared.interface.TheConstants.{ANONYMOUS_INTERFACE, WL_DISPLAY_INTERFACE}
-use Rattle.wl_wire.specs.Table.{InterfaceRow, MessageRow}
+use Rattle.wl_wire.specs.Table.{InterfaceRow, MessageRow, anonymous_id, display_id}
 use Rattle.wl_link.specs.declared.object.Object.{Object}
 use Rattle.wl_link.specs.Identity.{Id, Objects, names}
 use Rattle.wl_link.specs.Link.{LinkState, IsFresh}
@@ -32,14 +31,14 @@ last_possible_serial = 0xFFFFFFFFFFFFFFFF
 -- ---- ids
 
 abbrev pub null_parts : IdParts
-null_parts = record { number = 0; serial = 0; interface = ANONYMOUS_INTERFACE }
+null_parts = record { number = 0; serial = 0; interface = anonymous_id }
 
 -- what names in an id: all but its interface
 abbrev pub id_of : IdParts → Id
 id_of id = record { number = id.number; serial = id.serial }
 
 abbrev pub next_interface : List InterfaceId → InterfaceId
-next_interface [] = ANONYMOUS_INTERFACE
+next_interface [] = anonymous_id
 next_interface (i ∷ _) = i
 
 abbrev pub rest_of : List InterfaceId → List InterfaceId
@@ -48,7 +47,7 @@ rest_of (_ ∷ rest) = rest
 
 -- an object of the second interface may stand where the first is asked for; the anonymous one takes any
 abbrev pub fits : InterfaceId → InterfaceId → Bool
-fits asked i = if asked.0 == i.0 then true else asked.0 == ANONYMOUS_INTERFACE.0
+fits asked i = if asked.0 == i.0 then true else asked.0 == anonymous_id.0
 
 -- the request or the event of that opcode
 abbrev pub row_at : List MessageRow → ℕ → Option MessageRow
@@ -100,7 +99,7 @@ module _ {U : Type 0} where
 
   -- the display: it has no user data
   abbrev pub display_object : Object (Kept U)
-  display_object = fresh_object WL_DISPLAY_INTERFACE 1 0 None
+  display_object = fresh_object display_id 1 0 None
 
   abbrev pub with_flags : Bool → Bool → Object (Kept U) → Object (Kept U)
   with_flags client server x = record {

@@ -1,11 +1,15 @@
 -- A write, and when it needs no growth and no flush.
-use Rattle.std.specs.Prelude.{◌≡◌, ℕ, ◌<◌, ◌≤◌, [], Option, Some, None, true, false, Result, Ok, Err}
+use Rattle.std.specs.Prelude.{◌≡◌, ℕ, ◌<◌, ◌≤◌, List, [], Option, Some, None, true, false, Result, Ok, Err}
 use Rattle.std.proofs.Common.{refl, inl, inr, arith}
 use Rattle.std.proofs.lemmas.Bool.{le-leb, lt-leb}
+use Rattle.wl_wire.specs.declared.argument.Token.{Token}
+use Rattle.wl_wire.specs.declared.error.MessageWriteError.{MessageWriteError}
+use Rattle.wl_wire.specs.declared.error.MessageWriteError.TheVariants as errors
 use Rattle.wl_wire.specs.declared.error.IoFault.{IoFault}
 use Rattle.wl_wire.specs.declared.error.IoFault.TheVariants as fault
 use Rattle.wl_wire.specs.Message.{WireMessage, size}
 use Rattle.wl_link.specs.Exchange.{Queue}
+use Rattle.wl_link.specs.Storage.{Appended, Waiting, beside, waits, write_answer_of}
 use Rattle.wl_link.specs.Link.{LinkState, Wants, Grows, Grown, Put, Placed, Wrote, Flushed, has_room, ignoring, needed}
 
 not_wanted : (limit : Option ℕ) (needed size : ℕ) → needed ≤ size → ¬ (Wants limit needed size)
@@ -43,6 +47,30 @@ module _ {T : Type 0} (sends : T → Queue → Result ℕ IoFault → T → Type
 
   pub wrote_placed : (grown : LinkState T) → size m ≤ 65535 → Grown before (size m) grown → Placed sends grown m answer after → Wrote sends before m answer after
   wrote_placed grown small grows placed = (placed.0, rw (le-leb (size m) 65535 small) (inr (grown, grows, placed.1)))
+
+-- the link where what waits to be sent is this
+abbrev pub with_waiting : {T : Type 0} → LinkState T → Waiting → List Token → LinkState T
+with_waiting l waiting fds = record {
+  transport = l.transport;
+  incoming = l.incoming;
+  room = l.room;
+  outgoing = beside waiting.bytes fds;
+  storage = waiting.size;
+  limit = l.limit;
+}
+
+-- the answer to a message that was put behind what waits, or for which the storage's size is not the reason why not
+pub wrote_answered : {T : Type 0} (sends : T → Queue → Result ℕ IoFault → T → Type 0) (before : LinkState T) (m : WireMessage)
+    (written : Result (Unit {0}) MessageWriteError) (waiting : Waiting) (fds : List Token) → ¬ (written ≡ Err errors.BufferTooSmall)
+    → Appended (waits before.outgoing.bytes before.storage) before.outgoing.tokens m written waiting fds
+    → Wrote sends before m (write_answer_of written) (with_waiting before waiting fds)
+wrote_answered sends before m (Ok u) waiting fds fits a =
+    rw (a.2, a.3) (wrote_at_once sends before _ m (Ok u) a.0 a.1 (inl (refl, refl)))
+wrote_answered sends before m (Err errors.TooLong) waiting fds fits a =
+    rw (a.1, a.2) (wrote_too_long sends before _ m (Err fault.TooBig) a.0 refl refl)
+wrote_answered sends before m (Err errors.BufferTooSmall) waiting fds fits a = absurd (fits refl)
+wrote_answered sends before m (Err errors.OutOfMemory) waiting fds fits a =
+    rw (a.3, a.4) (wrote_at_once sends before _ m (Err fault.OutOfMemory) a.0 a.1 (inr (refl, refl, a.2)))
 
 module _ {T : Type 0} (sends : T → Queue → Result ℕ IoFault → T → Type 0) (before mid after : LinkState T) (m : WireMessage)
     (flushed : Result (Unit {0}) IoFault) (no_room : has_room before (size m) ≡ false) (flush : Flushed sends before flushed mid) where

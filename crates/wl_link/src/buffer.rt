@@ -1,7 +1,7 @@
 //! Bytes that wait, in a storage that is used again.
 
 ghost use Rattle.std.specs.Prelude.{◌≡◌, ◌≢◌, ◌+◌, ◌-◌, ◌<◌, ◌≤◌, ◌^◌, ◌↔◌, ◌++◌, [], length, take, drop, slice_range, Err, IfOk, OnOk, OnErr};
-ghost use Rattle.wl_wire.specs.Message.{content, size, spelling, tokens};
+ghost use Rattle.wl_wire.specs.Message.{IsMessage, content, size, spelling, tokens};
 ghost use Rattle.wl_link.specs.Exchange.{Lands, receipt};
 ghost use Rattle.wl_link.specs.Storage.{waits, beside, arrived, Received, Appended};
 
@@ -16,7 +16,7 @@ use wl_wire::{IoFault, Message, MessageWriteError, OutOfMemory, Token};
 ///
 /// They lie between two indices, so taking some off the front moves none. They are moved to the front of the storage
 /// only where the part behind them is too short.
-#[derive(Debug, Drop)]
+#[derive(Drop)]
 pub struct Buffer {
     storage: Vec<u8>,
     start: usize,
@@ -104,7 +104,8 @@ impl Buffer {
         message: &Message<u32, Token>,
         fds: &mut TokenQueue,
     ) -> Result<(), MessageWriteError>
-        ensures { Appended self.old fds.old (content message.now) result self.new fds.new }
+        ensures appended { Appended self.old fds.old (content message.now) result self.new fds.new }
+        ensures message { OnOk result (IsMessage (content message.now)) }
     {
         let end = self.end;
         match write_behind(message, &mut self.storage, self.start, end, fds) {
@@ -127,6 +128,7 @@ impl Buffer {
         requires room { length self.old.bytes + size (content message.now) ≤ self.old.size }
         ensures appended { Appended self.old fds.old (content message.now) result self.new fds.new }
         ensures fits { result ≢ Err MessageWriteError.BufferTooSmall }
+        ensures message { OnOk result (IsMessage (content message.now)) }
     {
         let (start, end) = (self.start, self.end);
         self.start = 0;
@@ -211,6 +213,7 @@ fn write_behind(
     ensures appended { Appended (waits (slice_range storage.old start end) (length storage.old)) fds.old (content message.now) result
         (waits (slice_range storage.new start (end + arrived result)) (length storage.old)) fds.new }
     ensures room { end + arrived result ≤ length storage.old }
+    ensures message { OnOk result (IsMessage (content message.now)) }
     ensures too_small { result ≡ Err MessageWriteError.BufferTooSmall → length storage.old < end + size (content message.now) }
 {
     fds.write(message, &mut storage[end..])
@@ -228,6 +231,7 @@ fn write_at_front(
     requires within { end ≤ length storage.old }
     ensures appended { Appended (waits (slice_range storage.old start end) (length storage.old)) fds.old (content message.now) result
         (waits (slice_range storage.new 0 (end - start + arrived result)) (length storage.old)) fds.new }
+    ensures message { OnOk result (IsMessage (content message.now)) }
     ensures room { end - start + arrived result ≤ length storage.old }
     ensures too_small { result ≡ Err MessageWriteError.BufferTooSmall → length storage.old < end - start + size (content message.now) }
 {

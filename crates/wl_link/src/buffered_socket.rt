@@ -1,8 +1,9 @@
 //! The buffered link over a transport.
 
-ghost use Rattle.std.specs.Prelude.{◌≡◌, ◌≢◌, ◌+◌, ◌<◌, ◌≤◌, ◌∷◌, [], length, take, nat_le, if◌then◌else◌, IsTrue, Ok, Err, IfOk, MatchOption, MatchResult};
+ghost use Rattle.std.specs.Prelude.{◌≡◌, ◌≢◌, ◌+◌, ◌<◌, ◌≤◌, ◌∷◌, [], length, take, nat_le, if◌then◌else◌, IsTrue, Some, Ok, Err, IfOk, OnOk, MatchOption, MatchResult};
 ghost use Rattle.std.specs.Borrow.{sem};
-ghost use Rattle.wl_wire.specs.Message.{content, size};
+ghost use Rattle.wl_wire.specs.Argument.{Matches};
+ghost use Rattle.wl_wire.specs.Message.{IsMessage, content, size};
 ghost use Rattle.wl_wire.specs.Parse.{sender_of, opcode_of};
 ghost use Rattle.wl_link.specs.Link.{IsFresh, LimitSet, Flushed, Filled, Grown, Wants, Put, Placed, Wrote, ReadOne, looked_up, read_content, needed, has_room, ignoring, counted_answer};
 ghost use Rattle.wl_link.specs.Kept.{FlushKeeps, FlushDrains, WriteKeeps};
@@ -10,32 +11,20 @@ ghost use Rattle.wl_link.specs.Sides.{ReadTakes};
 ghost use Rattle.wl_link.specs.Storage.{write_answer_of};
 
 use crate::buffer::Buffer;
-use crate::limit::{LEAST_LIMIT, grown_size, rounded};
+use crate::limit::{DEFAULT_MAX_BUFFER_SIZE, grown_size, rounded};
 use crate::token_queue::TokenQueue;
-use crate::transport::Transport;
+use crate::transport::{MAX_BYTES_OUT, MAX_FDS_OUT, Transport};
 use std::alloc::Global;
 use std::collections::VecDeque;
 use std::marker::Model;
 use wl_wire::{
     ArgumentType, IoFault, Message, MessageParseError, MessageWriteError, OutOfMemory, Token,
-    message_size, parse_message,
+    message_header, message_size, parse_message,
 };
-
-/// The most tokens that one send is offered.
-pub const MAX_FDS_OUT: usize = 28;
-
-/// The most bytes that one send is offered.
-pub const MAX_BYTES_OUT: usize = 4096;
-
-/// The limit of the outgoing storage that a connection has where nothing else is asked for.
-pub const DEFAULT_MAX_BUFFER_SIZE: usize = 4096;
-
-/// The most tokens that one receive gives.
-const MAX_FDS_IN: usize = 28;
 
 /// A transport, and what waits on both sides of it: bytes and tokens that were received and not read yet, and those
 /// that were written and not sent yet.
-#[derive(Debug, Drop)]
+#[derive(Drop)]
 pub struct BufferedSocket<T> {
     transport: T,
     incoming: Buffer,
@@ -76,8 +65,8 @@ impl<T> BufferedSocket<T> {
         T: Drop,
         ensures { IfOk result (IsFresh transport max_buffer_size) }
     {
-        let incoming = Buffer::new(alloc, LEAST_LIMIT)?;
-        let outgoing = Buffer::new(alloc, LEAST_LIMIT)?;
+        let incoming = Buffer::new(alloc, DEFAULT_MAX_BUFFER_SIZE)?;
+        let outgoing = Buffer::new(alloc, DEFAULT_MAX_BUFFER_SIZE)?;
         Ok(BufferedSocket {
             transport,
             incoming,
@@ -144,7 +133,8 @@ impl<T> BufferedSocket<T> {
             (λ x. (8 ≤ length self.now.incoming.bytes)
             × (x.0 ≡ sender_of self.now.incoming.bytes) × (x.1 ≡ opcode_of self.now.incoming.bytes)) }
     {
-        header(self.incoming.bytes())
+        let header = message_header(self.incoming.bytes())?;
+        Some((header.sender_id, header.opcode))
     }
 
     /// Reads the message at the front of what was received, under the signature that the closure gives for its sender
@@ -159,16 +149,19 @@ impl<T> BufferedSocket<T> {
     ) -> Result<Message<u32, Token>, MessageParseError>
     where
         F: FnOnce(u32, u16) -> Option<&'s [ArgumentType]> + Drop,
-        requires { F.IsAlwaysCallable signature }
+        // It is called only where a header waits.
+        requires { 8 ≤ length self.old.incoming.bytes → F.IsAlwaysCallable signature }
         ensures read { ReadOne (looked_up (F.post signature)) self.old (read_content result) self.new }
         ensures first { ReadTakes (looked_up (F.post signature)) self.old (read_content result) self.new }
+        ensures matches { IfOk result (λ m. (found : _) × looked_up (F.post signature) m.sender_id m.opcode (Some found) × Matches found m.args.items) }
+        ensures fewer { OnOk result (length self.new.incoming.bytes < length self.old.incoming.bytes) }
     {
         let alloc = *self.fds_in.allocator();
         let bytes = self.incoming.bytes();
-        let Some((sender, opcode)) = header(bytes) else {
+        let Some(header) = message_header(bytes) else {
             return Err(MessageParseError::MissingData);
         };
-        let Some(signature) = signature(sender, opcode) else {
+        let Some(signature) = signature(header.sender_id, header.opcode) else {
             return Err(MessageParseError::Malformed);
         };
         match parse_message(alloc, bytes, signature, &mut self.fds_in) {
@@ -210,9 +203,11 @@ impl<T> BufferedSocket<T> {
     fn put(&mut self, message: &Message<u32, Token>) -> Result<(), IoFault>
         requires small { size (content message.now) ≤ 65535 }
         requires room { IsTrue (has_room self.old (size (content message.now))) }
-        ensures { Put self.old (content message.now) result self.new }
+        ensures put { Put self.old (content message.now) result self.new }
+        ensures message { OnOk result (IsMessage (content message.now)) }
     {
-        write_answer(self.outgoing.put(message, &mut self.fds_out))
+        let written = self.outgoing.put(message, &mut self.fds_out);
+        write_answer(written).unwrap_or(Err(IoFault::TooBig))
     }
 
     /// The transport, where what waits is given up.
@@ -270,12 +265,11 @@ impl<T: Transport> BufferedSocket<T> {
     pub fn write_message(&mut self, message: &Message<u32, Token>) -> Result<(), IoFault>
         ensures wrote { Wrote T.sends self.old (content message.now) result self.new }
         ensures kept { WriteKeeps T.sends self.old (content message.now) result self.new }
+        ensures message { OnOk result (IsMessage (content message.now)) }
     {
-        match self.outgoing.write(message, &mut self.fds_out) {
-            Ok(()) => Ok(()),
-            Err(MessageWriteError::TooLong) => Err(IoFault::TooBig),
-            Err(MessageWriteError::OutOfMemory) => Err(IoFault::OutOfMemory),
-            Err(MessageWriteError::BufferTooSmall) => self.make_room_and_write(message),
+        match write_answer(self.outgoing.write(message, &mut self.fds_out)) {
+            Some(answer) => answer,
+            None => self.make_room_and_write(message),
         }
     }
 
@@ -283,7 +277,8 @@ impl<T: Transport> BufferedSocket<T> {
     #[inline(never)]
     fn make_room_and_write(&mut self, message: &Message<u32, Token>) -> Result<(), IoFault>
         requires { size (content message.now) ≤ 65535 }
-        ensures { Wrote T.sends self.old (content message.now) result self.new }
+        ensures wrote { Wrote T.sends self.old (content message.now) result self.new }
+        ensures message { OnOk result (IsMessage (content message.now)) }
     {
         let Some(len) = message_size(message) else {
             return Err(IoFault::TooBig);
@@ -298,7 +293,8 @@ impl<T: Transport> BufferedSocket<T> {
     fn place(&mut self, message: &Message<u32, Token>, len: usize) -> Result<(), IoFault>
         requires len { len ≡ size (content message.now) }
         requires small { len ≤ 65535 }
-        ensures { Placed T.sends self.old (content message.now) result self.new }
+        ensures placed { Placed T.sends self.old (content message.now) result self.new }
+        ensures message { OnOk result (IsMessage (content message.now)) }
     {
         if self.has_room(len) {
             return self.put(message);
@@ -329,7 +325,7 @@ impl<T: Transport> BufferedSocket<T> {
     pub fn fill_incoming_buffers(&mut self) -> Result<(), IoFault>
         ensures { Filled T.receives self.old result self.new }
     {
-        let Ok(()) = self.fds_in.reserve(MAX_FDS_IN) else {
+        let Ok(()) = self.fds_in.reserve(MAX_FDS_OUT) else {
             return Err(IoFault::OutOfMemory);
         };
         let received = self.incoming.receive(&mut self.transport, &mut self.fds_in);
@@ -351,28 +347,16 @@ fn first_bytes(bytes: &[u8], tokens: usize) -> &[u8]
     &bytes[..count]
 }
 
-/// The sender and the opcode of the message at the front; `None` where its header is not there to its end.
-#[tactic(auto, unfolding(wl_wire::specs::Parse::sender_of, wl_wire::specs::Parse::second_word))]
-fn header(bytes: &[u8]) -> Option<(u32, u16)>
-    ensures { MatchOption result (length bytes.now < 8)
-        (λ x. (8 ≤ length bytes.now) × (x.0 ≡ sender_of bytes.now) × (x.1 ≡ opcode_of bytes.now)) }
-{
-    if bytes.len() < 8 {
-        return None;
-    }
-    let sender = u32::from_le_bytes([bytes[0], bytes[1], bytes[2], bytes[3]]);
-    let word = u32::from_le_bytes([bytes[4], bytes[5], bytes[6], bytes[7]]);
-    Some((sender, (word % 65536) as u16))
-}
-
-/// The link's answer to a write.
-fn write_answer(written: Result<(), MessageWriteError>) -> Result<(), IoFault>
-    ensures { result ≡ write_answer_of written }
+/// The link's answer to a write; `None` where there was too little room behind what waits.
+fn write_answer(written: Result<(), MessageWriteError>) -> Option<Result<(), IoFault>>
+    ensures { MatchOption result (written ≡ Err MessageWriteError.BufferTooSmall)
+        (λ answer. (written ≢ Err MessageWriteError.BufferTooSmall) × (answer ≡ write_answer_of written)) }
 {
     match written {
-        Ok(()) => Ok(()),
-        Err(MessageWriteError::TooLong | MessageWriteError::BufferTooSmall) => Err(IoFault::TooBig),
-        Err(MessageWriteError::OutOfMemory) => Err(IoFault::OutOfMemory),
+        Ok(()) => Some(Ok(())),
+        Err(MessageWriteError::TooLong) => Some(Err(IoFault::TooBig)),
+        Err(MessageWriteError::BufferTooSmall) => None,
+        Err(MessageWriteError::OutOfMemory) => Some(Err(IoFault::OutOfMemory)),
     }
 }
 

@@ -16,16 +16,17 @@ mod token_queue;
 mod transport;
 
 pub use all_objects::AllObjects;
-pub use buffered_socket::{BufferedSocket, DEFAULT_MAX_BUFFER_SIZE, MAX_BYTES_OUT, MAX_FDS_OUT};
+pub use buffered_socket::BufferedSocket;
 pub use identity::each_id_names_its_own_object;
 pub use laws::{
     cutting_does_not_matter, flush_loses_nothing, messages_come_back, one_outcome,
     read_takes_first_message, script_has_one_outcome, write_loses_nothing,
 };
+pub use limit::DEFAULT_MAX_BUFFER_SIZE;
 pub use memory::{ArriveError, Memory};
 pub use object::Object;
 pub use object_map::{InsertError, NewError, ObjectMap, SERVER_ID_LIMIT};
-pub use transport::Transport;
+pub use transport::{MAX_BYTES_OUT, MAX_FDS_OUT, Transport};
 
 #[cfg(test)]
 mod tests;

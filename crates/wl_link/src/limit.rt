@@ -3,8 +3,9 @@
 ghost use Rattle.std.specs.Prelude.{◌≡◌, ◌≢◌, ◌↔◌, ◌+◌, ◌*◌, ◌^◌, ◌<◌, ◌≤◌, IsTrue, IfSome, MatchOption};
 ghost use Rattle.wl_link.specs.Link.{AreLimits, IsLimit, Grows, Wants};
 
-/// The least limit, which is also the size that the storage of a new link has.
-pub(crate) const LEAST_LIMIT: usize = 4096;
+/// The limit of the outgoing storage that a connection has where nothing else is asked for. It is the least limit, and
+/// the size that the storages of a new link have.
+pub const DEFAULT_MAX_BUFFER_SIZE: usize = 4096;
 
 /// The greatest power of two of 64 bits.
 const GREATEST_POWER_OF_TWO: usize = 1 << 63;
@@ -19,7 +20,7 @@ pub(crate) fn rounded(limit: Option<usize>) -> Option<usize>
     }
 }
 
-/// The least power of two that is not below the number and not below the least limit; the greatest number where the
+/// The least power of two that is not below the number and not below 4096; the greatest number where the
 /// number is above each power of two.
 fn rounded_up(asked: usize) -> usize
     ensures { IsLimit asked result }
@@ -27,7 +28,7 @@ fn rounded_up(asked: usize) -> usize
     if asked > GREATEST_POWER_OF_TWO {
         return usize::MAX;
     }
-    asked.max(LEAST_LIMIT).next_power_of_two()
+    asked.max(DEFAULT_MAX_BUFFER_SIZE).next_power_of_two()
 }
 
 /// Whether a storage of that size has too little room, and may be doubled.

@@ -1,19 +1,16 @@
 //! A transport by script, for programs and tests that have no other.
 
-ghost use Rattle.std.specs.Prelude.{◌≡◌, ◌<◌, ◌≤◌, ◌++◌, ◌∷◌, [], ◌↔◌, length, map, Ok, Err, IfOk, OnOk, OnErr};
+ghost use Rattle.std.specs.Prelude.{◌≡◌, ◌<◌, ◌≤◌, ◌+◌, ◌++◌, ◌∷◌, [], ◌↔◌, length, drop, map, Ok, Err, IfOk, OnOk, OnErr};
 ghost use Rattle.wl_link.specs.Script.{parcel, count_taken};
 
 use crate::parcel::Parcel;
-use crate::transport::Transport;
+use crate::transport::{MAX_FDS_OUT, Transport};
 use std::alloc::Global;
 use std::collections::VecDeque;
 use std::marker::Model;
 use std::mem;
 use thiserror::Error;
 use wl_wire::{IoFault, OutOfMemory, Token};
-
-/// The most tokens that one receive gives.
-const MAX_TOKENS: usize = 28;
 
 /// Why an arrival was not put into a script.
 #[derive(Clone, Copy, Debug, PartialEq, Eq, Error)]
@@ -31,7 +28,7 @@ pub enum ArriveError {
 /// A receive takes the first arrival, and a send uses up the first send answer. A chunk gives the bytes that fit
 /// with all its tokens, and stays first with the rest of its bytes. Where no arrival is left a receive answers
 /// `WouldBlock`, and where no send answer is left a send takes all that it is offered.
-#[derive(Debug, Drop)]
+#[derive(Drop)]
 pub struct Memory {
     arrivals: VecDeque<Result<Parcel, IoFault>>,
     answers: VecDeque<Result<usize, IoFault>>,
@@ -68,7 +65,7 @@ impl Memory {
         ensures too_many { (result ≡ Err ArriveError.TooManyTokens) ↔ (28 < length tokens.items) }
         ensures err { OnErr result (self.new ≡ self.old) }
     {
-        if tokens.len() > MAX_TOKENS {
+        if tokens.len() > MAX_FDS_OUT {
             return Err(ArriveError::TooManyTokens);
         }
         match self.arrivals.push_back(Ok(Parcel::new(bytes, tokens))) {
@@ -156,7 +153,9 @@ impl Memory {
 }
 
 impl Transport for Memory {
-    ghost use Rattle.wl_link.specs.Script.{ScriptSends, ScriptReceives};
+    ghost use Rattle.std.specs.VecDeque.{deque_len, deque_capacity};
+    ghost use Rattle.wl_link.specs.Exchange.{Lands, receipt};
+    ghost use Rattle.wl_link.specs.Script.{ScriptSends, ScriptReceives, script_gives};
     ghost use Rattle.wl_link.specs.ScriptLaws.{script_within_offer, script_within_room, script_few_tokens};
 
     ghost sends = { ScriptSends };
@@ -183,11 +182,16 @@ impl Transport for Memory {
         }
     }
 
-    fn rcv_msg(
-        &mut self,
-        buffer: &mut [u8],
-        tokens: &mut VecDeque<Token>,
-    ) -> Result<usize, IoFault> {
+    fn rcv_msg(&mut self, buffer: &mut [u8], tokens: &mut VecDeque<Token>) -> Result<usize, IoFault>
+        ensures received { ScriptReceives self.old (length buffer.old)
+            (receipt result buffer.new tokens.old.items tokens.new.items) self.new }
+        ensures lands { Lands result buffer.old tokens.old.items buffer.new tokens.new.items }
+
+        // What lies behind the bytes that came stays, and where 28 tokens more fit into the queue no memory is wanted.
+        ensures behind { IfOk result (λ n. drop n buffer.new ≡ drop n buffer.old) }
+        ensures room { deque_len tokens.old + 28 ≤ deque_capacity tokens.old
+            → receipt result buffer.new tokens.old.items tokens.new.items ≡ script_gives self.old (length buffer.old) }
+    {
         if buffer.is_empty() {
             return Ok(0);
         }

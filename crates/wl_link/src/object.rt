@@ -3,7 +3,7 @@
 use wl_wire::InterfaceId;
 
 /// An object, without its number.
-#[derive(Debug, Drop)]
+#[derive(Drop)]
 pub struct Object<Data> {
     /// The interface.
     pub interface: InterfaceId,

@@ -50,7 +50,7 @@ pub enum NewError {
 
 /// The objects of a session, by number: 1 to 0xFEFFFFFF for those that the client makes, 0xFF000000 to 0xFFFFFFFF
 /// for those that the server makes.
-#[derive(Debug, Drop)]
+#[derive(Drop)]
 pub struct ObjectMap<Data> {
     clients: Places<Data>,
     servers: Places<Data>,

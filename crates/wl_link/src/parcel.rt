@@ -1,6 +1,6 @@
 //! A chunk of bytes, with tokens, that is to arrive at a transport by script.
 
-ghost use Rattle.std.specs.Prelude.{◌≡◌, ◌≢◌, ◌≤◌, ◌<◌, ◌-◌, ◌++◌, ◌==◌, [], MatchResult, length, take, drop, min};
+ghost use Rattle.std.specs.Prelude.{◌≡◌, ◌≢◌, ◌≤◌, ◌<◌, ◌+◌, ◌-◌, ◌++◌, ◌==◌, [], IsOk, IfOk, MatchResult, length, take, drop, min};
 ghost use Rattle.std.specs.Vec.{vec_len};
 ghost use Rattle.std.specs.VecDeque.{deque_len, deque_capacity};
 
@@ -10,7 +10,7 @@ use std::marker::Model;
 use wl_wire::Token;
 
 /// Bytes and at most 28 tokens, of which the bytes leave in pieces.
-#[derive(Debug, Drop)]
+#[derive(Drop)]
 pub struct Parcel {
     bytes: Vec<u8>,
     /// How many of the bytes have left.
@@ -65,6 +65,8 @@ impl Parcel {
             (λ _. (self.old.tokens ≢ []) × (self.new ≡ self.old) × (buffer.new ≡ buffer.old)
             × (tokens.new.items ≡ tokens.old.items)) }
         ensures few { length self.old.tokens ≤ 28 }
+        ensures behind { IfOk result (λ n. drop n buffer.new ≡ drop n buffer.old) }
+        ensures room { deque_len tokens.old + 28 ≤ deque_capacity tokens.old → IsOk result }
     {
         append(tokens, &self.tokens)?;
         self.tokens.clear();
@@ -79,6 +81,7 @@ impl Parcel {
 fn append(to: &mut VecDeque<Token>, tokens: &[Token]) -> Result<(), AllocError>
     ensures items { MatchResult result (λ _. to.new.items ≡ to.old.items ++ tokens.now)
         (λ _. (to.new.items ≡ to.old.items) × (tokens.now ≢ [])) }
+    ensures room { deque_len to.old + length tokens.now ≤ deque_capacity to.old → IsOk result }
 {
     to.reserve(tokens.len())?;
     for token in tokens {

@@ -12,7 +12,7 @@ use std::alloc::Global;
 use wl_wire::OutOfMemory;
 
 /// A place for each number of a range that was ever in use, from the range's first number on.
-#[derive(Debug, Drop)]
+#[derive(Drop)]
 pub(crate) struct Places<Data> {
     slots: Vec<Option<Object<Data>>>,
 }

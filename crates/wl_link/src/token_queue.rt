@@ -1,7 +1,7 @@
 //! Tokens that wait to be sent.
 
 ghost use Rattle.std.specs.Prelude.{◌≡◌, ◌≢◌, ◌↔◌, ◌<◌, ◌≤◌, ◌++◌, [], Err, length, take, drop, IfOk, OnOk, OnErr};
-ghost use Rattle.wl_wire.specs.Message.{content, size, spelling, tokens};
+ghost use Rattle.wl_wire.specs.Message.{IsMessage, content, size, spelling, tokens};
 
 use std::alloc::Global;
 use std::marker::Model;
@@ -9,7 +9,7 @@ use wl_wire::{Message, MessageWriteError, Token, write_to_buffers};
 
 /// Tokens that wait in their order. Taking some off the front moves the others only where those taken off before
 /// are as many as are left.
-#[derive(Debug, Drop)]
+#[derive(Drop)]
 pub struct TokenQueue {
     tokens: Vec<Token>,
     start: usize,
@@ -79,6 +79,7 @@ impl TokenQueue {
         ensures too_long { (result ≡ Err MessageWriteError.TooLong) ↔ (65535 < size (content message.now)) }
         ensures too_small { (result ≡ Err MessageWriteError.BufferTooSmall)
             ↔ ((size (content message.now) ≤ 65535) × (length payload.old < size (content message.now))) }
+        ensures message { OnOk result (IsMessage (content message.now)) }
         ensures no_tokens { tokens message.now.args.items ≡ [] → result ≢ Err MessageWriteError.OutOfMemory }
         ensures unchanged { OnErr result ((payload.new ≡ payload.old) × (self.new ≡ self.old)) }
     {

@@ -7,6 +7,12 @@ ghost use Rattle.wl_link.specs.Exchange.{Queue, Lands, receipt};
 use std::collections::VecDeque;
 use wl_wire::{IoFault, Token};
 
+/// The most tokens that one send is offered, and that one receive gives.
+pub const MAX_FDS_OUT: usize = 28;
+
+/// The most bytes that one send is offered.
+pub const MAX_BYTES_OUT: usize = 4096;
+
 /// A transport of bytes, and of tokens beside them.
 ///
 /// Contracts see each call by the relation that the implementation gives. A send relates the transport's value

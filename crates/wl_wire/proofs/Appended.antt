@@ -12,11 +12,8 @@ module _ {A B : Type 0} (view : A → B) where
   one_more : (before after : List A) (a : A) (x : B) → after ≡ before ++ a ∷ [] → view a ≡ x → map view after ≡ map view before ++ x ∷ []
   one_more before after a x is seen = ap (map view) is ∙ map-append view before (a ∷ []) ∙ ap (λ y. map view before ++ y ∷ []) seen
 
-  -- four of them
-  pub four_more : (base first second third last : List A) (a b c d : A) (w x y z : B)
-      → first ≡ base ++ a ∷ [] → second ≡ first ++ b ∷ [] → third ≡ second ++ c ∷ [] → last ≡ third ++ d ∷ []
-      → view a ≡ w → view b ≡ x → view c ≡ y → view d ≡ z → map view last ≡ map view base ++ w ∷ x ∷ y ∷ z ∷ []
-  four_more base first second third last a b c d w x y z is_first is_second is_third is_last seen_a seen_b seen_c seen_d =
-      let two = two_more (map view base) (map view first) (map view second) w x (one_more base first a w is_first seen_a) (one_more first second b x is_second seen_b) in
-      let others = two_more (map view second) (map view third) (map view last) y z (one_more second third c y is_third seen_c) (one_more third last d z is_last seen_d) in
-      others ∙ ap (λ (l : List B). l ++ y ∷ z ∷ []) two ∙ append_assoc (map view base) (w ∷ x ∷ []) (y ∷ z ∷ [])
+  -- two more are two more of what is seen
+  pub two_seen : (base one two : List A) (a b : A) (x y : B)
+      → one ≡ base ++ a ∷ [] → two ≡ one ++ b ∷ [] → view a ≡ x → view b ≡ y → map view two ≡ map view base ++ x ∷ y ∷ []
+  two_seen base one two a b x y is_one is_two seen_a seen_b =
+      two_more (map view base) (map view one) (map view two) x y (one_more base one a x is_one seen_a) (one_more one two b y is_two seen_b)

@@ -40,6 +40,20 @@ is_no_text bytes = not (slice_index bytes (length bytes - 1) == 0) || list_any (
 unfoldable pub text_of : List ℕ → Option (Option (List ℕ))
 text_of bytes = if length bytes == 0 then Some None else if is_no_text bytes then None else Some (Some (front bytes))
 
+-- the string at the front, or null, and what follows it
+abbrev pub text_at : List ℕ → Option (Option (List ℕ) × List ℕ)
+text_at payload = do
+  bytes ← counted_at payload
+  text ← text_of bytes.0
+  Some (text, bytes.1)
+
+-- an argument of that type is one word
+abbrev pub IsNumber : ArgumentType → Type 0
+IsNumber (kind.Str _) = ⊥
+IsNumber kind.Array = ⊥
+IsNumber kind.Fd = ⊥
+IsNumber _ = Unit {0}
+
 -- what is read, and what is left of the bytes and of the tokens
 unfoldable pub argument_at : ArgumentType → List ℕ → List Token → Option (WireArgument × List ℕ × List Token)
 argument_at kind.Int payload fds = do

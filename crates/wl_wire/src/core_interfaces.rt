@@ -1,7 +1,7 @@
 //! The fixed interfaces of the protocol, which each table begins with.
 
 ghost use Rattle.std.specs.Prelude.{[], ◌≡◌, ◌++◌, ◌∷◌, IfOk, OnOk, map};
-ghost use Rattle.wl_wire.specs.Table.{callback_row, display_row, first_message, fixed_rows, interface_row, interface_rows, message_row, registry_row};
+ghost use Rattle.wl_wire.specs.Table.{anonymous_row, callback_row, display_row, first_message, fixed_rows, interface_row, interface_rows, message_row, registry_row};
 
 use crate::argument::{AllowNull, ArgumentType};
 use crate::interface::{
@@ -143,14 +143,21 @@ fn callback(alloc: Global) -> Result<Interface, AllocError>
     Ok(callback)
 }
 
-/// Puts the fixed interfaces behind the others, in the order of their ids.
-fn push_fixed(interfaces: &mut Vec<Interface>) -> Result<(), AllocError>
-    ensures { OnOk result (interface_rows interfaces.new.items ≡ interface_rows interfaces.old.items ++ fixed_rows) }
+/// Puts the interface of objects of which nothing more is known, and `wl_display`, behind the others.
+fn push_display(interfaces: &mut Vec<Interface>) -> Result<(), AllocError>
+    ensures { OnOk result (interface_rows interfaces.new.items ≡ interface_rows interfaces.old.items ++ anonymous_row ∷ display_row ∷ []) }
 {
     let alloc = *interfaces.allocator();
-    // The interface of objects of which nothing more is known.
     interfaces.push(named(alloc, "<anonymous>", 0)?)?;
     interfaces.push(display(alloc)?)?;
+    Ok(())
+}
+
+/// Puts `wl_registry` and `wl_callback` behind the others.
+fn push_registry(interfaces: &mut Vec<Interface>) -> Result<(), AllocError>
+    ensures { OnOk result (interface_rows interfaces.new.items ≡ interface_rows interfaces.old.items ++ registry_row ∷ callback_row ∷ []) }
+{
+    let alloc = *interfaces.allocator();
     interfaces.push(registry(alloc)?)?;
     interfaces.push(callback(alloc)?)?;
     Ok(())
@@ -161,6 +168,7 @@ pub(crate) fn fixed_interfaces(alloc: Global) -> Result<Vec<Interface>, AllocErr
     ensures { IfOk result (λ v. interface_rows v.items ≡ fixed_rows) }
 {
     let mut fixed = Vec::with_capacity(alloc, 4)?;
-    push_fixed(&mut fixed)?;
+    push_display(&mut fixed)?;
+    push_registry(&mut fixed)?;
     Ok(fixed)
 }

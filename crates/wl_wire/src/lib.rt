@@ -26,7 +26,7 @@ pub use interface::{
     WL_DISPLAY_INTERFACE, WL_REGISTRY_INTERFACE,
 };
 pub use message::{INLINE_ARGS, Message};
-pub use parse::parse_message;
+pub use parse::{MessageHeader, message_header, parse_message};
 pub use protocol::{
     Protocol, TableError, check_for_signature, same_interface, same_interface_or_anonymous,
 };

@@ -1,6 +1,6 @@
 //! Reading a message from bytes and tokens.
 
-ghost use Rattle.std.specs.Prelude.{None, ℕ, List, MatchResult, ◌≡◌, ◌≢◌, ◌↔◌, ◌<◌, ◌≤◌, ◌++◌, length, drop, IsTrue, IsOk, IsSome, IfSome, is_some, All, IfOk, IfErr, OnOk, OnErr, option_map, slice_index_or};
+ghost use Rattle.std.specs.Prelude.{None, ℕ, List, MatchOption, MatchResult, ◌≡◌, ◌≢◌, ◌↔◌, ◌<◌, ◌≤◌, ◌++◌, length, drop, IsTrue, IsOk, IsSome, IfSome, is_some, All, IfOk, IfErr, OnOk, OnErr, option_map, slice_index_or};
 ghost use Rattle.std.specs.VecDeque.{deque_len};
 ghost use Rattle.std.specs.List.{count_by};
 ghost use Rattle.wl_wire.specs.declared.error.MessageParseError.TheVariants as errors;
@@ -11,7 +11,7 @@ ghost use Rattle.wl_wire.specs.Argument.{Matches};
 ghost use Rattle.wl_wire.specs.Message.{WireMessage, IsMessage, content, pad_len, spelling, tokens};
 ghost use Rattle.wl_wire.specs.Parse.{fd_count, is_fd, IsInline, IsSmall, length_of, payload_of, sender_of, opcode_of, ReadsMessage, RefusesMessage, IsWhole};
 ghost use Rattle.wl_wire.specs.Text.{HasNoZero};
-ghost use Rattle.wl_wire.specs.Cursor.{word_at, counted_at, text_of, argument_at, arguments_at, rests, with_front, Gives, Fails, RefusesArguments, RefusesHeader};
+ghost use Rattle.wl_wire.specs.Cursor.{IsNumber, text_at, word_at, counted_at, text_of, argument_at, arguments_at, rests, with_front, Gives, Fails, RefusesArguments, RefusesHeader};
 
 use crate::argument::{Argument, ArgumentType, Token};
 use crate::byte_array::ByteArray;
@@ -91,6 +91,44 @@ fn token_at(fds: &VecDeque<Token>, at: usize) -> Option<Token>
     fds.get(at).copied()
 }
 
+/// The number or object of that type at the front, and the bytes after it.
+#[tactic(auto, unfolding(crate::specs::Cursor::argument_at))]
+fn read_number(kind: ArgumentType, payload: &[u8]) -> Option<(Argument<u32, Token>, &[u8])>
+    requires { IsNumber kind }
+    ensures { (fds : List WireToken) → option_map (λ x. (x.0, x.1.now, fds)) result ≡ argument_at kind payload.now fds }
+{
+    let (word, rest) = read_word(payload)?;
+    let arg = match kind {
+        ArgumentType::Int => Argument::Int(word.cast_signed()),
+        ArgumentType::Uint => Argument::Uint(word),
+        ArgumentType::Fixed => Argument::Fixed(word.cast_signed()),
+        ArgumentType::Object(_) => Argument::Object(word),
+        ArgumentType::NewId => Argument::NewId(word),
+        ArgumentType::Str(_) | ArgumentType::Array | ArgumentType::Fd => unreachable!(),
+    };
+    Some((arg, rest))
+}
+
+/// A copy of the string at the front, or null, and the bytes after it.
+fn read_text(alloc: Global, payload: &[u8]) -> Result<(Option<CString>, &[u8]), MessageParseError>
+    ensures { Gives (λ x. (x.0, x.1.now)) result (text_at payload.now) }
+{
+    let (bytes, rest) = read_counted(payload).ok_or(MessageParseError::Malformed)?;
+    match text_in(bytes).ok_or(MessageParseError::Malformed)? {
+        None => Ok((None, rest)),
+        Some(text) => Ok((Some(CString::copied(alloc, text)?), rest)),
+    }
+}
+
+/// A copy of the array at the front, and the bytes after it.
+fn read_array(alloc: Global, payload: &[u8]) -> Result<(ByteArray, &[u8]), MessageParseError>
+    ensures { Gives (λ x. (x.0, x.1.now)) result (counted_at payload.now) }
+{
+    let (bytes, rest) = read_counted(payload).ok_or(MessageParseError::Malformed)?;
+    let bytes = ByteArray::new(Vec::from_slice(alloc, bytes)?);
+    Ok((bytes, rest))
+}
+
 /// An argument that was read, the bytes that are left, and how many tokens were used.
 type Read<'b> = (Argument<u32, Token>, &'b [u8], usize);
 
@@ -107,39 +145,20 @@ fn read_argument<'b>(
     ensures small { IsSmall kind → IfErr result (λ e. e ≢ OutOfMemory) }
 {
     match kind {
-        ArgumentType::Int => {
-            let (word, rest) = read_word(payload).ok_or(MessageParseError::Malformed)?;
-            Ok((Argument::Int(word.cast_signed()), rest, used))
-        }
-        ArgumentType::Uint => {
-            let (word, rest) = read_word(payload).ok_or(MessageParseError::Malformed)?;
-            Ok((Argument::Uint(word), rest, used))
-        }
-        ArgumentType::Fixed => {
-            let (word, rest) = read_word(payload).ok_or(MessageParseError::Malformed)?;
-            Ok((Argument::Fixed(word.cast_signed()), rest, used))
+        ArgumentType::Int
+        | ArgumentType::Uint
+        | ArgumentType::Fixed
+        | ArgumentType::Object(_)
+        | ArgumentType::NewId => {
+            let (arg, rest) = read_number(kind, payload).ok_or(MessageParseError::Malformed)?;
+            Ok((arg, rest, used))
         }
         ArgumentType::Str(_) => {
-            let (bytes, rest) = read_counted(payload).ok_or(MessageParseError::Malformed)?;
-            match text_in(bytes).ok_or(MessageParseError::Malformed)? {
-                None => Ok((Argument::Str(None), rest, used)),
-                Some(text) => {
-                    let text = CString::copied(alloc, text)?;
-                    Ok((Argument::Str(Some(text)), rest, used))
-                }
-            }
-        }
-        ArgumentType::Object(_) => {
-            let (word, rest) = read_word(payload).ok_or(MessageParseError::Malformed)?;
-            Ok((Argument::Object(word), rest, used))
-        }
-        ArgumentType::NewId => {
-            let (word, rest) = read_word(payload).ok_or(MessageParseError::Malformed)?;
-            Ok((Argument::NewId(word), rest, used))
+            let (text, rest) = read_text(alloc, payload)?;
+            Ok((Argument::Str(text), rest, used))
         }
         ArgumentType::Array => {
-            let (bytes, rest) = read_counted(payload).ok_or(MessageParseError::Malformed)?;
-            let bytes = ByteArray::new(Vec::from_slice(alloc, bytes)?);
+            let (bytes, rest) = read_array(alloc, payload)?;
             Ok((Argument::Array(bytes), rest, used))
         }
         ArgumentType::Fd => {
@@ -268,39 +287,48 @@ fn refusal(signature: &[ArgumentType], payload: &[u8], fds: &[Token]) -> Message
     }
 }
 
-/// A message's header: its sender, its opcode and how many bytes it has.
+/// What the first eight bytes of a message say.
 #[derive(Clone, Copy)]
-struct Header {
-    sender_id: u32,
-    opcode: u16,
-    len: usize,
+pub struct MessageHeader {
+    /// The object that the request is made of, or that sends the event.
+    pub sender_id: u32,
+    /// Which request or event of the sender's interface it is.
+    pub opcode: u16,
+    /// How many bytes the message has, its header among them. The header may say fewer than its own.
+    pub len: usize,
+}
+
+/// The header of the message at the front; `None` where it is not there to its end.
+#[tactic(auto, unfolding(crate::specs::Parse::sender_of, crate::specs::Parse::second_word))]
+pub fn message_header(raw: &[u8]) -> Option<MessageHeader>
+    ensures { MatchOption result (length raw.now < 8) (λ h. (8 ≤ length raw.now)
+        × (h.sender_id ≡ sender_of raw.now) × (h.opcode ≡ opcode_of raw.now) × (h.len ≡ length_of raw.now)) }
+{
+    if raw.len() < 8 {
+        return None;
+    }
+    let word = u32::from_le_bytes([raw[4], raw[5], raw[6], raw[7]]);
+    Some(MessageHeader {
+        sender_id: u32::from_le_bytes([raw[0], raw[1], raw[2], raw[3]]),
+        opcode: (word % 65536) as u16,
+        len: (word / 65536) as usize,
+    })
 }
 
 /// The header of the message at the front, which is there as long as it says.
-#[tactic(auto, unfolding(crate::specs::Parse::sender_of, crate::specs::Parse::second_word))]
-fn read_header(raw: &[u8]) -> Result<Header, MessageParseError>
+fn read_header(raw: &[u8]) -> Result<MessageHeader, MessageParseError>
     ensures whole { OnOk result (IsWhole raw.now) }
     ensures words { IfOk result (λ h. (h.sender_id ≡ sender_of raw.now) × (h.opcode ≡ opcode_of raw.now) × (h.len ≡ length_of raw.now)) }
     ensures refused { IfErr result (RefusesHeader raw.now) }
 {
-    if raw.len() < 8 {
-        return Err(MessageParseError::MissingData);
-    }
-    let sender_id = u32::from_le_bytes([raw[0], raw[1], raw[2], raw[3]]);
-    let word = u32::from_le_bytes([raw[4], raw[5], raw[6], raw[7]]);
-    let len = (word / 65536) as usize;
-    if len < 8 {
+    let header = message_header(raw).ok_or(MessageParseError::MissingData)?;
+    if header.len < 8 {
         return Err(MessageParseError::Malformed);
     }
-    if raw.len() < len {
+    if raw.len() < header.len {
         return Err(MessageParseError::MissingData);
     }
-    let opcode = (word % 65536) as u16;
-    Ok(Header {
-        sender_id,
-        opcode,
-        len,
-    })
+    Ok(header)
 }
 
 /// Takes so many tokens off the front.
@@ -326,6 +354,7 @@ pub fn parse_message<'a>(
     fds: &mut VecDeque<Token>,
 ) -> Result<(Message<u32, Token>, &'a [u8]), MessageParseError>
     ensures found { IfOk result (λ x. ReadsMessage raw.now signature.now fds.old.items (content x.0)) }
+    ensures matches { IfOk result (λ x. Matches signature.now x.0.args.items) }
     ensures rest { IfOk result (λ x. x.1.now ≡ drop (length_of raw.now) raw.now) }
     ensures tokens { OnOk result (fds.new.items ≡ drop (fd_count signature.now) fds.old.items) }
 

@@ -3,6 +3,7 @@ use Rattle.wl_wire.specs.declared.argument.Token.{Token}
 use Rattle.wl_wire.specs.Parse.{payload_of}
 use Rattle.wl_wire.specs.Cursor.{RefusesArguments}
 use Rattle.wl_wire.specs.CursorLaws.{arguments_read}
+use Rattle.wl_wire.specs.Laws.{reads_match}
 use Rattle.wl_wire.proofs.Whole.{header_not_refused, only_memory, reads_back, payload-is, found_whole, left_is, refuses}
 use Rattle.wl_wire.proofs.parse.parse_message.Goals as goal
 
@@ -24,6 +25,9 @@ returns-clause-found c =
       opcode = c.in_ok-header.ensures.words.1;
       args = (arguments_read c.args.signature.now (payload_of c.args.raw.now) c.args.fds.now.items c.read_arguments.new.args.items left found).0;
     }
+
+pub returns-clause-matches : goal.returns-clause-matches
+returns-clause-matches c = reads_match c.args.signature.now _ (payload_of c.args.raw.now) c.args.fds.now.items (returns-clause-found c).args
 
 pub returns-clause-tokens : goal.returns-clause-tokens
 returns-clause-tokens c =

@@ -4,15 +4,15 @@ use Rattle.wl_link.specs.Link.{Wants, Grown, needed}
 use Rattle.wl_link.specs.WriteLaws.{wrote_ungrown, wrote_placed}
 use Rattle.wl_link.proofs.buffered_socket.BufferedSocket.make_room_and_write.Goals as goal
 
-pub returns-in_default-grow_for : goal.returns-in_default-grow_for
-returns-in_default-grow_for g c =
+pub returns-in_default-grow_for-clause-wrote : goal.returns-in_default-grow_for-clause-wrote
+returns-in_default-grow_for-clause-wrote g c =
     let l = c.args.self.now in
     let e = c.in_default-grow_for.ensures in
     wrote_ungrown g.T.Transport.sends l _ (content c.args.message.now) _ c.requires refl e.0
     (subst (λ (n : ℕ). Wants l.limit (needed l n) l.storage) c.in-Some.ensures e.1)
 
-pub returns : goal.returns
-returns g c =
+pub returns-clause-wrote : goal.returns-clause-wrote
+returns-clause-wrote g c =
     let l = c.args.self.now in
     wrote_placed g.T.Transport.sends l _ (content c.args.message.now) _ c.grow_for.new.self c.requires
-    (subst (λ (n : ℕ). Grown l n c.grow_for.new.self) c.in-Some.ensures c.in-Ok.ensures) c.place.ensures
+    (subst (λ (n : ℕ). Grown l n c.grow_for.new.self) c.in-Some.ensures c.in-Ok.ensures) c.place.ensures.placed

@@ -1,41 +1,26 @@
-use Rattle.std.proofs.Common.{Ok, Err, refl, inl, inr}
 use Rattle.wl_wire.specs.Message.{content}
-use Rattle.wl_wire.specs.declared.error.IoFault.TheVariants as fault
-use Rattle.wl_link.specs.WriteLaws.{wrote_at_once, wrote_too_long}
+use Rattle.wl_wire.specs.declared.error.MessageWriteError.{MessageWriteError}
+use Rattle.wl_link.specs.Storage.{Appended, waits}
+use Rattle.wl_link.specs.WriteLaws.{wrote_answered}
 use Rattle.wl_link.specs.KeptLaws.{write_keeps}
+use Rattle.std.proofs.Common.{Result, subst}
 use Rattle.wl_link.proofs.buffered_socket.BufferedSocket.write_message.Goals as goal
 
-pub returns-in-Ok-clause-wrote : goal.returns-in-Ok-clause-wrote
-returns-in-Ok-clause-wrote g c =
-    let a = c.in-Ok.ensures in
-    rw (← c.self.view_is, a.2, a.3)
-    (wrote_at_once g.T.Transport.sends _ _ (content c.args.message.now) (Ok tt) a.0 a.1 (inl (refl, refl)))
+pub returns-in-Some-clause-wrote : goal.returns-in-Some-clause-wrote
+returns-in-Some-clause-wrote g c =
+    rw (← c.self.view_is, c.in-Some.ensures.1)
+    (wrote_answered g.T.Transport.sends _ (content c.args.message.now) c.write.result c.write.new.self c.write.new.fds c.in-Some.ensures.0 c.write.ensures.appended)
 
-pub returns-in-Err-OutOfMemory-clause-wrote : goal.returns-in-Err-OutOfMemory-clause-wrote
-returns-in-Err-OutOfMemory-clause-wrote g c =
-    let a = rw c.in-Err-OutOfMemory.field-0-is at c.in-Err-OutOfMemory.ensures in
-    rw (← c.self.view_is, a.3, a.4)
-    (wrote_at_once g.T.Transport.sends _ _ (content c.args.message.now) (Err fault.OutOfMemory) a.0 a.1 (inr (refl, refl, a.2)))
+pub returns-in-Some-clause-kept : goal.returns-in-Some-clause-kept
+returns-in-Some-clause-kept g c =
+    write_keeps g.T.Transport.sends (record { law = g.met.T.Transport.within_offer }) (content c.args.message.now) _ _ c.args.self.now (returns-in-Some-clause-wrote g c)
 
-pub returns-in-Err-BufferTooSmall-clause-wrote : goal.returns-in-Err-BufferTooSmall-clause-wrote
-returns-in-Err-BufferTooSmall-clause-wrote g c =
-    let a = rw c.in-Err-BufferTooSmall.field-0-is at c.in-Err-BufferTooSmall.ensures in
-    rw (← c.self.view_is) (rw (a.1, a.2) at c.make_room_and_write.ensures)
+pub returns-in-None-clause-wrote : goal.returns-in-None-clause-wrote
+returns-in-None-clause-wrote g c =
+    let before = waits c.self.inside.outgoing.bytes c.self.inside.outgoing.size in
+    let a = subst (λ (r : Result (Unit {0}) MessageWriteError). Appended before c.self.inside.fds_out (content c.args.message.now) r c.write.new.self c.write.new.fds) c.in-None.ensures c.write.ensures.appended in
+    rw (← c.self.view_is) (rw (a.1, a.2) at c.make_room_and_write.ensures.wrote)
 
-pub returns-in-Err-TooLong-clause-wrote : goal.returns-in-Err-TooLong-clause-wrote
-returns-in-Err-TooLong-clause-wrote g c =
-    let a = rw c.in-Err-TooLong.field-0-is at c.in-Err-TooLong.ensures in
-    rw (← c.self.view_is, a.1, a.2)
-    (wrote_too_long g.T.Transport.sends _ _ (content c.args.message.now) (Err fault.TooBig) a.0 refl refl)
-
-pub returns-in-Ok-clause-kept : goal.returns-in-Ok-clause-kept
-returns-in-Ok-clause-kept g c = write_keeps g.T.Transport.sends (record { law = g.met.T.Transport.within_offer }) (content c.args.message.now) _ _ c.args.self.now (returns-in-Ok-clause-wrote g c)
-
-pub returns-in-Err-OutOfMemory-clause-kept : goal.returns-in-Err-OutOfMemory-clause-kept
-returns-in-Err-OutOfMemory-clause-kept g c = write_keeps g.T.Transport.sends (record { law = g.met.T.Transport.within_offer }) (content c.args.message.now) _ _ c.args.self.now (returns-in-Err-OutOfMemory-clause-wrote g c)
-
-pub returns-in-Err-BufferTooSmall-clause-kept : goal.returns-in-Err-BufferTooSmall-clause-kept
-returns-in-Err-BufferTooSmall-clause-kept g c = write_keeps g.T.Transport.sends (record { law = g.met.T.Transport.within_offer }) (content c.args.message.now) _ _ c.args.self.now (returns-in-Err-BufferTooSmall-clause-wrote g c)
-
-pub returns-in-Err-TooLong-clause-kept : goal.returns-in-Err-TooLong-clause-kept
-returns-in-Err-TooLong-clause-kept g c = write_keeps g.T.Transport.sends (record { law = g.met.T.Transport.within_offer }) (content c.args.message.now) _ _ c.args.self.now (returns-in-Err-TooLong-clause-wrote g c)
+pub returns-in-None-clause-kept : goal.returns-in-None-clause-kept
+returns-in-None-clause-kept g c =
+    write_keeps g.T.Transport.sends (record { law = g.met.T.Transport.within_offer }) (content c.args.message.now) _ _ c.args.self.now (returns-in-None-clause-wrote g c)
