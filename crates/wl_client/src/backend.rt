@@ -2,6 +2,7 @@
 
 ghost use Rattle.std.specs.Prelude.{◌≡◌, [], true, false, None, Some, Ok, IfOk, MatchResult, option_copied};
 ghost use Rattle.std.specs.Borrow.{sem};
+ghost use Rattle.wl_wire.specs.Table.{display_id};
 ghost use Rattle.wl_link.specs.Link.{LinkState, LimitSet};
 ghost use Rattle.wl_client.specs.Session.{IsConnected};
 ghost use Rattle.wl_client.specs.Objects.{info_of, user_data_of, DataSet, DestroyedBy};
@@ -28,7 +29,7 @@ use wl_wire::{
 ///
 /// It stands for `wayland_backend::client::Backend`. The session does nothing by itself: `next_event` receives and
 /// hands out events, `send_request` and `flush` send.
-#[derive(Debug, Drop)]
+#[derive(Drop)]
 pub struct Backend<T, U> {
     pub(crate) session: Session<T, U>,
     pub(crate) refused: bool,
@@ -63,7 +64,7 @@ impl<T: Drop, U: Drop> Backend<T, U> {
 
     /// The id of the display.
     pub fn display_id(&self) -> ObjectId
-        ensures { result ≡ record { number = 1; serial = 0; interface = WL_DISPLAY_INTERFACE } }
+        ensures { result ≡ record { number = 1; serial = 0; interface = display_id } }
     {
         ObjectId::from_parts(DISPLAY, 0, WL_DISPLAY_INTERFACE)
     }

@@ -13,7 +13,7 @@ const ERROR: u16 = 0;
 const DELETE_ID: u16 = 1;
 
 /// What an event of the display tells.
-#[derive(Clone, Copy, Debug)]
+#[derive(Clone, Copy)]
 pub enum DisplayEvent<'m> {
     /// The error that ends the session: its code, the number of its object, and its text.
     Fails(u32, u32, &'m CString),

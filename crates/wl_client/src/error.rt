@@ -1,5 +1,6 @@
 //! Why a call of a session was refused, and what ends a session.
 
+use std::fmt;
 use thiserror::Error;
 use wl_wire::{IoFault, ProtocolError};
 
@@ -35,51 +36,61 @@ pub enum DestroyError {
 ///
 /// The reasons are looked at in the order of the variants, but that a sender which the client has destroyed is looked at
 /// behind the opcode, and object arguments one after another behind `NotPlaceholder`: the first with a reason tells it.
-#[derive(Clone, Copy, Debug, PartialEq, Eq, Error)]
+#[derive(Clone, Copy, Debug, PartialEq, Eq)]
 pub enum RequestError {
     /// The sender, or an object argument, names no object, or one that the client has destroyed.
-    #[error("Invalid ObjectId")]
     InvalidId,
     /// The sender's interface has no request of that opcode.
-    #[error("the interface has no request of that opcode")]
     UnknownOpcode,
     /// The arguments do not fit the request's signature.
-    #[error("the arguments do not fit the request's signature")]
     BadSignature,
     /// The interface asked for the new object is not in the table.
-    #[error("the new object's interface is not in the table")]
     UnknownInterface,
     /// The table names another interface for the new object.
-    #[error("the table names another interface for the new object")]
     WrongChild,
     /// The version asked for the new object is not the sender's, where the table names its interface.
-    #[error("the new object's version is not its sender's")]
     WrongChildVersion,
     /// Neither the table nor the caller names the new object's interface.
-    #[error("the new object's interface is not named")]
     MissingChildSpec,
     /// The new object gets no user data.
-    #[error("the new object gets no user data")]
     MissingObjectData,
     /// The new id is not null.
-    #[error("the new id is not null")]
     NotPlaceholder,
     /// An object argument is of another interface than the table asks for.
-    #[error("an object argument has another interface")]
     WrongInterface,
     /// An object argument is null where the signature forbids it.
-    #[error("an object argument is null")]
     NullObject,
     /// Each number of the client's range holds an object.
-    #[error("no number is left")]
     IdsExhausted,
     /// Each serial was given out.
-    #[error("no serial is left")]
     SerialsExhausted,
     /// There was no memory.
-    #[error("out of memory")]
     OutOfMemory,
 }
+
+impl fmt::Display for RequestError {
+    fn fmt<W: fmt::Write>(&self, f: &mut fmt::Formatter<W>) -> fmt::Result {
+        let text = match self {
+            RequestError::InvalidId => "Invalid ObjectId",
+            RequestError::UnknownOpcode => "the interface has no request of that opcode",
+            RequestError::BadSignature => "the arguments do not fit the request's signature",
+            RequestError::UnknownInterface => "the new object's interface is not in the table",
+            RequestError::WrongChild => "the table names another interface for the new object",
+            RequestError::WrongChildVersion => "the new object's version is not its sender's",
+            RequestError::MissingChildSpec => "the new object's interface is not named",
+            RequestError::MissingObjectData => "the new object gets no user data",
+            RequestError::NotPlaceholder => "the new id is not null",
+            RequestError::WrongInterface => "an object argument has another interface",
+            RequestError::NullObject => "an object argument is null",
+            RequestError::IdsExhausted => "no number is left",
+            RequestError::SerialsExhausted => "no serial is left",
+            RequestError::OutOfMemory => "out of memory",
+        };
+        f.write_str(text)
+    }
+}
+
+impl std::error::Error for RequestError {}
 
 /// Why what waits was not sent to its end.
 #[derive(Clone, Copy, Debug, PartialEq, Eq, Error)]

@@ -18,7 +18,7 @@ use wl_wire::{
 };
 
 /// What the making of an object has to know of the receiver of the event.
-#[derive(Clone, Copy, Debug)]
+#[derive(Clone, Copy)]
 pub struct Receiver {
     /// Its version.
     pub version: u32,
@@ -27,7 +27,7 @@ pub struct Receiver {
 }
 
 /// How far the arguments of an event were gone through.
-#[derive(Clone, Copy, Debug)]
+#[derive(Clone, Copy)]
 pub struct Progress<'a> {
     /// The interfaces of the table that no object argument took yet.
     pub asked: &'a [InterfaceId],

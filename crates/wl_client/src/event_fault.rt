@@ -3,7 +3,7 @@
 use wl_wire::InterfaceId;
 
 /// Why an event ends the session.
-#[derive(Clone, Copy, Debug, PartialEq, Eq)]
+#[derive(Clone, Copy)]
 pub enum EventFault {
     /// The bytes are no event.
     Malformed,

@@ -1,7 +1,7 @@
 //! What a session keeps of an object.
 
 /// What the session keeps of an object beside its interface and version.
-#[derive(Debug, Drop)]
+#[derive(Drop)]
 pub struct Kept<U> {
     /// The serial, which no other object of the session has.
     pub serial: u64,

@@ -3,7 +3,7 @@
 ghost use Rattle.std.specs.Prelude.{◌≡◌, ◌↔◌, ◌++◌, IsTrue, IfOk, codes};
 ghost use Rattle.std.specs.String.{string_bytes};
 ghost use Rattle.std.specs.Fmt.{decimal};
-ghost use Rattle.wl_wire.specs.Table.{name_of};
+ghost use Rattle.wl_wire.specs.Table.{anonymous_id, name_of};
 
 use std::alloc::Global;
 use std::hash::{Hash, Hasher};
@@ -49,7 +49,7 @@ impl Hash for ObjectId {
 impl ObjectId {
     /// The id of no object: number 0, serial 0, the anonymous interface.
     pub fn null() -> Self
-        ensures { result ≡ record { number = 0; serial = 0; interface = ANONYMOUS_INTERFACE } }
+        ensures { result ≡ record { number = 0; serial = 0; interface = anonymous_id } }
     {
         ObjectId {
             serial: 0,

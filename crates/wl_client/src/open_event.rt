@@ -3,7 +3,7 @@
 use crate::object_id::ObjectId;
 
 /// What the end of an event has to know of it.
-#[derive(Clone, Copy, Debug)]
+#[derive(Clone, Copy)]
 pub struct OpenEvent {
     /// The object that the event was sent to.
     pub sender: ObjectId,

@@ -19,7 +19,7 @@ use wl_link::ObjectMap;
 use wl_wire::{Argument, INLINE_ARGS, Message, MessageDesc, Token};
 
 /// What an event came to.
-#[derive(Debug, Drop)]
+#[derive(Drop)]
 pub enum Handled {
     /// It is handed out, and open from then on.
     Event(Message<ObjectId, Token>, OpenEvent),

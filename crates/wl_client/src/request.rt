@@ -19,7 +19,7 @@ use wl_wire::{
 };
 
 /// What a request that is not refused creates, and whether it ends its sender.
-#[derive(Clone, Copy, Debug)]
+#[derive(Clone, Copy)]
 pub struct Granted {
     /// The interface and the version of the new object.
     pub child: Option<(InterfaceId, u32)>,

@@ -20,7 +20,7 @@ use wl_wire::{ObjectInfo, OutOfMemory, Protocol, WL_DISPLAY_INTERFACE};
 pub(crate) const DISPLAY: u32 = 1;
 
 /// A session of a client with its server.
-#[derive(Debug, Drop)]
+#[derive(Drop)]
 pub struct Session<T, U> {
     pub(crate) protocol: Protocol,
     pub(crate) socket: BufferedSocket<T>,

@@ -9,7 +9,7 @@ use wl_link::ArriveError;
 use wl_wire::{InterfaceId, IoFault, Message, OutOfMemory, Token};
 
 /// A call that changes a session over a transport by script: one of the session's own, or one of its transport's.
-#[derive(Debug, Drop)]
+#[derive(Drop)]
 pub enum Step<U> {
     /// `Backend::set_data`.
     SetData(ObjectId, U),
@@ -42,7 +42,7 @@ pub enum Step<U> {
 }
 
 /// The answer of a step's call.
-#[derive(Debug, Drop)]
+#[derive(Drop)]
 pub enum Reply<U> {
     /// To `Step::SetData`.
     SetData(Result<(), InvalidId>),
@@ -75,7 +75,7 @@ pub enum Reply<U> {
 }
 
 /// A run that met a want of memory.
-#[derive(Debug, Drop)]
+#[derive(Drop)]
 pub struct Stopped<U> {
     /// The step in which memory was refused, counted from 0.
     pub step: usize,

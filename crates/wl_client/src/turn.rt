@@ -28,7 +28,7 @@ use wl_wire::{
 };
 
 /// Why no event was handed out, and whether memory was refused.
-#[derive(Clone, Copy, Debug)]
+#[derive(Clone, Copy)]
 pub struct NoEvent {
     /// The answer of the reading.
     pub error: EventError,
@@ -37,7 +37,7 @@ pub struct NoEvent {
 }
 
 /// What a turn came to.
-#[derive(Debug, Drop)]
+#[derive(Drop)]
 pub enum Turn {
     /// An event to hand out.
     Event(Message<ObjectId, Token>),
