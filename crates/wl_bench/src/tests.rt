@@ -1,0 +1,3 @@
+//! The tests of the libraries, by crate and topic, over their public calls.
+
+mod quad;
