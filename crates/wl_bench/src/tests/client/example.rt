@@ -1,0 +1,115 @@
+//! A client over a transport of its own: the example of the page of `wl_client`.
+
+ghost use Rattle.std.specs.Prelude.{◌≤◌, IfOk, length};
+
+use smallvec::SmallVec;
+use std::alloc::Global;
+use std::collections::VecDeque;
+use std::test::Fail;
+use wl_client::{Backend, EventError, Note, ObjectId};
+use wl_link::Transport;
+use wl_wire::{Argument, IoFault, Message, Protocol, Token};
+
+/// Plays back what a server once sent, and keeps what it is sent. It carries no descriptors.
+#[derive(Drop)]
+struct Playback<'a> {
+    from_server: &'a [u8],
+    to_server: Vec<u8>,
+}
+
+impl<'a> Transport for Playback<'a> {
+    ghost sends = { λ before offer answer after. IfOk answer (λ n. n ≤ length offer.bytes) };
+
+    ghost receives = { λ before room answer after.
+        IfOk answer (λ came. (length came.bytes ≤ room) × (length came.tokens ≤ 28)) };
+
+    fn send_msg(&mut self, bytes: &[u8], tokens: &[Token]) -> Result<usize, IoFault> {
+        if !tokens.is_empty() {
+            return Err(IoFault::InvalidInput);
+        }
+        match self.to_server.extend_from_slice(bytes) {
+            Ok(()) => Ok(bytes.len()),
+            Err(_) => Err(IoFault::OutOfMemory),
+        }
+    }
+
+    fn rcv_msg(
+        &mut self,
+        buffer: &mut [u8],
+        _tokens: &mut VecDeque<Token>,
+    ) -> Result<usize, IoFault> {
+        if buffer.is_empty() {
+            return Ok(0);
+        }
+        if self.from_server.is_empty() {
+            return Err(IoFault::WouldBlock);
+        }
+        let count = buffer.len().min(self.from_server.len());
+        let (now, later) = self.from_server.split_at(count);
+        buffer[..count].copy_from_slice(now);
+        self.from_server = later;
+        Ok(count)
+    }
+
+    ghost within_offer = { λ before after offer n sent. sent };
+
+    ghost within_room = { λ before after room came received. received.0 };
+
+    ghost few_tokens = { λ before after room came received. received.1 };
+}
+
+/// Sends a sync: the server answers when it has come to it. The data tell the program what the answer is for.
+fn ask(
+    alloc: Global,
+    client: &mut Backend<Playback<'_>, u32>,
+    data: u32,
+) -> Result<ObjectId, Fail> {
+    let mut sync = Message {
+        sender_id: client.display_id(),
+        opcode: 0,
+        args: SmallVec::new(alloc),
+    };
+    sync.args.push(Argument::NewId(ObjectId::null()))?;
+    let callback = client.send_request(sync, Some(data), None)?;
+    client.flush()?;
+    Ok(callback)
+}
+
+/// The data of the object that the next event is for; `None` where no event is there to its end.
+fn answered(client: &mut Backend<Playback<'_>, u32>) -> Result<Option<u32>, Fail> {
+    let event = match client.next_event() {
+        Ok(event) => event,
+        Err(EventError::WouldBlock) => return Ok(None),
+        Err(error) => Err(error)?,
+    };
+    let data = *client.get_data(&event.sender_id)?;
+    client.finish_event(None)?;
+    Ok(Some(data))
+}
+
+#[test]
+fn client_over_a_transport_of_its_own(rt: HostRuntime) -> Result<(), Fail> {
+    let alloc = rt.alloc();
+    let recorded = [
+        2, 0, 0, 0, 0, 0, 12, 0, 0, 0, 0, 0, 1, 0, 0, 0, 1, 0, 12, 0, 2, 0, 0, 0,
+    ];
+    let playback = Playback {
+        from_server: &recorded,
+        to_server: Vec::new(alloc),
+    };
+    let table = Protocol::new(alloc, Vec::new(alloc))?;
+    let mut client = Backend::connect(alloc, table, playback)?;
+
+    let callback = ask(alloc, &mut client, 7)?;
+    assert_eq!(rt;
+        client.transport().to_server.as_slice(),
+        [1, 0, 0, 0, 0, 0, 12, 0, 2, 0, 0, 0].as_slice()
+    );
+    assert_eq!(rt; answered(&mut client)?, Some(7));
+    assert_eq!(rt;
+        client.take_notes().as_slice(),
+        [Note::Destroyed(callback)].as_slice()
+    );
+    assert_eq!(rt; answered(&mut client)?, None);
+    Ok(())
+}

@@ -1,0 +1,101 @@
+//! The texts of ids and errors, and ids in a set.
+
+use std::alloc::Global;
+use std::collections::HashSet;
+use std::fmt::Write;
+use std::test::Fail;
+use wl_client::{InvalidId, ObjectId, WaylandError};
+use wl_wire::{
+    ANONYMOUS_INTERFACE, InterfaceId, IoFault, Protocol, ProtocolError, Text, WL_CALLBACK_INTERFACE,
+};
+
+/// Writes the texts of the ids, a line each.
+fn write_ids(
+    alloc: Global,
+    table: &Protocol,
+    log: &mut String,
+    ids: &[ObjectId],
+) -> Result<(), Fail> {
+    for id in ids {
+        writeln!(log, "{}", id.display(alloc, table)?)?;
+    }
+    Ok(())
+}
+
+/// The texts of the ids, a line each, where the table has no interface of its own.
+fn ids_told(alloc: Global, ids: &[ObjectId]) -> Result<String, Fail> {
+    let mut log = String::new(alloc);
+    let table = Protocol::new(alloc, Vec::new(alloc))?;
+    write_ids(alloc, &table, &mut log, ids)?;
+    Ok(log)
+}
+
+#[test]
+fn texts_of_ids(rt: HostRuntime) -> Result<(), Fail> {
+    let ids = [
+        ObjectId::from_parts(2, 1, WL_CALLBACK_INTERFACE),
+        ObjectId::from_parts(4278190080, 7, InterfaceId(9)),
+        ObjectId::null(),
+    ];
+    assert_eq!(rt;
+        ids_told(rt.alloc(), &ids)?.as_str(),
+        "wl_callback@2\n<unknown>@4278190080\n<anonymous>@0\n"
+    );
+    Ok(())
+}
+
+/// Puts the ids into the set, and writes of each whether it was new.
+fn insert_all(set: &mut HashSet<ObjectId>, log: &mut String, ids: &[ObjectId]) -> Result<(), Fail> {
+    for id in ids {
+        writeln!(log, "{}", set.insert(*id)?)?;
+    }
+    writeln!(log, "{} ids", set.len())?;
+    Ok(())
+}
+
+#[test]
+fn ids_in_a_set(rt: HostRuntime) -> Result<(), Fail> {
+    let ids = [
+        ObjectId::from_parts(2, 1, WL_CALLBACK_INTERFACE),
+        ObjectId::from_parts(2, 1, WL_CALLBACK_INTERFACE),
+        ObjectId::from_parts(2, 1, ANONYMOUS_INTERFACE),
+        ObjectId::from_parts(2, 2, WL_CALLBACK_INTERFACE),
+    ];
+    let mut set = HashSet::new(rt.alloc());
+    let mut log = String::new(rt.alloc());
+    insert_all(&mut set, &mut log, &ids)?;
+    assert_eq!(rt; log.as_str(), "true\nfalse\ntrue\ntrue\n3 ids\n");
+    Ok(())
+}
+
+fn text(alloc: Global, text: &str) -> Result<Text, Fail> {
+    Ok(Text::new(String::from_str(alloc, text)?))
+}
+
+/// The error 1 of the `quad` 3, which says `no`.
+fn no(alloc: Global) -> Result<ProtocolError, Fail> {
+    Ok(ProtocolError {
+        code: 1,
+        object_id: 3,
+        object_interface: text(alloc, "quad")?,
+        message: text(alloc, "no")?,
+    })
+}
+
+/// The texts of an id's error and of two of a session, a line each.
+fn errors_told(alloc: Global) -> Result<String, Fail> {
+    let mut log = String::new(alloc);
+    writeln!(log, "{}", InvalidId)?;
+    writeln!(log, "{}", WaylandError::Io(IoFault::Pipe))?;
+    writeln!(log, "{}", WaylandError::Protocol(no(alloc)?))?;
+    Ok(log)
+}
+
+#[test]
+fn texts_of_errors(rt: HostRuntime) -> Result<(), Fail> {
+    assert_eq!(rt;
+        errors_told(rt.alloc())?.as_str(),
+        "Invalid ObjectId\nIo error: broken pipe\nProtocol error 1 on object quad@3: no\n"
+    );
+    Ok(())
+}
