@@ -6,6 +6,7 @@ use super::values::{Child, Object, Request, message, padded};
 use crate::tests::quad::quad_table;
 use std::alloc::{AllocError, Global};
 use std::fmt::Write;
+use std::process::Abort;
 use std::test::Fail;
 use wl_client::Backend;
 use wl_link::Memory;
@@ -27,19 +28,27 @@ pub enum Act {
     SendInWant(Request),
     /// The registry and a `quad` of version 3.
     Bound,
+    /// Sends what waits.
     Flush,
+    /// Reads the next event.
     Next,
+    /// Finishes the open event, with these data for the object that it made.
     Finish(Option<u32>),
+    /// Gives an object these data.
     SetData(Object, u32),
+    /// Destroys an object.
     Destroy(Object),
+    /// Takes the notes.
     Notes,
     /// Runs the steps.
     Replay(&'static [Call]),
     /// The version of an object.
     Info(Object),
+    /// The data of an object.
     Data(Object),
     /// The text of an object's id.
     Text(Object),
+    /// The session's error.
     LastError,
     /// Bytes that are to arrive.
     Arrive(&'static [u8]),
@@ -70,6 +79,11 @@ fn told(client: &Client, written: Result<(), AllocError>) -> Result<(), Fail> {
         Ok(()) => Ok(()),
         Err(_) => Err(Fail::new("there was no memory for the line")),
     }
+}
+
+fn limit(client: &mut Client, bytes: usize) -> Result<(), Fail> {
+    client.set_max_buffer_size(Some(bytes));
+    told(client, Ok(()))
 }
 
 fn send(
@@ -175,46 +189,48 @@ fn last_error(client: &Client, log: &mut String) -> Result<(), Fail> {
 }
 
 /// Puts the bytes and zeros behind them, of that length in all, behind what is to arrive.
-fn arrive(alloc: Global, script: &mut Memory, bytes: &[u8], len: usize) -> Result<(), Fail> {
+fn arrive(alloc: Global, client: &mut Client, bytes: &[u8], len: usize) -> Result<(), Fail> {
     let bytes = padded(alloc, bytes, len)?;
-    script.arrive(bytes, Vec::new(alloc))?;
+    client.transport_mut().arrive(bytes, Vec::new(alloc))?;
     Ok(())
 }
 
 fn arrive_with(
     alloc: Global,
-    script: &mut Memory,
+    client: &mut Client,
     bytes: &[u8],
     descriptor: i32,
 ) -> Result<(), Fail> {
     let bytes = Vec::from_slice(alloc, bytes)?;
     let tokens = Vec::from_slice(alloc, &[Token(descriptor)])?;
-    script.arrive(bytes, tokens)?;
+    client.transport_mut().arrive(bytes, tokens)?;
     Ok(())
 }
 
 fn arrive_bytewise(
     alloc: Global,
-    script: &mut Memory,
+    client: &mut Client,
     bytes: &[u8],
     len: usize,
 ) -> Result<(), Fail> {
-    for byte in bytes {
-        arrive(alloc, script, &[*byte], 1)?;
-    }
-    for _ in bytes.len()..len {
-        arrive(alloc, script, &[0], 1)?;
+    for byte in padded(alloc, bytes, len)?.as_slice() {
+        arrive(alloc, client, &[*byte], 1)?;
     }
     Ok(())
 }
 
-fn arrive_fault(script: &mut Memory, fault: IoFault) -> Result<(), Fail> {
-    script.arrive_fault(fault)?;
+fn arrive_fault(client: &mut Client, fault: IoFault) -> Result<(), Fail> {
+    client.transport_mut().arrive_fault(fault)?;
     Ok(())
 }
 
-fn accept_fault(script: &mut Memory, fault: IoFault) -> Result<(), Fail> {
-    script.accept_fault(fault)?;
+fn accept_fault(client: &mut Client, fault: IoFault) -> Result<(), Fail> {
+    client.transport_mut().accept_fault(fault)?;
+    Ok(())
+}
+
+fn take_sent(client: &mut Client) -> Result<(), Fail> {
+    client.transport_mut().take_sent();
     Ok(())
 }
 
@@ -232,10 +248,7 @@ fn sent(client: &Client, log: &mut String) -> Result<(), Fail> {
 /// Makes the call, and tells its answer.
 fn perform(alloc: Global, client: &mut Client, log: &mut String, act: Act) -> Result<(), Fail> {
     match act {
-        Act::Limit(bytes) => {
-            client.set_max_buffer_size(Some(bytes));
-            Ok(())
-        }
+        Act::Limit(bytes) => limit(client, bytes),
         Act::Send(request) => send(alloc, client, log, request, request.child()),
         Act::SendWith(request, child) => send(alloc, client, log, request, child),
         Act::SendInWant(request) => send_in_want(alloc, client, log, request),
@@ -251,21 +264,14 @@ fn perform(alloc: Global, client: &mut Client, log: &mut String, act: Act) -> Re
         Act::Data(object) => data(client, log, object),
         Act::Text(object) => text(alloc, client, log, object),
         Act::LastError => last_error(client, log),
-        Act::Arrive(bytes) => arrive(alloc, client.transport_mut(), bytes, bytes.len()),
-        Act::ArriveWith(bytes, descriptor) => {
-            arrive_with(alloc, client.transport_mut(), bytes, descriptor)
-        }
-        Act::ArrivePadded(bytes, len) => arrive(alloc, client.transport_mut(), bytes, len),
-        Act::ArriveBytewise(bytes, len) => {
-            arrive_bytewise(alloc, client.transport_mut(), bytes, len)
-        }
-        Act::ArriveFault(fault) => arrive_fault(client.transport_mut(), fault),
+        Act::Arrive(bytes) => arrive(alloc, client, bytes, bytes.len()),
+        Act::ArriveWith(bytes, descriptor) => arrive_with(alloc, client, bytes, descriptor),
+        Act::ArrivePadded(bytes, len) => arrive(alloc, client, bytes, len),
+        Act::ArriveBytewise(bytes, len) => arrive_bytewise(alloc, client, bytes, len),
+        Act::ArriveFault(fault) => arrive_fault(client, fault),
         Act::ArrivalsLeft => arrivals_left(client, log),
-        Act::AcceptFault(fault) => accept_fault(client.transport_mut(), fault),
-        Act::TakeSent => {
-            client.transport_mut().take_sent();
-            Ok(())
-        }
+        Act::AcceptFault(fault) => accept_fault(client, fault),
+        Act::TakeSent => take_sent(client),
         Act::Sent => sent(client, log),
     }
 }
@@ -276,12 +282,29 @@ fn connected(alloc: Global) -> Result<Client, Fail> {
     Ok(Backend::connect(alloc, table, Memory::new(alloc))?)
 }
 
-/// What the acts tell, one after the other, of a client in which nothing has happened.
-pub fn log_of(alloc: Global, acts: &[Act]) -> Result<String, Fail> {
+/// What the acts tell, one after the other.
+fn log_by(alloc: Global, client: &mut Client, acts: &[Act]) -> Result<String, Fail> {
     let mut log = String::new(alloc);
-    let mut client = connected(alloc)?;
     for act in acts {
-        perform(alloc, &mut client, &mut log, *act)?;
+        perform(alloc, client, &mut log, *act)?;
     }
     Ok(log)
+}
+
+/// What the acts tell of a client in which nothing has happened.
+fn log_of(alloc: Global, acts: &[Act]) -> Result<String, Fail> {
+    let mut client = connected(alloc)?;
+    log_by(alloc, &mut client, acts)
+}
+
+/// Stops the test where it told something else.
+fn assert_told(rt: &impl Abort, told: &str, text: &str) {
+    assert_eq!(rt; told, text);
+}
+
+/// Stops the test where the acts of a client in which nothing has happened tell something else.
+pub fn assert_tells(rt: &(impl Abort + AllocGlobal), acts: &[Act], text: &str) -> Result<(), Fail> {
+    let log = log_of(rt.alloc(), acts)?;
+    assert_told(rt, &log, text);
+    Ok(())
 }

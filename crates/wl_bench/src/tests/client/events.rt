@@ -1,6 +1,6 @@
 //! Events: their arguments, those that break the protocol, and errors that the server tells.
 
-use super::acts::{Act, log_of};
+use super::acts::{Act, assert_tells};
 use super::values::Request;
 use crate::tests::quad::PAIR;
 use std::test::Fail;
@@ -26,11 +26,11 @@ fn event_of_five_arguments(rt: HostRuntime) -> Result<(), Fail> {
         Act::Next,
         Act::LastError,
     ];
-    assert_eq!(rt;
-        log_of(rt.alloc(), &acts)?.as_str(),
-        "sent: 2, 1\nsent: 3, 2\nsent: 4, 3\nevent 0 of 4: object 3, 2, 4 object 0, 0, 0 string of 2 1 bytes descriptor 9\nno error\n"
-    );
-    Ok(())
+    assert_tells(
+        &rt,
+        &acts,
+        "sent: 2, 1\nsent: 3, 2\nsent: 4, 3\nevent 0 of 4: object 3, 2, 4 object 0, 0, 0 string of 2 bytes 1 descriptor 9\nno error\n",
+    )
 }
 
 /// The same event of the object 9, which there is not.
@@ -49,11 +49,11 @@ fn event_with_an_unknown_object(rt: HostRuntime) -> Result<(), Fail> {
         Act::Next,
         Act::LastError,
     ];
-    assert_eq!(rt;
-        log_of(rt.alloc(), &acts)?.as_str(),
-        "sent: 2, 1\nsent: 3, 2\nsent: 4, 3\nthe session failed\nProtocol error 0 on object @0: Unknown object 9.\n"
-    );
-    Ok(())
+    assert_tells(
+        &rt,
+        &acts,
+        "sent: 2, 1\nsent: 3, 2\nsent: 4, 3\nthe session failed\nProtocol error 0 on object @0: Unknown object 9.\n",
+    )
 }
 
 /// The same event of the registry in place of a `quad`.
@@ -72,11 +72,11 @@ fn event_with_an_object_of_another_interface(rt: HostRuntime) -> Result<(), Fail
         Act::Next,
         Act::LastError,
     ];
-    assert_eq!(rt;
-        log_of(rt.alloc(), &acts)?.as_str(),
-        "sent: 2, 1\nsent: 3, 2\nsent: 4, 3\nthe session failed\nProtocol error 0 on object @0: Protocol error: server sent object 2 for interface quad, but it has interface wl_registry.\n"
-    );
-    Ok(())
+    assert_tells(
+        &rt,
+        &acts,
+        "sent: 2, 1\nsent: 3, 2\nsent: 4, 3\nthe session failed\nProtocol error 0 on object @0: Protocol error: server sent object 2 for interface quad, but it has interface wl_registry.\n",
+    )
 }
 
 /// The header alone, of a length that has not come: the sender decides before the length is looked at.
@@ -88,11 +88,11 @@ fn event_from_an_unknown_sender(rt: HostRuntime) -> Result<(), Fail> {
         Act::Next,
         Act::LastError,
     ];
-    assert_eq!(rt;
-        log_of(rt.alloc(), &acts)?.as_str(),
-        "sent: 2, 1\nsent: 3, 2\nthe session failed\nProtocol error 0 on object @0: Malformed Wayland message.\n"
-    );
-    Ok(())
+    assert_tells(
+        &rt,
+        &acts,
+        "sent: 2, 1\nsent: 3, 2\nthe session failed\nProtocol error 0 on object @0: Malformed Wayland message.\n",
+    )
 }
 
 /// The event 3 of a `quad`, which has three.
@@ -104,11 +104,11 @@ fn event_of_an_unknown_opcode(rt: HostRuntime) -> Result<(), Fail> {
         Act::Next,
         Act::LastError,
     ];
-    assert_eq!(rt;
-        log_of(rt.alloc(), &acts)?.as_str(),
-        "sent: 2, 1\nsent: 3, 2\nthe session failed\nProtocol error 0 on object @0: Malformed Wayland message.\n"
-    );
-    Ok(())
+    assert_tells(
+        &rt,
+        &acts,
+        "sent: 2, 1\nsent: 3, 2\nthe session failed\nProtocol error 0 on object @0: Malformed Wayland message.\n",
+    )
 }
 
 /// `wl_registry.global` of the name 1 and the version 3, whose string has the length 4 and is `quad` without a zero.
@@ -122,11 +122,11 @@ fn event_whose_text_lacks_its_final_zero(rt: HostRuntime) -> Result<(), Fail> {
         Act::Next,
         Act::LastError,
     ];
-    assert_eq!(rt;
-        log_of(rt.alloc(), &acts)?.as_str(),
-        "sent: 2, 1\nsent: 3, 2\nthe session failed\nProtocol error 0 on object @0: Malformed Wayland message.\n"
-    );
-    Ok(())
+    assert_tells(
+        &rt,
+        &acts,
+        "sent: 2, 1\nsent: 3, 2\nthe session failed\nProtocol error 0 on object @0: Malformed Wayland message.\n",
+    )
 }
 
 /// `wl_display.error` of code 7 for object 3, with the text `no`.
@@ -140,11 +140,11 @@ fn told_error(rt: HostRuntime) -> Result<(), Fail> {
         Act::Next,
         Act::LastError,
     ];
-    assert_eq!(rt;
-        log_of(rt.alloc(), &acts)?.as_str(),
-        "sent: 2, 1\nsent: 3, 2\nthe session failed\nProtocol error 7 on object quad@3: no\n"
-    );
-    Ok(())
+    assert_tells(
+        &rt,
+        &acts,
+        "sent: 2, 1\nsent: 3, 2\nthe session failed\nProtocol error 7 on object quad@3: no\n",
+    )
 }
 
 /// `wl_display.error` with a null text.
@@ -155,9 +155,9 @@ fn error_without_text(rt: HostRuntime) -> Result<(), Fail> {
         Act::Next,
         Act::LastError,
     ];
-    assert_eq!(rt;
-        log_of(rt.alloc(), &acts)?.as_str(),
-        "the session failed\nProtocol error 0 on object @0: Malformed Wayland message.\n"
-    );
-    Ok(())
+    assert_tells(
+        &rt,
+        &acts,
+        "the session failed\nProtocol error 0 on object @0: Malformed Wayland message.\n",
+    )
 }

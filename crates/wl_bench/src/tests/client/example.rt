@@ -5,6 +5,7 @@ ghost use Rattle.std.specs.Prelude.{◌≤◌, IfOk, length};
 use smallvec::SmallVec;
 use std::alloc::Global;
 use std::collections::VecDeque;
+use std::process::Abort;
 use std::test::Fail;
 use wl_client::{Backend, EventError, Note, ObjectId};
 use wl_link::Transport;
@@ -58,33 +59,65 @@ impl<'a> Transport for Playback<'a> {
     ghost few_tokens = { λ before after room came received. received.1 };
 }
 
+/// `wl_display.sync`, with its new id left out: the session puts the number in.
+fn sync(alloc: Global, display: ObjectId) -> Result<Message<ObjectId, Token>, Fail> {
+    let mut sync = Message {
+        sender_id: display,
+        opcode: 0,
+        args: SmallVec::new(alloc),
+    };
+    sync.args.push(Argument::NewId(ObjectId::null()))?;
+    Ok(sync)
+}
+
 /// Sends a sync: the server answers when it has come to it. The data tell the program what the answer is for.
 fn ask(
     alloc: Global,
     client: &mut Backend<Playback<'_>, u32>,
     data: u32,
 ) -> Result<ObjectId, Fail> {
-    let mut sync = Message {
-        sender_id: client.display_id(),
-        opcode: 0,
-        args: SmallVec::new(alloc),
-    };
-    sync.args.push(Argument::NewId(ObjectId::null()))?;
+    let sync = sync(alloc, client.display_id())?;
     let callback = client.send_request(sync, Some(data), None)?;
     client.flush()?;
     Ok(callback)
 }
 
-/// The data of the object that the next event is for; `None` where no event is there to its end.
-fn answered(client: &mut Backend<Playback<'_>, u32>) -> Result<Option<u32>, Fail> {
-    let event = match client.next_event() {
-        Ok(event) => event,
-        Err(EventError::WouldBlock) => return Ok(None),
+/// The object that the next event is for; `None` where no event is there to its end.
+fn next_sender(client: &mut Backend<Playback<'_>, u32>) -> Result<Option<ObjectId>, Fail> {
+    match client.next_event() {
+        Ok(event) => Ok(Some(event.sender_id)),
+        Err(EventError::WouldBlock) => Ok(None),
         Err(error) => Err(error)?,
+    }
+}
+
+/// The data of that object, whose event is finished.
+fn answered(client: &mut Backend<Playback<'_>, u32>) -> Result<Option<u32>, Fail> {
+    let Some(sender) = next_sender(client)? else {
+        return Ok(None);
     };
-    let data = *client.get_data(&event.sender_id)?;
+    let data = *client.get_data(&sender)?;
     client.finish_event(None)?;
     Ok(Some(data))
+}
+
+/// Asks, and reads what the server answers.
+fn converse(
+    rt: &(impl Abort + AllocGlobal),
+    client: &mut Backend<Playback<'_>, u32>,
+) -> Result<(), Fail> {
+    let callback = ask(rt.alloc(), client, 7)?;
+    assert_eq!(rt;
+        client.transport().to_server.as_slice(),
+        [1, 0, 0, 0, 0, 0, 12, 0, 2, 0, 0, 0].as_slice()
+    );
+    assert_eq!(rt; answered(client)?, Some(7));
+    assert_eq!(rt;
+        client.take_notes().as_slice(),
+        [Note::Destroyed(callback)].as_slice()
+    );
+    assert_eq!(rt; answered(client)?, None);
+    Ok(())
 }
 
 #[test]
@@ -99,17 +132,5 @@ fn client_over_a_transport_of_its_own(rt: HostRuntime) -> Result<(), Fail> {
     };
     let table = Protocol::new(alloc, Vec::new(alloc))?;
     let mut client = Backend::connect(alloc, table, playback)?;
-
-    let callback = ask(alloc, &mut client, 7)?;
-    assert_eq!(rt;
-        client.transport().to_server.as_slice(),
-        [1, 0, 0, 0, 0, 0, 12, 0, 2, 0, 0, 0].as_slice()
-    );
-    assert_eq!(rt; answered(&mut client)?, Some(7));
-    assert_eq!(rt;
-        client.take_notes().as_slice(),
-        [Note::Destroyed(callback)].as_slice()
-    );
-    assert_eq!(rt; answered(&mut client)?, None);
-    Ok(())
+    converse(&rt, &mut client)
 }

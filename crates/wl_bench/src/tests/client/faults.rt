@@ -1,6 +1,6 @@
 //! Faults and wants of memory of the transport, and what is too long for it.
 
-use super::acts::{Act, log_of};
+use super::acts::{Act, assert_tells};
 use super::values::Request;
 use std::test::Fail;
 use wl_wire::IoFault;
@@ -20,11 +20,11 @@ fn fault_of_a_request(rt: HostRuntime) -> Result<(), Fail> {
         Act::Send(Request::Sync),
         Act::LastError,
     ];
-    assert_eq!(rt;
-        log_of(rt.alloc(), &acts)?.as_str(),
-        "sent: 2, 1\nsent: 3, 2\nsent: 0, 0\nsent: 4, 3\nIo error: os error 5\nthe session failed\nsent: 5, 4\nIo error: os error 5\n"
-    );
-    Ok(())
+    assert_tells(
+        &rt,
+        &acts,
+        "sent: 2, 1\nsent: 3, 2\nsent: 0, 0\nsent: 4, 3\nIo error: os error 5\nthe session failed\nsent: 5, 4\nIo error: os error 5\n",
+    )
 }
 
 /// The transport lacks memory while a request is sent: it is refused, and the next one is as if it had not been.
@@ -39,11 +39,11 @@ fn request_without_memory(rt: HostRuntime) -> Result<(), Fail> {
         Act::Send(Request::Sync),
         Act::LastError,
     ];
-    assert_eq!(rt;
-        log_of(rt.alloc(), &acts)?.as_str(),
-        "sent: 2, 1\nsent: 3, 2\nsent: 0, 0\nout of memory\nsent: 4, 3\nno error\n"
-    );
-    Ok(())
+    assert_tells(
+        &rt,
+        &acts,
+        "sent: 2, 1\nsent: 3, 2\nsent: 0, 0\nout of memory\nsent: 4, 3\nno error\n",
+    )
 }
 
 /// A request that is longer than the storage may be.
@@ -55,11 +55,11 @@ fn request_too_long(rt: HostRuntime) -> Result<(), Fail> {
         Act::Send(Request::Give(4084)),
         Act::LastError,
     ];
-    assert_eq!(rt;
-        log_of(rt.alloc(), &acts)?.as_str(),
-        "sent: 2, 1\nsent: 3, 2\nsent: 0, 0\nIo error: message too big\n"
-    );
-    Ok(())
+    assert_tells(
+        &rt,
+        &acts,
+        "sent: 2, 1\nsent: 3, 2\nsent: 0, 0\nIo error: message too big\n",
+    )
 }
 
 /// A flush that would block, and one that fails.
@@ -76,11 +76,11 @@ fn faults_of_a_flush(rt: HostRuntime) -> Result<(), Fail> {
         Act::Next,
         Act::Flush,
     ];
-    assert_eq!(rt;
-        log_of(rt.alloc(), &acts)?.as_str(),
-        "sent: 2, 1\nwould block\nno error\nthe session failed\nIo error: os error 5\nthe session failed\nthe session failed\n"
-    );
-    Ok(())
+    assert_tells(
+        &rt,
+        &acts,
+        "sent: 2, 1\nwould block\nno error\nthe session failed\nIo error: os error 5\nthe session failed\nthe session failed\n",
+    )
 }
 
 /// A fault of a receive is the session's error.
@@ -95,11 +95,11 @@ fn fault_of_a_receive(rt: HostRuntime) -> Result<(), Fail> {
         Act::Flush,
         Act::Next,
     ];
-    assert_eq!(rt;
-        log_of(rt.alloc(), &acts)?.as_str(),
-        "would block\nthe session failed\nIo error: os error 3\nthe session failed\nthe session failed\n"
-    );
-    Ok(())
+    assert_tells(
+        &rt,
+        &acts,
+        "would block\nthe session failed\nIo error: os error 3\nthe session failed\nthe session failed\n",
+    )
 }
 
 /// A hundred receives of a byte each, the beginning of a message of 200 bytes: a reading makes 64 of them.
@@ -112,11 +112,11 @@ fn receives_of_a_reading(rt: HostRuntime) -> Result<(), Fail> {
         Act::Next,
         Act::ArrivalsLeft,
     ];
-    assert_eq!(rt;
-        log_of(rt.alloc(), &acts)?.as_str(),
-        "would block\n36 arrivals\nwould block\n0 arrivals\n"
-    );
-    Ok(())
+    assert_tells(
+        &rt,
+        &acts,
+        "would block\n36 arrivals\nwould block\n0 arrivals\n",
+    )
 }
 
 /// A message of 5000 bytes, which is longer than the storage of what was received.
@@ -129,9 +129,9 @@ fn message_longer_than_the_storage(rt: HostRuntime) -> Result<(), Fail> {
         Act::Next,
         Act::LastError,
     ];
-    assert_eq!(rt;
-        log_of(rt.alloc(), &acts)?.as_str(),
-        "sent: 2, 1\nthe session failed\nIo error: broken pipe\n"
-    );
-    Ok(())
+    assert_tells(
+        &rt,
+        &acts,
+        "sent: 2, 1\nthe session failed\nIo error: broken pipe\n",
+    )
 }

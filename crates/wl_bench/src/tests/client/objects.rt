@@ -1,6 +1,6 @@
 //! Objects that the server makes, and the ends of objects and of their numbers.
 
-use super::acts::{Act, log_of};
+use super::acts::{Act, assert_tells};
 use super::values::{Object, Request};
 use std::test::Fail;
 
@@ -33,11 +33,11 @@ fn run_of_made_objects(rt: HostRuntime) -> Result<(), Fail> {
         Act::Flush,
         Act::Next,
     ];
-    assert_eq!(rt;
-        log_of(rt.alloc(), &acts)?.as_str(),
-        "sent: 2, 1\nsent: 3, 2\nevent 1 of 3: new 4278190080, 3\nan event is open\nthe new object gets no user data\nfinished\nno event is open\ndata 7\ndestroyed\nnotes: 4278190080, 3\nevent 1 of 3: new 4278190080, 4\nfinished\nthe session failed\nProtocol error 0 on object @0: Protocol error: server tried to create an object \"quad\" with invalid id 4278190080.\nthe session failed\nthe session failed\n"
-    );
-    Ok(())
+    assert_tells(
+        &rt,
+        &acts,
+        "sent: 2, 1\nsent: 3, 2\nevent 1 of 3: new 4278190080, 3\nan event is open\nthe new object gets no user data\nfinished\nno event is open\ndata 7\ndestroyed\nnotes: 4278190080, 3\nevent 1 of 3: new 4278190080, 4\nfinished\nthe session failed\nProtocol error 0 on object @0: Protocol error: server tried to create an object \"quad\" with invalid id 4278190080.\nthe session failed\nthe session failed\n",
+    )
 }
 
 /// `quad.made` with the number 5, which is of the client's range.
@@ -49,11 +49,11 @@ fn new_id_of_the_client(rt: HostRuntime) -> Result<(), Fail> {
         Act::Next,
         Act::LastError,
     ];
-    assert_eq!(rt;
-        log_of(rt.alloc(), &acts)?.as_str(),
-        "sent: 2, 1\nsent: 3, 2\nthe session failed\nProtocol error 0 on object @0: Protocol error: server tried to create an object \"quad\" with invalid id 5.\n"
-    );
-    Ok(())
+    assert_tells(
+        &rt,
+        &acts,
+        "sent: 2, 1\nsent: 3, 2\nthe session failed\nProtocol error 0 on object @0: Protocol error: server tried to create an object \"quad\" with invalid id 5.\n",
+    )
 }
 
 /// A destroyed object makes objects that are destroyed as well, which are replaced.
@@ -73,11 +73,11 @@ fn child_of_a_destroyed_object(rt: HostRuntime) -> Result<(), Fail> {
         Act::Data(Object::Child),
         Act::Notes,
     ];
-    assert_eq!(rt;
-        log_of(rt.alloc(), &acts)?.as_str(),
-        "sent: 2, 1\nsent: 3, 2\ndestroyed\nnotes: 3, 2\nwould block\nInvalid ObjectId\ndone\ndata 8\nwould block\nInvalid ObjectId\nnotes:\n"
-    );
-    Ok(())
+    assert_tells(
+        &rt,
+        &acts,
+        "sent: 2, 1\nsent: 3, 2\ndestroyed\nnotes: 3, 2\nwould block\nInvalid ObjectId\ndone\ndata 8\nwould block\nInvalid ObjectId\nnotes:\n",
+    )
 }
 
 /// `wl_callback.done`, with which a callback ends, and `wl_display.delete_id`; its number is used again.
@@ -97,11 +97,11 @@ fn life_of_a_callback(rt: HostRuntime) -> Result<(), Fail> {
         Act::Send(Request::Sync),
         Act::Info(Object::Callback),
     ];
-    assert_eq!(rt;
-        log_of(rt.alloc(), &acts)?.as_str(),
-        "sent: 2, 1\nevent 0 of 2: 0\nthere is no new object for the user data, 9 is back\nfinished\nnotes: 2, 1\nwould block\nInvalid ObjectId\nsent: 2, 2\nInvalid ObjectId\n"
-    );
-    Ok(())
+    assert_tells(
+        &rt,
+        &acts,
+        "sent: 2, 1\nevent 0 of 2: 0\nthere is no new object for the user data, 9 is back\nfinished\nnotes: 2, 1\nwould block\nInvalid ObjectId\nsent: 2, 2\nInvalid ObjectId\n",
+    )
 }
 
 /// A destroyed object keeps its data until the server gives up its number; its events, here `quad.moved`, are
@@ -121,11 +121,11 @@ fn destroyed_object_and_its_number(rt: HostRuntime) -> Result<(), Fail> {
         Act::Data(Object::Quad),
         Act::Send(Request::Sync),
     ];
-    assert_eq!(rt;
-        log_of(rt.alloc(), &acts)?.as_str(),
-        "sent: 2, 1\nsent: 3, 2\ndestroyed\nInvalid ObjectId\nInvalid ObjectId\ndata 6\nwould block\nwould block\nInvalid ObjectId\nsent: 3, 3\n"
-    );
-    Ok(())
+    assert_tells(
+        &rt,
+        &acts,
+        "sent: 2, 1\nsent: 3, 2\ndestroyed\nInvalid ObjectId\nInvalid ObjectId\ndata 6\nwould block\nwould block\nInvalid ObjectId\nsent: 3, 3\n",
+    )
 }
 
 /// `quad.gone`, whose object is destroyed before the event is finished: one note.
@@ -139,11 +139,11 @@ fn destructor_event_of_a_destroyed_object(rt: HostRuntime) -> Result<(), Fail> {
         Act::Finish(None),
         Act::Notes,
     ];
-    assert_eq!(rt;
-        log_of(rt.alloc(), &acts)?.as_str(),
-        "sent: 2, 1\nsent: 3, 2\nevent 2 of 3:\ndestroyed\nfinished\nnotes: 3, 2\n"
-    );
-    Ok(())
+    assert_tells(
+        &rt,
+        &acts,
+        "sent: 2, 1\nsent: 3, 2\nevent 2 of 3:\ndestroyed\nfinished\nnotes: 3, 2\n",
+    )
 }
 
 /// `wl_display.delete_id` of the display and of 99, which holds nothing.
@@ -159,11 +159,11 @@ fn numbers_not_given_up(rt: HostRuntime) -> Result<(), Fail> {
         Act::Info(Object::Quad),
         Act::Send(Request::Sync),
     ];
-    assert_eq!(rt;
-        log_of(rt.alloc(), &acts)?.as_str(),
-        "sent: 2, 1\nsent: 3, 2\nwould block\nversion 1\nversion 3\nsent: 4, 3\n"
-    );
-    Ok(())
+    assert_tells(
+        &rt,
+        &acts,
+        "sent: 2, 1\nsent: 3, 2\nwould block\nversion 1\nversion 3\nsent: 4, 3\n",
+    )
 }
 
 /// The server gives up a number whose object the client has not destroyed: it is not used again.
@@ -178,9 +178,9 @@ fn number_given_up_early(rt: HostRuntime) -> Result<(), Fail> {
         Act::Data(Object::Quad),
         Act::Send(Request::Sync),
     ];
-    assert_eq!(rt;
-        log_of(rt.alloc(), &acts)?.as_str(),
-        "sent: 2, 1\nsent: 3, 2\nwould block\nversion 3\ndestroyed\ndata 6\nsent: 4, 3\n"
-    );
-    Ok(())
+    assert_tells(
+        &rt,
+        &acts,
+        "sent: 2, 1\nsent: 3, 2\nwould block\nversion 3\ndestroyed\ndata 6\nsent: 4, 3\n",
+    )
 }

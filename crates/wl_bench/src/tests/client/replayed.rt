@@ -1,6 +1,6 @@
 //! Runs by `replay`, and wants of memory of the transport.
 
-use super::acts::{Act, log_of};
+use super::acts::{Act, assert_tells};
 use super::steps::Call;
 use super::values::{Object, Request};
 use std::test::Fail;
@@ -33,11 +33,11 @@ static LIFE: [Call; 19] = [
 
 #[test]
 fn each_step_has_its_reply(rt: HostRuntime) -> Result<(), Fail> {
-    assert_eq!(rt;
-        log_of(rt.alloc(), &[Act::Replay(&LIFE)])?.as_str(),
-        "sent: 2, 1\ndone\ndone\nwould block\nflushed\n0100000000\n000c0002000000\ndone\ndone\nevent 0 of 2: 0\ndone\nthere is no new object for the user data, 7 is back\nfinished\nInvalid ObjectId\nnotes: 2, 1\nwould block\nInvalid ObjectId\nlimit set\n0 dispatched\nsent: 2, 2\nrefused: false\n"
-    );
-    Ok(())
+    assert_tells(
+        &rt,
+        &[Act::Replay(&LIFE)],
+        "sent: 2, 1\ndone\ndone\nwould block\nflushed\n0100000000\n000c0002000000\ndone\ndone\nevent 0 of 2: 0\ndone\nthere is no new object for the user data, 7 is back\nfinished\nInvalid ObjectId\nnotes: 2, 1\nwould block\nInvalid ObjectId\nlimit set\n0 dispatched\nsent: 2, 2\nrefused: false\n",
+    )
 }
 
 /// A flush for which the transport lacks memory.
@@ -68,9 +68,9 @@ fn stopped_runs(rt: HostRuntime) -> Result<(), Fail> {
         Act::Replay(&READING),
         Act::Replay(&[Call::Next]),
     ];
-    assert_eq!(rt;
-        log_of(rt.alloc(), &acts)?.as_str(),
-        "sent: 2, 1\ndone\nstopped at 2\nrefused: true\nrefused: false\nflushed\n0100000000000c0002000000\ndone\ndone\nstopped at 4\nrefused: true\nevent 0 of 2: 0\nrefused: false\n"
-    );
-    Ok(())
+    assert_tells(
+        &rt,
+        &acts,
+        "sent: 2, 1\ndone\nstopped at 2\nrefused: true\nrefused: false\nflushed\n0100000000000c0002000000\ndone\ndone\nstopped at 4\nrefused: true\nevent 0 of 2: 0\nrefused: false\n",
+    )
 }

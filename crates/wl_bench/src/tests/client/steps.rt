@@ -42,26 +42,32 @@ pub enum Call {
     TakeSent,
 }
 
+/// The step that sends the request.
+fn send(alloc: Global, request: Request) -> Result<Step<u32>, Fail> {
+    let message = message(alloc, request)?;
+    let (data, child) = request.child();
+    Ok(Step::SendRequest(message, data, child))
+}
+
+/// The step by which the bytes arrive.
+fn arrive(alloc: Global, bytes: &[u8]) -> Result<Step<u32>, Fail> {
+    let bytes = Vec::from_slice(alloc, bytes)?;
+    Ok(Step::Arrive(bytes, Vec::new(alloc)))
+}
+
 /// The step.
 fn step(alloc: Global, call: Call) -> Result<Step<u32>, Fail> {
     match call {
         Call::SetData(object, data) => Ok(Step::SetData(object.id(), data)),
         Call::Destroy(object) => Ok(Step::DestroyObject(object.id())),
-        Call::Send(request) => {
-            let message = message(alloc, request)?;
-            let (data, child) = request.child();
-            Ok(Step::SendRequest(message, data, child))
-        }
+        Call::Send(request) => send(alloc, request),
         Call::Flush => Ok(Step::Flush),
         Call::Next => Ok(Step::NextEvent),
         Call::Finish(data) => Ok(Step::FinishEvent(data)),
         Call::Dispatch => Ok(Step::DispatchInnerQueue),
         Call::Limit(limit) => Ok(Step::SetMaxBufferSize(limit)),
         Call::Notes => Ok(Step::TakeNotes),
-        Call::Arrive(bytes) => {
-            let bytes = Vec::from_slice(alloc, bytes)?;
-            Ok(Step::Arrive(bytes, Vec::new(alloc)))
-        }
+        Call::Arrive(bytes) => arrive(alloc, bytes),
         Call::ArriveFault(fault) => Ok(Step::ArriveFault(fault)),
         Call::Accept(count) => Ok(Step::Accept(count)),
         Call::AcceptFault(fault) => Ok(Step::AcceptFault(fault)),
@@ -69,12 +75,19 @@ fn step(alloc: Global, call: Call) -> Result<Step<u32>, Fail> {
     }
 }
 
-/// Puts the steps behind the others.
-fn push_steps(alloc: Global, steps: &mut Vec<Step<u32>>, calls: &[Call]) -> Result<(), Fail> {
+/// The steps.
+fn steps(alloc: Global, calls: &[Call]) -> Result<Vec<Step<u32>>, Fail> {
+    let mut steps = Vec::new(alloc);
     for call in calls {
         steps.push(step(alloc, *call)?)?;
     }
-    Ok(())
+    Ok(steps)
+}
+
+/// Writes the replies of a run that stopped, and in which step.
+fn write_stopped(log: &mut String, stopped: &Stopped<u32>) -> Result<(), AllocError> {
+    write_replies(log, stopped.replies.as_slice())?;
+    writeln!(log, "stopped at {}", stopped.step)
 }
 
 /// Writes the answer to a run: the replies, and where it stopped.
@@ -84,11 +97,13 @@ fn write_run(
 ) -> Result<(), AllocError> {
     match answer {
         Ok(replies) => write_replies(log, replies.as_slice()),
-        Err(stopped) => {
-            write_replies(log, stopped.replies.as_slice())?;
-            writeln!(log, "stopped at {}", stopped.step)
-        }
+        Err(stopped) => write_stopped(log, stopped),
     }
+}
+
+/// Writes whether the client's last call met a want of memory.
+fn write_refused(log: &mut String, client: &Backend<Memory, u32>) -> Result<(), AllocError> {
+    writeln!(log, "refused: {}", client.memory_refused())
 }
 
 /// Runs the steps, and writes the replies; where the run stops also the step, and whether memory was refused.
@@ -98,10 +113,7 @@ pub fn replay(
     log: &mut String,
     calls: &[Call],
 ) -> Result<(), Fail> {
-    let mut steps = Vec::new(alloc);
-    push_steps(alloc, &mut steps, calls)?;
-    let answer = client.replay(steps);
-    write_run(log, &answer)?;
-    writeln!(log, "refused: {}", client.memory_refused())?;
-    Ok(())
+    let steps = steps(alloc, calls)?;
+    write_run(log, &client.replay(steps))?;
+    Ok(write_refused(log, client)?)
 }

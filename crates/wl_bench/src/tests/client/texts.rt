@@ -1,6 +1,6 @@
 //! The texts of ids and errors, and ids in a set.
 
-use std::alloc::Global;
+use std::alloc::{AllocError, Global};
 use std::collections::HashSet;
 use std::fmt::Write;
 use std::test::Fail;
@@ -9,24 +9,19 @@ use wl_wire::{
     ANONYMOUS_INTERFACE, InterfaceId, IoFault, Protocol, ProtocolError, Text, WL_CALLBACK_INTERFACE,
 };
 
-/// Writes the texts of the ids, a line each.
-fn write_ids(
-    alloc: Global,
-    table: &Protocol,
-    log: &mut String,
-    ids: &[ObjectId],
-) -> Result<(), Fail> {
-    for id in ids {
-        writeln!(log, "{}", id.display(alloc, table)?)?;
-    }
-    Ok(())
+/// Writes the text of an id.
+fn write_id(alloc: Global, table: &Protocol, log: &mut String, id: ObjectId) -> Result<(), Fail> {
+    let text = id.display(alloc, table)?;
+    Ok(writeln!(log, "{text}")?)
 }
 
 /// The texts of the ids, a line each, where the table has no interface of its own.
 fn ids_told(alloc: Global, ids: &[ObjectId]) -> Result<String, Fail> {
-    let mut log = String::new(alloc);
     let table = Protocol::new(alloc, Vec::new(alloc))?;
-    write_ids(alloc, &table, &mut log, ids)?;
+    let mut log = String::new(alloc);
+    for id in ids {
+        write_id(alloc, &table, &mut log, *id)?;
+    }
     Ok(log)
 }
 
@@ -44,13 +39,26 @@ fn texts_of_ids(rt: HostRuntime) -> Result<(), Fail> {
     Ok(())
 }
 
-/// Puts the ids into the set, and writes of each whether it was new.
+/// Puts an id into the set, and writes whether it was new.
+fn insert(set: &mut HashSet<ObjectId>, log: &mut String, id: ObjectId) -> Result<(), Fail> {
+    let is_new = set.insert(id)?;
+    Ok(writeln!(log, "{is_new}")?)
+}
+
+/// Puts the ids into the set, writes of each whether it was new, and then how many there are.
 fn insert_all(set: &mut HashSet<ObjectId>, log: &mut String, ids: &[ObjectId]) -> Result<(), Fail> {
     for id in ids {
-        writeln!(log, "{}", set.insert(*id)?)?;
+        insert(set, log, *id)?;
     }
-    writeln!(log, "{} ids", set.len())?;
-    Ok(())
+    Ok(writeln!(log, "{} ids", set.len())?)
+}
+
+/// What is told of the ids, put into a set one after the other.
+fn set_told(alloc: Global, ids: &[ObjectId]) -> Result<String, Fail> {
+    let mut set = HashSet::new(alloc);
+    let mut log = String::new(alloc);
+    insert_all(&mut set, &mut log, ids)?;
+    Ok(log)
 }
 
 #[test]
@@ -61,10 +69,10 @@ fn ids_in_a_set(rt: HostRuntime) -> Result<(), Fail> {
         ObjectId::from_parts(2, 1, ANONYMOUS_INTERFACE),
         ObjectId::from_parts(2, 2, WL_CALLBACK_INTERFACE),
     ];
-    let mut set = HashSet::new(rt.alloc());
-    let mut log = String::new(rt.alloc());
-    insert_all(&mut set, &mut log, &ids)?;
-    assert_eq!(rt; log.as_str(), "true\nfalse\ntrue\ntrue\n3 ids\n");
+    assert_eq!(rt;
+        set_told(rt.alloc(), &ids)?.as_str(),
+        "true\nfalse\ntrue\ntrue\n3 ids\n"
+    );
     Ok(())
 }
 
@@ -82,12 +90,18 @@ fn no(alloc: Global) -> Result<ProtocolError, Fail> {
     })
 }
 
+/// Writes the texts of an id's error, and of a fault as a session's error.
+fn write_faults(log: &mut String) -> Result<(), AllocError> {
+    writeln!(log, "{InvalidId}")?;
+    writeln!(log, "{}", WaylandError::Io(IoFault::Pipe))
+}
+
 /// The texts of an id's error and of two of a session, a line each.
 fn errors_told(alloc: Global) -> Result<String, Fail> {
+    let error = WaylandError::Protocol(no(alloc)?);
     let mut log = String::new(alloc);
-    writeln!(log, "{}", InvalidId)?;
-    writeln!(log, "{}", WaylandError::Io(IoFault::Pipe))?;
-    writeln!(log, "{}", WaylandError::Protocol(no(alloc)?))?;
+    write_faults(&mut log)?;
+    writeln!(log, "{error}")?;
     Ok(log)
 }
 

@@ -4,8 +4,9 @@ use std::alloc::AllocError;
 use std::fmt::{Display, Write};
 use wl_client::{
     DestroyError, EventError, FinishRefused, FlushError, Note, ObjectId, Reply, RequestError,
+    WaylandError,
 };
-use wl_wire::{Argument, Message, Token};
+use wl_wire::{Argument, CString, Message, Token};
 
 /// Writes whether something was done, or why not.
 pub fn write_done<E: Display>(log: &mut String, answer: &Result<(), E>) -> Result<(), AllocError> {
@@ -38,17 +39,34 @@ fn write_object(log: &mut String, id: ObjectId) -> Result<(), AllocError> {
     )
 }
 
+/// Writes the object that an event makes: its number and its serial.
+fn write_new(log: &mut String, id: ObjectId) -> Result<(), AllocError> {
+    write!(log, " new {}, {}", id.protocol_id(), id.serial())
+}
+
+/// Writes a value behind its name.
+fn write_value(log: &mut String, name: &str, value: impl Display + Drop) -> Result<(), AllocError> {
+    write!(log, "{name} {value}")
+}
+
+/// Writes the length of a string, or that there is none.
+fn write_text(log: &mut String, text: &Option<CString>) -> Result<(), AllocError> {
+    match text {
+        Some(text) => write_value(log, " string of", text.as_bytes().len()),
+        None => write!(log, " no string"),
+    }
+}
+
 /// Writes an argument of an event.
 fn write_argument(log: &mut String, arg: &Argument<ObjectId, Token>) -> Result<(), AllocError> {
     match arg {
-        Argument::Uint(value) => write!(log, " {value}"),
-        Argument::Int(value) | Argument::Fixed(value) => write!(log, " {value}"),
-        Argument::NewId(id) => write!(log, " new {}, {}", id.protocol_id(), id.serial()),
+        Argument::Uint(value) => write_value(log, "", *value),
+        Argument::Int(value) | Argument::Fixed(value) => write_value(log, "", *value),
+        Argument::NewId(id) => write_new(log, *id),
         Argument::Object(id) => write_object(log, *id),
-        Argument::Str(None) => write!(log, " no string"),
-        Argument::Str(Some(text)) => write!(log, " string of {}", text.as_bytes().len()),
-        Argument::Array(bytes) => write!(log, " {} bytes", bytes.as_slice().len()),
-        Argument::Fd(token) => write!(log, " descriptor {}", token.0),
+        Argument::Str(text) => write_text(log, text),
+        Argument::Array(bytes) => write_value(log, " bytes", bytes.as_slice().len()),
+        Argument::Fd(token) => write_value(log, " descriptor", token.0),
     }
 }
 
@@ -110,12 +128,17 @@ pub fn write_flushed(log: &mut String, answer: &Result<(), FlushError>) -> Resul
     }
 }
 
-/// Writes the numbers and the serials of what was destroyed.
+/// Writes the number and the serial of what was destroyed.
+fn write_note(log: &mut String, note: &Note) -> Result<(), AllocError> {
+    let Note::Destroyed(id) = note;
+    write!(log, " {}, {}", id.protocol_id(), id.serial())
+}
+
+/// Writes what was destroyed.
 pub fn write_notes(log: &mut String, notes: &[Note]) -> Result<(), AllocError> {
     write!(log, "notes:")?;
     for note in notes {
-        let Note::Destroyed(id) = note;
-        write!(log, " {}, {}", id.protocol_id(), id.serial())?;
+        write_note(log, note)?;
     }
     writeln!(log)
 }
@@ -128,15 +151,31 @@ fn write_bytes(log: &mut String, bytes: &[u8]) -> Result<(), AllocError> {
     writeln!(log)
 }
 
-/// Writes what sends took, a line each: the descriptors, and the bytes.
+/// Writes what a send took: the descriptors, and the bytes.
+fn write_parcel(log: &mut String, bytes: &[u8], tokens: &[Token]) -> Result<(), AllocError> {
+    for token in tokens {
+        write!(log, "descriptor {} with ", token.0)?;
+    }
+    write_bytes(log, bytes)
+}
+
+/// Writes what sends took, a line each.
 pub fn write_taken(log: &mut String, sent: &[(Vec<u8>, Vec<Token>)]) -> Result<(), AllocError> {
     for (bytes, tokens) in sent {
-        for token in tokens.as_slice() {
-            write!(log, "descriptor {} with ", token.0)?;
-        }
-        write_bytes(log, bytes.as_slice())?;
+        write_parcel(log, bytes, tokens)?;
     }
     Ok(())
+}
+
+/// Writes the answer of the inner queue: how many were dispatched, or why none.
+fn write_dispatched(
+    log: &mut String,
+    answer: &Result<usize, WaylandError>,
+) -> Result<(), AllocError> {
+    match answer {
+        Ok(count) => writeln!(log, "{count} dispatched"),
+        Err(error) => writeln!(log, "{error}"),
+    }
 }
 
 /// Writes a reply.
@@ -148,10 +187,7 @@ fn write_reply(log: &mut String, reply: &Reply<u32>) -> Result<(), AllocError> {
         Reply::Flush(answer) => write_flushed(log, answer),
         Reply::NextEvent(answer) => write_read(log, answer),
         Reply::FinishEvent(answer) => write_finished(log, answer),
-        Reply::DispatchInnerQueue(answer) => match answer {
-            Ok(count) => writeln!(log, "{count} dispatched"),
-            Err(error) => writeln!(log, "{error}"),
-        },
+        Reply::DispatchInnerQueue(answer) => write_dispatched(log, answer),
         Reply::SetMaxBufferSize => writeln!(log, "limit set"),
         Reply::TakeNotes(notes) => write_notes(log, notes.as_slice()),
         Reply::Arrive(answer) => write_done(log, answer),
