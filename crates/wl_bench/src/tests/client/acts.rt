@@ -42,6 +42,15 @@ pub enum Act {
     Notes,
     /// Runs the steps.
     Replay(&'static [Call]),
+    /// Looks at something.
+    Look(Look),
+    /// Gives the script something.
+    Script(Cue),
+}
+
+/// What is looked at.
+#[derive(Clone, Copy)]
+pub enum Look {
     /// The version of an object.
     Info(Object),
     /// The data of an object.
@@ -50,6 +59,17 @@ pub enum Act {
     Text(Object),
     /// The session's error.
     LastError,
+    /// How many arrivals the script has left.
+    Arrivals,
+    /// What was sent, a send a line.
+    Sent,
+    /// How many bytes and descriptors were sent, a send a line.
+    Lengths,
+}
+
+/// What a script is given.
+#[derive(Clone, Copy)]
+pub enum Cue {
     /// Bytes that are to arrive.
     Arrive(&'static [u8]),
     /// Bytes that are to arrive with a descriptor.
@@ -60,14 +80,10 @@ pub enum Act {
     ArriveBytewise(&'static [u8], usize),
     /// A fault behind what is to arrive.
     ArriveFault(IoFault),
-    /// How many arrivals the script has left.
-    ArrivalsLeft,
     /// A fault behind the answers to sends.
     AcceptFault(IoFault),
     /// Forgets what was sent.
     TakeSent,
-    /// What was sent, a send a line.
-    Sent,
 }
 
 /// Fails where the line was not written, or where the client's last call met a want of memory.
@@ -234,7 +250,7 @@ fn take_sent(client: &mut Client) -> Result<(), Fail> {
     Ok(())
 }
 
-fn arrivals_left(client: &Client, log: &mut String) -> Result<(), Fail> {
+fn arrivals(client: &Client, log: &mut String) -> Result<(), Fail> {
     let left = client.transport().arrivals_left();
     let written = writeln!(log, "{left} arrivals");
     told(client, written)
@@ -243,6 +259,37 @@ fn arrivals_left(client: &Client, log: &mut String) -> Result<(), Fail> {
 fn sent(client: &Client, log: &mut String) -> Result<(), Fail> {
     let written = write_taken(log, client.transport().sent());
     told(client, written)
+}
+
+fn lengths(client: &Client, log: &mut String) -> Result<(), Fail> {
+    let written = write_lengths(log, client.transport().sent());
+    told(client, written)
+}
+
+/// Tells what is there.
+fn look_at(alloc: Global, client: &Client, log: &mut String, look: Look) -> Result<(), Fail> {
+    match look {
+        Look::Info(object) => info(client, log, object),
+        Look::Data(object) => data(client, log, object),
+        Look::Text(object) => text(alloc, client, log, object),
+        Look::LastError => last_error(client, log),
+        Look::Arrivals => arrivals(client, log),
+        Look::Sent => sent(client, log),
+        Look::Lengths => lengths(client, log),
+    }
+}
+
+/// Gives the script what it is given.
+fn play(alloc: Global, client: &mut Client, cue: Cue) -> Result<(), Fail> {
+    match cue {
+        Cue::Arrive(bytes) => arrive(alloc, client, bytes, bytes.len()),
+        Cue::ArriveWith(bytes, descriptor) => arrive_with(alloc, client, bytes, descriptor),
+        Cue::ArrivePadded(bytes, len) => arrive(alloc, client, bytes, len),
+        Cue::ArriveBytewise(bytes, len) => arrive_bytewise(alloc, client, bytes, len),
+        Cue::ArriveFault(fault) => arrive_fault(client, fault),
+        Cue::AcceptFault(fault) => accept_fault(client, fault),
+        Cue::TakeSent => take_sent(client),
+    }
 }
 
 /// Makes the call, and tells its answer.
@@ -260,19 +307,8 @@ fn perform(alloc: Global, client: &mut Client, log: &mut String, act: Act) -> Re
         Act::Destroy(object) => destroy(client, log, object),
         Act::Notes => notes(client, log),
         Act::Replay(calls) => replay(alloc, client, log, calls),
-        Act::Info(object) => info(client, log, object),
-        Act::Data(object) => data(client, log, object),
-        Act::Text(object) => text(alloc, client, log, object),
-        Act::LastError => last_error(client, log),
-        Act::Arrive(bytes) => arrive(alloc, client, bytes, bytes.len()),
-        Act::ArriveWith(bytes, descriptor) => arrive_with(alloc, client, bytes, descriptor),
-        Act::ArrivePadded(bytes, len) => arrive(alloc, client, bytes, len),
-        Act::ArriveBytewise(bytes, len) => arrive_bytewise(alloc, client, bytes, len),
-        Act::ArriveFault(fault) => arrive_fault(client, fault),
-        Act::ArrivalsLeft => arrivals_left(client, log),
-        Act::AcceptFault(fault) => accept_fault(client, fault),
-        Act::TakeSent => take_sent(client),
-        Act::Sent => sent(client, log),
+        Act::Look(look) => look_at(alloc, client, log, look),
+        Act::Script(cue) => play(alloc, client, cue),
     }
 }
 

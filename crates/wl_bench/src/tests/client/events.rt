@@ -1,6 +1,6 @@
 //! Events: their arguments, those that break the protocol, and errors that the server tells.
 
-use super::acts::{Act, assert_tells};
+use super::acts::{Act, Cue, Look, assert_tells};
 use super::values::Request;
 use crate::tests::quad::PAIR;
 use std::test::Fail;
@@ -10,21 +10,40 @@ fn bind_pair() -> Act {
     Act::SendWith(Request::Bind, (Some(6), Some((PAIR, 1))))
 }
 
+/// `wl_registry.global` of the name 1, `quad` and the version 3.
+#[test]
+fn event_with_a_string(rt: HostRuntime) -> Result<(), Fail> {
+    let acts = [
+        Act::Bound,
+        Act::Script(Cue::Arrive(&[
+            2, 0, 0, 0, 0, 0, 28, 0, 1, 0, 0, 0, 5, 0, 0, 0, 113, 117, 97, 100, 0, 0, 0, 0, 3, 0,
+            0, 0,
+        ])),
+        Act::Next,
+        Act::Look(Look::LastError),
+    ];
+    assert_tells(
+        &rt,
+        &acts,
+        "sent: 2, 1\nsent: 3, 2\nevent 0 of 2: 1 string of 4 3\nno error\n",
+    )
+}
+
 /// `pair.joined` of the `pair` 4: the `quad` 3 and no object, the string `no`, the byte 1, and the descriptor 9.
 #[test]
 fn event_of_five_arguments(rt: HostRuntime) -> Result<(), Fail> {
     let acts = [
         Act::Bound,
         bind_pair(),
-        Act::ArriveWith(
+        Act::Script(Cue::ArriveWith(
             &[
                 4, 0, 0, 0, 0, 0, 32, 0, 3, 0, 0, 0, 0, 0, 0, 0, 3, 0, 0, 0, 110, 111, 0, 0, 1, 0,
                 0, 0, 1, 0, 0, 0,
             ],
             9,
-        ),
+        )),
         Act::Next,
-        Act::LastError,
+        Act::Look(Look::LastError),
     ];
     assert_tells(
         &rt,
@@ -39,15 +58,15 @@ fn event_with_an_unknown_object(rt: HostRuntime) -> Result<(), Fail> {
     let acts = [
         Act::Bound,
         bind_pair(),
-        Act::ArriveWith(
+        Act::Script(Cue::ArriveWith(
             &[
                 4, 0, 0, 0, 0, 0, 32, 0, 9, 0, 0, 0, 0, 0, 0, 0, 3, 0, 0, 0, 110, 111, 0, 0, 1, 0,
                 0, 0, 1, 0, 0, 0,
             ],
             9,
-        ),
+        )),
         Act::Next,
-        Act::LastError,
+        Act::Look(Look::LastError),
     ];
     assert_tells(
         &rt,
@@ -62,15 +81,15 @@ fn event_with_an_object_of_another_interface(rt: HostRuntime) -> Result<(), Fail
     let acts = [
         Act::Bound,
         bind_pair(),
-        Act::ArriveWith(
+        Act::Script(Cue::ArriveWith(
             &[
                 4, 0, 0, 0, 0, 0, 32, 0, 2, 0, 0, 0, 0, 0, 0, 0, 3, 0, 0, 0, 110, 111, 0, 0, 1, 0,
                 0, 0, 1, 0, 0, 0,
             ],
             9,
-        ),
+        )),
         Act::Next,
-        Act::LastError,
+        Act::Look(Look::LastError),
     ];
     assert_tells(
         &rt,
@@ -84,9 +103,9 @@ fn event_with_an_object_of_another_interface(rt: HostRuntime) -> Result<(), Fail
 fn event_from_an_unknown_sender(rt: HostRuntime) -> Result<(), Fail> {
     let acts = [
         Act::Bound,
-        Act::Arrive(&[0x63, 0, 0, 0, 0, 0, 0xff, 0xff]),
+        Act::Script(Cue::Arrive(&[0x63, 0, 0, 0, 0, 0, 0xff, 0xff])),
         Act::Next,
-        Act::LastError,
+        Act::Look(Look::LastError),
     ];
     assert_tells(
         &rt,
@@ -100,9 +119,9 @@ fn event_from_an_unknown_sender(rt: HostRuntime) -> Result<(), Fail> {
 fn event_of_an_unknown_opcode(rt: HostRuntime) -> Result<(), Fail> {
     let acts = [
         Act::Bound,
-        Act::Arrive(&[3, 0, 0, 0, 3, 0, 8, 0]),
+        Act::Script(Cue::Arrive(&[3, 0, 0, 0, 3, 0, 8, 0])),
         Act::Next,
-        Act::LastError,
+        Act::Look(Look::LastError),
     ];
     assert_tells(
         &rt,
@@ -116,11 +135,11 @@ fn event_of_an_unknown_opcode(rt: HostRuntime) -> Result<(), Fail> {
 fn event_whose_text_lacks_its_final_zero(rt: HostRuntime) -> Result<(), Fail> {
     let acts = [
         Act::Bound,
-        Act::Arrive(&[
+        Act::Script(Cue::Arrive(&[
             2, 0, 0, 0, 0, 0, 24, 0, 1, 0, 0, 0, 4, 0, 0, 0, 113, 117, 97, 100, 3, 0, 0, 0,
-        ]),
+        ])),
         Act::Next,
-        Act::LastError,
+        Act::Look(Look::LastError),
     ];
     assert_tells(
         &rt,
@@ -134,11 +153,11 @@ fn event_whose_text_lacks_its_final_zero(rt: HostRuntime) -> Result<(), Fail> {
 fn told_error(rt: HostRuntime) -> Result<(), Fail> {
     let acts = [
         Act::Bound,
-        Act::Arrive(&[
+        Act::Script(Cue::Arrive(&[
             1, 0, 0, 0, 0, 0, 24, 0, 3, 0, 0, 0, 7, 0, 0, 0, 3, 0, 0, 0, 110, 111, 0, 0,
-        ]),
+        ])),
         Act::Next,
-        Act::LastError,
+        Act::Look(Look::LastError),
     ];
     assert_tells(
         &rt,
@@ -151,9 +170,9 @@ fn told_error(rt: HostRuntime) -> Result<(), Fail> {
 #[test]
 fn error_without_text(rt: HostRuntime) -> Result<(), Fail> {
     let acts = [
-        Act::Arrive(&[1, 0, 0, 0, 0, 0, 20, 0, 0, 0, 0, 0, 0, 0, 0, 0, 0, 0, 0, 0]),
+        Act::Script(Cue::Arrive(&[1, 0, 0, 0, 0, 0, 20, 0, 0, 0, 0, 0, 0, 0, 0, 0, 0, 0, 0, 0])),
         Act::Next,
-        Act::LastError,
+        Act::Look(Look::LastError),
     ];
     assert_tells(
         &rt,

@@ -1,6 +1,6 @@
 //! Faults and wants of memory of the transport, and what is too long for it.
 
-use super::acts::{Act, assert_tells};
+use super::acts::{Act, Cue, Look, assert_tells};
 use super::values::Request;
 use std::test::Fail;
 use wl_wire::IoFault;
@@ -13,12 +13,12 @@ fn fault_of_a_request(rt: HostRuntime) -> Result<(), Fail> {
         Act::Limit(0),
         Act::Bound,
         Act::Send(Request::Give(4036)),
-        Act::AcceptFault(IoFault::Other(5)),
+        Act::Script(Cue::AcceptFault(IoFault::Other(5))),
         Act::Send(Request::Sync),
-        Act::LastError,
+        Act::Look(Look::LastError),
         Act::Flush,
         Act::Send(Request::Sync),
-        Act::LastError,
+        Act::Look(Look::LastError),
     ];
     assert_tells(
         &rt,
@@ -34,10 +34,10 @@ fn request_without_memory(rt: HostRuntime) -> Result<(), Fail> {
         Act::Limit(0),
         Act::Bound,
         Act::Send(Request::Give(4036)),
-        Act::AcceptFault(IoFault::OutOfMemory),
+        Act::Script(Cue::AcceptFault(IoFault::OutOfMemory)),
         Act::SendInWant(Request::Sync),
         Act::Send(Request::Sync),
-        Act::LastError,
+        Act::Look(Look::LastError),
     ];
     assert_tells(
         &rt,
@@ -53,7 +53,7 @@ fn request_too_long(rt: HostRuntime) -> Result<(), Fail> {
         Act::Limit(0),
         Act::Bound,
         Act::Send(Request::Give(4084)),
-        Act::LastError,
+        Act::Look(Look::LastError),
     ];
     assert_tells(
         &rt,
@@ -67,12 +67,12 @@ fn request_too_long(rt: HostRuntime) -> Result<(), Fail> {
 fn faults_of_a_flush(rt: HostRuntime) -> Result<(), Fail> {
     let acts = [
         Act::Send(Request::Sync),
-        Act::AcceptFault(IoFault::WouldBlock),
-        Act::AcceptFault(IoFault::Other(5)),
+        Act::Script(Cue::AcceptFault(IoFault::WouldBlock)),
+        Act::Script(Cue::AcceptFault(IoFault::Other(5))),
         Act::Flush,
-        Act::LastError,
+        Act::Look(Look::LastError),
         Act::Flush,
-        Act::LastError,
+        Act::Look(Look::LastError),
         Act::Next,
         Act::Flush,
     ];
@@ -87,11 +87,11 @@ fn faults_of_a_flush(rt: HostRuntime) -> Result<(), Fail> {
 #[test]
 fn fault_of_a_receive(rt: HostRuntime) -> Result<(), Fail> {
     let acts = [
-        Act::ArriveFault(IoFault::WouldBlock),
-        Act::ArriveFault(IoFault::Other(3)),
+        Act::Script(Cue::ArriveFault(IoFault::WouldBlock)),
+        Act::Script(Cue::ArriveFault(IoFault::Other(3))),
         Act::Next,
         Act::Next,
-        Act::LastError,
+        Act::Look(Look::LastError),
         Act::Flush,
         Act::Next,
     ];
@@ -106,11 +106,11 @@ fn fault_of_a_receive(rt: HostRuntime) -> Result<(), Fail> {
 #[test]
 fn receives_of_a_reading(rt: HostRuntime) -> Result<(), Fail> {
     let acts = [
-        Act::ArriveBytewise(&[1, 0, 0, 0, 0, 0, 200, 0], 100),
+        Act::Script(Cue::ArriveBytewise(&[1, 0, 0, 0, 0, 0, 200, 0], 100)),
         Act::Next,
-        Act::ArrivalsLeft,
+        Act::Look(Look::Arrivals),
         Act::Next,
-        Act::ArrivalsLeft,
+        Act::Look(Look::Arrivals),
     ];
     assert_tells(
         &rt,
@@ -124,10 +124,10 @@ fn receives_of_a_reading(rt: HostRuntime) -> Result<(), Fail> {
 fn message_longer_than_the_storage(rt: HostRuntime) -> Result<(), Fail> {
     let acts = [
         Act::Send(Request::Sync),
-        Act::ArrivePadded(&[2, 0, 0, 0, 0, 0, 0x88, 0x13], 4096),
-        Act::ArrivePadded(&[], 904),
+        Act::Script(Cue::ArrivePadded(&[2, 0, 0, 0, 0, 0, 0x88, 0x13], 4096)),
+        Act::Script(Cue::ArrivePadded(&[], 904)),
         Act::Next,
-        Act::LastError,
+        Act::Look(Look::LastError),
     ];
     assert_tells(
         &rt,

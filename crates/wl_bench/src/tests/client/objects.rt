@@ -1,6 +1,6 @@
 //! Objects that the server makes, and the ends of objects and of their numbers.
 
-use super::acts::{Act, assert_tells};
+use super::acts::{Act, Cue, Look, assert_tells};
 use super::values::{Object, Request};
 use std::test::Fail;
 
@@ -15,21 +15,21 @@ static DELETE_3: [u8; 12] = [1, 0, 0, 0, 1, 0, 12, 0, 3, 0, 0, 0];
 fn run_of_made_objects(rt: HostRuntime) -> Result<(), Fail> {
     let acts = [
         Act::Bound,
-        Act::Arrive(&MADE),
+        Act::Script(Cue::Arrive(&MADE)),
         Act::Next,
         Act::Next,
         Act::Finish(None),
         Act::Finish(Some(7)),
         Act::Finish(None),
-        Act::Data(Object::Child),
+        Act::Look(Look::Data(Object::Child)),
         Act::Destroy(Object::Child),
         Act::Notes,
-        Act::Arrive(&MADE),
+        Act::Script(Cue::Arrive(&MADE)),
         Act::Next,
         Act::Finish(Some(8)),
-        Act::Arrive(&MADE),
+        Act::Script(Cue::Arrive(&MADE)),
         Act::Next,
-        Act::LastError,
+        Act::Look(Look::LastError),
         Act::Flush,
         Act::Next,
     ];
@@ -45,9 +45,9 @@ fn run_of_made_objects(rt: HostRuntime) -> Result<(), Fail> {
 fn new_id_of_the_client(rt: HostRuntime) -> Result<(), Fail> {
     let acts = [
         Act::Bound,
-        Act::Arrive(&[3, 0, 0, 0, 1, 0, 12, 0, 5, 0, 0, 0]),
+        Act::Script(Cue::Arrive(&[3, 0, 0, 0, 1, 0, 12, 0, 5, 0, 0, 0])),
         Act::Next,
-        Act::LastError,
+        Act::Look(Look::LastError),
     ];
     assert_tells(
         &rt,
@@ -63,14 +63,14 @@ fn child_of_a_destroyed_object(rt: HostRuntime) -> Result<(), Fail> {
         Act::Bound,
         Act::Destroy(Object::Quad),
         Act::Notes,
-        Act::Arrive(&MADE),
+        Act::Script(Cue::Arrive(&MADE)),
         Act::Next,
-        Act::Info(Object::Child),
+        Act::Look(Look::Info(Object::Child)),
         Act::SetData(Object::Child, 8),
-        Act::Data(Object::Child),
-        Act::Arrive(&MADE),
+        Act::Look(Look::Data(Object::Child)),
+        Act::Script(Cue::Arrive(&MADE)),
         Act::Next,
-        Act::Data(Object::Child),
+        Act::Look(Look::Data(Object::Child)),
         Act::Notes,
     ];
     assert_tells(
@@ -85,17 +85,17 @@ fn child_of_a_destroyed_object(rt: HostRuntime) -> Result<(), Fail> {
 fn life_of_a_callback(rt: HostRuntime) -> Result<(), Fail> {
     let acts = [
         Act::Send(Request::Sync),
-        Act::Arrive(&[
+        Act::Script(Cue::Arrive(&[
             2, 0, 0, 0, 0, 0, 12, 0, 0, 0, 0, 0, 1, 0, 0, 0, 1, 0, 12, 0, 2, 0, 0, 0,
-        ]),
+        ])),
         Act::Next,
         Act::Finish(Some(9)),
         Act::Finish(None),
         Act::Notes,
         Act::Next,
-        Act::Data(Object::Callback),
+        Act::Look(Look::Data(Object::Callback)),
         Act::Send(Request::Sync),
-        Act::Info(Object::Callback),
+        Act::Look(Look::Info(Object::Callback)),
     ];
     assert_tells(
         &rt,
@@ -112,13 +112,13 @@ fn destroyed_object_and_its_number(rt: HostRuntime) -> Result<(), Fail> {
         Act::Bound,
         Act::Destroy(Object::Quad),
         Act::Destroy(Object::Quad),
-        Act::Info(Object::Quad),
-        Act::Data(Object::Quad),
-        Act::Arrive(&[3, 0, 0, 0, 0, 0, 12, 0, 7, 0, 0, 0]),
+        Act::Look(Look::Info(Object::Quad)),
+        Act::Look(Look::Data(Object::Quad)),
+        Act::Script(Cue::Arrive(&[3, 0, 0, 0, 0, 0, 12, 0, 7, 0, 0, 0])),
         Act::Next,
-        Act::Arrive(&DELETE_3),
+        Act::Script(Cue::Arrive(&DELETE_3)),
         Act::Next,
-        Act::Data(Object::Quad),
+        Act::Look(Look::Data(Object::Quad)),
         Act::Send(Request::Sync),
     ];
     assert_tells(
@@ -133,7 +133,7 @@ fn destroyed_object_and_its_number(rt: HostRuntime) -> Result<(), Fail> {
 fn destructor_event_of_a_destroyed_object(rt: HostRuntime) -> Result<(), Fail> {
     let acts = [
         Act::Bound,
-        Act::Arrive(&[3, 0, 0, 0, 2, 0, 8, 0]),
+        Act::Script(Cue::Arrive(&[3, 0, 0, 0, 2, 0, 8, 0])),
         Act::Next,
         Act::Destroy(Object::Quad),
         Act::Finish(None),
@@ -151,12 +151,12 @@ fn destructor_event_of_a_destroyed_object(rt: HostRuntime) -> Result<(), Fail> {
 fn numbers_not_given_up(rt: HostRuntime) -> Result<(), Fail> {
     let acts = [
         Act::Bound,
-        Act::Arrive(&[
+        Act::Script(Cue::Arrive(&[
             1, 0, 0, 0, 1, 0, 12, 0, 1, 0, 0, 0, 1, 0, 0, 0, 1, 0, 12, 0, 99, 0, 0, 0,
-        ]),
+        ])),
         Act::Next,
-        Act::Info(Object::Display),
-        Act::Info(Object::Quad),
+        Act::Look(Look::Info(Object::Display)),
+        Act::Look(Look::Info(Object::Quad)),
         Act::Send(Request::Sync),
     ];
     assert_tells(
@@ -171,11 +171,11 @@ fn numbers_not_given_up(rt: HostRuntime) -> Result<(), Fail> {
 fn number_given_up_early(rt: HostRuntime) -> Result<(), Fail> {
     let acts = [
         Act::Bound,
-        Act::Arrive(&DELETE_3),
+        Act::Script(Cue::Arrive(&DELETE_3)),
         Act::Next,
-        Act::Info(Object::Quad),
+        Act::Look(Look::Info(Object::Quad)),
         Act::Destroy(Object::Quad),
-        Act::Data(Object::Quad),
+        Act::Look(Look::Data(Object::Quad)),
         Act::Send(Request::Sync),
     ];
     assert_tells(

@@ -1,6 +1,6 @@
 //! Requests: what is sent, which are refused, and those that end an object or carry a descriptor.
 
-use super::acts::{Act, assert_tells};
+use super::acts::{Act, Cue, Look, assert_tells};
 use super::values::{Object, Request};
 use crate::tests::quad::{DESTROY, PAIR};
 use std::test::Fail;
@@ -8,7 +8,7 @@ use wl_wire::{InterfaceId, WL_CALLBACK_INTERFACE, WL_REGISTRY_INTERFACE};
 
 #[test]
 fn first_sync(rt: HostRuntime) -> Result<(), Fail> {
-    let acts = [Act::Send(Request::Sync), Act::Flush, Act::Sent];
+    let acts = [Act::Send(Request::Sync), Act::Flush, Act::Look(Look::Sent)];
     assert_tells(
         &rt,
         &acts,
@@ -19,7 +19,12 @@ fn first_sync(rt: HostRuntime) -> Result<(), Fail> {
 /// The registry and its first object.
 #[test]
 fn first_bind(rt: HostRuntime) -> Result<(), Fail> {
-    let acts = [Act::Bound, Act::Text(Object::Quad), Act::Flush, Act::Sent];
+    let acts = [
+        Act::Bound,
+        Act::Look(Look::Text(Object::Quad)),
+        Act::Flush,
+        Act::Look(Look::Sent),
+    ];
     assert_tells(
         &rt,
         &acts,
@@ -73,16 +78,16 @@ fn destructor_request(rt: HostRuntime) -> Result<(), Fail> {
     let acts = [
         Act::Bound,
         Act::Send(Request::Make),
-        Act::Info(Object::Second),
+        Act::Look(Look::Info(Object::Second)),
         Act::Send(Request::Bare(Object::Quad, DESTROY)),
         Act::Notes,
-        Act::Info(Object::Quad),
-        Act::Data(Object::Quad),
+        Act::Look(Look::Info(Object::Quad)),
+        Act::Look(Look::Data(Object::Quad)),
         Act::Send(Request::Bare(Object::Quad, DESTROY)),
         Act::Send(Request::Bare(Object::Quad, 9)),
         Act::Send(Request::Link(Object::Second, Object::Null, Object::Quad)),
         Act::Flush,
-        Act::Sent,
+        Act::Look(Look::Sent),
     ];
     assert_tells(
         &rt,
@@ -97,12 +102,12 @@ fn descriptor_of_a_request(rt: HostRuntime) -> Result<(), Fail> {
     let acts = [
         Act::Bound,
         Act::Flush,
-        Act::TakeSent,
+        Act::Script(Cue::TakeSent),
         Act::Send(Request::Give(1)),
         Act::Flush,
-        Act::Sent,
+        Act::Look(Look::Sent),
         Act::Destroy(Object::Display),
-        Act::Data(Object::Display),
+        Act::Look(Look::Data(Object::Display)),
     ];
     assert_tells(
         &rt,
@@ -119,15 +124,33 @@ fn request_of_five_arguments(rt: HostRuntime) -> Result<(), Fail> {
         Act::SendWith(Request::Bind, (Some(6), Some((PAIR, 1)))),
         Act::Send(Request::Make),
         Act::Flush,
-        Act::TakeSent,
+        Act::Script(Cue::TakeSent),
         Act::Send(Request::Join(Object::Third, Object::Quad)),
         Act::Flush,
-        Act::Sent,
-        Act::LastError,
+        Act::Look(Look::Sent),
+        Act::Look(Look::LastError),
     ];
     assert_tells(
         &rt,
         &acts,
         "sent: 2, 1\nsent: 3, 2\nsent: 4, 3\nsent: 5, 4\nflushed\nsent: 0, 0\nflushed\ndescriptor 9 with 04000000000020000500000003000000030000006e6f00000100000001000000\nno error\n",
+    )
+}
+
+/// A request of 5016 bytes behind the 44 of the bind: the storage of 4096 bytes grows, and a send takes 4096 at most.
+#[test]
+fn storage_grows_for_a_request(rt: HostRuntime) -> Result<(), Fail> {
+    let acts = [
+        Act::Bound,
+        Act::Send(Request::Give(5000)),
+        Act::Look(Look::Lengths),
+        Act::Flush,
+        Act::Look(Look::Lengths),
+        Act::Look(Look::LastError),
+    ];
+    assert_tells(
+        &rt,
+        &acts,
+        "sent: 2, 1\nsent: 3, 2\nsent: 0, 0\nflushed\n4096 bytes, 1 descriptors\n964 bytes, 0 descriptors\nno error\n",
     )
 }

@@ -90,18 +90,18 @@ fn no(alloc: Global) -> Result<ProtocolError, Fail> {
     })
 }
 
-/// Writes the texts of an id's error, and of a fault as a session's error.
-fn write_faults(log: &mut String) -> Result<(), AllocError> {
-    writeln!(log, "{InvalidId}")?;
-    writeln!(log, "{}", WaylandError::Io(IoFault::Pipe))
+/// Writes the text of a session's error.
+fn write_error(log: &mut String, error: &WaylandError) -> Result<(), AllocError> {
+    writeln!(log, "{error}")
 }
 
 /// The texts of an id's error and of two of a session, a line each.
 fn errors_told(alloc: Global) -> Result<String, Fail> {
     let error = WaylandError::Protocol(no(alloc)?);
     let mut log = String::new(alloc);
-    write_faults(&mut log)?;
-    writeln!(log, "{error}")?;
+    writeln!(log, "{InvalidId}")?;
+    write_error(&mut log, &WaylandError::Io(IoFault::Pipe))?;
+    write_error(&mut log, &error)?;
     Ok(log)
 }
 

@@ -167,6 +167,14 @@ pub fn write_taken(log: &mut String, sent: &[(Vec<u8>, Vec<Token>)]) -> Result<(
     Ok(())
 }
 
+/// Writes how many bytes and descriptors sends took, a line each.
+pub fn write_lengths(log: &mut String, sent: &[(Vec<u8>, Vec<Token>)]) -> Result<(), AllocError> {
+    for (bytes, tokens) in sent {
+        writeln!(log, "{} bytes, {} descriptors", bytes.len(), tokens.len())?;
+    }
+    Ok(())
+}
+
 /// Writes the answer of the inner queue: how many were dispatched, or why none.
 fn write_dispatched(
     log: &mut String,
