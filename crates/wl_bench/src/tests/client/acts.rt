@@ -102,7 +102,7 @@ fn limit(client: &mut Client, bytes: usize) -> Result<(), Fail> {
     told(client, Ok(()))
 }
 
-fn send(
+fn send_with(
     alloc: Global,
     client: &mut Client,
     log: &mut String,
@@ -113,6 +113,15 @@ fn send(
     let answer = client.send_request(message, child.0, child.1);
     let written = write_sent(log, &answer);
     told(client, written)
+}
+
+fn send(
+    alloc: Global,
+    client: &mut Client,
+    log: &mut String,
+    request: Request,
+) -> Result<(), Fail> {
+    send_with(alloc, client, log, request, request.child())
 }
 
 fn send_in_want(
@@ -133,9 +142,8 @@ fn send_in_want(
 }
 
 fn bound(alloc: Global, client: &mut Client, log: &mut String) -> Result<(), Fail> {
-    let registry = Request::GetRegistry;
-    send(alloc, client, log, registry, registry.child())?;
-    send(alloc, client, log, Request::Bind, Request::Bind.child())
+    send(alloc, client, log, Request::GetRegistry)?;
+    send(alloc, client, log, Request::Bind)
 }
 
 fn flush(client: &mut Client, log: &mut String) -> Result<(), Fail> {
@@ -296,8 +304,8 @@ fn play(alloc: Global, client: &mut Client, cue: Cue) -> Result<(), Fail> {
 fn perform(alloc: Global, client: &mut Client, log: &mut String, act: Act) -> Result<(), Fail> {
     match act {
         Act::Limit(bytes) => limit(client, bytes),
-        Act::Send(request) => send(alloc, client, log, request, request.child()),
-        Act::SendWith(request, child) => send(alloc, client, log, request, child),
+        Act::Send(request) => send(alloc, client, log, request),
+        Act::SendWith(request, child) => send_with(alloc, client, log, request, child),
         Act::SendInWant(request) => send_in_want(alloc, client, log, request),
         Act::Bound => bound(alloc, client, log),
         Act::Flush => flush(client, log),

@@ -95,13 +95,18 @@ fn write_error(log: &mut String, error: &WaylandError) -> Result<(), AllocError>
     writeln!(log, "{error}")
 }
 
+/// Writes the texts of an id's error, of a fault of a session, and of this error of one, a line each.
+fn write_errors(log: &mut String, error: &WaylandError) -> Result<(), AllocError> {
+    writeln!(log, "{InvalidId}")?;
+    write_error(log, &WaylandError::Io(IoFault::Pipe))?;
+    write_error(log, error)
+}
+
 /// The texts of an id's error and of two of a session, a line each.
 fn errors_told(alloc: Global) -> Result<String, Fail> {
     let error = WaylandError::Protocol(no(alloc)?);
     let mut log = String::new(alloc);
-    writeln!(log, "{InvalidId}")?;
-    write_error(&mut log, &WaylandError::Io(IoFault::Pipe))?;
-    write_error(&mut log, &error)?;
+    write_errors(&mut log, &error)?;
     Ok(log)
 }
 
