@@ -1,6 +1,8 @@
-use super::*;
-use std::alloc::Global;
+//! The texts of errors.
+
+use std::alloc::{AllocError, Global};
 use std::test::Fail;
+use wl_wire::{IoFault, MessageParseError, MessageWriteError, ProtocolError, Text};
 
 fn protocol_error(alloc: Global, message: &str) -> Result<ProtocolError, AllocError> {
     Ok(ProtocolError {

@@ -1,5 +1,7 @@
-use super::*;
+//! Enums of the protocol, and the numbers that stand for their values.
+
 use std::test::Fail;
+use wl_wire::{WEnum, WEnumError, WaylandEnum};
 
 /// An enum of two values.
 #[derive(Clone, Copy, Debug, PartialEq, Eq)]
@@ -11,7 +13,7 @@ enum Mode {
 impl WaylandEnum for Mode {
     ghost use Rattle.std.specs.Prelude.{[], ◌∷◌};
     ghost use Rattle.wl_wire.specs.Enum.{value_in, value_in-turns_back};
-    ghost use Rattle.wl_wire.specs.declared.enums.tests.Mode.TheVariants.{Off, On};
+    ghost use Rattle.wl_bench.specs.declared.tests.wire.enums.Mode.TheVariants.{Off, On};
 
     const NAME: &'static str = "mode";
 

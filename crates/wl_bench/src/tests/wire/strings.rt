@@ -1,5 +1,16 @@
-use super::*;
+//! The bytes of strings and arrays.
+
 use std::test::Fail;
+use wl_wire::{ByteArray, CString, ZeroByte};
+
+#[test]
+fn arrays_give_their_bytes_back(rt: HostRuntime) -> Result<(), Fail> {
+    let array = ByteArray::new(Vec::from_slice(rt.alloc(), &[1, 0, 2])?);
+    assert_eq!(rt; array.as_slice(), [1, 0, 2].as_slice());
+    assert!(rt; array != ByteArray::new(Vec::new(rt.alloc())));
+    assert_eq!(rt; array.into_vec().as_slice(), [1, 0, 2].as_slice());
+    Ok(())
+}
 
 #[test]
 fn no_byte_of_a_string_is_zero(rt: HostRuntime) -> Result<(), Fail> {

@@ -1,0 +1,6 @@
+//! The tests of the program and of the crates that it stands on, by crate and topic.
+
+mod hex;
+mod message;
+mod quad;
+mod wire;

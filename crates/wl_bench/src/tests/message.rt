@@ -1,0 +1,116 @@
+//! Messages that are written down as data, and how a message is told in a line.
+
+use crate::hex::hex_line;
+use smallvec::SmallVec;
+use std::alloc::{AllocError, Global};
+use std::test::Fail;
+use wl_wire::{Argument, ByteArray, CString, Message, Token};
+
+/// An argument as plain data.
+#[derive(Clone, Copy)]
+pub enum Arg {
+    Int(i32),
+    Uint(u32),
+    Fixed(i32),
+    Str(&'static [u8]),
+    Object(u32),
+    NewId(u32),
+    Array(&'static [u8]),
+    /// An array of so many bytes, each 1.
+    Ones(usize),
+    Fd(i32),
+}
+
+fn string(alloc: Global, bytes: &[u8]) -> Result<Argument<u32, Token>, Fail> {
+    let text = CString::new(Vec::from_slice(alloc, bytes)?)?;
+    Ok(Argument::Str(Some(text)))
+}
+
+/// The argument.
+fn argument(alloc: Global, arg: Arg) -> Result<Argument<u32, Token>, Fail> {
+    match arg {
+        Arg::Int(value) => Ok(Argument::Int(value)),
+        Arg::Uint(value) => Ok(Argument::Uint(value)),
+        Arg::Fixed(value) => Ok(Argument::Fixed(value)),
+        Arg::Str(bytes) => string(alloc, bytes),
+        Arg::Object(number) => Ok(Argument::Object(number)),
+        Arg::NewId(number) => Ok(Argument::NewId(number)),
+        Arg::Array(bytes) => Ok(Argument::Array(ByteArray::new(Vec::from_slice(alloc, bytes)?))),
+        Arg::Ones(len) => Ok(Argument::Array(ByteArray::new(Vec::from_elem(alloc, 1, len)?))),
+        Arg::Fd(number) => Ok(Argument::Fd(Token(number))),
+    }
+}
+
+/// Puts an argument behind those of the message.
+pub fn push(alloc: Global, message: &mut Message<u32, Token>, arg: Arg) -> Result<(), Fail> {
+    message.args.push(argument(alloc, arg)?)?;
+    Ok(())
+}
+
+/// The message of these arguments.
+pub fn message(
+    alloc: Global,
+    (sender_id, opcode): (u32, u16),
+    args: &[Arg],
+) -> Result<Message<u32, Token>, Fail> {
+    let mut message = Message {
+        sender_id,
+        opcode,
+        args: SmallVec::new(alloc),
+    };
+    for arg in args {
+        push(alloc, &mut message, *arg)?;
+    }
+    Ok(message)
+}
+
+fn tell_string(log: &mut String, text: &CString) -> Result<(), Fail> {
+    let text = text.to_string_lossy(*log.allocator())?;
+    write!(log, "string {}", text.as_str())?;
+    Ok(())
+}
+
+fn tell_array(log: &mut String, bytes: &[u8]) -> Result<(), Fail> {
+    let line = hex_line(*log.allocator(), bytes)?;
+    write!(log, "array {line}")?;
+    Ok(())
+}
+
+fn written(answer: Result<(), AllocError>) -> Result<(), Fail> {
+    Ok(answer?)
+}
+
+/// Tells an argument: the name that its type has in a protocol, and its value.
+fn tell_argument(log: &mut String, arg: &Argument<u32, Token>) -> Result<(), Fail> {
+    match arg {
+        Argument::Int(value) => written(write!(log, "int {value}")),
+        Argument::Uint(value) => written(write!(log, "uint {value}")),
+        Argument::Fixed(value) => written(write!(log, "fixed {value}")),
+        Argument::Str(None) => written(write!(log, "null string")),
+        Argument::Str(Some(text)) => tell_string(log, text),
+        Argument::Object(number) => written(write!(log, "object {number}")),
+        Argument::NewId(number) => written(write!(log, "new_id {number}")),
+        Argument::Array(bytes) => tell_array(log, bytes.as_slice()),
+        Argument::Fd(token) => written(write!(log, "fd {}", token.0)),
+    }
+}
+
+/// Tells a message: its sender, its opcode, and behind a colon each its arguments.
+pub fn tell_message(log: &mut String, message: &Message<u32, Token>) -> Result<(), Fail> {
+    write!(log, "{}, {}", message.sender_id, message.opcode)?;
+    for arg in message.args.as_slice() {
+        write!(log, ": ")?;
+        tell_argument(log, arg)?;
+    }
+    Ok(())
+}
+
+/// Tells the bytes in hex, and behind them the number of each token.
+pub fn tell_bytes(log: &mut String, bytes: &[u8], tokens: &[Token]) -> Result<(), Fail> {
+    let line = hex_line(*log.allocator(), bytes)?;
+    write!(log, "{line}")?;
+    for token in tokens {
+        write!(log, ", fd {}", token.0)?;
+    }
+    Ok(())
+}

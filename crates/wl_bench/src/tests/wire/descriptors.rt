@@ -1,0 +1,31 @@
+//! The descriptors of a message replaced by others.
+
+use crate::tests::message::{Arg, message};
+use std::alloc::Global;
+use std::test::Fail;
+use wl_wire::{Argument, Message};
+
+/// A message whose descriptors are replaced by 0, 1 and so on, in the order in which they are asked for.
+fn counted(alloc: Global, header: (u32, u16), args: &[Arg]) -> Result<Message<u32, u32>, Fail> {
+    let message = message(alloc, header, args)?;
+    let mut count = 0u32;
+    let mapped = message.map_fd(|_| {
+        let number = count;
+        count = count.wrapping_add(1);
+        number
+    });
+    match mapped {
+        Ok(mapped) => Ok(mapped),
+        Err(_) => Err(Fail::new("there is memory")),
+    }
+}
+
+#[test]
+fn descriptors_are_mapped_from_left_to_right(rt: HostRuntime) -> Result<(), Fail> {
+    let args = [Arg::Fd(5), Arg::Int(1), Arg::Fd(6)];
+    let mapped = counted(rt.alloc(), (42, 7), &args)?;
+    let expected = [Argument::Fd(0), Argument::Int(1), Argument::Fd(1)];
+    assert_eq!(rt; mapped.args.as_slice(), expected.as_slice());
+    assert_eq!(rt; (mapped.sender_id, mapped.opcode), (42, 7));
+    Ok(())
+}

@@ -1,0 +1,243 @@
+//! The worked messages of the protocol, byte by byte, and read again.
+
+use super::{OBJECT, STR, queue};
+use crate::tests::message::{Arg, message, tell_bytes, tell_message};
+use std::alloc::Global;
+use std::test::Fail;
+use wl_wire::{
+    ArgumentType, Message, MessageWriteError, Token, message_size, parse_message, write_to_buffers,
+};
+
+/// The bytes and the tokens of the message, in a buffer of so many bytes that was filled with others.
+fn written(
+    alloc: Global,
+    message: &Message<u32, Token>,
+    room: usize,
+) -> Result<(Vec<u8>, Vec<Token>), Fail> {
+    let mut buffer = Vec::from_elem(alloc, 0xa5, room)?;
+    let mut tokens = Vec::new(alloc);
+    let size = write_to_buffers(message, &mut buffer, &mut tokens)?;
+    buffer.truncate(size);
+    Ok((buffer, tokens))
+}
+
+/// Tells how many bytes the message takes.
+fn tell_size(log: &mut String, message: &Message<u32, Token>) -> Result<(), Fail> {
+    let written = match message_size(message) {
+        Some(size) => writeln!(log, "size {size}"),
+        None => writeln!(log, "no size"),
+    };
+    Ok(written?)
+}
+
+/// Tells the bytes and the tokens of the message.
+fn tell_written(log: &mut String, message: &Message<u32, Token>, room: usize) -> Result<(), Fail> {
+    tell_size(log, message)?;
+    let (bytes, tokens) = written(*log.allocator(), message, room)?;
+    tell_bytes(log, &bytes, &tokens)
+}
+
+/// Tells the message that the bytes and tokens are, what follows it, and whether it is that one.
+fn tell_read(
+    log: &mut String,
+    (bytes, tokens): (&[u8], &[Token]),
+    signature: &[ArgumentType],
+    message: &Message<u32, Token>,
+) -> Result<(), Fail> {
+    let alloc = *log.allocator();
+    let mut waiting = queue(alloc, tokens)?;
+    let (again, rest) = parse_message(alloc, bytes, signature, &mut waiting)?;
+    tell_message(log, &again)?;
+    write!(
+        log,
+        "\n{} bytes and {} tokens left",
+        rest.len(),
+        waiting.len()
+    )?;
+    if again == *message {
+        write!(log, ", the same")?;
+    }
+    Ok(())
+}
+
+/// Writes the message and tells how it is read.
+fn tell_again(
+    log: &mut String,
+    message: &Message<u32, Token>,
+    room: usize,
+    signature: &[ArgumentType],
+) -> Result<(), Fail> {
+    tell_size(log, message)?;
+    let (bytes, tokens) = written(*log.allocator(), message, room)?;
+    tell_read(log, (&bytes, &tokens), signature, message)
+}
+
+/// The size, the bytes and the tokens of a message.
+fn written_log(
+    alloc: Global,
+    header: (u32, u16),
+    args: &[Arg],
+    room: usize,
+) -> Result<String, Fail> {
+    let mut log = String::new(alloc);
+    let message = message(alloc, header, args)?;
+    tell_written(&mut log, &message, room)?;
+    Ok(log)
+}
+
+/// The size of a message, and how it is read after it was written.
+fn again_log(
+    alloc: Global,
+    header: (u32, u16),
+    args: &[Arg],
+    room: usize,
+    signature: &[ArgumentType],
+) -> Result<String, Fail> {
+    let mut log = String::new(alloc);
+    let message = message(alloc, header, args)?;
+    tell_again(&mut log, &message, room, signature)?;
+    Ok(log)
+}
+
+#[test]
+fn first_sync_bytes(rt: HostRuntime) -> Result<(), Fail> {
+    let log = written_log(rt.alloc(), (1, 0), &[Arg::NewId(2)], 12)?;
+    assert_eq!(rt;
+        log.as_str(),
+        "size 12\n01 00 00 00 00 00 0c 00 02 00 00 00"
+    );
+    Ok(())
+}
+
+#[test]
+fn two_objects_bytes(rt: HostRuntime) -> Result<(), Fail> {
+    let args = [Arg::Object(0), Arg::Object(3)];
+    let log = written_log(rt.alloc(), (3, 3), &args, 100)?;
+    assert_eq!(rt;
+        log.as_str(),
+        "size 16\n03 00 00 00 03 00 10 00 00 00 00 00 03 00 00 00"
+    );
+    Ok(())
+}
+
+#[test]
+fn train_message_and_back(rt: HostRuntime) -> Result<(), Fail> {
+    let args = [
+        Arg::Uint(3),
+        Arg::Fixed(-89),
+        Arg::Str(b"I like trains!"),
+        Arg::Array(&[1, 2, 3, 4, 5, 6, 7, 8, 9]),
+        Arg::Object(88),
+        Arg::NewId(56),
+        Arg::Int(-25),
+    ];
+    let signature = [
+        ArgumentType::Uint,
+        ArgumentType::Fixed,
+        STR,
+        ArgumentType::Array,
+        OBJECT,
+        ArgumentType::NewId,
+        ArgumentType::Int,
+    ];
+    let log = again_log(rt.alloc(), (42, 7), &args, 64, &signature)?;
+    assert_eq!(rt;
+        log.as_str(),
+        "size 64\n42, 7: uint 3: fixed -89: string I like trains!: array 01 02 03 04 05 06 07 08 09: object 88: new_id 56: int -25\n0 bytes and 0 tokens left, the same"
+    );
+    Ok(())
+}
+
+#[test]
+fn bind_written_and_read(rt: HostRuntime) -> Result<(), Fail> {
+    let args = [Arg::Uint(18), Arg::Str(b"wl_shell"), Arg::Uint(1)];
+    let signature = [ArgumentType::Uint, STR, ArgumentType::Uint];
+    let log = again_log(rt.alloc(), (2, 0), &args, 32, &signature)?;
+    assert_eq!(rt;
+        log.as_str(),
+        "size 32\n2, 0: uint 18: string wl_shell: uint 1\n0 bytes and 0 tokens left, the same"
+    );
+    Ok(())
+}
+
+#[test]
+fn shell_bind_bytes(rt: HostRuntime) -> Result<(), Fail> {
+    let args = [Arg::Uint(18), Arg::Str(b"wl_shell"), Arg::Uint(1)];
+    let log = written_log(rt.alloc(), (2, 0), &args, 40)?;
+    assert_eq!(rt;
+        log.as_str(),
+        "size 32\n02 00 00 00 00 00 20 00 12 00 00 00 09 00 00 00 77 6c 5f 73 68 65 6c 6c 00 00 00 00 01 00 00 00"
+    );
+    Ok(())
+}
+
+#[test]
+fn tokens_go_beside_the_bytes(rt: HostRuntime) -> Result<(), Fail> {
+    let args = [Arg::Fd(1), Arg::Fd(0)];
+    let log = written_log(rt.alloc(), (42, 1), &args, 8)?;
+    assert_eq!(rt; log.as_str(), "size 8\n2a 00 00 00 01 00 08 00, fd 1, fd 0");
+    Ok(())
+}
+
+#[test]
+fn tokens_are_read_beside_the_bytes(rt: HostRuntime) -> Result<(), Fail> {
+    let args = [Arg::Fd(1), Arg::Fd(0)];
+    let signature = [ArgumentType::Fd, ArgumentType::Fd];
+    let log = again_log(rt.alloc(), (42, 1), &args, 8, &signature)?;
+    assert_eq!(rt;
+        log.as_str(),
+        "size 8\n42, 1: fd 1: fd 0\n0 bytes and 0 tokens left, the same"
+    );
+    Ok(())
+}
+
+/// What the writer answers for a buffer of so many bytes.
+fn write_answer(
+    alloc: Global,
+    message: &Message<u32, Token>,
+    room: usize,
+) -> Result<Result<usize, MessageWriteError>, Fail> {
+    let mut buffer = Vec::from_elem(alloc, 9, room)?;
+    let mut tokens = Vec::new(alloc);
+    Ok(write_to_buffers(message, &mut buffer, &mut tokens))
+}
+
+/// Tells what the writer answers for a buffer of so many bytes.
+fn tell_answer(log: &mut String, message: &Message<u32, Token>, room: usize) -> Result<(), Fail> {
+    let written = match write_answer(*log.allocator(), message, room)? {
+        Ok(size) => writeln!(log, "{room} hold {size}"),
+        Err(error) => writeln!(log, "{room}: {error}"),
+    };
+    Ok(written?)
+}
+
+/// The size of a message of one array, and what the writer answers for buffers of so many bytes.
+fn array_log(alloc: Global, len: usize, rooms: &[usize]) -> Result<String, Fail> {
+    let mut log = String::new(alloc);
+    let message = message(alloc, (1, 1), &[Arg::Ones(len)])?;
+    tell_size(&mut log, &message)?;
+    for room in rooms {
+        tell_answer(&mut log, &message, *room)?;
+    }
+    Ok(log)
+}
+
+#[test]
+fn longest_message(rt: HostRuntime) -> Result<(), Fail> {
+    let log = array_log(rt.alloc(), 65520, &[65531, 65532])?;
+    assert_eq!(rt;
+        log.as_str(),
+        "size 65532\n65531: The provided buffer is too small to hold message content.\n65532 hold 65532\n"
+    );
+    Ok(())
+}
+
+#[test]
+fn longer_message_is_refused(rt: HostRuntime) -> Result<(), Fail> {
+    let log = array_log(rt.alloc(), 65521, &[65532])?;
+    assert_eq!(rt;
+        log.as_str(),
+        "no size\n65532: The message is longer than 65535 bytes.\n"
+    );
+    Ok(())
+}
