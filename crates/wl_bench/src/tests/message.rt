@@ -2,7 +2,7 @@
 
 use crate::hex::hex_line;
 use smallvec::SmallVec;
-use std::alloc::{AllocError, Global};
+use std::alloc::Global;
 use std::test::Fail;
 use wl_wire::{Argument, ByteArray, CString, Message, Token};
 
@@ -66,32 +66,35 @@ pub fn message(
 
 fn tell_string(log: &mut String, text: &CString) -> Result<(), Fail> {
     let text = text.to_string_lossy(*log.allocator())?;
-    write!(log, "string {}", text.as_str())?;
-    Ok(())
+    Ok(write!(log, "string {}", text.as_str())?)
+}
+
+fn tell_hex(log: &mut String, bytes: &[u8]) -> Result<(), Fail> {
+    let line = hex_line(*log.allocator(), bytes)?;
+    Ok(write!(log, "{line}")?)
 }
 
 fn tell_array(log: &mut String, bytes: &[u8]) -> Result<(), Fail> {
-    let line = hex_line(*log.allocator(), bytes)?;
-    write!(log, "array {line}")?;
-    Ok(())
+    write!(log, "array ")?;
+    tell_hex(log, bytes)
 }
 
-fn written(answer: Result<(), AllocError>) -> Result<(), Fail> {
-    Ok(answer?)
+fn tell_number(log: &mut String, name: &str, value: i64) -> Result<(), Fail> {
+    Ok(write!(log, "{name} {value}")?)
 }
 
 /// Tells an argument: the name that its type has in a protocol, and its value.
 fn tell_argument(log: &mut String, arg: &Argument<u32, Token>) -> Result<(), Fail> {
     match arg {
-        Argument::Int(value) => written(write!(log, "int {value}")),
-        Argument::Uint(value) => written(write!(log, "uint {value}")),
-        Argument::Fixed(value) => written(write!(log, "fixed {value}")),
-        Argument::Str(None) => written(write!(log, "null string")),
+        Argument::Int(value) => tell_number(log, "int", i64::from(*value)),
+        Argument::Uint(value) => tell_number(log, "uint", i64::from(*value)),
+        Argument::Fixed(value) => tell_number(log, "fixed", i64::from(*value)),
+        Argument::Str(None) => Ok(write!(log, "null string")?),
         Argument::Str(Some(text)) => tell_string(log, text),
-        Argument::Object(number) => written(write!(log, "object {number}")),
-        Argument::NewId(number) => written(write!(log, "new_id {number}")),
+        Argument::Object(number) => tell_number(log, "object", i64::from(*number)),
+        Argument::NewId(number) => tell_number(log, "new_id", i64::from(*number)),
         Argument::Array(bytes) => tell_array(log, bytes.as_slice()),
-        Argument::Fd(token) => written(write!(log, "fd {}", token.0)),
+        Argument::Fd(token) => tell_number(log, "fd", i64::from(token.0)),
     }
 }
 
@@ -107,8 +110,7 @@ pub fn tell_message(log: &mut String, message: &Message<u32, Token>) -> Result<(
 
 /// Tells the bytes in hex, and behind them the number of each token.
 pub fn tell_bytes(log: &mut String, bytes: &[u8], tokens: &[Token]) -> Result<(), Fail> {
-    let line = hex_line(*log.allocator(), bytes)?;
-    write!(log, "{line}")?;
+    tell_hex(log, bytes)?;
     for token in tokens {
         write!(log, ", fd {}", token.0)?;
     }

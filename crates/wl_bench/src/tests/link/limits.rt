@@ -3,6 +3,7 @@
 use super::run::{Act, link_log, run_log};
 use super::transports::Refusing;
 use crate::tests::message::Arg;
+use crate::tests::tells;
 use std::test::Fail;
 
 /// Writes a message of 4096 bytes.
@@ -14,31 +15,31 @@ const WRITE_4100: Act = Act::Write((42, 0), &[Arg::Ones(4088)]);
 #[test]
 fn storage_grows_without_a_limit(rt: HostRuntime) -> Result<(), Fail> {
     let acts = [WRITE_4100, Act::Storage, Act::Waiting];
-    assert_eq!(rt;
-        run_log(rt.alloc(), &[], None, &acts)?.as_str(),
-        "write: done\nstorage: 4096, 8192\nwaiting: 0, 0, 4100, 0\n0 sends recorded\n"
-    );
-    Ok(())
+    tells(
+        &rt,
+        run_log(rt.alloc(), &[], None, &acts),
+        "write: done\nstorage: 4096, 8192\nwaiting: 0, 0, 4100, 0\n0 sends recorded\n",
+    )
 }
 
 #[test]
 fn message_of_the_limit_fits(rt: HostRuntime) -> Result<(), Fail> {
     let acts = [WRITE_4096, Act::Waiting, Act::Storage];
-    assert_eq!(rt;
-        run_log(rt.alloc(), &[], Some(4096), &acts)?.as_str(),
-        "write: done\nwaiting: 0, 0, 4096, 0\nstorage: 4096, 4096\n0 sends recorded\n"
-    );
-    Ok(())
+    tells(
+        &rt,
+        run_log(rt.alloc(), &[], Some(4096), &acts),
+        "write: done\nwaiting: 0, 0, 4096, 0\nstorage: 4096, 4096\n0 sends recorded\n",
+    )
 }
 
 #[test]
 fn limit_bounds_a_message(rt: HostRuntime) -> Result<(), Fail> {
     let acts = [WRITE_4100, Act::Waiting, Act::Storage];
-    assert_eq!(rt;
-        run_log(rt.alloc(), &[], Some(4096), &acts)?.as_str(),
-        "write: message too big\nwaiting: 0, 0, 0, 0\nstorage: 4096, 4096\n0 sends recorded\n"
-    );
-    Ok(())
+    tells(
+        &rt,
+        run_log(rt.alloc(), &[], Some(4096), &acts),
+        "write: message too big\nwaiting: 0, 0, 0, 0\nstorage: 4096, 4096\n0 sends recorded\n",
+    )
 }
 
 #[test]
@@ -56,9 +57,9 @@ fn limits_are_rounded_up(rt: HostRuntime) -> Result<(), Fail> {
         Act::SetLimit(None),
         Act::Limit,
     ];
-    assert_eq!(rt;
-        link_log(rt.alloc(), Refusing, Some(0), &acts)?.as_str(),
-        "limit: 4096\nlimit: 4096\nlimit: 8192\nlimit: 9223372036854775808\nlimit: 18446744073709551615\nno limit\n0 sends recorded\n"
-    );
-    Ok(())
+    tells(
+        &rt,
+        link_log(rt.alloc(), Refusing, Some(0), &acts),
+        "limit: 4096\nlimit: 4096\nlimit: 8192\nlimit: 9223372036854775808\nlimit: 18446744073709551615\nno limit\n0 sends recorded\n",
+    )
 }

@@ -1,5 +1,6 @@
 //! The map of objects: its calls as a list, and what each tells. Numbers of objects are told in hex.
 
+use crate::tests::tells;
 use std::alloc::Global;
 use std::test::Fail;
 use wl_link::{InsertError, NewError, Object, ObjectMap};
@@ -174,11 +175,11 @@ fn numbers_are_taken_freed_and_taken_again(rt: HostRuntime) -> Result<(), Fail> 
         Act::With(9, 90),
         Act::All,
     ];
-    assert_eq!(rt;
-        map_log(rt.alloc(), &acts)?.as_str(),
-        "insert at 1: done\ninsert at 3: the number is not free\ninsert at 2: done\ninsert at 3: done\ninsert at 0: the number is not free\nremove 2: 20\ninsert at 2: done\ninsert at 2: the number is not free\nreserve: done\nnext client: 4\nclient new: 4\nserver new: ff000000\ninsert at ff000002: the number is not free\nremove 4: 40\ninsert at 5: done\nclient new: 4\nnot called with 9: none\nall: 1=10 2=21 3=30 4=80 5=70 ff000000=50\n"
-    );
-    Ok(())
+    tells(
+        &rt,
+        map_log(rt.alloc(), &acts),
+        "insert at 1: done\ninsert at 3: the number is not free\ninsert at 2: done\ninsert at 3: done\ninsert at 0: the number is not free\nremove 2: 20\ninsert at 2: done\ninsert at 2: the number is not free\nreserve: done\nnext client: 4\nclient new: 4\nserver new: ff000000\ninsert at ff000002: the number is not free\nremove 4: 40\ninsert at 5: done\nclient new: 4\nnot called with 9: none\nall: 1=10 2=21 3=30 4=80 5=70 ff000000=50\n",
+    )
 }
 
 #[test]
@@ -192,11 +193,11 @@ fn the_client_range_is_walked_before_the_server_range(rt: HostRuntime) -> Result
         Act::Remove(0xFF00_0000),
         Act::All,
     ];
-    assert_eq!(rt;
-        map_log(rt.alloc(), &acts)?.as_str(),
-        "all:\nserver new: ff000000\ninsert at ff000001: done\nclient new: 1\nclient new: 2\nremove ff000000: 1\nall: 1=3 2=4 ff000001=2\n"
-    );
-    Ok(())
+    tells(
+        &rt,
+        map_log(rt.alloc(), &acts),
+        "all:\nserver new: ff000000\ninsert at ff000001: done\nclient new: 1\nclient new: 2\nremove ff000000: 1\nall: 1=3 2=4 ff000001=2\n",
+    )
 }
 
 #[test]
@@ -208,19 +209,19 @@ fn an_object_is_lent_and_written_to(rt: HostRuntime) -> Result<(), Fail> {
         Act::Find(2),
         Act::Find(0),
     ];
-    assert_eq!(rt;
-        map_log(rt.alloc(), &acts)?.as_str(),
-        "client new: 1\ncalled with 1: 7\nfind 1: 8\nfind 2: none\nfind 0: none\n"
-    );
-    Ok(())
+    tells(
+        &rt,
+        map_log(rt.alloc(), &acts),
+        "client new: 1\ncalled with 1: 7\nfind 1: 8\nfind 2: none\nfind 0: none\n",
+    )
 }
 
 #[test]
 fn an_insertion_after_reserve_takes_no_memory(rt: HostRuntime) -> Result<(), Fail> {
     let acts = [Act::ReserveAndNew(1), Act::ReserveAndNew(2)];
-    assert_eq!(rt;
-        map_log(rt.alloc(), &acts)?.as_str(),
-        "reserve and new: 1\nreserve and new: 2\n"
-    );
-    Ok(())
+    tells(
+        &rt,
+        map_log(rt.alloc(), &acts),
+        "reserve and new: 1\nreserve and new: 2\n",
+    )
 }

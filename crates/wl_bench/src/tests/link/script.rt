@@ -1,6 +1,7 @@
 //! The transport by script: what it is given and asked, as a list of calls.
 
 use crate::tests::message::tell_bytes;
+use crate::tests::tells;
 use std::alloc::Global;
 use std::collections::VecDeque;
 use std::test::Fail;
@@ -134,9 +135,9 @@ fn chunk_gives_its_tokens_with_its_first_bytes(rt: HostRuntime) -> Result<(), Fa
         Cue::Receive(5),
         Cue::Receive(5),
     ];
-    assert_eq!(rt;
-        script_log(rt.alloc(), &cues)?.as_str(),
-        "received 2 in 01 02, fd 8, fd 9\n2 arrivals left\nreceived 1 in 03 00 00 00 00\nreceived 0 in \nreceive: os error 3\nreceive: would block\n"
-    );
-    Ok(())
+    tells(
+        &rt,
+        script_log(rt.alloc(), &cues),
+        "received 2 in 01 02, fd 8, fd 9\n2 arrivals left\nreceived 1 in 03 00 00 00 00\nreceived 0 in \nreceive: os error 3\nreceive: would block\n",
+    )
 }

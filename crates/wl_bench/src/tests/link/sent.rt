@@ -4,6 +4,7 @@ use super::run::{Act, link_log, run_log};
 use super::script::Cue;
 use super::transports::{OneByte, Refusing};
 use crate::tests::message::Arg;
+use crate::tests::tells;
 use std::test::Fail;
 use wl_link::DEFAULT_MAX_BUFFER_SIZE;
 use wl_wire::IoFault;
@@ -21,11 +22,11 @@ fn three_messages_in_one_flush(rt: HostRuntime) -> Result<(), Fail> {
         Act::Sent,
         Act::SendSizes,
     ];
-    assert_eq!(rt;
-        run_log(rt.alloc(), &[], None, &acts)?.as_str(),
-        "write: done\nwrite: done\nwrite: done\nflush: done\n1 sends\n2a 00 00 00 00 00 20 00 2a 00 00 00 0e 00 00 00 49 20 6c 69 6b 65 20 74 72 61 69 6e 73 00 00 00 2a 00 00 00 01 00 08 00 2a 00 00 00 02 00 0c 00 03 00 00 00, fd 1, fd 0, fd 2\nsends: 52 + 3\n1 sends recorded\n"
-    );
-    Ok(())
+    tells(
+        &rt,
+        run_log(rt.alloc(), &[], None, &acts),
+        "write: done\nwrite: done\nwrite: done\nflush: done\n1 sends\n2a 00 00 00 00 00 20 00 2a 00 00 00 0e 00 00 00 49 20 6c 69 6b 65 20 74 72 61 69 6e 73 00 00 00 2a 00 00 00 01 00 08 00 2a 00 00 00 02 00 0c 00 03 00 00 00, fd 1, fd 0, fd 2\nsends: 52 + 3\n1 sends recorded\n",
+    )
 }
 
 #[test]
@@ -38,21 +39,21 @@ fn fault_ends_a_flush(rt: HostRuntime) -> Result<(), Fail> {
         Act::TakeSent,
         Act::Sent,
     ];
-    assert_eq!(rt;
-        run_log(rt.alloc(), &cues, Some(DEFAULT_MAX_BUFFER_SIZE), &acts)?.as_str(),
-        "write: done\nflush: os error 5\nwaiting: 0, 0, 7, 0\n1 sends\n01 00 00 00 00\n0 sends\n0 sends recorded\n"
-    );
-    Ok(())
+    tells(
+        &rt,
+        run_log(rt.alloc(), &cues, Some(DEFAULT_MAX_BUFFER_SIZE), &acts),
+        "write: done\nflush: os error 5\nwaiting: 0, 0, 7, 0\n1 sends\n01 00 00 00 00\n0 sends\n0 sends recorded\n",
+    )
 }
 
 #[test]
 fn answer_zero_drops_the_tokens(rt: HostRuntime) -> Result<(), Fail> {
     let acts = [WRITE_WITH_TOKEN, Act::Waiting, Act::Flush, Act::Waiting];
-    assert_eq!(rt;
-        run_log(rt.alloc(), &[Cue::Accept(0)], None, &acts)?.as_str(),
-        "write: done\nwaiting: 0, 0, 12, 1\nflush: done\nwaiting: 0, 0, 12, 0\n0 sends recorded\n"
-    );
-    Ok(())
+    tells(
+        &rt,
+        run_log(rt.alloc(), &[Cue::Accept(0)], None, &acts),
+        "write: done\nwaiting: 0, 0, 12, 1\nflush: done\nwaiting: 0, 0, 12, 0\n0 sends recorded\n",
+    )
 }
 
 #[test]
@@ -63,21 +64,21 @@ fn descriptors_that_have_no_byte_wait(rt: HostRuntime) -> Result<(), Fail> {
         Act::Flush,
         Act::Waiting,
     ];
-    assert_eq!(rt;
-        link_log(rt.alloc(), OneByte, None, &acts)?.as_str(),
-        "write: done\nwaiting: 0, 0, 8, 300\nflush: done\nwaiting: 0, 0, 0, 76\n0 sends recorded\n"
-    );
-    Ok(())
+    tells(
+        &rt,
+        link_log(rt.alloc(), OneByte, None, &acts),
+        "write: done\nwaiting: 0, 0, 8, 300\nflush: done\nwaiting: 0, 0, 0, 76\n0 sends recorded\n",
+    )
 }
 
 #[test]
 fn sixty_descriptors_in_three_sends(rt: HostRuntime) -> Result<(), Fail> {
     let acts = [Act::WriteDescriptors(60), Act::Flush, Act::SendSizes];
-    assert_eq!(rt;
-        run_log(rt.alloc(), &[], None, &acts)?.as_str(),
-        "write: done\nflush: done\nsends: 1 + 28 1 + 28 6 + 4\n3 sends recorded\n"
-    );
-    Ok(())
+    tells(
+        &rt,
+        run_log(rt.alloc(), &[], None, &acts),
+        "write: done\nflush: done\nsends: 1 + 28 1 + 28 6 + 4\n3 sends recorded\n",
+    )
 }
 
 #[test]
@@ -88,11 +89,11 @@ fn eight_sends_of_300_descriptors(rt: HostRuntime) -> Result<(), Fail> {
         Act::SendSizes,
         Act::Waiting,
     ];
-    assert_eq!(rt;
-        run_log(rt.alloc(), &[], None, &acts)?.as_str(),
-        "write: done\nflush: done\nsends: 1 + 28 1 + 28 1 + 28 1 + 28 1 + 28 1 + 28 1 + 28 1 + 28\nwaiting: 0, 0, 0, 76\n8 sends recorded\n"
-    );
-    Ok(())
+    tells(
+        &rt,
+        run_log(rt.alloc(), &[], None, &acts),
+        "write: done\nflush: done\nsends: 1 + 28 1 + 28 1 + 28 1 + 28 1 + 28 1 + 28 1 + 28 1 + 28\nwaiting: 0, 0, 0, 76\n8 sends recorded\n",
+    )
 }
 
 #[test]
@@ -104,9 +105,9 @@ fn refusing_transport_is_answered(rt: HostRuntime) -> Result<(), Fail> {
         Act::Write((42, 0), &[Arg::Ones(4084)]),
         Act::Waiting,
     ];
-    assert_eq!(rt;
-        link_log(rt.alloc(), Refusing, Some(0), &acts)?.as_str(),
-        "write: done\nflush: broken pipe\nreceive: broken pipe\nwrite: broken pipe\nwaiting: 0, 0, 12, 1\n0 sends recorded\n"
-    );
-    Ok(())
+    tells(
+        &rt,
+        link_log(rt.alloc(), Refusing, Some(0), &acts),
+        "write: done\nflush: broken pipe\nreceive: broken pipe\nwrite: broken pipe\nwaiting: 0, 0, 12, 1\n0 sends recorded\n",
+    )
 }

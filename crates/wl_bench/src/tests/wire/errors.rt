@@ -1,5 +1,7 @@
 //! The texts of errors.
 
+use super::texts;
+use crate::tests::tells;
 use std::alloc::{AllocError, Global};
 use std::test::Fail;
 use wl_wire::{IoFault, MessageParseError, MessageWriteError, ProtocolError, Text};
@@ -13,63 +15,85 @@ fn protocol_error(alloc: Global, message: &str) -> Result<ProtocolError, AllocEr
     })
 }
 
+/// The text of the error of this message.
+fn protocol_error_log(alloc: Global, message: &str) -> Result<String, Fail> {
+    let error = protocol_error(alloc, message)?;
+    Ok(format!(in alloc; "{error}")?)
+}
+
 #[test]
 fn protocol_errors_end_in_their_message(rt: HostRuntime) -> Result<(), Fail> {
-    let alloc = rt.alloc();
-    let told = protocol_error(alloc, "no such request")?;
-    let text = format!(in alloc; "{told}")?;
-    assert_eq!(rt;
-        text.as_str(),
-        "Protocol error 1 on object quad@3: no such request"
-    );
-    let silent = protocol_error(alloc, "")?;
-    let text = format!(in alloc; "{silent}")?;
-    assert_eq!(rt; text.as_str(), "Protocol error 1 on object quad@3");
-    assert!(rt; told != silent);
-    assert_eq!(rt; told.message.into_string().as_str(), "no such request");
+    tells(
+        &rt,
+        protocol_error_log(rt.alloc(), "no such request"),
+        "Protocol error 1 on object quad@3: no such request",
+    )?;
+    tells(
+        &rt,
+        protocol_error_log(rt.alloc(), ""),
+        "Protocol error 1 on object quad@3",
+    )
+}
+
+fn are_equal(alloc: Global, one: &str, other: &str) -> Result<bool, Fail> {
+    let one = protocol_error(alloc, one)?;
+    let other = protocol_error(alloc, other)?;
+    Ok(one == other)
+}
+
+#[test]
+fn protocol_errors_of_other_messages_differ(rt: HostRuntime) -> Result<(), Fail> {
+    assert!(rt; !are_equal(rt.alloc(), "no such request", "")?);
     Ok(())
+}
+
+/// The message that the error of this one gives back.
+fn message_of(alloc: Global, message: &str) -> Result<String, Fail> {
+    Ok(protocol_error(alloc, message)?.message.into_string())
+}
+
+#[test]
+fn protocol_errors_give_their_message(rt: HostRuntime) -> Result<(), Fail> {
+    tells(
+        &rt,
+        message_of(rt.alloc(), "no such request"),
+        "no such request",
+    )
 }
 
 #[test]
 fn refusals_of_messages_have_texts(rt: HostRuntime) -> Result<(), Fail> {
-    let alloc = rt.alloc();
-    let small = format!(in alloc; "{}", MessageWriteError::BufferTooSmall)?;
-    assert_eq!(rt;
-        small.as_str(),
-        "The provided buffer is too small to hold message content."
-    );
-    for (error, text) in [
-        (
-            MessageParseError::MissingFD,
-            "The message references a FD but the buffer FD is empty.",
-        ),
-        (
-            MessageParseError::MissingData,
-            "More data is needed to deserialize the message",
-        ),
-        (
-            MessageParseError::Malformed,
-            "The message is malformed and cannot be parsed",
-        ),
-    ] {
-        assert_eq!(rt; format!(in alloc; "{error}")?.as_str(), text);
-    }
-    Ok(())
+    tells(
+        &rt,
+        texts(rt.alloc(), &[MessageWriteError::BufferTooSmall]),
+        "The provided buffer is too small to hold message content.\n",
+    )?;
+    let errors = [
+        MessageParseError::MissingFD,
+        MessageParseError::MissingData,
+        MessageParseError::Malformed,
+    ];
+    tells(
+        &rt,
+        texts(rt.alloc(), &errors),
+        "The message references a FD but the buffer FD is empty.\nMore data is needed to deserialize the message\nThe message is malformed and cannot be parsed\n",
+    )
 }
 
 #[test]
 fn faults_have_texts(rt: HostRuntime) -> Result<(), Fail> {
-    let alloc = rt.alloc();
-    for (fault, text) in [
-        (IoFault::WouldBlock, "would block"),
-        (IoFault::Pipe, "broken pipe"),
-        (IoFault::TooBig, "message too big"),
-        (IoFault::Proto, "protocol fault"),
-        (IoFault::InvalidInput, "invalid input"),
-        (IoFault::OutOfMemory, "out of memory"),
-        (IoFault::Other(-5), "os error -5"),
-    ] {
-        assert_eq!(rt; format!(in alloc; "{fault}")?.as_str(), text);
-    }
-    Ok(())
+    let faults = [
+        IoFault::WouldBlock,
+        IoFault::Pipe,
+        IoFault::TooBig,
+        IoFault::Proto,
+        IoFault::InvalidInput,
+        IoFault::OutOfMemory,
+        IoFault::Other(-5),
+    ];
+    tells(
+        &rt,
+        texts(rt.alloc(), &faults),
+        "would block\nbroken pipe\nmessage too big\nprotocol fault\ninvalid input\nout of memory\nos error -5\n",
+    )
 }

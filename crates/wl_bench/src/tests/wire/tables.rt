@@ -1,46 +1,41 @@
 //! The table of interfaces: which lists it takes, and what it tells of each interface.
 
 use super::OBJECT;
-use crate::tests::quad::{PAIR, QUAD, quad_table};
+use crate::tests::quad::{QUAD, quad_table};
+use crate::tests::tells;
 use std::alloc::{AllocError, Global};
+use std::process::Abort;
 use std::test::Fail;
 use wl_wire::{
     ANONYMOUS_INTERFACE, ArgumentType, Interface, InterfaceId, MessageDesc, Protocol, TableError,
     WL_CALLBACK_INTERFACE, WL_DISPLAY_INTERFACE, same_interface, same_interface_or_anonymous,
 };
 
-/// A message of a list as plain data.
+/// A message of a list as plain data: its name, its signature, its child interface and its argument interfaces.
 #[derive(Clone, Copy)]
-struct Row {
-    name: &'static str,
-    signature: &'static [ArgumentType],
-    child: Option<InterfaceId>,
-    objects: &'static [InterfaceId],
-}
-
-/// A message without arguments.
-fn bare(name: &'static str) -> Row {
-    Row {
-        name,
-        signature: &[],
-        child: None,
-        objects: &[],
-    }
-}
+struct Row(
+    &'static str,
+    &'static [ArgumentType],
+    Option<InterfaceId>,
+    &'static [InterfaceId],
+);
 
 /// An interface of a list as plain data: its name, its requests and its events.
 #[derive(Clone, Copy)]
-struct Plan<'a>(&'static str, &'a [Row], &'a [Row]);
+struct Plan(&'static str, &'static [Row], &'static [Row]);
 
 /// The message of the row.
-fn described(alloc: Global, row: &Row) -> Result<MessageDesc, AllocError> {
+fn described(
+    alloc: Global,
+    Row(name, signature, child, objects): Row,
+) -> Result<MessageDesc, AllocError> {
     Ok(MessageDesc {
-        name: String::from_str(alloc, row.name)?,
-        signature: Vec::from_slice(alloc, row.signature)?,
+        name: String::from_str(alloc, name)?,
+        signature: Vec::from_slice(alloc, signature)?,
         since: 1,
         is_destructor: false,
-        child_interface: row.child,
-        arg_interfaces: Vec::from_slice(alloc, row.objects)?,
+        child_interface: child,
+        arg_interfaces: Vec::from_slice(alloc, objects)?,
     })
 }
 
@@ -51,7 +46,7 @@ fn push_messages(
     rows: &[Row],
 ) -> Result<(), AllocError> {
     for row in rows {
-        messages.push(described(alloc, row)?)?;
+        messages.push(described(alloc, *row)?)?;
     }
     Ok(())
 }
@@ -66,26 +61,33 @@ fn named(alloc: Global, name: &str) -> Result<Interface, AllocError> {
     })
 }
 
-/// Puts the interface behind the others.
-fn push_interface(
-    alloc: Global,
-    interfaces: &mut Vec<Interface>,
-    Plan(name, requests, events): Plan<'_>,
-) -> Result<(), AllocError> {
+/// The interface of the plan.
+fn planned(alloc: Global, Plan(name, requests, events): Plan) -> Result<Interface, AllocError> {
     let mut interface = named(alloc, name)?;
     push_messages(alloc, &mut interface.requests, requests)?;
     push_messages(alloc, &mut interface.events, events)?;
-    interfaces.push(interface)?;
-    Ok(())
+    Ok(interface)
 }
 
-/// The fault of the list of these interfaces.
-fn fault_of(alloc: Global, plans: &[Plan<'_>]) -> Result<Option<TableError>, Fail> {
+/// The list of these interfaces.
+fn listed(alloc: Global, plans: &[Plan]) -> Result<Vec<Interface>, Fail> {
     let mut interfaces = Vec::new(alloc);
     for plan in plans {
-        push_interface(alloc, &mut interfaces, *plan)?;
+        interfaces.push(planned(alloc, *plan)?)?;
     }
-    Ok(Protocol::new(alloc, interfaces).err())
+    Ok(interfaces)
+}
+
+/// Fails where the fault of the list of these interfaces is another.
+fn faults(
+    rt: &impl Abort,
+    alloc: Global,
+    plans: &[Plan],
+    fault: Option<TableError>,
+) -> Result<(), Fail> {
+    let interfaces = listed(alloc, plans)?;
+    assert_eq!(rt; Protocol::new(alloc, interfaces).err(), fault);
+    Ok(())
 }
 
 /// Tells the names of the first interfaces, so many, by their ids.
@@ -96,133 +98,126 @@ fn tell_names(log: &mut String, table: &Protocol, count: usize) -> Result<(), Fa
     Ok(())
 }
 
-/// Tells the version of an interface, how many requests and events it has, and how many of the events end an object.
-fn tell_interface(log: &mut String, table: &Protocol, id: InterfaceId) -> Result<(), Fail> {
-    let written = match table.get(id) {
-        Some(interface) => {
-            let requests = interface.requests.len();
-            let events = interface.events.len();
-            let ends = interface
-                .events
-                .iter()
-                .filter(|event| event.is_destructor)
-                .count();
-            writeln!(
-                log,
-                "{}: version {}, {requests} requests, {events} events, {ends} destructors",
-                interface.name.as_str(),
-                interface.version
-            )
-        }
-        None => writeln!(log, "none"),
-    };
-    Ok(written?)
+/// Whether each message ends its object.
+fn all_destructors(messages: &[MessageDesc]) -> bool {
+    messages.iter().all(|message| message.is_destructor)
 }
 
-/// What the table of `quad` and `pair` tells.
+/// Tells the version of an interface, how many requests and events it has, and whether each event ends its object.
+fn tell_interface(log: &mut String, table: &Protocol, id: InterfaceId) -> Result<(), Fail> {
+    let Some(interface) = table.get(id) else {
+        return Ok(writeln!(log, "none")?);
+    };
+    let [requests, events] = [interface.requests.len(), interface.events.len()];
+    let version = interface.version;
+    let ends = all_destructors(&interface.events);
+    Ok(writeln!(log, "{version}, {requests}, {events}, {ends}")?)
+}
+
+/// Tells of the table of `quad` and `pair`, behind which no interface has a name.
+fn tell_table(log: &mut String, table: &Protocol) -> Result<(), Fail> {
+    tell_names(log, table, 7)?;
+    for id in [WL_CALLBACK_INTERFACE, QUAD, InterfaceId(6)] {
+        tell_interface(log, table, id)?;
+    }
+    Ok(())
+}
+
 fn table_log(alloc: Global) -> Result<String, Fail> {
     let mut log = String::new(alloc);
-    let table = quad_table(alloc)?;
-    tell_names(&mut log, &table, 7)?;
-    for id in [WL_CALLBACK_INTERFACE, QUAD, InterfaceId(6)] {
-        tell_interface(&mut log, &table, id)?;
-    }
+    tell_table(&mut log, &quad_table(alloc)?)?;
     Ok(log)
 }
 
 #[test]
 fn fixed_interfaces_come_first(rt: HostRuntime) -> Result<(), Fail> {
-    assert_eq!(rt; (QUAD, PAIR), (InterfaceId(4), InterfaceId(5)));
-    assert_eq!(rt;
-        table_log(rt.alloc())?.as_str(),
-        "0 <anonymous>\n1 wl_display\n2 wl_registry\n3 wl_callback\n4 quad\n5 pair\n6 <unknown>\nwl_callback: version 1, 0 requests, 1 events, 1 destructors\nquad: version 3, 5 requests, 3 events, 1 destructors\nnone\n"
-    );
-    Ok(())
+    tells(
+        &rt,
+        table_log(rt.alloc()),
+        "0 <anonymous>\n1 wl_display\n2 wl_registry\n3 wl_callback\n4 quad\n5 pair\n6 <unknown>\n1, 0, 1, true\n3, 5, 3, false\nnone\n",
+    )
+}
+
+static LINKS: [Row; 1] = [Row("link", &[OBJECT, OBJECT], None, &[QUAD, QUAD])];
+
+static GONE: [Row; 1] = [Row("gone", &[], None, &[])];
+
+/// An interface that any list may have at its front.
+fn linked() -> Plan {
+    Plan("quad", &LINKS, &GONE)
 }
 
 #[test]
 fn names_are_taken_once(rt: HostRuntime) -> Result<(), Fail> {
-    let quad = Plan("quad", &[bare("destroy")], &[bare("gone")]);
-    assert_eq!(rt;
-        fault_of(rt.alloc(), &[quad, quad])?,
-        Some(TableError::DuplicateName(1))
-    );
-    assert_eq!(rt;
-        fault_of(rt.alloc(), &[Plan("wl_display", &[], &[])])?,
-        Some(TableError::DuplicateName(0))
-    );
-    Ok(())
+    let alloc = rt.alloc();
+    let twice = [linked(), linked()];
+    faults(&rt, alloc, &twice, Some(TableError::DuplicateName(1)))?;
+    let fixed = [Plan("wl_display", &[], &[])];
+    faults(&rt, alloc, &fixed, Some(TableError::DuplicateName(0)))
 }
 
-/// The request of a list of one interface, `a`, with this signature and child, and no argument interface.
-fn request(signature: &'static [ArgumentType], child: Option<usize>) -> Row {
-    Row {
-        name: "r",
-        signature,
-        child: match child {
-            Some(id) => Some(InterfaceId(id)),
-            None => None,
-        },
-        objects: &[],
-    }
-}
+static TWO_NEW_IDS: [Row; 1] = [Row("r", &[ArgumentType::NewId, ArgumentType::NewId], None, &[])];
+
+static CHILD_OUTSIDE: [Row; 1] = [Row("r", &[ArgumentType::NewId], Some(InterfaceId(5)), &[])];
+
+static NO_CHILD: [Row; 1] = [Row("r", &[ArgumentType::NewId, OBJECT], None, &[])];
 
 #[test]
 fn first_fault_is_answered(rt: HostRuntime) -> Result<(), Fail> {
-    for (request, fault) in [
-        (
-            request(&[ArgumentType::NewId, ArgumentType::NewId], None),
-            Some(TableError::TooManyNewIds(0)),
-        ),
-        (
-            request(&[ArgumentType::NewId], Some(5)),
-            Some(TableError::UnknownInterface(0)),
-        ),
-        (request(&[ArgumentType::NewId], Some(4)), None),
-        (request(&[], Some(4)), None),
-        (
-            request(&[ArgumentType::NewId, OBJECT], None),
-            Some(TableError::MissingChild(0)),
-        ),
-    ] {
-        assert_eq!(rt; fault_of(rt.alloc(), &[Plan("a", &[request], &[])])?, fault);
-    }
-    Ok(())
+    let alloc = rt.alloc();
+    let new_ids = [Plan("a", &TWO_NEW_IDS, &[])];
+    faults(&rt, alloc, &new_ids, Some(TableError::TooManyNewIds(0)))?;
+    let outside = [Plan("a", &CHILD_OUTSIDE, &[])];
+    faults(&rt, alloc, &outside, Some(TableError::UnknownInterface(0)))?;
+    let both = [Plan("a", &NO_CHILD, &[])];
+    faults(&rt, alloc, &both, Some(TableError::MissingChild(0)))
 }
+
+static OWN_CHILD: [Row; 1] = [Row("r", &[ArgumentType::NewId], Some(InterfaceId(4)), &[])];
+
+static CHILD_OF_NOTHING: [Row; 1] = [Row("r", &[], Some(InterfaceId(4)), &[])];
+
+#[test]
+fn interface_may_be_its_own_child(rt: HostRuntime) -> Result<(), Fail> {
+    let alloc = rt.alloc();
+    faults(&rt, alloc, &[Plan("a", &OWN_CHILD, &[])], None)?;
+    faults(&rt, alloc, &[Plan("a", &CHILD_OF_NOTHING, &[])], None)
+}
+
+static NO_OBJECT: [Row; 1] = [Row("e", &[OBJECT], None, &[])];
+
+static ZERO: [Row; 1] = [Row("\0", &[], None, &[])];
 
 #[test]
 fn earlier_interface_goes_first(rt: HostRuntime) -> Result<(), Fail> {
-    let event = Row {
-        name: "e",
-        signature: &[OBJECT],
-        child: None,
-        objects: &[],
-    };
-    let zero = Plan("\0", &[], &[]);
-    assert_eq!(rt;
-        fault_of(rt.alloc(), &[Plan("a", &[], &[event]), zero])?,
-        Some(TableError::ArgInterfaces(0))
-    );
-    let link = Row {
-        name: "link",
-        signature: &[OBJECT, OBJECT],
-        child: None,
-        objects: &[QUAD, QUAD],
-    };
-    let quad = Plan("quad", &[link], &[bare("gone")]);
-    assert_eq!(rt;
-        fault_of(rt.alloc(), &[quad, Plan("b", &[bare("\0")], &[])])?,
-        Some(TableError::ZeroInName(1))
-    );
-    Ok(())
+    let alloc = rt.alloc();
+    let objects_first = [Plan("a", &[], &NO_OBJECT), Plan("\0", &[], &[])];
+    faults(
+        &rt,
+        alloc,
+        &objects_first,
+        Some(TableError::ArgInterfaces(0)),
+    )?;
+    let zero_alone = [linked(), Plan("b", &ZERO, &[])];
+    faults(&rt, alloc, &zero_alone, Some(TableError::ZeroInName(1)))
 }
 
 #[test]
 fn anonymous_is_any_interface(rt: HostRuntime) {
     let [any, display] = [ANONYMOUS_INTERFACE, WL_DISPLAY_INTERFACE];
-    assert!(rt; same_interface(display, display));
-    assert!(rt; !same_interface(any, display));
-    assert!(rt; same_interface_or_anonymous(any, display));
-    assert!(rt; same_interface_or_anonymous(display, display));
-    assert!(rt; !same_interface_or_anonymous(display, any));
+    assert_eq!(rt;
+        [
+            same_interface(display, display),
+            same_interface(any, display)
+        ],
+        [true, false]
+    );
+    assert_eq!(rt;
+        [
+            same_interface_or_anonymous(any, display),
+            same_interface_or_anonymous(display, display),
+            same_interface_or_anonymous(display, any),
+        ],
+        [true, true, false]
+    );
 }

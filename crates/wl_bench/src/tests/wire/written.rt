@@ -1,7 +1,8 @@
 //! The worked messages of the protocol, byte by byte, and read again.
 
-use super::{OBJECT, STR, queue};
-use crate::tests::message::{Arg, message, tell_bytes, tell_message};
+use super::{OBJECT, Parsed, STR, queue, tell_parsed};
+use crate::tests::message::{Arg, message, tell_bytes};
+use crate::tests::tells;
 use std::alloc::Global;
 use std::test::Fail;
 use wl_wire::{
@@ -37,6 +38,18 @@ fn tell_written(log: &mut String, message: &Message<u32, Token>, room: usize) ->
     tell_bytes(log, &bytes, &tokens)
 }
 
+fn is_parsed(parsed: &Parsed<'_>, message: &Message<u32, Token>) -> bool {
+    match parsed {
+        Ok((again, _)) => *again == *message,
+        Err(_) => false,
+    }
+}
+
+fn tell_left(log: &mut String, tokens: usize, same: bool) -> Result<(), Fail> {
+    let told = if same { "the same" } else { "another" };
+    Ok(write!(log, "; {tokens} tokens left; {told}")?)
+}
+
 /// Tells the message that the bytes and tokens are, what follows it, and whether it is that one.
 fn tell_read(
     log: &mut String,
@@ -46,18 +59,9 @@ fn tell_read(
 ) -> Result<(), Fail> {
     let alloc = *log.allocator();
     let mut waiting = queue(alloc, tokens)?;
-    let (again, rest) = parse_message(alloc, bytes, signature, &mut waiting)?;
-    tell_message(log, &again)?;
-    write!(
-        log,
-        "\n{} bytes and {} tokens left",
-        rest.len(),
-        waiting.len()
-    )?;
-    if again == *message {
-        write!(log, ", the same")?;
-    }
-    Ok(())
+    let parsed = parse_message(alloc, bytes, signature, &mut waiting);
+    tell_parsed(log, &parsed)?;
+    tell_left(log, waiting.len(), is_parsed(&parsed, message))
 }
 
 /// Writes the message and tells how it is read.
@@ -101,23 +105,21 @@ fn again_log(
 
 #[test]
 fn first_sync_bytes(rt: HostRuntime) -> Result<(), Fail> {
-    let log = written_log(rt.alloc(), (1, 0), &[Arg::NewId(2)], 12)?;
-    assert_eq!(rt;
-        log.as_str(),
-        "size 12\n01 00 00 00 00 00 0c 00 02 00 00 00"
-    );
-    Ok(())
+    tells(
+        &rt,
+        written_log(rt.alloc(), (1, 0), &[Arg::NewId(2)], 12),
+        "size 12\n01 00 00 00 00 00 0c 00 02 00 00 00",
+    )
 }
 
 #[test]
 fn two_objects_bytes(rt: HostRuntime) -> Result<(), Fail> {
     let args = [Arg::Object(0), Arg::Object(3)];
-    let log = written_log(rt.alloc(), (3, 3), &args, 100)?;
-    assert_eq!(rt;
-        log.as_str(),
-        "size 16\n03 00 00 00 03 00 10 00 00 00 00 00 03 00 00 00"
-    );
-    Ok(())
+    tells(
+        &rt,
+        written_log(rt.alloc(), (3, 3), &args, 100),
+        "size 16\n03 00 00 00 03 00 10 00 00 00 00 00 03 00 00 00",
+    )
 }
 
 #[test]
@@ -140,55 +142,52 @@ fn train_message_and_back(rt: HostRuntime) -> Result<(), Fail> {
         ArgumentType::NewId,
         ArgumentType::Int,
     ];
-    let log = again_log(rt.alloc(), (42, 7), &args, 64, &signature)?;
-    assert_eq!(rt;
-        log.as_str(),
-        "size 64\n42, 7: uint 3: fixed -89: string I like trains!: array 01 02 03 04 05 06 07 08 09: object 88: new_id 56: int -25\n0 bytes and 0 tokens left, the same"
-    );
-    Ok(())
+    tells(
+        &rt,
+        again_log(rt.alloc(), (42, 7), &args, 64, &signature),
+        "size 64\n42, 7: uint 3: fixed -89: string I like trains!: array 01 02 03 04 05 06 07 08 09: object 88: new_id 56: int -25; 0 bytes; 0 tokens left; the same",
+    )
 }
 
 #[test]
 fn bind_written_and_read(rt: HostRuntime) -> Result<(), Fail> {
     let args = [Arg::Uint(18), Arg::Str(b"wl_shell"), Arg::Uint(1)];
     let signature = [ArgumentType::Uint, STR, ArgumentType::Uint];
-    let log = again_log(rt.alloc(), (2, 0), &args, 32, &signature)?;
-    assert_eq!(rt;
-        log.as_str(),
-        "size 32\n2, 0: uint 18: string wl_shell: uint 1\n0 bytes and 0 tokens left, the same"
-    );
-    Ok(())
+    tells(
+        &rt,
+        again_log(rt.alloc(), (2, 0), &args, 32, &signature),
+        "size 32\n2, 0: uint 18: string wl_shell: uint 1; 0 bytes; 0 tokens left; the same",
+    )
 }
 
 #[test]
 fn shell_bind_bytes(rt: HostRuntime) -> Result<(), Fail> {
     let args = [Arg::Uint(18), Arg::Str(b"wl_shell"), Arg::Uint(1)];
-    let log = written_log(rt.alloc(), (2, 0), &args, 40)?;
-    assert_eq!(rt;
-        log.as_str(),
-        "size 32\n02 00 00 00 00 00 20 00 12 00 00 00 09 00 00 00 77 6c 5f 73 68 65 6c 6c 00 00 00 00 01 00 00 00"
-    );
-    Ok(())
+    tells(
+        &rt,
+        written_log(rt.alloc(), (2, 0), &args, 40),
+        "size 32\n02 00 00 00 00 00 20 00 12 00 00 00 09 00 00 00 77 6c 5f 73 68 65 6c 6c 00 00 00 00 01 00 00 00",
+    )
 }
 
 #[test]
 fn tokens_go_beside_the_bytes(rt: HostRuntime) -> Result<(), Fail> {
-    let args = [Arg::Fd(1), Arg::Fd(0)];
-    let log = written_log(rt.alloc(), (42, 1), &args, 8)?;
-    assert_eq!(rt; log.as_str(), "size 8\n2a 00 00 00 01 00 08 00, fd 1, fd 0");
-    Ok(())
+    tells(
+        &rt,
+        written_log(rt.alloc(), (42, 1), &[Arg::Fd(1), Arg::Fd(0)], 8),
+        "size 8\n2a 00 00 00 01 00 08 00, fd 1, fd 0",
+    )
 }
 
 #[test]
 fn tokens_are_read_beside_the_bytes(rt: HostRuntime) -> Result<(), Fail> {
     let args = [Arg::Fd(1), Arg::Fd(0)];
     let signature = [ArgumentType::Fd, ArgumentType::Fd];
-    let log = again_log(rt.alloc(), (42, 1), &args, 8, &signature)?;
-    assert_eq!(rt;
-        log.as_str(),
-        "size 8\n42, 1: fd 1: fd 0\n0 bytes and 0 tokens left, the same"
-    );
-    Ok(())
+    tells(
+        &rt,
+        again_log(rt.alloc(), (42, 1), &args, 8, &signature),
+        "size 8\n42, 1: fd 1: fd 0; 0 bytes; 0 tokens left; the same",
+    )
 }
 
 /// What the writer answers for a buffer of so many bytes.
@@ -211,33 +210,41 @@ fn tell_answer(log: &mut String, message: &Message<u32, Token>, room: usize) -> 
     Ok(written?)
 }
 
-/// The size of a message of one array, and what the writer answers for buffers of so many bytes.
+/// Tells the size of the message, and what the writer answers for buffers of so many bytes.
+fn tell_answers(
+    log: &mut String,
+    message: &Message<u32, Token>,
+    rooms: &[usize],
+) -> Result<(), Fail> {
+    tell_size(log, message)?;
+    for room in rooms {
+        tell_answer(log, message, *room)?;
+    }
+    Ok(())
+}
+
+/// What `tell_answers` tells of a message of one array of so many bytes.
 fn array_log(alloc: Global, len: usize, rooms: &[usize]) -> Result<String, Fail> {
     let mut log = String::new(alloc);
     let message = message(alloc, (1, 1), &[Arg::Ones(len)])?;
-    tell_size(&mut log, &message)?;
-    for room in rooms {
-        tell_answer(&mut log, &message, *room)?;
-    }
+    tell_answers(&mut log, &message, rooms)?;
     Ok(log)
 }
 
 #[test]
 fn longest_message(rt: HostRuntime) -> Result<(), Fail> {
-    let log = array_log(rt.alloc(), 65520, &[65531, 65532])?;
-    assert_eq!(rt;
-        log.as_str(),
-        "size 65532\n65531: The provided buffer is too small to hold message content.\n65532 hold 65532\n"
-    );
-    Ok(())
+    tells(
+        &rt,
+        array_log(rt.alloc(), 65520, &[65531, 65532]),
+        "size 65532\n65531: The provided buffer is too small to hold message content.\n65532 hold 65532\n",
+    )
 }
 
 #[test]
 fn longer_message_is_refused(rt: HostRuntime) -> Result<(), Fail> {
-    let log = array_log(rt.alloc(), 65521, &[65532])?;
-    assert_eq!(rt;
-        log.as_str(),
-        "no size\n65532: The message is longer than 65535 bytes.\n"
-    );
-    Ok(())
+    tells(
+        &rt,
+        array_log(rt.alloc(), 65521, &[65532]),
+        "no size\n65532: The message is longer than 65535 bytes.\n",
+    )
 }
