@@ -64,9 +64,16 @@ pub fn message(
     Ok(message)
 }
 
-fn tell_string(log: &mut String, text: &CString) -> Result<(), Fail> {
+fn tell_text(log: &mut String, text: &CString) -> Result<(), Fail> {
     let text = text.to_string_lossy(*log.allocator())?;
     Ok(write!(log, "string {}", text.as_str())?)
+}
+
+fn tell_string(log: &mut String, text: Option<&CString>) -> Result<(), Fail> {
+    match text {
+        Some(text) => tell_text(log, text),
+        None => Ok(write!(log, "null string")?),
+    }
 }
 
 fn tell_hex(log: &mut String, bytes: &[u8]) -> Result<(), Fail> {
@@ -79,23 +86,19 @@ fn tell_array(log: &mut String, bytes: &[u8]) -> Result<(), Fail> {
     tell_hex(log, bytes)
 }
 
-fn tell_number(log: &mut String, name: &str, value: i64) -> Result<(), Fail> {
-    Ok(write!(log, "{name} {value}")?)
-}
-
 /// Tells an argument: the name that its type has in a protocol, and its value.
 fn tell_argument(log: &mut String, arg: &Argument<u32, Token>) -> Result<(), Fail> {
-    match arg {
-        Argument::Int(value) => tell_number(log, "int", i64::from(*value)),
-        Argument::Uint(value) => tell_number(log, "uint", i64::from(*value)),
-        Argument::Fixed(value) => tell_number(log, "fixed", i64::from(*value)),
-        Argument::Str(None) => Ok(write!(log, "null string")?),
-        Argument::Str(Some(text)) => tell_string(log, text),
-        Argument::Object(number) => tell_number(log, "object", i64::from(*number)),
-        Argument::NewId(number) => tell_number(log, "new_id", i64::from(*number)),
-        Argument::Array(bytes) => tell_array(log, bytes.as_slice()),
-        Argument::Fd(token) => tell_number(log, "fd", i64::from(token.0)),
-    }
+    let (name, value) = match arg {
+        Argument::Int(value) => ("int", i64::from(*value)),
+        Argument::Uint(value) => ("uint", i64::from(*value)),
+        Argument::Fixed(value) => ("fixed", i64::from(*value)),
+        Argument::Str(text) => return tell_string(log, text.as_ref()),
+        Argument::Object(number) => ("object", i64::from(*number)),
+        Argument::NewId(number) => ("new_id", i64::from(*number)),
+        Argument::Array(bytes) => return tell_array(log, bytes.as_slice()),
+        Argument::Fd(token) => ("fd", i64::from(token.0)),
+    };
+    Ok(write!(log, "{name} {value}")?)
 }
 
 /// Tells a message: its sender, its opcode, and behind a colon each its arguments.

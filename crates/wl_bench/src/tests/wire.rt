@@ -4,6 +4,7 @@ mod arguments;
 mod descriptors;
 mod enums;
 mod errors;
+mod example;
 mod refused;
 mod strings;
 mod tables;

@@ -1,6 +1,6 @@
 //! How far the outgoing storage grows for a message.
 
-use super::run::{Act, link_log, run_log};
+use super::run::{Act, Fact, link_log, run_log};
 use super::transports::Refusing;
 use crate::tests::message::Arg;
 use crate::tests::tells;
@@ -14,7 +14,11 @@ const WRITE_4100: Act = Act::Write((42, 0), &[Arg::Ones(4088)]);
 
 #[test]
 fn storage_grows_without_a_limit(rt: HostRuntime) -> Result<(), Fail> {
-    let acts = [WRITE_4100, Act::Storage, Act::Waiting];
+    let acts = [
+        WRITE_4100,
+        Act::Tell(Fact::Storage),
+        Act::Tell(Fact::Waiting),
+    ];
     tells(
         &rt,
         run_log(rt.alloc(), &[], None, &acts),
@@ -24,7 +28,11 @@ fn storage_grows_without_a_limit(rt: HostRuntime) -> Result<(), Fail> {
 
 #[test]
 fn message_of_the_limit_fits(rt: HostRuntime) -> Result<(), Fail> {
-    let acts = [WRITE_4096, Act::Waiting, Act::Storage];
+    let acts = [
+        WRITE_4096,
+        Act::Tell(Fact::Waiting),
+        Act::Tell(Fact::Storage),
+    ];
     tells(
         &rt,
         run_log(rt.alloc(), &[], Some(4096), &acts),
@@ -34,7 +42,11 @@ fn message_of_the_limit_fits(rt: HostRuntime) -> Result<(), Fail> {
 
 #[test]
 fn limit_bounds_a_message(rt: HostRuntime) -> Result<(), Fail> {
-    let acts = [WRITE_4100, Act::Waiting, Act::Storage];
+    let acts = [
+        WRITE_4100,
+        Act::Tell(Fact::Waiting),
+        Act::Tell(Fact::Storage),
+    ];
     tells(
         &rt,
         run_log(rt.alloc(), &[], Some(4096), &acts),
@@ -45,17 +57,17 @@ fn limit_bounds_a_message(rt: HostRuntime) -> Result<(), Fail> {
 #[test]
 fn limits_are_rounded_up(rt: HostRuntime) -> Result<(), Fail> {
     let acts = [
-        Act::Limit,
+        Act::Tell(Fact::Limit),
         Act::SetLimit(Some(4096)),
-        Act::Limit,
+        Act::Tell(Fact::Limit),
         Act::SetLimit(Some(5000)),
-        Act::Limit,
+        Act::Tell(Fact::Limit),
         Act::SetLimit(Some(1 << 63)),
-        Act::Limit,
+        Act::Tell(Fact::Limit),
         Act::SetLimit(Some((1 << 63) + 1)),
-        Act::Limit,
+        Act::Tell(Fact::Limit),
         Act::SetLimit(None),
-        Act::Limit,
+        Act::Tell(Fact::Limit),
     ];
     tells(
         &rt,

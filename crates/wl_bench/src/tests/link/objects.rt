@@ -117,11 +117,21 @@ fn with(log: &mut String, map: &mut ObjectMap<u32>, number: u32, value: u32) -> 
     tell_value(log, call, number, before)
 }
 
+fn tell_object(log: &mut String, number: u32, object: &Object<u32>) -> Result<(), Fail> {
+    Ok(write!(log, " {number:x}={}", object.value)?)
+}
+
+fn tell_objects(log: &mut String, map: &ObjectMap<u32>) -> Result<(), Fail> {
+    for (number, object) in map.all_objects() {
+        tell_object(log, number, object)?;
+    }
+    Ok(())
+}
+
+/// Tells all objects, each number with its value.
 fn all(log: &mut String, map: &ObjectMap<u32>) -> Result<(), Fail> {
     write!(log, "all:")?;
-    for (number, object) in map.all_objects() {
-        write!(log, " {number:x}={}", object.value)?;
-    }
+    tell_objects(log, map)?;
     Ok(writeln!(log, "")?)
 }
 

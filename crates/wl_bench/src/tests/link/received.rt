@@ -1,6 +1,6 @@
 //! Messages that are read from what arrived.
 
-use super::run::{Act, run_log};
+use super::run::{Act, Fact, run_log};
 use super::script::Cue;
 use crate::tests::tells;
 use std::test::Fail;
@@ -20,11 +20,11 @@ static THREE_TOKENS: [Token; 3] = [Token(1), Token(0), Token(2)];
 fn three_messages_in_one_chunk(rt: HostRuntime) -> Result<(), Fail> {
     let acts = [
         Act::Fill,
-        Act::Waiting,
+        Act::Tell(Fact::Waiting),
         Act::Read,
         Act::Read,
         Act::Read,
-        Act::Waiting,
+        Act::Tell(Fact::Waiting),
     ];
     tells(
         &rt,
@@ -41,7 +41,7 @@ fn three_messages_in_one_chunk(rt: HostRuntime) -> Result<(), Fail> {
 #[test]
 fn three_messages_byte_by_byte(rt: HostRuntime) -> Result<(), Fail> {
     let cues = [Cue::ArriveSingly(&THREE_MESSAGES, &THREE_TOKENS)];
-    let acts = [Act::FillAndRead(52), Act::Waiting, Act::Fill];
+    let acts = [Act::FillAndRead(52), Act::Tell(Fact::Waiting), Act::Fill];
     tells(
         &rt,
         run_log(rt.alloc(), &cues, None, &acts),
@@ -58,7 +58,12 @@ fn more_than_28_tokens_do_not_arrive(rt: HostRuntime) -> Result<(), Fail> {
     ];
     tells(
         &rt,
-        run_log(rt.alloc(), &cues, None, &[Act::Fill, Act::Waiting]),
+        run_log(
+            rt.alloc(),
+            &cues,
+            None,
+            &[Act::Fill, Act::Tell(Fact::Waiting)],
+        ),
         "arrive: more than 28 tokens in one chunk\n0 arrivals left\nreceive: broken pipe\nwaiting: 0, 28, 0, 0\n0 sends recorded\n",
     )
 }
@@ -69,9 +74,9 @@ fn unknown_messages_stay(rt: HostRuntime) -> Result<(), Fail> {
     let acts = [
         Act::Fill,
         Act::ReadUnknown,
-        Act::Waiting,
+        Act::Tell(Fact::Waiting),
         Act::Read,
-        Act::Waiting,
+        Act::Tell(Fact::Waiting),
     ];
     tells(
         &rt,
@@ -83,7 +88,12 @@ fn unknown_messages_stay(rt: HostRuntime) -> Result<(), Fail> {
 #[test]
 fn part_of_a_header_is_missing_data(rt: HostRuntime) -> Result<(), Fail> {
     let cues = [Cue::Arrive(&[42, 0, 0, 0, 1, 0, 8], &[Token(1)])];
-    let acts = [Act::Fill, Act::ReadUnknown, Act::Read, Act::Waiting];
+    let acts = [
+        Act::Fill,
+        Act::ReadUnknown,
+        Act::Read,
+        Act::Tell(Fact::Waiting),
+    ];
     tells(
         &rt,
         run_log(rt.alloc(), &cues, None, &acts),

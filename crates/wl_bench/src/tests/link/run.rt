@@ -25,20 +25,27 @@ pub enum Act {
     ReadUnknown,
     /// Receives and reads so many times, and tells the messages that were there to their end.
     FillAndRead(usize),
-    /// What was received and not read, and what was written and not sent.
-    Waiting,
-    /// The sizes of both storages.
-    Storage,
     /// Sets the limit of the outgoing storage, and tells nothing.
     SetLimit(Option<usize>),
+    /// Takes the record of what each send took, and tells it.
+    TakeSent,
+    /// Tells what the link or its transport says.
+    Tell(Fact),
+}
+
+/// What a link or its transport is asked.
+#[derive(Clone, Copy)]
+pub enum Fact {
+    /// What was received and not read, and what was written and not sent: bytes and tokens.
+    Waiting,
+    /// The sizes of the incoming and the outgoing storage.
+    Storage,
     /// The limit of the outgoing storage.
     Limit,
-    /// What each send took.
+    /// The bytes and tokens of each send that is recorded.
     Sent,
-    /// How many bytes and tokens each send took.
+    /// How many bytes and tokens each of them took.
     SendSizes,
-    /// Takes the record of what each send took.
-    TakeSent,
 }
 
 const STR: ArgumentType = ArgumentType::Str(AllowNull::No);
@@ -178,14 +185,28 @@ fn tell_sends(log: &mut String, sends: &[(Vec<u8>, Vec<Token>)]) -> Result<(), F
     Ok(())
 }
 
+fn tell_size(log: &mut String, bytes: usize, tokens: usize) -> Result<(), Fail> {
+    Ok(write!(log, " {bytes} + {tokens}")?)
+}
+
 /// Tells how many bytes and tokens each send took.
 fn tell_sizes(log: &mut String, sends: &[(Vec<u8>, Vec<Token>)]) -> Result<(), Fail> {
     write!(log, "sends:")?;
     for (bytes, tokens) in sends {
-        write!(log, " {} + {}", bytes.len(), tokens.len())?;
+        tell_size(log, bytes.len(), tokens.len())?;
     }
-    writeln!(log, "")?;
-    Ok(())
+    Ok(writeln!(log, "")?)
+}
+
+/// Tells the fact.
+fn tell<T: Record>(log: &mut String, link: &BufferedSocket<T>, fact: Fact) -> Result<(), Fail> {
+    match fact {
+        Fact::Waiting => waiting(log, link),
+        Fact::Storage => storage(log, link),
+        Fact::Limit => limit(log, link),
+        Fact::Sent => tell_sends(log, link.transport().sends()),
+        Fact::SendSizes => tell_sizes(log, link.transport().sends()),
+    }
 }
 
 fn take_sent<T: Record>(log: &mut String, link: &mut BufferedSocket<T>) -> Result<(), Fail> {
@@ -207,16 +228,12 @@ fn perform<T: Transport + Record>(
         Act::Read => read(log, link),
         Act::ReadUnknown => read_unknown(log, link),
         Act::FillAndRead(count) => fill_and_read_each(log, link, count),
-        Act::Waiting => waiting(log, link),
-        Act::Storage => storage(log, link),
         Act::SetLimit(bytes) => {
             link.set_max_buffer_size(bytes);
             Ok(())
         }
-        Act::Limit => limit(log, link),
-        Act::Sent => tell_sends(log, link.transport().sends()),
-        Act::SendSizes => tell_sizes(log, link.transport().sends()),
         Act::TakeSent => take_sent(log, link),
+        Act::Tell(fact) => tell(log, link, fact),
     }
 }
 
@@ -234,6 +251,17 @@ fn linked<T: Transport + Record + Drop>(
     Ok(link.into_transport())
 }
 
+/// Tells the calls of a new link with that limit over the transport, and how many sends are recorded in the end.
+fn tell_run<T: Transport + Record + Drop>(
+    log: &mut String,
+    transport: T,
+    limit: Option<usize>,
+    acts: &[Act],
+) -> Result<(), Fail> {
+    let transport = linked(log, transport, limit, acts)?;
+    Ok(writeln!(log, "{} sends recorded", transport.sends().len())?)
+}
+
 /// What the calls of a new link with that limit over the transport tell, and how many sends are recorded in the end.
 pub fn link_log<T: Transport + Record + Drop>(
     alloc: Global,
@@ -242,13 +270,11 @@ pub fn link_log<T: Transport + Record + Drop>(
     acts: &[Act],
 ) -> Result<String, Fail> {
     let mut log = String::new(alloc);
-    let transport = linked(&mut log, transport, limit, acts)?;
-    writeln!(log, "{} sends recorded", transport.sends().len())?;
+    tell_run(&mut log, transport, limit, acts)?;
     Ok(log)
 }
 
-/// What the calls of a script and then of a new link with that limit over it tell, and how many sends are recorded in
-/// the end.
+/// What the calls of a script tell, and then those of a link over it as in `link_log`.
 pub fn run_log(
     alloc: Global,
     cues: &[Cue],
@@ -257,7 +283,6 @@ pub fn run_log(
 ) -> Result<String, Fail> {
     let mut log = String::new(alloc);
     let memory = scripted(&mut log, cues)?;
-    let memory = linked(&mut log, memory, limit, acts)?;
-    writeln!(log, "{} sends recorded", memory.sent().len())?;
+    tell_run(&mut log, memory, limit, acts)?;
     Ok(log)
 }

@@ -6,7 +6,7 @@ use std::alloc::Global;
 use std::collections::VecDeque;
 use std::test::Fail;
 use wl_link::{ArriveError, Memory, Transport};
-use wl_wire::{IoFault, Token};
+use wl_wire::{IoFault, OutOfMemory, Token};
 
 /// A call of a script.
 #[derive(Clone, Copy)]
@@ -67,6 +67,12 @@ fn arrive_singly(
     Ok(())
 }
 
+fn tell_count(log: &mut String, count: usize, buffer: &[u8], tokens: &[Token]) -> Result<(), Fail> {
+    write!(log, "received {count} in ")?;
+    tell_bytes(log, buffer, tokens)?;
+    Ok(writeln!(log, "")?)
+}
+
 /// Tells how many bytes came, all bytes of the buffer, and the tokens that came.
 fn tell_received(
     log: &mut String,
@@ -75,14 +81,9 @@ fn tell_received(
     tokens: &[Token],
 ) -> Result<(), Fail> {
     match received {
-        Ok(count) => {
-            write!(log, "received {count} in ")?;
-            tell_bytes(log, buffer, tokens)?;
-            writeln!(log, "")?;
-        }
-        Err(fault) => writeln!(log, "receive: {fault}")?,
+        Ok(count) => tell_count(log, count, buffer, tokens),
+        Err(fault) => Ok(writeln!(log, "receive: {fault}")?),
     }
-    Ok(())
 }
 
 fn receive(log: &mut String, memory: &mut Memory, room: usize) -> Result<(), Fail> {
@@ -93,17 +94,26 @@ fn receive(log: &mut String, memory: &mut Memory, room: usize) -> Result<(), Fai
     tell_received(log, received, &buffer, tokens.make_contiguous())
 }
 
+fn arrivals_left(log: &mut String, memory: &Memory) -> Result<(), Fail> {
+    Ok(writeln!(log, "{} arrivals left", memory.arrivals_left())?)
+}
+
+/// Fails where there was no memory for what a script is given.
+fn put(answer: Result<(), OutOfMemory>) -> Result<(), Fail> {
+    Ok(answer?)
+}
+
 /// Makes the call.
 fn perform(log: &mut String, memory: &mut Memory, cue: Cue) -> Result<(), Fail> {
     match cue {
         Cue::Arrive(bytes, tokens) => arrive(log, memory, bytes, tokens),
         Cue::ArriveTokens(count) => arrive_tokens(log, memory, count),
         Cue::ArriveSingly(bytes, tokens) => arrive_singly(log, memory, bytes, tokens),
-        Cue::ArriveFault(fault) => Ok(memory.arrive_fault(fault)?),
-        Cue::Accept(count) => Ok(memory.accept(count)?),
-        Cue::AcceptFault(fault) => Ok(memory.accept_fault(fault)?),
+        Cue::ArriveFault(fault) => put(memory.arrive_fault(fault)),
+        Cue::Accept(count) => put(memory.accept(count)),
+        Cue::AcceptFault(fault) => put(memory.accept_fault(fault)),
         Cue::Receive(room) => receive(log, memory, room),
-        Cue::ArrivalsLeft => Ok(writeln!(log, "{} arrivals left", memory.arrivals_left())?),
+        Cue::ArrivalsLeft => arrivals_left(log, memory),
     }
 }
 

@@ -1,6 +1,6 @@
 //! What a flush sends, and what still waits after it.
 
-use super::run::{Act, link_log, run_log};
+use super::run::{Act, Fact, link_log, run_log};
 use super::script::Cue;
 use super::transports::{OneByte, Refusing};
 use crate::tests::message::Arg;
@@ -19,8 +19,8 @@ fn three_messages_in_one_flush(rt: HostRuntime) -> Result<(), Fail> {
         Act::Write((42, 1), &[Arg::Fd(1), Arg::Fd(0)]),
         Act::Write((42, 2), &[Arg::Uint(3), Arg::Fd(2)]),
         Act::Flush,
-        Act::Sent,
-        Act::SendSizes,
+        Act::Tell(Fact::Sent),
+        Act::Tell(Fact::SendSizes),
     ];
     tells(
         &rt,
@@ -35,9 +35,9 @@ fn fault_ends_a_flush(rt: HostRuntime) -> Result<(), Fail> {
     let acts = [
         Act::Write((1, 0), &[Arg::NewId(2)]),
         Act::Flush,
-        Act::Waiting,
+        Act::Tell(Fact::Waiting),
         Act::TakeSent,
-        Act::Sent,
+        Act::Tell(Fact::Sent),
     ];
     tells(
         &rt,
@@ -48,7 +48,12 @@ fn fault_ends_a_flush(rt: HostRuntime) -> Result<(), Fail> {
 
 #[test]
 fn answer_zero_drops_the_tokens(rt: HostRuntime) -> Result<(), Fail> {
-    let acts = [WRITE_WITH_TOKEN, Act::Waiting, Act::Flush, Act::Waiting];
+    let acts = [
+        WRITE_WITH_TOKEN,
+        Act::Tell(Fact::Waiting),
+        Act::Flush,
+        Act::Tell(Fact::Waiting),
+    ];
     tells(
         &rt,
         run_log(rt.alloc(), &[Cue::Accept(0)], None, &acts),
@@ -60,9 +65,9 @@ fn answer_zero_drops_the_tokens(rt: HostRuntime) -> Result<(), Fail> {
 fn descriptors_that_have_no_byte_wait(rt: HostRuntime) -> Result<(), Fail> {
     let acts = [
         Act::WriteDescriptors(300),
-        Act::Waiting,
+        Act::Tell(Fact::Waiting),
         Act::Flush,
-        Act::Waiting,
+        Act::Tell(Fact::Waiting),
     ];
     tells(
         &rt,
@@ -73,7 +78,11 @@ fn descriptors_that_have_no_byte_wait(rt: HostRuntime) -> Result<(), Fail> {
 
 #[test]
 fn sixty_descriptors_in_three_sends(rt: HostRuntime) -> Result<(), Fail> {
-    let acts = [Act::WriteDescriptors(60), Act::Flush, Act::SendSizes];
+    let acts = [
+        Act::WriteDescriptors(60),
+        Act::Flush,
+        Act::Tell(Fact::SendSizes),
+    ];
     tells(
         &rt,
         run_log(rt.alloc(), &[], None, &acts),
@@ -86,8 +95,8 @@ fn eight_sends_of_300_descriptors(rt: HostRuntime) -> Result<(), Fail> {
     let acts = [
         Act::WriteDescriptors(300),
         Act::Flush,
-        Act::SendSizes,
-        Act::Waiting,
+        Act::Tell(Fact::SendSizes),
+        Act::Tell(Fact::Waiting),
     ];
     tells(
         &rt,
@@ -103,7 +112,7 @@ fn refusing_transport_is_answered(rt: HostRuntime) -> Result<(), Fail> {
         Act::Flush,
         Act::Fill,
         Act::Write((42, 0), &[Arg::Ones(4084)]),
-        Act::Waiting,
+        Act::Tell(Fact::Waiting),
     ];
     tells(
         &rt,

@@ -45,6 +45,10 @@ fn known_numbers_are_values(rt: HostRuntime) {
         (on, on.into_result(), u32::from(on)),
         (WEnum::Value(Mode::On), Ok(Mode::On), 1)
     );
+}
+
+#[test]
+fn values_turn_into_their_numbers(rt: HostRuntime) {
     assert_eq!(rt; u32::from(WEnum::Value(Mode::Off)), 0);
 }
 

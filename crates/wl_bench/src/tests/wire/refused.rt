@@ -3,8 +3,20 @@
 use super::{STR, queue, tell_parsed};
 use crate::tests::tells;
 use std::alloc::Global;
+use std::collections::VecDeque;
 use std::test::Fail;
 use wl_wire::{ArgumentType, Token, parse_message};
+
+/// Tells what is read under the signature.
+fn tell_answer(
+    log: &mut String,
+    raw: &[u8],
+    signature: &[ArgumentType],
+    waiting: &mut VecDeque<Token>,
+) -> Result<(), Fail> {
+    let parsed = parse_message(*log.allocator(), raw, signature, waiting);
+    tell_parsed(log, &parsed)
+}
 
 /// Tells what is read under the signature, and how many of the tokens are left.
 fn tell_parse(
@@ -13,9 +25,8 @@ fn tell_parse(
     signature: &[ArgumentType],
     tokens: &[Token],
 ) -> Result<(), Fail> {
-    let alloc = *log.allocator();
-    let mut waiting = queue(alloc, tokens)?;
-    tell_parsed(log, &parse_message(alloc, raw, signature, &mut waiting))?;
+    let mut waiting = queue(*log.allocator(), tokens)?;
+    tell_answer(log, raw, signature, &mut waiting)?;
     Ok(write!(log, "; {} tokens left", waiting.len())?)
 }
 

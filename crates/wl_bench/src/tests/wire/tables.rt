@@ -104,21 +104,25 @@ fn all_destructors(messages: &[MessageDesc]) -> bool {
 }
 
 /// Tells the version of an interface, how many requests and events it has, and whether each event ends its object.
-fn tell_interface(log: &mut String, table: &Protocol, id: InterfaceId) -> Result<(), Fail> {
-    let Some(interface) = table.get(id) else {
-        return Ok(writeln!(log, "none")?);
-    };
+fn tell_interface(log: &mut String, interface: &Interface) -> Result<(), Fail> {
     let [requests, events] = [interface.requests.len(), interface.events.len()];
-    let version = interface.version;
-    let ends = all_destructors(&interface.events);
-    Ok(writeln!(log, "{version}, {requests}, {events}, {ends}")?)
+    write!(log, "{}: {requests}, {events}, ", interface.version)?;
+    Ok(writeln!(log, "{}", all_destructors(&interface.events))?)
+}
+
+/// Tells of the interface of that id.
+fn tell_found(log: &mut String, table: &Protocol, id: InterfaceId) -> Result<(), Fail> {
+    match table.get(id) {
+        Some(interface) => tell_interface(log, interface),
+        None => Ok(writeln!(log, "none")?),
+    }
 }
 
 /// Tells of the table of `quad` and `pair`, behind which no interface has a name.
 fn tell_table(log: &mut String, table: &Protocol) -> Result<(), Fail> {
     tell_names(log, table, 7)?;
     for id in [WL_CALLBACK_INTERFACE, QUAD, InterfaceId(6)] {
-        tell_interface(log, table, id)?;
+        tell_found(log, table, id)?;
     }
     Ok(())
 }
@@ -134,7 +138,7 @@ fn fixed_interfaces_come_first(rt: HostRuntime) -> Result<(), Fail> {
     tells(
         &rt,
         table_log(rt.alloc()),
-        "0 <anonymous>\n1 wl_display\n2 wl_registry\n3 wl_callback\n4 quad\n5 pair\n6 <unknown>\n1, 0, 1, true\n3, 5, 3, false\nnone\n",
+        "0 <anonymous>\n1 wl_display\n2 wl_registry\n3 wl_callback\n4 quad\n5 pair\n6 <unknown>\n1: 0, 1, true\n3: 5, 3, false\nnone\n",
     )
 }
 

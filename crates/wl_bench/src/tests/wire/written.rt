@@ -4,6 +4,7 @@ use super::{OBJECT, Parsed, STR, queue, tell_parsed};
 use crate::tests::message::{Arg, message, tell_bytes};
 use crate::tests::tells;
 use std::alloc::Global;
+use std::collections::VecDeque;
 use std::test::Fail;
 use wl_wire::{
     ArgumentType, Message, MessageWriteError, Token, message_size, parse_message, write_to_buffers,
@@ -45,23 +46,34 @@ fn is_parsed(parsed: &Parsed<'_>, message: &Message<u32, Token>) -> bool {
     }
 }
 
-fn tell_left(log: &mut String, tokens: usize, same: bool) -> Result<(), Fail> {
-    let told = if same { "the same" } else { "another" };
-    Ok(write!(log, "; {tokens} tokens left; {told}")?)
+/// Tells what is read, and whether it is that message.
+fn tell_same(
+    log: &mut String,
+    bytes: &[u8],
+    waiting: &mut VecDeque<Token>,
+    signature: &[ArgumentType],
+    message: &Message<u32, Token>,
+) -> Result<(), Fail> {
+    let parsed = parse_message(*log.allocator(), bytes, signature, waiting);
+    tell_parsed(log, &parsed)?;
+    let told = if is_parsed(&parsed, message) {
+        "the same"
+    } else {
+        "another"
+    };
+    Ok(write!(log, "; {told}")?)
 }
 
-/// Tells the message that the bytes and tokens are, what follows it, and whether it is that one.
+/// Tells the message that the bytes and tokens are, whether it is that one, and what is left.
 fn tell_read(
     log: &mut String,
     (bytes, tokens): (&[u8], &[Token]),
     signature: &[ArgumentType],
     message: &Message<u32, Token>,
 ) -> Result<(), Fail> {
-    let alloc = *log.allocator();
-    let mut waiting = queue(alloc, tokens)?;
-    let parsed = parse_message(alloc, bytes, signature, &mut waiting);
-    tell_parsed(log, &parsed)?;
-    tell_left(log, waiting.len(), is_parsed(&parsed, message))
+    let mut waiting = queue(*log.allocator(), tokens)?;
+    tell_same(log, bytes, &mut waiting, signature, message)?;
+    Ok(write!(log, "; {} tokens left", waiting.len())?)
 }
 
 /// Writes the message and tells how it is read.
@@ -145,18 +157,7 @@ fn train_message_and_back(rt: HostRuntime) -> Result<(), Fail> {
     tells(
         &rt,
         again_log(rt.alloc(), (42, 7), &args, 64, &signature),
-        "size 64\n42, 7: uint 3: fixed -89: string I like trains!: array 01 02 03 04 05 06 07 08 09: object 88: new_id 56: int -25; 0 bytes; 0 tokens left; the same",
-    )
-}
-
-#[test]
-fn bind_written_and_read(rt: HostRuntime) -> Result<(), Fail> {
-    let args = [Arg::Uint(18), Arg::Str(b"wl_shell"), Arg::Uint(1)];
-    let signature = [ArgumentType::Uint, STR, ArgumentType::Uint];
-    tells(
-        &rt,
-        again_log(rt.alloc(), (2, 0), &args, 32, &signature),
-        "size 32\n2, 0: uint 18: string wl_shell: uint 1; 0 bytes; 0 tokens left; the same",
+        "size 64\n42, 7: uint 3: fixed -89: string I like trains!: array 01 02 03 04 05 06 07 08 09: object 88: new_id 56: int -25; 0 bytes; the same; 0 tokens left",
     )
 }
 
@@ -186,7 +187,7 @@ fn tokens_are_read_beside_the_bytes(rt: HostRuntime) -> Result<(), Fail> {
     tells(
         &rt,
         again_log(rt.alloc(), (42, 1), &args, 8, &signature),
-        "size 8\n42, 1: fd 1: fd 0; 0 bytes; 0 tokens left; the same",
+        "size 8\n42, 1: fd 1: fd 0; 0 bytes; the same; 0 tokens left",
     )
 }
 
@@ -223,11 +224,16 @@ fn tell_answers(
     Ok(())
 }
 
-/// What `tell_answers` tells of a message of one array of so many bytes.
+/// Tells the answers for a message of one array of so many bytes.
+fn tell_array(log: &mut String, len: usize, rooms: &[usize]) -> Result<(), Fail> {
+    let message = message(*log.allocator(), (1, 1), &[Arg::Ones(len)])?;
+    tell_answers(log, &message, rooms)
+}
+
+/// What `tell_array` tells.
 fn array_log(alloc: Global, len: usize, rooms: &[usize]) -> Result<String, Fail> {
     let mut log = String::new(alloc);
-    let message = message(alloc, (1, 1), &[Arg::Ones(len)])?;
-    tell_answers(&mut log, &message, rooms)?;
+    tell_array(&mut log, len, rooms)?;
     Ok(log)
 }
 
