@@ -4,7 +4,7 @@ use crate::hex::hex_line;
 use smallvec::SmallVec;
 use std::alloc::Global;
 use std::test::Fail;
-use wl_wire::{Argument, ByteArray, CString, Message, Token};
+use wl_wire::{Argument, ArgumentType, ByteArray, CString, Message, Token};
 
 /// An argument as plain data.
 #[derive(Clone, Copy)]
@@ -64,48 +64,63 @@ pub fn message(
     Ok(message)
 }
 
-fn tell_text(log: &mut String, text: &CString) -> Result<(), Fail> {
-    let text = text.to_string_lossy(*log.allocator())?;
-    Ok(write!(log, "string {}", text.as_str())?)
-}
-
-fn tell_string(log: &mut String, text: Option<&CString>) -> Result<(), Fail> {
-    match text {
-        Some(text) => tell_text(log, text),
-        None => Ok(write!(log, "null string")?),
-    }
-}
-
 fn tell_hex(log: &mut String, bytes: &[u8]) -> Result<(), Fail> {
     let line = hex_line(*log.allocator(), bytes)?;
     Ok(write!(log, "{line}")?)
 }
 
-fn tell_array(log: &mut String, bytes: &[u8]) -> Result<(), Fail> {
-    write!(log, "array ")?;
-    tell_hex(log, bytes)
+fn tell_text(log: &mut String, text: &CString) -> Result<(), Fail> {
+    let text = text.to_string_lossy(*log.allocator())?;
+    Ok(write!(log, "{}", text.as_str())?)
 }
 
-/// Tells an argument: the name that its type has in a protocol, and its value.
+fn tell_string(log: &mut String, text: Option<&CString>) -> Result<(), Fail> {
+    match text {
+        Some(text) => tell_text(log, text),
+        None => Ok(write!(log, "(null)")?),
+    }
+}
+
+/// The name that the type has in a protocol.
+fn type_name(kind: ArgumentType) -> &'static str {
+    match kind {
+        ArgumentType::Int => "int",
+        ArgumentType::Uint => "uint",
+        ArgumentType::Fixed => "fixed",
+        ArgumentType::Str(_) => "string",
+        ArgumentType::Object(_) => "object",
+        ArgumentType::NewId => "new_id",
+        ArgumentType::Array => "array",
+        ArgumentType::Fd => "fd",
+    }
+}
+
+fn tell_number(log: &mut String, value: i64) -> Result<(), Fail> {
+    Ok(write!(log, "{value}")?)
+}
+
+fn tell_value(log: &mut String, arg: &Argument<u32, Token>) -> Result<(), Fail> {
+    match arg {
+        Argument::Int(value) | Argument::Fixed(value) => tell_number(log, i64::from(*value)),
+        Argument::Uint(value) | Argument::Object(value) | Argument::NewId(value) => {
+            tell_number(log, i64::from(*value))
+        }
+        Argument::Str(text) => tell_string(log, text.as_ref()),
+        Argument::Array(bytes) => tell_hex(log, bytes.as_slice()),
+        Argument::Fd(token) => tell_number(log, i64::from(token.0)),
+    }
+}
+
+/// Tells an argument: the name of its type and its value.
 fn tell_argument(log: &mut String, arg: &Argument<u32, Token>) -> Result<(), Fail> {
-    let (name, value) = match arg {
-        Argument::Int(value) => ("int", i64::from(*value)),
-        Argument::Uint(value) => ("uint", i64::from(*value)),
-        Argument::Fixed(value) => ("fixed", i64::from(*value)),
-        Argument::Str(text) => return tell_string(log, text.as_ref()),
-        Argument::Object(number) => ("object", i64::from(*number)),
-        Argument::NewId(number) => ("new_id", i64::from(*number)),
-        Argument::Array(bytes) => return tell_array(log, bytes.as_slice()),
-        Argument::Fd(token) => ("fd", i64::from(token.0)),
-    };
-    Ok(write!(log, "{name} {value}")?)
+    write!(log, ": {} ", type_name(arg.get_type()))?;
+    tell_value(log, arg)
 }
 
 /// Tells a message: its sender, its opcode, and behind a colon each its arguments.
 pub fn tell_message(log: &mut String, message: &Message<u32, Token>) -> Result<(), Fail> {
     write!(log, "{}, {}", message.sender_id, message.opcode)?;
     for arg in message.args.as_slice() {
-        write!(log, ": ")?;
         tell_argument(log, arg)?;
     }
     Ok(())

@@ -103,6 +103,14 @@ fn write_descriptors<T: Transport>(
     tell_answer(log, "write", link.write_message(&message))
 }
 
+fn flush<T: Transport>(log: &mut String, link: &mut BufferedSocket<T>) -> Result<(), Fail> {
+    tell_answer(log, "flush", link.flush())
+}
+
+fn fill<T: Transport>(log: &mut String, link: &mut BufferedSocket<T>) -> Result<(), Fail> {
+    tell_answer(log, "receive", link.fill_incoming_buffers())
+}
+
 /// Tells the message, or why none was read.
 fn tell_read(
     log: &mut String,
@@ -126,6 +134,19 @@ fn read_unknown<T>(log: &mut String, link: &mut BufferedSocket<T>) -> Result<(),
     tell_read(log, &read)
 }
 
+/// Tells the message behind the number of its receive, unless it is not there to its end.
+fn tell_whole(
+    log: &mut String,
+    number: usize,
+    read: &Result<Message<u32, Token>, MessageParseError>,
+) -> Result<(), Fail> {
+    if let Err(MessageParseError::MissingData) = read {
+        return Ok(());
+    }
+    write!(log, "{number} ")?;
+    tell_read(log, read)
+}
+
 /// Receives once and reads; behind the number of the receive it tells a message that was there to its end.
 fn fill_and_read<T: Transport>(
     log: &mut String,
@@ -134,11 +155,7 @@ fn fill_and_read<T: Transport>(
 ) -> Result<(), Fail> {
     link.fill_incoming_buffers()?;
     let read = link.read_one_message(|sender, opcode| signature(sender, opcode));
-    if read == Err(MessageParseError::MissingData) {
-        return Ok(());
-    }
-    write!(log, "{number} ")?;
-    tell_read(log, &read)
+    tell_whole(log, number, &read)
 }
 
 fn fill_and_read_each<T: Transport>(
@@ -223,8 +240,8 @@ fn perform<T: Transport + Record>(
     match act {
         Act::Write(header, args) => write(log, link, header, args),
         Act::WriteDescriptors(count) => write_descriptors(log, link, count),
-        Act::Flush => tell_answer(log, "flush", link.flush()),
-        Act::Fill => tell_answer(log, "receive", link.fill_incoming_buffers()),
+        Act::Flush => flush(log, link),
+        Act::Fill => fill(log, link),
         Act::Read => read(log, link),
         Act::ReadUnknown => read_unknown(log, link),
         Act::FillAndRead(count) => fill_and_read_each(log, link, count),

@@ -7,17 +7,22 @@ use std::collections::VecDeque;
 use std::test::Fail;
 use wl_wire::{Argument, ArgumentType, CString, Message, Token, parse_message, write_to_buffers};
 
+fn push_arguments(bind: &mut Message<u32, Token>, name: CString) -> Result<(), Fail> {
+    bind.args.push(Argument::Uint(18))?;
+    bind.args.push(Argument::Str(Some(name)))?;
+    bind.args.push(Argument::Uint(1))?;
+    Ok(())
+}
+
 /// The bind of `wl_shell`.
 fn bind_message(alloc: Global) -> Result<Message<u32, Token>, Fail> {
-    let name = CString::new(Vec::from_slice(alloc, b"wl_shell")?)?;
     let mut bind = Message {
         sender_id: 2,
         opcode: 0,
         args: SmallVec::new(alloc),
     };
-    bind.args.push(Argument::Uint(18))?;
-    bind.args.push(Argument::Str(Some(name)))?;
-    bind.args.push(Argument::Uint(1))?;
+    let name = CString::new(Vec::from_slice(alloc, b"wl_shell")?)?;
+    push_arguments(&mut bind, name)?;
     Ok(bind)
 }
 
@@ -35,16 +40,21 @@ fn reads_again(alloc: Global, bind: &Message<u32, Token>, buffer: &[u8]) -> Resu
     Ok(again == *bind && rest.is_empty())
 }
 
-/// The size of the bind, and whether it is read again.
+/// The size of the message, and whether it is read again.
 fn written_and_read(alloc: Global, bind: &Message<u32, Token>) -> Result<(usize, bool), Fail> {
     let mut buffer = [0u8; 32];
     let size = write(alloc, bind, &mut buffer)?;
     Ok((size, reads_again(alloc, bind, &buffer)?))
 }
 
+/// The size of the bind, and whether it is read again.
+fn bind_again(alloc: Global) -> Result<(usize, bool), Fail> {
+    let bind = bind_message(alloc)?;
+    written_and_read(alloc, &bind)
+}
+
 #[test]
 fn bind_written_and_read(rt: HostRuntime) -> Result<(), Fail> {
-    let bind = bind_message(rt.alloc())?;
-    assert_eq!(rt; written_and_read(rt.alloc(), &bind)?, (32, true));
+    assert_eq!(rt; bind_again(rt.alloc())?, (32, true));
     Ok(())
 }

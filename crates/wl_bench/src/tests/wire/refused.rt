@@ -111,6 +111,6 @@ fn null_string_is_read_beside_its_token(rt: HostRuntime) -> Result<(), Fail> {
     tells(
         &rt,
         parse_log(rt.alloc(), &null, &signature, &[Token(7)]),
-        "42, 0: null string: fd 7; 0 bytes; 0 tokens left",
+        "42, 0: string (null): fd 7; 0 bytes; 0 tokens left",
     )
 }

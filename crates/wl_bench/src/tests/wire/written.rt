@@ -46,7 +46,22 @@ fn is_parsed(parsed: &Parsed<'_>, message: &Message<u32, Token>) -> bool {
     }
 }
 
-/// Tells what is read, and whether it is that message.
+/// Tells what was read, and whether it is that message.
+fn tell_compared(
+    log: &mut String,
+    parsed: &Parsed<'_>,
+    message: &Message<u32, Token>,
+) -> Result<(), Fail> {
+    tell_parsed(log, parsed)?;
+    let told = if is_parsed(parsed, message) {
+        "the same"
+    } else {
+        "another"
+    };
+    Ok(write!(log, "; {told}")?)
+}
+
+/// Reads, and tells what was read and whether it is that message.
 fn tell_same(
     log: &mut String,
     bytes: &[u8],
@@ -55,13 +70,7 @@ fn tell_same(
     message: &Message<u32, Token>,
 ) -> Result<(), Fail> {
     let parsed = parse_message(*log.allocator(), bytes, signature, waiting);
-    tell_parsed(log, &parsed)?;
-    let told = if is_parsed(&parsed, message) {
-        "the same"
-    } else {
-        "another"
-    };
-    Ok(write!(log, "; {told}")?)
+    tell_compared(log, &parsed, message)
 }
 
 /// Tells the message that the bytes and tokens are, whether it is that one, and what is left.
