@@ -44,6 +44,3 @@ pub use next_event::READ_TURNS;
 pub use note::Note;
 pub use object_id::ObjectId;
 pub use step::{Reply, Step, Stopped};
-
-#[cfg(test)]
-mod tests;

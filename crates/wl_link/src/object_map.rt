@@ -234,6 +234,3 @@ impl<Data: Drop> ObjectMap<Data> {
         }
     }
 }
-
-#[cfg(test)]
-mod tests;

@@ -1,0 +1,354 @@
+//! What a run has a client do, as plain data, and the calls of it.
+
+use super::steps::{Call, replay};
+use super::told::*;
+use super::values::{Child, Object, Request, message, padded};
+use crate::tests::quad::quad_table;
+use std::alloc::{AllocError, Global};
+use std::fmt::Write;
+use std::process::Abort;
+use std::test::Fail;
+use wl_client::Backend;
+use wl_link::Memory;
+use wl_wire::{IoFault, Token};
+
+/// A client whose objects have numbers as their data.
+type Client = Backend<Memory, u32>;
+
+/// A call of a client, a look at it, or what its script is given.
+#[derive(Clone, Copy)]
+pub enum Act {
+    /// Sets the limit of the storage of what waits to be sent.
+    Limit(usize),
+    /// Sends a request.
+    Send(Request),
+    /// Sends a request with these data and this wish for the object that it makes.
+    SendWith(Request, Child),
+    /// Sends a request for which there has to be no memory.
+    SendInWant(Request),
+    /// The registry and a `quad` of version 3.
+    Bound,
+    /// Sends what waits.
+    Flush,
+    /// Reads the next event.
+    Next,
+    /// Finishes the open event, with these data for the object that it made.
+    Finish(Option<u32>),
+    /// Gives an object these data.
+    SetData(Object, u32),
+    /// Destroys an object.
+    Destroy(Object),
+    /// Takes the notes.
+    Notes,
+    /// Runs the steps.
+    Replay(&'static [Call]),
+    /// Looks at something.
+    Look(Look),
+    /// Gives the script something.
+    Script(Cue),
+}
+
+/// What is looked at.
+#[derive(Clone, Copy)]
+pub enum Look {
+    /// The version of an object.
+    Info(Object),
+    /// The data of an object.
+    Data(Object),
+    /// The text of an object's id.
+    Text(Object),
+    /// The session's error.
+    LastError,
+    /// How many arrivals the script has left.
+    Arrivals,
+    /// What was sent, a send a line.
+    Sent,
+    /// How many bytes and descriptors were sent, a send a line.
+    Lengths,
+}
+
+/// What a script is given.
+#[derive(Clone, Copy)]
+pub enum Cue {
+    /// Bytes that are to arrive.
+    Arrive(&'static [u8]),
+    /// Bytes that are to arrive with a descriptor.
+    ArriveWith(&'static [u8], i32),
+    /// Bytes that are to arrive, and zeros behind them, of that length in all.
+    ArrivePadded(&'static [u8], usize),
+    /// The same, each byte by itself.
+    ArriveBytewise(&'static [u8], usize),
+    /// A fault behind what is to arrive.
+    ArriveFault(IoFault),
+    /// A fault behind the answers to sends.
+    AcceptFault(IoFault),
+    /// Forgets what was sent.
+    TakeSent,
+}
+
+/// Fails where the line was not written, or where the client's last call met a want of memory.
+fn told(client: &Client, written: Result<(), AllocError>) -> Result<(), Fail> {
+    if client.memory_refused() {
+        return Err(Fail::new("memory was refused"));
+    }
+    match written {
+        Ok(()) => Ok(()),
+        Err(_) => Err(Fail::new("there was no memory for the line")),
+    }
+}
+
+fn limit(client: &mut Client, bytes: usize) -> Result<(), Fail> {
+    client.set_max_buffer_size(Some(bytes));
+    told(client, Ok(()))
+}
+
+fn send_with(
+    alloc: Global,
+    client: &mut Client,
+    log: &mut String,
+    request: Request,
+    child: Child,
+) -> Result<(), Fail> {
+    let message = message(alloc, request)?;
+    let answer = client.send_request(message, child.0, child.1);
+    let written = write_sent(log, &answer);
+    told(client, written)
+}
+
+fn send(
+    alloc: Global,
+    client: &mut Client,
+    log: &mut String,
+    request: Request,
+) -> Result<(), Fail> {
+    send_with(alloc, client, log, request, request.child())
+}
+
+fn send_in_want(
+    alloc: Global,
+    client: &mut Client,
+    log: &mut String,
+    request: Request,
+) -> Result<(), Fail> {
+    let message = message(alloc, request)?;
+    let child = request.child();
+    let answer = client.send_request(message, child.0, child.1);
+    write_sent(log, &answer)?;
+    if client.memory_refused() {
+        Ok(())
+    } else {
+        Err(Fail::new("the want of memory is not told"))
+    }
+}
+
+fn bound(alloc: Global, client: &mut Client, log: &mut String) -> Result<(), Fail> {
+    send(alloc, client, log, Request::GetRegistry)?;
+    send(alloc, client, log, Request::Bind)
+}
+
+fn flush(client: &mut Client, log: &mut String) -> Result<(), Fail> {
+    let answer = client.flush();
+    let written = write_flushed(log, &answer);
+    told(client, written)
+}
+
+fn next(client: &mut Client, log: &mut String) -> Result<(), Fail> {
+    let answer = client.next_event();
+    let written = write_read(log, &answer);
+    told(client, written)
+}
+
+fn finish(client: &mut Client, log: &mut String, data: Option<u32>) -> Result<(), Fail> {
+    let answer = client.finish_event(data);
+    let written = write_finished(log, &answer);
+    told(client, written)
+}
+
+fn set_data(client: &mut Client, log: &mut String, object: Object, data: u32) -> Result<(), Fail> {
+    let answer = client.set_data(&object.id(), data);
+    let written = write_done(log, &answer);
+    told(client, written)
+}
+
+fn destroy(client: &mut Client, log: &mut String, object: Object) -> Result<(), Fail> {
+    let answer = client.destroy_object(&object.id());
+    let written = write_destroyed(log, &answer);
+    told(client, written)
+}
+
+fn notes(client: &mut Client, log: &mut String) -> Result<(), Fail> {
+    let notes = client.take_notes();
+    let written = write_notes(log, notes.as_slice());
+    told(client, written)
+}
+
+fn info(client: &Client, log: &mut String, object: Object) -> Result<(), Fail> {
+    let written = match client.info(&object.id()) {
+        Ok(info) => writeln!(log, "version {}", info.version),
+        Err(error) => writeln!(log, "{error}"),
+    };
+    told(client, written)
+}
+
+fn data(client: &Client, log: &mut String, object: Object) -> Result<(), Fail> {
+    let written = match client.get_data(&object.id()) {
+        Ok(data) => writeln!(log, "data {data}"),
+        Err(error) => writeln!(log, "{error}"),
+    };
+    told(client, written)
+}
+
+fn text(alloc: Global, client: &Client, log: &mut String, object: Object) -> Result<(), Fail> {
+    let text = object.id().display(alloc, client.protocol())?;
+    let written = writeln!(log, "{text}");
+    told(client, written)
+}
+
+fn last_error(client: &Client, log: &mut String) -> Result<(), Fail> {
+    let written = match client.last_error() {
+        Some(error) => writeln!(log, "{error}"),
+        None => writeln!(log, "no error"),
+    };
+    told(client, written)
+}
+
+/// Puts the bytes and zeros behind them, of that length in all, behind what is to arrive.
+fn arrive(alloc: Global, client: &mut Client, bytes: &[u8], len: usize) -> Result<(), Fail> {
+    let bytes = padded(alloc, bytes, len)?;
+    client.transport_mut().arrive(bytes, Vec::new(alloc))?;
+    Ok(())
+}
+
+fn arrive_with(
+    alloc: Global,
+    client: &mut Client,
+    bytes: &[u8],
+    descriptor: i32,
+) -> Result<(), Fail> {
+    let bytes = Vec::from_slice(alloc, bytes)?;
+    let tokens = Vec::from_slice(alloc, &[Token(descriptor)])?;
+    client.transport_mut().arrive(bytes, tokens)?;
+    Ok(())
+}
+
+fn arrive_bytewise(
+    alloc: Global,
+    client: &mut Client,
+    bytes: &[u8],
+    len: usize,
+) -> Result<(), Fail> {
+    for byte in padded(alloc, bytes, len)?.as_slice() {
+        arrive(alloc, client, &[*byte], 1)?;
+    }
+    Ok(())
+}
+
+fn arrive_fault(client: &mut Client, fault: IoFault) -> Result<(), Fail> {
+    client.transport_mut().arrive_fault(fault)?;
+    Ok(())
+}
+
+fn accept_fault(client: &mut Client, fault: IoFault) -> Result<(), Fail> {
+    client.transport_mut().accept_fault(fault)?;
+    Ok(())
+}
+
+fn take_sent(client: &mut Client) -> Result<(), Fail> {
+    client.transport_mut().take_sent();
+    Ok(())
+}
+
+fn arrivals(client: &Client, log: &mut String) -> Result<(), Fail> {
+    let left = client.transport().arrivals_left();
+    let written = writeln!(log, "{left} arrivals");
+    told(client, written)
+}
+
+fn sent(client: &Client, log: &mut String) -> Result<(), Fail> {
+    let written = write_taken(log, client.transport().sent());
+    told(client, written)
+}
+
+fn lengths(client: &Client, log: &mut String) -> Result<(), Fail> {
+    let written = write_lengths(log, client.transport().sent());
+    told(client, written)
+}
+
+/// Tells what is there.
+fn look_at(alloc: Global, client: &Client, log: &mut String, look: Look) -> Result<(), Fail> {
+    match look {
+        Look::Info(object) => info(client, log, object),
+        Look::Data(object) => data(client, log, object),
+        Look::Text(object) => text(alloc, client, log, object),
+        Look::LastError => last_error(client, log),
+        Look::Arrivals => arrivals(client, log),
+        Look::Sent => sent(client, log),
+        Look::Lengths => lengths(client, log),
+    }
+}
+
+/// Gives the script what it is given.
+fn play(alloc: Global, client: &mut Client, cue: Cue) -> Result<(), Fail> {
+    match cue {
+        Cue::Arrive(bytes) => arrive(alloc, client, bytes, bytes.len()),
+        Cue::ArriveWith(bytes, descriptor) => arrive_with(alloc, client, bytes, descriptor),
+        Cue::ArrivePadded(bytes, len) => arrive(alloc, client, bytes, len),
+        Cue::ArriveBytewise(bytes, len) => arrive_bytewise(alloc, client, bytes, len),
+        Cue::ArriveFault(fault) => arrive_fault(client, fault),
+        Cue::AcceptFault(fault) => accept_fault(client, fault),
+        Cue::TakeSent => take_sent(client),
+    }
+}
+
+/// Makes the call, and tells its answer.
+fn perform(alloc: Global, client: &mut Client, log: &mut String, act: Act) -> Result<(), Fail> {
+    match act {
+        Act::Limit(bytes) => limit(client, bytes),
+        Act::Send(request) => send(alloc, client, log, request),
+        Act::SendWith(request, child) => send_with(alloc, client, log, request, child),
+        Act::SendInWant(request) => send_in_want(alloc, client, log, request),
+        Act::Bound => bound(alloc, client, log),
+        Act::Flush => flush(client, log),
+        Act::Next => next(client, log),
+        Act::Finish(data) => finish(client, log, data),
+        Act::SetData(object, data) => set_data(client, log, object, data),
+        Act::Destroy(object) => destroy(client, log, object),
+        Act::Notes => notes(client, log),
+        Act::Replay(calls) => replay(alloc, client, log, calls),
+        Act::Look(look) => look_at(alloc, client, log, look),
+        Act::Script(cue) => play(alloc, client, cue),
+    }
+}
+
+/// A client of the table of `quad` in which nothing has happened, over an empty script.
+fn connected(alloc: Global) -> Result<Client, Fail> {
+    let table = quad_table(alloc)?;
+    Ok(Backend::connect(alloc, table, Memory::new(alloc))?)
+}
+
+/// What the acts tell, one after the other.
+fn log_by(alloc: Global, client: &mut Client, acts: &[Act]) -> Result<String, Fail> {
+    let mut log = String::new(alloc);
+    for act in acts {
+        perform(alloc, client, &mut log, *act)?;
+    }
+    Ok(log)
+}
+
+/// What the acts tell of a client in which nothing has happened.
+fn log_of(alloc: Global, acts: &[Act]) -> Result<String, Fail> {
+    let mut client = connected(alloc)?;
+    log_by(alloc, &mut client, acts)
+}
+
+/// Stops the test where it told something else.
+fn assert_told(rt: &impl Abort, told: &str, text: &str) {
+    assert_eq!(rt; told, text);
+}
+
+/// Stops the test where the acts of a client in which nothing has happened tell something else.
+pub fn assert_tells(rt: &(impl Abort + AllocGlobal), acts: &[Act], text: &str) -> Result<(), Fail> {
+    let log = log_of(rt.alloc(), acts)?;
+    assert_told(rt, &log, text);
+    Ok(())
+}

@@ -1,0 +1,137 @@
+//! Faults and wants of memory of the transport, and what is too long for it.
+
+use super::acts::{Act, Cue, Look, assert_tells};
+use super::values::Request;
+use std::test::Fail;
+use wl_wire::IoFault;
+
+/// A request fills the storage of 4096 bytes to its end, behind the 44 bytes of the bind. Then the transport fails while
+/// one is sent: it counts as sent, and the fault is the session's error.
+#[test]
+fn fault_of_a_request(rt: HostRuntime) -> Result<(), Fail> {
+    let acts = [
+        Act::Limit(0),
+        Act::Bound,
+        Act::Send(Request::Give(4036)),
+        Act::Script(Cue::AcceptFault(IoFault::Other(5))),
+        Act::Send(Request::Sync),
+        Act::Look(Look::LastError),
+        Act::Flush,
+        Act::Send(Request::Sync),
+        Act::Look(Look::LastError),
+    ];
+    assert_tells(
+        &rt,
+        &acts,
+        "sent: 2, 1\nsent: 3, 2\nsent: 0, 0\nsent: 4, 3\nIo error: os error 5\nthe session failed\nsent: 5, 4\nIo error: os error 5\n",
+    )
+}
+
+/// The transport lacks memory while a request is sent: it is refused, and the next one is as if it had not been.
+#[test]
+fn request_without_memory(rt: HostRuntime) -> Result<(), Fail> {
+    let acts = [
+        Act::Limit(0),
+        Act::Bound,
+        Act::Send(Request::Give(4036)),
+        Act::Script(Cue::AcceptFault(IoFault::OutOfMemory)),
+        Act::SendInWant(Request::Sync),
+        Act::Send(Request::Sync),
+        Act::Look(Look::LastError),
+    ];
+    assert_tells(
+        &rt,
+        &acts,
+        "sent: 2, 1\nsent: 3, 2\nsent: 0, 0\nout of memory\nsent: 4, 3\nno error\n",
+    )
+}
+
+/// A request that is longer than the storage may be.
+#[test]
+fn request_too_long(rt: HostRuntime) -> Result<(), Fail> {
+    let acts = [
+        Act::Limit(0),
+        Act::Bound,
+        Act::Send(Request::Give(4084)),
+        Act::Look(Look::LastError),
+    ];
+    assert_tells(
+        &rt,
+        &acts,
+        "sent: 2, 1\nsent: 3, 2\nsent: 0, 0\nIo error: message too big\n",
+    )
+}
+
+/// A flush that would block, and one that fails.
+#[test]
+fn faults_of_a_flush(rt: HostRuntime) -> Result<(), Fail> {
+    let acts = [
+        Act::Send(Request::Sync),
+        Act::Script(Cue::AcceptFault(IoFault::WouldBlock)),
+        Act::Script(Cue::AcceptFault(IoFault::Other(5))),
+        Act::Flush,
+        Act::Look(Look::LastError),
+        Act::Flush,
+        Act::Look(Look::LastError),
+        Act::Next,
+        Act::Flush,
+    ];
+    assert_tells(
+        &rt,
+        &acts,
+        "sent: 2, 1\nwould block\nno error\nthe session failed\nIo error: os error 5\nthe session failed\nthe session failed\n",
+    )
+}
+
+/// A fault of a receive is the session's error.
+#[test]
+fn fault_of_a_receive(rt: HostRuntime) -> Result<(), Fail> {
+    let acts = [
+        Act::Script(Cue::ArriveFault(IoFault::WouldBlock)),
+        Act::Script(Cue::ArriveFault(IoFault::Other(3))),
+        Act::Next,
+        Act::Next,
+        Act::Look(Look::LastError),
+        Act::Flush,
+        Act::Next,
+    ];
+    assert_tells(
+        &rt,
+        &acts,
+        "would block\nthe session failed\nIo error: os error 3\nthe session failed\nthe session failed\n",
+    )
+}
+
+/// A hundred receives of a byte each, the beginning of a message of 200 bytes: a reading makes 64 of them.
+#[test]
+fn receives_of_a_reading(rt: HostRuntime) -> Result<(), Fail> {
+    let acts = [
+        Act::Script(Cue::ArriveBytewise(&[1, 0, 0, 0, 0, 0, 200, 0], 100)),
+        Act::Next,
+        Act::Look(Look::Arrivals),
+        Act::Next,
+        Act::Look(Look::Arrivals),
+    ];
+    assert_tells(
+        &rt,
+        &acts,
+        "would block\n36 arrivals\nwould block\n0 arrivals\n",
+    )
+}
+
+/// A message of 5000 bytes, which is longer than the storage of what was received.
+#[test]
+fn message_longer_than_the_storage(rt: HostRuntime) -> Result<(), Fail> {
+    let acts = [
+        Act::Send(Request::Sync),
+        Act::Script(Cue::ArrivePadded(&[2, 0, 0, 0, 0, 0, 0x88, 0x13], 4096)),
+        Act::Script(Cue::ArrivePadded(&[], 904)),
+        Act::Next,
+        Act::Look(Look::LastError),
+    ];
+    assert_tells(
+        &rt,
+        &acts,
+        "sent: 2, 1\nthe session failed\nIo error: broken pipe\n",
+    )
+}

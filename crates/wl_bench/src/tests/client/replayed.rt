@@ -1,0 +1,76 @@
+//! Runs by `replay`, and wants of memory of the transport.
+
+use super::acts::{Act, assert_tells};
+use super::steps::Call;
+use super::values::{Object, Request};
+use std::test::Fail;
+use wl_wire::IoFault;
+
+/// A callback's life, in a run that has each step. `wl_callback.done` and `wl_display.delete_id` end it.
+static LIFE: [Call; 19] = [
+    Call::Send(Request::Sync),
+    Call::Accept(5),
+    Call::AcceptFault(IoFault::WouldBlock),
+    Call::Flush,
+    Call::Flush,
+    Call::TakeSent,
+    Call::Arrive(&[
+        2, 0, 0, 0, 0, 0, 12, 0, 0, 0, 0, 0, 1, 0, 0, 0, 1, 0, 12, 0, 2, 0, 0, 0,
+    ]),
+    Call::ArriveFault(IoFault::WouldBlock),
+    Call::Next,
+    Call::SetData(Object::Callback, 6),
+    Call::Finish(Some(7)),
+    Call::Finish(None),
+    Call::Destroy(Object::Callback),
+    Call::Notes,
+    Call::Next,
+    Call::SetData(Object::Callback, 8),
+    Call::Limit(Some(0)),
+    Call::Dispatch,
+    Call::Send(Request::Sync),
+];
+
+#[test]
+fn each_step_has_its_reply(rt: HostRuntime) -> Result<(), Fail> {
+    assert_tells(
+        &rt,
+        &[Act::Replay(&LIFE)],
+        "sent: 2, 1\ndone\ndone\nwould block\nflushed\n0100000000\n000c0002000000\ndone\ndone\nevent 0 of 2: 0\ndone\nthere is no new object for the user data, 7 is back\nfinished\nInvalid ObjectId\nnotes: 2, 1\nwould block\nInvalid ObjectId\nlimit set\n0 dispatched\nsent: 2, 2\nrefused: false\n",
+    )
+}
+
+/// A flush for which the transport lacks memory.
+static FLUSH: [Call; 4] = [
+    Call::Send(Request::Sync),
+    Call::AcceptFault(IoFault::OutOfMemory),
+    Call::Flush,
+    Call::Next,
+];
+
+/// A reading for which the transport lacks memory.
+static READING: [Call; 5] = [
+    Call::Flush,
+    Call::TakeSent,
+    Call::ArriveFault(IoFault::OutOfMemory),
+    Call::Arrive(&[
+        2, 0, 0, 0, 0, 0, 12, 0, 0, 0, 0, 0, 1, 0, 0, 0, 1, 0, 12, 0, 2, 0, 0, 0,
+    ]),
+    Call::Next,
+];
+
+/// Wants of memory of the transport, a run of no steps after the first, and the next reading after the second.
+#[test]
+fn stopped_runs(rt: HostRuntime) -> Result<(), Fail> {
+    let acts = [
+        Act::Replay(&FLUSH),
+        Act::Replay(&[]),
+        Act::Replay(&READING),
+        Act::Replay(&[Call::Next]),
+    ];
+    assert_tells(
+        &rt,
+        &acts,
+        "sent: 2, 1\ndone\nstopped at 2\nrefused: true\nrefused: false\nflushed\n0100000000000c0002000000\ndone\ndone\nstopped at 4\nrefused: true\nevent 0 of 2: 0\nrefused: false\n",
+    )
+}
