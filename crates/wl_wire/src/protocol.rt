@@ -3,6 +3,7 @@
 ghost use Rattle.std.specs.Prelude.{◌≡◌, ◌≢◌, ◌↔◌, ◌⊎◌, IsTrue, IfOk, slice_get, option_map};
 ghost use Rattle.std.specs.Option.{option_copied};
 ghost use Rattle.wl_wire.specs.Argument.{Matches};
+ghost use Rattle.wl_wire.specs.Asked.{matches};
 ghost use Rattle.wl_wire.specs.Table.{IsAcceptedTable, IsFirstFault, interface_row, name_of, table_of};
 ghost use Rattle.wl_wire.specs.declared.protocol.TableError.{TableError as Fault};
 ghost use Rattle.wl_wire.specs.declared.protocol.TableError.TheVariants.{OutOfMemory};
@@ -124,7 +125,8 @@ pub fn same_interface_or_anonymous(a: InterfaceId, b: InterfaceId) -> bool
 /// Whether the arguments are as many as the signature has places, each of its place's type, whatever the signature
 /// says of null.
 pub fn check_for_signature<Id, Fd>(signature: &[ArgumentType], args: &[Argument<Id, Fd>]) -> bool
-    ensures { IsTrue result ↔ Matches signature.now args.now }
+    ensures fits { IsTrue result ↔ Matches signature.now args.now }
+    ensures word { result ≡ matches signature.now args.now }
 {
     if signature.len() != args.len() {
         return false;
