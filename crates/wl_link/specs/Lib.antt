@@ -17,4 +17,16 @@ pub mod KeptLaws
 pub mod OneLaws
 pub mod Sides
 pub mod StreamLaws
+pub mod Branches
+pub mod QueueLaws
+pub mod LaterLaws
+pub mod Puts
+pub mod PutsLaws
+pub mod Reader
+pub mod Served
+pub mod ServedLaws
+pub mod CuttingLaws
+pub mod ReaderLaws
+pub mod RespectLaws
+pub mod ReaderLoops
 pub mod Lending

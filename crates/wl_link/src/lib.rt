@@ -12,6 +12,7 @@ mod object;
 mod object_map;
 mod parcel;
 mod places;
+mod reader_laws;
 mod token_queue;
 mod transport;
 
@@ -25,6 +26,10 @@ pub use laws::{
 pub use memory::{ArriveError, Memory};
 pub use object::Object;
 pub use object_map::{InsertError, NewError, ObjectMap, SERVER_ID_LIMIT};
+pub use reader_laws::{
+    a_reading_has_one_outcome, cutting_does_not_matter_to_a_reader,
+    readings_respect_what_verdicts_do, what_is_served_has_one_outcome,
+};
 pub use transport::Transport;
 
 #[cfg(test)]
