@@ -30,3 +30,5 @@ pub mod ReaderLaws
 pub mod RespectLaws
 pub mod ReaderLoops
 pub mod Lending
+pub mod Runs
+pub mod RunLaws

@@ -13,6 +13,7 @@ mod object_map;
 mod parcel;
 mod places;
 mod reader_laws;
+mod run_laws;
 mod token_queue;
 mod transport;
 
@@ -30,6 +31,7 @@ pub use reader_laws::{
     a_reading_has_one_outcome, cutting_does_not_matter_to_a_reader,
     readings_respect_what_verdicts_do, what_is_served_has_one_outcome,
 };
+pub use run_laws::runs_do_what_their_steps_do;
 pub use transport::Transport;
 
 #[cfg(test)]
