@@ -1,6 +1,6 @@
 -- What a request does to a session.
-use Rattle.std.specs.Prelude.{◌≡◌, ℕ, ◌+◌, ◌<◌, ◌⊎◌, length, List, [], ◌∷◌, map, Bool, true, false, ◌==◌, ◌&&◌, slice_get, if◌then◌else◌, Option, None, Some, IsSome, is_some, option_map, Result, Ok, Err, MatchResult, MatchBool, MatchOption}
-use Rattle.std.specs.List.{list_all, list_any}
+use Rattle.std.specs.Prelude.{◌≡◌, ℕ, ◌+◌, ◌<◌, ◌⊎◌, length, List, [], ◌∷◌, map, Bool, true, false, ◌==◌, slice_get, if◌then◌else◌, Option, None, Some, IsSome, is_some, option_map, Result, Ok, Err, MatchResult, MatchBool, MatchOption}
+use Rattle.std.specs.List.{list_all}
 use Rattle.wl_wire.specs.declared.argument.AllowNull.{AllowNull}
 use Rattle.wl_wire.specs.declared.argument.AllowNull.TheVariants.{Yes, No}
 use Rattle.wl_wire.specs.declared.argument.Argument.{Argument}
@@ -12,9 +12,9 @@ use Rattle.wl_wire.specs.declared.error.IoFault.{IoFault}
 use Rattle.wl_wire.specs.declared.error.IoFault.TheVariants as fault
 use Rattle.wl_wire.specs.declared.interface.InterfaceId.{InterfaceId}
 use Rattle.wl_wire.specs.declared.message.Message.{Message}
-use Rattle.wl_wire.specs.Argument.{WireArgument, type_of}
+use Rattle.wl_wire.specs.Argument.{WireArgument}
 use Rattle.wl_wire.specs.Message.{WireMessage}
-use Rattle.wl_wire.specs.Table.{InterfaceRow, MessageRow, is_new_id}
+use Rattle.wl_wire.specs.Table.{InterfaceRow, MessageRow}
 use Rattle.wl_link.specs.declared.object.Object.{Object}
 use Rattle.wl_link.specs.Exchange.{Queue}
 use Rattle.wl_link.specs.Link.{LinkState, Wrote}

@@ -1,8 +1,8 @@
 -- What a client session holds, and the look-ups that its calls share.
-use Rattle.std.specs.Prelude.{◌≡◌, ℕ, List, [], Bool, false, true, Option, None, Some, ◌==◌, if◌then◌else◌, slice_get, ◌++◌, ◌∷◌}
+use Rattle.std.specs.Prelude.{◌≡◌, ℕ, List, [], Bool, false, Option, None, Some, if◌then◌else◌, ◌++◌, ◌∷◌}
 use Rattle.wl_wire.specs.declared.interface.InterfaceId.{InterfaceId}
 use Rattle.wl_wire.specs.declared.interface.TheConstants.{ANONYMOUS_INTERFACE, WL_DISPLAY_INTERFACE}
-use Rattle.wl_wire.specs.Table.{InterfaceRow, MessageRow}
+use Rattle.wl_wire.specs.Table.{InterfaceRow}
 use Rattle.wl_link.specs.declared.object.Object.{Object}
 use Rattle.wl_link.specs.Identity.{Id, Objects, names}
 use Rattle.wl_link.specs.Link.{LinkState, IsFresh}
