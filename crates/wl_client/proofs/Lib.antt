@@ -4,5 +4,4 @@ pub mod Vacating
 pub mod Handling
 pub mod Readings
 mod Flushing
-pub mod Replaying
 mod Rows

@@ -22,6 +22,7 @@ use Rattle.wl_link.specs.declared.memory.ArriveError.TheVariants as arrive
 use Rattle.wl_link.specs.Script.{Script, ScriptSends, ScriptReceives}
 use Rattle.wl_link.specs.Store.{Store, held, is_free, is_server_number, removed, rewritten, stored}
 use Rattle.wl_link.specs.StoreLaws.{stored_here, stored_other}
+use Rattle.wl_wire.specs.Asked.{fits, next_interface}
 use Rattle.wl_client.specs.declared.error.EventError.{EventError}
 use Rattle.wl_client.specs.declared.error.FlushError.{FlushError}
 use Rattle.wl_client.specs.declared.error.RequestError.{RequestError}
@@ -40,7 +41,7 @@ use Rattle.wl_client.specs.Handed.{Follows, HasOwnIds, argument_ids, event_ids, 
 use Rattle.wl_client.specs.Objects.{DataSet, DestroyedBy, destroyable}
 use Rattle.wl_client.specs.Reading.{Turn, Received, Handled, Ends, Faulted, Handles, HandlesConverted, HandlesDisplay, HandlesEvent, NextEvent, Reads, Stores, event_content, receives_allowed, row_of, with_link}
 use Rattle.wl_client.specs.Requests.{Numbered, Requested, error_after, Sent, SentAs, SentWithChild, SessionMessage, Spec, Written, ended_by, id_of_new, lacked_memory, new_child, number_of_new, request_check, session_content, wire_message, with_born, with_ended}
-use Rattle.wl_client.specs.Session.{SessionState, IsConnected, alive, display_object, fits, id_at, id_of, last_possible_serial, named, next_interface, noted, null_parts, objects_of, serial_of, with_flags, with_objects, with_user_data}
+use Rattle.wl_client.specs.Session.{SessionState, IsConnected, alive, display_object, id_at, id_of, last_possible_serial, named, noted, null_parts, objects_of, serial_of, with_flags, with_objects, with_user_data}
 use Rattle.wl_client.specs.Steps.{Entry, Leads, StepOf}
 
 -- ---- options and truth values

@@ -26,6 +26,7 @@ use Rattle.wl_link.specs.Link.{counted_answer, count_of}
 use Rattle.wl_link.specs.Script.{Script, ScriptSends, ScriptReceives}
 use Rattle.wl_link.specs.Store.{Store, empty_store, held, removed, rewritten, stored}
 use Rattle.wl_link.specs.StoreLaws.{held_empty, removed_here, removed_other, rewritten_here, rewritten_other, stored_here, stored_other}
+use Rattle.wl_wire.specs.Asked.{next_interface}
 use Rattle.wl_client.specs.declared.error.EventError.{EventError}
 use Rattle.wl_client.specs.declared.error.FlushError.{FlushError}
 use Rattle.wl_client.specs.declared.error.RequestError.{RequestError}
@@ -49,7 +50,7 @@ use Rattle.wl_client.specs.Noted.{NotedOnce, notes_in, notes_of}
 use Rattle.wl_client.specs.Objects.{DataSet, DestroyedBy, destroyable}
 use Rattle.wl_client.specs.Reading.{Turn, Received, Handled, Ends, Faulted, Handles, HandlesConverted, HandlesDisplay, HandlesEvent, NextEvent, Reads, Stores, event_content, receives_allowed, row_of, with_link}
 use Rattle.wl_client.specs.Requests.{Numbered, Requested, Sent, SentAs, SentWithChild, SessionMessage, Spec, Written, checked_opcode, checked_sender, ended_by, error_after, lacked_memory, new_child, number_of_new, request_check, session_content, wire_message, with_born, with_ended}
-use Rattle.wl_client.specs.Session.{SessionState, IsConnected, alive, display_object, id_at, id_of, last_possible_serial, named, next_interface, noted, objects_of, with_flags, with_objects, with_user_data}
+use Rattle.wl_client.specs.Session.{SessionState, IsConnected, alive, display_object, id_at, id_of, last_possible_serial, named, noted, objects_of, with_flags, with_objects, with_user_data}
 use Rattle.wl_client.specs.Steps.{Entry, Leads, StepOf}
 
 -- a value, which the result is, or an error, with what is known of it

@@ -1,5 +1,5 @@
 -- That each step has one outcome where memory is not refused, and so each run.
-use Rattle.std.proofs.Common.{◌≡◌, ◌≢◌, ℕ, ◌≤◌, ◌<◌, ◌^◌, Bool, true, false, eqb, List, [], ◌∷◌, length, Option, None, Some, is_some, Result, Ok, Err, MatchBool, refl, sym, ap, subst, ◌∙◌, true≢false, arith}
+use Rattle.std.proofs.Common.{◌≡◌, ◌≢◌, ℕ, ◌≤◌, ◌<◌, ◌^◌, Bool, true, false, eqb, List, length, Option, None, Some, is_some, Result, Ok, Err, MatchBool, refl, sym, ap, subst, ◌∙◌, true≢false, arith}
 use mathlib.Core.Logic.{inl, inr}
 use Rattle.std.proofs.Math.Nat.{le_antisymm}
 use Rattle.std.proofs.lemmas.Bool.{cases_order}
@@ -12,6 +12,7 @@ use Rattle.wl_link.specs.declared.memory.ArriveError.TheVariants as arrive
 use Rattle.wl_link.specs.Exchange.{Queue}
 use Rattle.wl_link.specs.Link.{LinkState, AreLimits, IsLimit}
 use Rattle.wl_link.specs.OneLaws.{IsFunction, one_flush_lem, one_write_lem}
+use Rattle.wl_link.specs.RunLaws.{run_one as each_run_one}
 use Rattle.wl_link.specs.Script.{Script, ScriptSends, ScriptReceives}
 use Rattle.wl_link.specs.ScriptLaws.{script_sends_function, script_receives_function}
 use Rattle.wl_link.specs.Store.{Range, Store, client_range, IsLeastAbsent, IsFull}
@@ -28,7 +29,7 @@ use Rattle.wl_client.specs.ObjectId.{IdParts}
 use Rattle.wl_client.specs.Finish.{Closes, Finishes, FlushEnds, SessionFlushed}
 use Rattle.wl_client.specs.Objects.{DataSet, DestroyedBy, destroyable}
 use Rattle.wl_client.specs.Reading.{event_content}
-use Rattle.wl_client.specs.ReadingLaws.{SameEnd, both_bool, both_option, both_result, next_event_one, same_end, suc_same}
+use Rattle.wl_client.specs.ReadingLaws.{SameEnd, both_bool, both_option, both_result, next_event_one, same_end}
 use Rattle.wl_client.specs.Replies.{SameReply, SameReplies}
 use Rattle.wl_client.specs.Requests.{Numbered, Requested, Sent, SentAs, SentWithChild, SessionMessage, Spec, Written, ended_by, error_after, id_of_new, lacked_memory, new_child, number_of_new, request_check, session_content, wire_message, with_born, with_ended}
 use Rattle.wl_client.specs.Session.{SessionState, last_possible_serial, named}
@@ -286,13 +287,4 @@ module _ {U : Type 0} where
   -- so has each run
   pub run_one : (s x y : SessionState Script U) (steps : List (Step U)) (replies replies' : List (Reply U)) → length replies ≡ length steps
       → length replies' ≡ length steps → Leads s (entries steps replies) x → Leads s (entries steps replies') y → SameReplies replies replies' × (x ≡ y)
-  run_one s x y [] [] [] n n' same same' = (tt, same ∙ sym same')
-  run_one s x y [] (p ∷ replies) replies' n n' h g = absurd (omega (arith, n))
-  run_one s x y [] [] (q ∷ replies') n n' h g = absurd (omega (arith, n'))
-  run_one s x y (call ∷ steps) [] replies' n n' h g = absurd (omega (arith, n))
-  run_one s x y (call ∷ steps) (p ∷ replies) [] n n' h g = absurd (omega (arith, n'))
-  run_one s x y (call ∷ steps) (p ∷ replies) (q ∷ replies') n n' (mid, by, leads) (mid', by', leads') =
-      let first = step_one s mid mid' call p q by by' in
-      let joined = subst (λ t. Leads t (entries steps replies') y) (sym first.1) leads' in
-      let rest = run_one mid x y steps replies replies' (suc_same _ _ n) (suc_same _ _ n') leads joined in
-      ((first.0, rest.0), rest.1)
+  run_one s x y steps replies replies' n n' h g = each_run_one StepOf SameReply step_one s x y steps replies replies' n n' h g

@@ -19,6 +19,7 @@ use Rattle.wl_link.specs.declared.object.Object.{Object}
 use Rattle.wl_link.specs.Exchange.{Queue}
 use Rattle.wl_link.specs.Link.{LinkState, FilledBy, ReadOne, counted_answer, count_of}
 use Rattle.wl_link.specs.Store.{Store, held}
+use Rattle.wl_wire.specs.Asked.{event_row}
 use Rattle.wl_client.specs.declared.error.EventError.{EventError}
 use Rattle.wl_client.specs.declared.error.EventError.TheVariants as no_event
 use Rattle.wl_client.specs.declared.error.WaylandError.{WaylandError}
@@ -28,7 +29,7 @@ use Rattle.wl_client.specs.declared.kept.Kept.{Kept}
 use Rattle.wl_client.specs.ObjectId.{IdParts}
 use Rattle.wl_client.specs.Events.{Outcome, Whole, Wrong, convert, start, error_of, DisplayEvent, Fails, Deletes, Unreadable, display_event, told_error, deleted}
 use Rattle.wl_client.specs.Requests.{SessionMessage, session_content}
-use Rattle.wl_client.specs.Session.{SessionState, event_row, id_at, objects_of, with_objects}
+use Rattle.wl_client.specs.Session.{SessionState, id_at, objects_of, with_objects}
 
 -- an entry of a reading
 pub data Turn : Type 0 where

@@ -1,5 +1,6 @@
 -- When two replies are the same, and so those of two runs.
-use Rattle.std.specs.Prelude.{◌≡◌, List, [], ◌∷◌, map}
+use Rattle.std.specs.Prelude.{◌≡◌, List, map}
+use Rattle.wl_link.specs.Runs.{AllSame}
 use Rattle.wl_link.specs.Script.{parcel}
 use Rattle.wl_client.specs.declared.step.Reply.{Reply}
 use Rattle.wl_client.specs.declared.step.Reply.TheVariants as reply
@@ -15,7 +16,4 @@ module _ {U : Type 0} where
 
   -- as many replies, and each the same as the other's at its place
   abbrev pub SameReplies : List (Reply U) → List (Reply U) → Type 0
-  SameReplies [] [] = Unit {0}
-  SameReplies [] (r' ∷ replies') = ⊥
-  SameReplies (r ∷ replies) [] = ⊥
-  SameReplies (r ∷ replies) (r' ∷ replies') = SameReply r r' × SameReplies replies replies'
+  SameReplies replies replies' = AllSame SameReply replies replies'

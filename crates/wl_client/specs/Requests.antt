@@ -1,6 +1,6 @@
 -- What a request does to a session.
-use Rattle.std.specs.Prelude.{◌≡◌, ℕ, ◌+◌, ◌<◌, ◌⊎◌, length, List, [], ◌∷◌, map, Bool, true, false, ◌==◌, ◌&&◌, slice_get, if◌then◌else◌, Option, None, Some, IsSome, is_some, option_map, Result, Ok, Err, MatchResult, MatchBool, MatchOption}
-use Rattle.std.specs.List.{list_all, list_any}
+use Rattle.std.specs.Prelude.{◌≡◌, ℕ, ◌+◌, ◌<◌, ◌⊎◌, length, List, [], ◌∷◌, map, Bool, true, false, ◌==◌, slice_get, if◌then◌else◌, Option, None, Some, IsSome, is_some, option_map, Result, Ok, Err, MatchResult, MatchBool, MatchOption}
+use Rattle.std.specs.List.{list_all}
 use Rattle.wl_wire.specs.declared.argument.AllowNull.{AllowNull}
 use Rattle.wl_wire.specs.declared.argument.AllowNull.TheVariants.{Yes, No}
 use Rattle.wl_wire.specs.declared.argument.Argument.{Argument}
@@ -12,13 +12,14 @@ use Rattle.wl_wire.specs.declared.error.IoFault.{IoFault}
 use Rattle.wl_wire.specs.declared.error.IoFault.TheVariants as fault
 use Rattle.wl_wire.specs.declared.interface.InterfaceId.{InterfaceId}
 use Rattle.wl_wire.specs.declared.message.Message.{Message}
-use Rattle.wl_wire.specs.Argument.{WireArgument, type_of}
+use Rattle.wl_wire.specs.Argument.{WireArgument}
 use Rattle.wl_wire.specs.Message.{WireMessage}
-use Rattle.wl_wire.specs.Table.{InterfaceRow, MessageRow, is_new_id}
+use Rattle.wl_wire.specs.Table.{InterfaceRow, MessageRow}
 use Rattle.wl_link.specs.declared.object.Object.{Object}
 use Rattle.wl_link.specs.Exchange.{Queue}
 use Rattle.wl_link.specs.Link.{LinkState, Wrote}
 use Rattle.wl_link.specs.Store.{Store, client_range, stored, IsLeastAbsent, IsFull}
+use Rattle.wl_wire.specs.Asked.{creates, fits, left_after, matches, next_interface, request_row}
 use Rattle.wl_client.specs.declared.error.RequestError.{RequestError}
 use Rattle.wl_client.specs.declared.error.RequestError.TheVariants as refused
 use Rattle.wl_client.specs.declared.error.WaylandError.{WaylandError}
@@ -27,7 +28,7 @@ use Rattle.wl_client.specs.declared.kept.Kept.{Kept}
 use Rattle.wl_client.specs.declared.request.Granted.{Granted}
 use Rattle.wl_client.specs.ObjectId.{IdParts}
 use Rattle.wl_client.specs.Objects.{given_up}
-use Rattle.wl_client.specs.Session.{SessionState, last_possible_serial, null_parts, named, alive, noted, id_at, fits, next_interface, rest_of, request_row, fresh_object}
+use Rattle.wl_client.specs.Session.{SessionState, last_possible_serial, null_parts, named, alive, noted, id_at, fresh_object}
 
 -- a message of a session, without where its arguments lie in memory
 pub record SessionMessage : Type 0 where
@@ -84,11 +85,6 @@ abbrev pub argument_fault : {U : Type 0} → Store (Kept U) → ArgumentType →
 argument_fault store (kind.Object null) asked (arg.Object id) = object_fault store null asked id
 argument_fault store _ asked _ = None
 
--- each object argument takes the next of the table's interfaces
-abbrev pub left_after : {Id Fd : Type 0} → Argument Id Fd → List InterfaceId → List InterfaceId
-left_after (arg.Object _) asked = rest_of asked
-left_after _ asked = asked
-
 abbrev pub fault_or : Option RequestError → Option RequestError → Option RequestError
 fault_or None other = other
 fault_or (Some e) other = Some e
@@ -100,27 +96,6 @@ first_fault store [] asked args = None
 first_fault store (k ∷ kinds) asked [] = None
 first_fault store (k ∷ kinds) asked (a ∷ args) =
     fault_or (argument_fault store k (next_interface asked) a) (first_fault store kinds (left_after a asked) args)
-
--- the types of arguments, counted, whatever they say of null
-abbrev pub type_number : ArgumentType → ℕ
-type_number kind.Int = 0
-type_number kind.Uint = 1
-type_number kind.Fixed = 2
-type_number (kind.Str _) = 3
-type_number (kind.Object _) = 4
-type_number kind.NewId = 5
-type_number kind.Array = 6
-type_number kind.Fd = 7
-
--- the arguments fit the signature: what `Matches` says, as a truth value
-abbrev pub matches : {Id Fd : Type 0} → List ArgumentType → List (Argument Id Fd) → Bool
-matches [] [] = true
-matches (k ∷ kinds) [] = false
-matches [] (a ∷ args) = false
-matches (k ∷ kinds) (a ∷ args) = (type_number k == type_number (type_of a)) && matches kinds args
-
-abbrev pub creates : MessageRow → Bool
-creates row = list_any is_new_id row.signature
 
 abbrev pub placed_child : Result Spec RequestError → Bool → Bool → Result (Option Spec) RequestError
 placed_child (Err e) has_data placeholders = Err e

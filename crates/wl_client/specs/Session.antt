@@ -1,7 +1,7 @@
 -- What a client session holds, and the look-ups that its calls share.
-use Rattle.std.specs.Prelude.{◌≡◌, ℕ, List, [], Bool, false, true, Option, None, Some, ◌==◌, if◌then◌else◌, slice_get, ◌++◌, ◌∷◌}
+use Rattle.std.specs.Prelude.{◌≡◌, ℕ, List, [], Bool, false, Option, None, Some, if◌then◌else◌, ◌++◌, ◌∷◌}
 use Rattle.wl_wire.specs.declared.interface.InterfaceId.{InterfaceId}
-use Rattle.wl_wire.specs.Table.{InterfaceRow, MessageRow, anonymous_id, display_id}
+use Rattle.wl_wire.specs.Table.{InterfaceRow, anonymous_id, display_id}
 use Rattle.wl_link.specs.declared.object.Object.{Object}
 use Rattle.wl_link.specs.Identity.{Id, Objects, names}
 use Rattle.wl_link.specs.Link.{LinkState, IsFresh}
@@ -36,36 +36,6 @@ null_parts = record { number = 0; serial = 0; interface = anonymous_id }
 -- what names in an id: all but its interface
 abbrev pub id_of : IdParts → Id
 id_of id = record { number = id.number; serial = id.serial }
-
-abbrev pub next_interface : List InterfaceId → InterfaceId
-next_interface [] = anonymous_id
-next_interface (i ∷ _) = i
-
-abbrev pub rest_of : List InterfaceId → List InterfaceId
-rest_of [] = []
-rest_of (_ ∷ rest) = rest
-
--- an object of the second interface may stand where the first is asked for; the anonymous one takes any
-abbrev pub fits : InterfaceId → InterfaceId → Bool
-fits asked i = if asked.0 == i.0 then true else asked.0 == anonymous_id.0
-
--- the request or the event of that opcode
-abbrev pub row_at : List MessageRow → ℕ → Option MessageRow
-row_at rows opcode = slice_get rows opcode
-
-abbrev pub event_in : Option InterfaceRow → ℕ → Option MessageRow
-event_in None opcode = None
-event_in (Some row) opcode = row_at row.events opcode
-
-abbrev pub request_in : Option InterfaceRow → ℕ → Option MessageRow
-request_in None opcode = None
-request_in (Some row) opcode = row_at row.requests opcode
-
-abbrev pub event_row : List InterfaceRow → InterfaceId → ℕ → Option MessageRow
-event_row table i opcode = event_in (slice_get table i.0) opcode
-
-abbrev pub request_row : List InterfaceRow → InterfaceId → ℕ → Option MessageRow
-request_row table i opcode = request_in (slice_get table i.0) opcode
 
 -- the note of an object that is no longer the program's, where it has user data
 abbrev pub noted : {U : Type 0} → List Note → Option U → IdParts → List Note

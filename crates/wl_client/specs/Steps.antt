@@ -2,12 +2,13 @@
 --
 -- A step is a call that changes the session, with its arguments; calls of a transport by script stand for what a
 -- program does to it. An entry of a run is a step, its reply, and whether memory was refused in it.
-use Rattle.std.specs.Prelude.{◌≡◌, ℕ, ◌<◌, ◌⊎◌, List, [], ◌∷◌, ◌++◌, length, map, Bool, true, false, Result, Ok, Err}
+use Rattle.std.specs.Prelude.{◌≡◌, ℕ, ◌<◌, List, [], ◌∷◌, ◌++◌, length, map, Bool, true, false, Result, Ok, Err}
 use Rattle.wl_wire.specs.declared.error.OutOfMemory.{OutOfMemory}
 use Rattle.wl_link.specs.declared.memory.ArriveError.{ArriveError}
 use Rattle.wl_link.specs.declared.memory.ArriveError.TheVariants as arrive
 use Rattle.wl_link.specs.Exchange.{Queue}
 use Rattle.wl_link.specs.Link.{LinkState, LimitSet, with_transport}
+use Rattle.wl_link.specs.Runs.{Entry as RunEntry, Leads as RunLeads, StopsAt as RunStopsAt, entries as run_entries}
 use Rattle.wl_link.specs.Script.{Script, ScriptSends, ScriptReceives, parcel}
 use Rattle.wl_client.specs.declared.error.DestroyError.TheVariants as destroy
 use Rattle.wl_client.specs.declared.error.FinishError.TheVariants as finish
@@ -111,29 +112,22 @@ module _ {U : Type 0} where
       (sent : _) × (answer ≡ reply.TakeSent sent) × (refused ≡ false) × (map parcel sent.items ≡ before.link.transport.sent)
       × (after ≡ with_script before (record before.link.transport { sent = [] }))
 
+-- ---- runs
+
 -- a step of a run, its reply, and whether memory was refused in it
-pub record Entry (U : Type 0) : Type 0 where
-  pub step : Step U
-  pub answer : Reply U
-  pub refused : Bool
+abbrev pub Entry : Type 0 → Type 0
+Entry U = RunEntry (Step U) (Reply U)
 
--- the steps in which no memory was refused, with their replies
-abbrev pub entries : {U : Type 0} → List (Step U) → List (Reply U) → List (Entry U)
-entries [] replies = []
-entries (s ∷ steps) [] = []
-entries (s ∷ steps) (r ∷ replies) = record { step = s; answer = r; refused = false } ∷ entries steps replies
+module _ {U : Type 0} where
+  -- the steps in which no memory was refused, with their replies
+  abbrev pub entries : List (Step U) → List (Reply U) → List (Entry U)
+  entries steps replies = run_entries steps replies
 
--- the entries lead from one value of the session to another
-abbrev pub Leads : {U : Type 0} → SessionState Script U → List (Entry U) → SessionState Script U → Type 0
-Leads before [] after = after ≡ before
-Leads {U = U} before (e ∷ run) after =
-    (mid : SessionState Script U) × StepOf before e.step e.answer e.refused mid × Leads mid run after
+  -- the entries lead from one value of the session to another
+  abbrev pub Leads : SessionState Script U → List (Entry U) → SessionState Script U → Type 0
+  Leads before run after = RunLeads StepOf before run after
 
--- A run stopped in a step: there was no room for the replies, and nothing was done; or the steps before it were made
--- with these replies, and it met a want of memory.
-abbrev pub StopsAt : {U : Type 0} → SessionState Script U → List (Step U) → ℕ → List (Reply U) → SessionState Script U → Type 0
-StopsAt {U = U} before steps n replies after =
-    ((n ≡ 0) × (replies ≡ []) × (after ≡ before))
-    ⊎ ((done : List (Step U)) × (next : Step U) × (left : List (Step U)) × (answer : Reply U) × (mid : SessionState Script U)
-    × (steps ≡ done ++ next ∷ left) × (n ≡ length done) × (n ≡ length replies)
-    × Leads before (entries done replies) mid × StepOf mid next answer true after)
+  -- A run stopped in a step: there was no room for the replies, and nothing was done; or the steps before it were made
+  -- with these replies, and it met a want of memory.
+  abbrev pub StopsAt : SessionState Script U → List (Step U) → ℕ → List (Reply U) → SessionState Script U → Type 0
+  StopsAt before steps n replies after = RunStopsAt StepOf before steps n replies after

@@ -4,7 +4,7 @@ ghost use Rattle.std.specs.Prelude.{◌≡◌, ◌+◌, ◌≤◌, ◌<◌, ◌�
 ghost use Rattle.smallvec.specs.SmallVec.{HasRoomFor};
 ghost use Rattle.wl_wire.specs.Table.{message_row};
 ghost use Rattle.wl_link.specs.Store.{is_free};
-ghost use Rattle.wl_client.specs.Session.{next_interface, rest_of};
+ghost use Rattle.wl_wire.specs.Asked.{next_interface, rest_of};
 ghost use Rattle.wl_client.specs.Events.{Wrong, convert, object_argument, vacated};
 ghost use Rattle.wl_client.specs.Conversion.{CanMake, Converts, EndsWhole, Makes, objects_in, state};
 

@@ -4,8 +4,8 @@ ghost use Rattle.std.specs.Prelude.{◌≡◌, ◌≤◌, length, IfOk, IsOk, op
 ghost use Rattle.wl_wire.specs.Message.{content};
 ghost use Rattle.std.specs.List.{list_all};
 ghost use Rattle.wl_wire.specs.Table.{message_row};
-ghost use Rattle.wl_client.specs.Session.{request_row, next_interface};
-ghost use Rattle.wl_client.specs.Requests.{child_of, named_child, creates, is_placeholder, object_fault, argument_fault, first_fault, left_after, checked_child, checked_row, request_check, matches, session_content, wire_argument, wire_message};
+ghost use Rattle.wl_wire.specs.Asked.{creates, left_after, matches, next_interface, request_row};
+ghost use Rattle.wl_client.specs.Requests.{child_of, named_child, is_placeholder, object_fault, argument_fault, first_fault, checked_child, checked_row, request_check, session_content, wire_argument, wire_message};
 
 use crate::error::RequestError;
 use crate::kept::Kept;
@@ -167,13 +167,6 @@ fn first_fault<U: Drop>(
     None
 }
 
-/// Whether the arguments fit the signature.
-fn fits_signature(signature: &[ArgumentType], args: &[Argument<ObjectId, Token>]) -> bool
-    ensures { result ≡ matches signature.now args.now }
-{
-    check_for_signature(signature, args)
-}
-
 /// What the request creates, where its interface and version can be told, it gets user data, and its id is null.
 fn checked_child(
     protocol: &Protocol,
@@ -212,7 +205,7 @@ fn checked_row<U: Drop>(
         return Err(RequestError::InvalidId);
     }
     let args = message.args.as_slice();
-    if !fits_signature(&desc.signature, args) {
+    if !check_for_signature(&desc.signature, args) {
         return Err(RequestError::BadSignature);
     }
     match checked_child(protocol, desc, sender.version, spec, has_data, args) {

@@ -1,10 +1,9 @@
 -- The stream law and the cutting law.
-use Rattle.std.specs.Prelude.{◌≡◌, ◌≢◌, ℕ, ◌/◌, ◌%◌, ◌≤◌, ◌⊎◌, List, [], ◌∷◌, ◌++◌, length, take, drop, nat_le, true, false, MatchOption, Option, Some, None, Result, Ok, Err}
+use Rattle.std.specs.Prelude.{◌≡◌, ◌≢◌, ℕ, ◌≤◌, ◌⊎◌, List, [], ◌∷◌, ◌++◌, length, take, drop, nat_le, true, false, MatchOption, Option, Some, None, Result, Ok, Err}
 use Rattle.std.specs.List.{AllByRecursion}
-use Rattle.std.specs.Int.{w32, from_le_bytes}
-use Rattle.std.proofs.Common.{refl, sym, ◌∙◌, ap, subst, inl, inr, arith, append_assoc, length-append}
+use Rattle.std.proofs.Common.{refl, sym, ◌∙◌, ap, subst, inl, inr, arith, length-append}
 use Rattle.std.proofs.lemmas.Bool.{le-leb, cases_Bool, MatchBool-at_true, MatchBool-at_false}
-use Rattle.std.proofs.lemmas.List.{append-nil, take_at, drop_at, take-append-le, take-append-drop, drop-append-le, length-drop}
+use Rattle.std.proofs.lemmas.List.{append-nil, take_at, drop_at, take-append-le, take-append-drop, drop-append-le}
 use Rattle.wl_wire.specs.declared.argument.ArgumentType.{ArgumentType}
 use Rattle.wl_wire.specs.declared.argument.Token.{Token}
 use Rattle.wl_wire.specs.declared.error.IoFault.{IoFault}
@@ -12,30 +11,20 @@ use Rattle.wl_wire.specs.declared.error.MessageParseError.{MessageParseError}
 use Rattle.wl_wire.specs.declared.error.MessageParseError.TheVariants as errors
 use Rattle.wl_wire.specs.Argument.{Matches}
 use Rattle.wl_wire.specs.Message.{WireMessage, size, spelling, tokens}
-use Rattle.wl_wire.specs.Parse.{length_of, second_word, sender_of, opcode_of, payload_of, fd_count, ReadsMessage}
+use Rattle.wl_wire.specs.Parse.{length_of, sender_of, opcode_of, payload_of, fd_count, ReadsMessage}
 use Rattle.wl_wire.specs.Stream.{Stream}
 use Rattle.wl_wire.specs.CursorLaws.{reads_tokens}
 use Rattle.wl_wire.specs.Laws.{length-spelling, sender-spelling, length_of-spelling, opcode_of-spelling, written_is_read_lem, one_message_lem}
+use Rattle.wl_wire.specs.FrontLaws.{length_front, opcode_front, sender_front}
 use Rattle.wl_link.specs.Exchange.{Queue, Sending, joined, nothing}
 use Rattle.wl_link.specs.Link.{LinkState, with_transport, FlushedBy, WroteBy, with_came, behind_first, ReadFound, ReadOne, spelled}
 use Rattle.wl_link.specs.Kept.{taken, NoZero, Kept, queued_by}
 use Rattle.wl_link.specs.KeptLaws.{Within, flush_kept, write_kept, gone-taken}
+use Rattle.wl_link.specs.QueueLaws.{queue_is, joined_assoc, joined_nothing}
 use Rattle.wl_link.specs.ReadLaws.{reads_enough, refused_though_read, read_under_other}
 use Rattle.wl_link.specs.Sides.{SenderCall, SenderRun, written_by, written, all_taken, NoneZero, ReceiverCall, Filling, Reading, ReceiverStep, ReceiverRun, came_by, all_came, messages_read, spelled_all, IsReadable, StreamLaw, AllReadLaw, CuttingLaw, TakesFirst, ReadTakes}
 
 -- ---- queues behind one another
-
-queue_is : (q r : Queue) → q.bytes ≡ r.bytes → q.tokens ≡ r.tokens → q ≡ r
-queue_is q r bytes fds =
-    let with_bytes : List ℕ → Queue = λ b. record { bytes = b; tokens = q.tokens } in
-    let with_tokens : List Token → Queue = λ t. record { bytes = r.bytes; tokens = t } in
-    ap with_bytes bytes ∙ ap with_tokens fds
-
-joined_assoc : (p q r : Queue) → joined (joined p q) r ≡ joined p (joined q r)
-joined_assoc p q r = queue_is _ _ (append_assoc p.bytes q.bytes r.bytes) (append_assoc p.tokens q.tokens r.tokens)
-
-joined_nothing : (q : Queue) → joined q nothing ≡ q
-joined_nothing q = queue_is _ _ (append-nil q.bytes) (append-nil q.tokens)
 
 kept_joined : (es : List Sending) (before added after : Queue) → NoZero es → Kept es before added after → joined (taken es) after ≡ joined before added
 kept_joined es before added after none kept =
@@ -76,24 +65,6 @@ module _ {T : Type 0} (sends : T → Queue → Result ℕ IoFault → T → Type
       ∙ ap (λ (q : Queue). joined before.outgoing q) (sym (spelled_all-append (written_by c.message c.answer) (written cs)))
 
 -- ---- the receiving side
-
--- the header of a message is that of all that follows it
-module _ (raw more : List ℕ) (header : 8 ≤ length raw) where
-  sender_front : sender_of (raw ++ more) ≡ sender_of raw
-  unfolding sender_of
-  sender_front = ap (from_le_bytes w32) (take-append-le 4 raw more (omega arith))
-
-  word_front : second_word (raw ++ more) ≡ second_word raw
-  unfolding second_word
-  word_front =
-      ap (λ (bytes : List ℕ). from_le_bytes w32 (take 4 bytes)) (drop-append-le 4 raw more (omega arith))
-      ∙ ap (from_le_bytes w32) (take-append-le 4 (drop 4 raw) more (omega (arith, length-drop 4 raw)))
-
-  length_front : length_of (raw ++ more) ≡ length_of raw
-  length_front = ap (λ (n : ℕ). n / 65536) word_front
-
-  opcode_front : opcode_of (raw ++ more) ≡ opcode_of raw
-  opcode_front = ap (λ (n : ℕ). n % 65536) word_front
 
 -- the message that is read is the first of those whose spelling waits, and the others' spelling is left
 module _ (look_up : ℕ → ℕ → Option (List ArgumentType)) (waiting pending : Queue) (signature : List ArgumentType) (m : WireMessage)

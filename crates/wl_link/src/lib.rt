@@ -12,6 +12,8 @@ mod object;
 mod object_map;
 mod parcel;
 mod places;
+mod reader_laws;
+mod run_laws;
 mod token_queue;
 mod transport;
 
@@ -26,4 +28,9 @@ pub use limit::DEFAULT_MAX_BUFFER_SIZE;
 pub use memory::{ArriveError, Memory};
 pub use object::Object;
 pub use object_map::{InsertError, NewError, ObjectMap, SERVER_ID_LIMIT};
+pub use reader_laws::{
+    a_reading_has_one_outcome, cutting_does_not_matter_to_a_reader,
+    readings_respect_what_verdicts_do, what_is_served_has_one_outcome,
+};
+pub use run_laws::runs_do_what_their_steps_do;
 pub use transport::{MAX_BYTES_OUT, MAX_FDS_OUT, Transport};

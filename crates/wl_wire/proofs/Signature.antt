@@ -1,22 +1,11 @@
 -- Whether arguments fit a signature, place by place.
-use Rattle.std.proofs.Common.{◌≡◌, ℕ, ◌+◌, ◌<◌, ◌≤◌, ◌++◌, ◌∷◌, [], List, length, take, map, get_or, refl, sym, ap, ◌∙◌}
+use Rattle.std.proofs.Common.{◌≡◌, ℕ, ◌+◌, ◌<◌, ◌≤◌, ◌++◌, ◌∷◌, [], List, length, take, map, get_or, sym, ap, ◌∙◌}
 use Rattle.std.proofs.lemmas.List.{get_or-map, map_more, take_all}
 use Rattle.wl_wire.specs.declared.argument.Argument.{Argument}
-use Rattle.wl_wire.specs.declared.argument.Argument.TheVariants as arg
 use Rattle.wl_wire.specs.declared.argument.ArgumentType.{ArgumentType}
 use Rattle.wl_wire.specs.declared.argument.ArgumentType.TheVariants.{Int}
 use Rattle.wl_wire.specs.Argument.{kind_of, type_of, Matches}
-
--- the type of an argument says nothing of null
-pub kind_of-type_of : {Id Fd : Type 0} (a : Argument Id Fd) → kind_of (type_of a) ≡ type_of a
-kind_of-type_of (arg.Int _) = refl
-kind_of-type_of (arg.Uint _) = refl
-kind_of-type_of (arg.Fixed _) = refl
-kind_of-type_of (arg.Str _) = refl
-kind_of-type_of (arg.Object _) = refl
-kind_of-type_of (arg.NewId _) = refl
-kind_of-type_of (arg.Array _) = refl
-kind_of-type_of (arg.Fd _) = refl
+use Rattle.wl_wire.specs.MatchingLaws.{kind_of-type_of}
 
 module _ {Id Fd : Type 0} (signature : List ArgumentType) (args : List (Argument Id Fd)) where
   -- one more place fits

@@ -11,3 +11,8 @@ pub mod CursorLaws
 pub mod Laws
 pub mod Enum
 pub mod MapFd
+pub mod MapIds
+pub mod MapIdsLaws
+pub mod Asked
+pub mod MatchingLaws
+pub mod FrontLaws

@@ -5,9 +5,10 @@
 ghost use Rattle.std.specs.Prelude.{◌≡◌, ◌++◌, ℕ, List, length, Option};
 ghost use Rattle.wl_wire.specs.declared.argument.ArgumentType.{ArgumentType};
 ghost use Rattle.wl_wire.specs.declared.argument.Token.{Token};
+ghost use Rattle.wl_wire.specs.declared.error.MessageParseError.TheVariants as errors;
 ghost use Rattle.wl_wire.specs.Argument.{Matches};
 ghost use Rattle.wl_wire.specs.Message.{WireMessage, IsMessage, spelling, tokens};
-ghost use Rattle.wl_wire.specs.Parse.{ReadsMessage};
+ghost use Rattle.wl_wire.specs.Parse.{ReadsMessage, RefusesMessage};
 ghost use Rattle.wl_wire.specs.Stream.{Stream};
 
 /// What was written is read: a message's spelling, with anything behind it, reads as the message under each
@@ -29,4 +30,11 @@ pub fn one_spelling()
 /// A stream of bytes and tokens begins with at most one list of so many messages.
 pub fn one_stream()
     ensures { (look_up : ℕ → ℕ → Option (List ArgumentType)) (ms ns : List WireMessage) (bytes : List ℕ) (fds : List Token) → length ms ≡ length ns → Stream look_up ms bytes fds → Stream look_up ns bytes fds → ms ≡ ns }
+{}
+
+/// What is found at the front of bytes and tokens stays so where more of them follow: the message that reads there, and
+/// that what stands there is malformed.
+pub fn fronts_stay()
+    ensures message { (raw more : List ℕ) (signature : List ArgumentType) (fds others : List Token) (m : WireMessage) → ReadsMessage raw signature fds m → ReadsMessage (raw ++ more) signature (fds ++ others) m }
+    ensures malformed { (raw more : List ℕ) (signature : List ArgumentType) (fds others : List Token) → RefusesMessage raw signature fds errors.Malformed → RefusesMessage (raw ++ more) signature (fds ++ others) errors.Malformed }
 {}

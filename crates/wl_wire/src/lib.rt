@@ -9,6 +9,7 @@ mod enums;
 mod error;
 mod interface;
 pub mod laws;
+mod map_ids;
 mod message;
 mod parse;
 mod protocol;

@@ -4,6 +4,7 @@ ghost use Rattle.std.specs.Prelude.{Some, ◌≡◌, ◌≢◌, ◌↔◌, ◌�
 ghost use Rattle.std.specs.Option.{option_copied};
 ghost use Rattle.wl_wire.specs.Argument.{Matches};
 ghost use Rattle.wl_wire.specs.Table.{anonymous_id, anonymous_row, callback_row, display_row, registry_row, IsAcceptedTable, IsFirstFault, interface_row, name_of, table_of};
+ghost use Rattle.wl_wire.specs.Asked.{matches};
 ghost use Rattle.wl_wire.specs.declared.protocol.TableError.{TableError as Fault};
 ghost use Rattle.wl_wire.specs.declared.protocol.TableError.TheVariants.{OutOfMemory};
 
@@ -150,7 +151,8 @@ pub fn same_interface_or_anonymous(a: InterfaceId, b: InterfaceId) -> bool
 /// Whether the arguments are as many as the signature has places, each of its place's type, whatever the signature
 /// says of null.
 pub fn check_for_signature<Id, Fd>(signature: &[ArgumentType], args: &[Argument<Id, Fd>]) -> bool
-    ensures { IsTrue result ↔ Matches signature.now args.now }
+    ensures fits { IsTrue result ↔ Matches signature.now args.now }
+    ensures word { result ≡ matches signature.now args.now }
 {
     if signature.len() != args.len() {
         return false;

@@ -5,6 +5,7 @@ mod descriptors;
 mod enums;
 mod errors;
 mod example;
+mod numbered;
 mod refused;
 mod strings;
 mod tables;

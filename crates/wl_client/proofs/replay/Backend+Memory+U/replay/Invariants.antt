@@ -1,11 +1,12 @@
 use Rattle.std.proofs.Common.{◌≡◌, ◌+◌, ◌≤◌, false, length}
 use Rattle.std.specs.Prelude.{vec_len, vec_capacity}
-use Rattle.wl_client.proofs.Replaying.{SoFar}
+use Rattle.wl_link.specs.Runs.{MadeSoFar}
+use Rattle.wl_client.specs.Steps.{StepOf}
 use Rattle.wl_client.proofs.replay.Backend+Memory+U.replay.Given as goal
 
 abbrev pub invariant-loop-step : goal.invariant-loop-step
 invariant-loop-step g l = record {
-  so_far : SoFar l.fn.self.session l.fn.steps.items l.replies.items l.rest.items l.self.session;
+  so_far : MadeSoFar StepOf l.fn.self.session l.fn.steps.items l.replies.items l.rest.items l.self.session;
   room : vec_len l.replies + vec_len l.rest ≤ vec_capacity l.replies;
   calm : l.self.refused ≡ false;
 }

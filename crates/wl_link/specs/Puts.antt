@@ -1,0 +1,45 @@
+-- Messages that are put behind what waits to be sent, up to the first that fails.
+--
+-- A message of one's own that has a text takes memory before it is written.
+use Rattle.std.specs.Prelude.{◌≡◌, ◌⊎◌, ℕ, Bool, true, false, List, [], ◌∷◌, ◌++◌, Result, Ok, Err, MatchResult, MatchBool}
+use Rattle.std.specs.List.{list_any}
+use Rattle.wl_wire.specs.declared.error.IoFault.{IoFault}
+use Rattle.wl_wire.specs.declared.error.IoFault.TheVariants as fault
+use Rattle.wl_wire.specs.declared.argument.Argument.TheVariants as arg
+use Rattle.wl_wire.specs.Argument.{WireArgument}
+use Rattle.wl_wire.specs.Message.{WireMessage}
+use Rattle.wl_link.specs.Exchange.{Queue, Sending}
+use Rattle.wl_link.specs.Link.{FlushedBy, LinkState, WroteBy}
+
+abbrev pub is_text : WireArgument → Bool
+is_text (arg.Str _) = true
+is_text _ = false
+
+-- a message with a text takes memory before it is written
+abbrev pub has_text : WireMessage → Bool
+has_text m = list_any is_text m.args
+
+abbrev pub lacked_memory : Result (Unit {0}) IoFault → Bool
+lacked_memory (Err fault.OutOfMemory) = true
+lacked_memory _ = false
+
+module _ {T : Type 0} (sends : T → Queue → Result ℕ IoFault → T → Type 0) where
+  -- the message is written; or there was no memory for its text
+  abbrev pub PutBy : LinkState T → WireMessage → List Sending → Result (Unit {0}) IoFault → LinkState T → Type 0
+  PutBy before m es answer after =
+      WroteBy sends before m es answer after ⊎ ((es ≡ []) × (answer ≡ Err fault.OutOfMemory) × (after ≡ before) × (has_text m ≡ true))
+
+  -- the messages are put one after another, up to the first that fails
+  abbrev pub PutsOut : LinkState T → List WireMessage → List Sending → List WireMessage → Result (Unit {0}) IoFault → LinkState T → Type 0
+  PutsOut before [] es put answer after = (es ≡ []) × (put ≡ []) × (answer ≡ Ok tt) × (after ≡ before)
+  PutsOut before (m ∷ ms) es put answer after =
+      (first : List Sending) × (one : Result (Unit {0}) IoFault) × (mid : LinkState T) × PutBy before m first one mid
+      × MatchResult one
+      (λ _. (others : List Sending) × (more : List WireMessage) × (es ≡ first ++ others) × (put ≡ m ∷ more) × PutsOut mid ms others more answer after)
+      (λ f. (es ≡ first) × (put ≡ []) × (answer ≡ Err f) × (after ≡ mid))
+
+  -- a fault of the flush is dropped
+  abbrev pub FlushesOut : Bool → LinkState T → List Sending → Bool → LinkState T → Type 0
+  FlushesOut flushes before es lacked after =
+      MatchBool flushes ((answer : Result (Unit {0}) IoFault) × FlushedBy sends before es answer after × (lacked ≡ lacked_memory answer))
+      ((es ≡ []) × (after ≡ before) × (lacked ≡ false))

@@ -1,0 +1,197 @@
+-- A reader of messages, whatever it makes of them: what it holds, and how it reads.
+--
+-- What a message comes to is a verdict: a function of the reader's core, which is all that it holds but its link, and of
+-- the message. It says what the core becomes, what is put behind what waits to be sent, and what is handed out; and what
+-- the core becomes where there is no memory. So a reading is a list of receives and of verdicts that were carried out,
+-- and goes on while the core reads on.
+use Rattle.std.specs.Prelude.{◌≡◌, ◌≢◌, ◌⊎◌, ℕ, suc, ◌+◌, Bool, true, false, ◌||◌, List, [], ◌∷◌, ◌++◌, Option, None, Some, Result, Ok, Err, MatchResult, MatchBool, map}
+use Rattle.wl_wire.specs.declared.argument.ArgumentType.{ArgumentType}
+use Rattle.wl_wire.specs.declared.error.IoFault.{IoFault}
+use Rattle.wl_wire.specs.declared.error.MessageParseError.{MessageParseError}
+use Rattle.wl_wire.specs.declared.error.IoFault.TheVariants as fault
+use Rattle.wl_wire.specs.declared.error.MessageParseError.TheVariants as parse
+use Rattle.wl_wire.specs.Message.{WireMessage}
+use Rattle.wl_wire.specs.Parse.{opcode_of, sender_of}
+use Rattle.wl_link.specs.Exchange.{Queue, Sending, joined, nothing}
+use Rattle.wl_link.specs.Link.{FilledBy, LinkState, ReadOne, count_of, counted_answer}
+use Rattle.wl_link.specs.Puts.{FlushesOut, PutsOut, lacked_memory}
+
+pub record Verdict (Core Event : Type 0) : Type 0 where
+  -- what the core becomes at once
+  pub core : Core
+  -- what is put behind what waits to be sent, up to the first that fails, and whether a flush follows
+  pub puts : List WireMessage
+  pub flushes : Bool
+  -- what the core becomes behind that
+  pub last : Core → Core
+  -- whether memory is asked for before anything is put; and what the core becomes where there is none, then or for a put
+  pub asks : Bool
+  pub starved : Core
+  -- what is handed out, by what the core came to
+  pub events : Core → List Event
+
+pub record Reader (Core Event Finish : Type 0) : Type 0 where
+  -- it is live, and nothing that it handed out is open
+  pub reads_on : Core → Bool
+  pub signature : Core → ℕ → ℕ → Option (List ArgumentType)
+  -- a message of that sender and opcode asks for memory before it is read
+  pub asks : Core → ℕ → ℕ → Bool
+  pub handles : Core → WireMessage → Verdict Core Event
+  pub malformed : Core → Verdict Core Event
+  -- what the end of what is open comes to with these data, if they are such as it takes
+  pub takes : Core → Finish → Option (Verdict Core Event)
+  -- a write failed; a receive failed
+  pub broken : Core → IoFault → Core
+  pub faulted : Core → IoFault → Core
+
+pub record Part (T Core : Type 0) : Type 0 where
+  pub core : Core
+  pub link : LinkState T
+
+-- what it gives to others: a message that was put behind what waits to be sent, or what is handed out
+pub data Given (Event : Type 0) : Type 0 where
+  Queued : WireMessage → Given Event
+  HandedOut : Event → Given Event
+
+-- an entry of a reading: a receive, a message that was handled, or malformed bytes that were, with their sends
+pub data Turn : Type 0 where
+  Received : Result Queue IoFault → Turn
+  Handled : List Sending → Turn
+  Unread : List Sending → Turn
+
+-- what a reading gives: messages and events, the fault that ended it where the core would read on, whether memory was
+-- refused, and how many receives are left
+pub record Gives (Event : Type 0) : Type 0 where
+  pub gave : List (Given Event)
+  pub stopped : Option IoFault
+  pub refused : Bool
+  pub left : ℕ
+
+abbrev pub stops : {Event : Type 0} → Option IoFault → Bool → ℕ → Gives Event
+stops stopped refused left = record { gave = []; stopped = stopped; refused = refused; left = left }
+
+-- what was given first, and then the rest
+abbrev pub behind : {Event : Type 0} → List (Given Event) → Bool → Gives Event → Gives Event
+behind first refused rest = record rest { gave = first ++ rest.gave; refused = refused || rest.refused }
+
+-- how many messages were handled
+abbrev pub handled_in : List Turn → ℕ
+handled_in [] = 0
+handled_in (Handled es ∷ turns) = handled_in turns + 1
+handled_in (_ ∷ turns) = handled_in turns
+
+abbrev pub IsFed : Result Queue IoFault → Type 0
+IsFed (Ok came) = came.bytes ≢ []
+IsFed (Err f) = f ≡ fault.WouldBlock
+
+abbrev pub AllFed : List Turn → Type 0
+AllFed [] = Unit {0}
+AllFed (Received r ∷ turns) = IsFed r × AllFed turns
+AllFed (Handled es ∷ turns) = AllFed turns
+AllFed (Unread es ∷ turns) = AllFed turns
+
+abbrev pub came_by : Result Queue IoFault → Queue
+came_by (Ok came) = came
+came_by (Err f) = nothing
+
+abbrev pub came_in : List Turn → Queue
+came_in [] = nothing
+came_in (Received r ∷ turns) = joined (came_by r) (came_in turns)
+came_in (Handled es ∷ turns) = came_in turns
+came_in (Unread es ∷ turns) = came_in turns
+
+abbrev pub sends_in : List Turn → List Sending
+sends_in [] = []
+sends_in (Received r ∷ turns) = sends_in turns
+sends_in (Handled es ∷ turns) = es ++ sends_in turns
+sends_in (Unread es ∷ turns) = es ++ sends_in turns
+
+module _ {T Core : Type 0} where
+  abbrev pub with_link : Part T Core → LinkState T → Part T Core
+  with_link p link = record { core = p.core; link = link }
+
+-- ---- a verdict is carried out
+
+abbrev pub put_and_gave : {Event : Type 0} → List WireMessage → List Event → List (Given Event)
+put_and_gave put events = map Queued put ++ map HandedOut events
+
+module _ {Core Event Finish : Type 0} (reader : Reader Core Event Finish) where
+  -- what the core comes to where the messages were put, or where this write failed
+  abbrev pub came_to : Verdict Core Event → Result (Unit {0}) IoFault → Core
+  came_to v (Ok _) = v.last v.core
+  came_to v (Err fault.OutOfMemory) = v.starved
+  came_to v (Err f) = v.last (reader.broken v.core f)
+
+module _ {T Core Event Finish : Type 0} (sends : T → Queue → Result ℕ IoFault → T → Type 0) (reader : Reader Core Event Finish) where
+  abbrev pub Carries : Verdict Core Event → LinkState T → List Sending → List (Given Event) → Bool → Part T Core → Type 0
+  Carries v before es gave refused after =
+      (first : List Sending) × (others : List Sending) × (put : List WireMessage) × (wrote : Result (Unit {0}) IoFault) × (mid : LinkState T) × (lacked : Bool)
+      × PutsOut sends before v.puts first put wrote mid × FlushesOut sends v.flushes mid others lacked after.link
+      × (es ≡ first ++ others) × (after.core ≡ came_to reader v wrote) × (gave ≡ put_and_gave put (v.events (came_to reader v wrote)))
+      × (refused ≡ lacked_memory wrote || lacked)
+
+  -- there is no memory, and nothing is put
+  abbrev pub Starves : Verdict Core Event → LinkState T → List Sending → List (Given Event) → Bool → Part T Core → Type 0
+  Starves v before es gave refused after =
+      (v.asks ≡ true) × (refused ≡ true) × (es ≡ []) × (gave ≡ map HandedOut (v.events v.starved)) × (after ≡ record { core = v.starved; link = before })
+
+  abbrev pub CarriesOut : Verdict Core Event → LinkState T → List Sending → List (Given Event) → Bool → Part T Core → Type 0
+  CarriesOut v before es gave refused after = Carries v before es gave refused after ⊎ Starves v before es gave refused after
+
+  -- ---- a reading
+
+  abbrev pub ReadsAs : Part T Core → Result WireMessage MessageParseError → LinkState T → Type 0
+  ReadsAs p answer link = ReadOne (λ sender opcode found. found ≡ reader.signature p.core sender opcode) p.link answer link
+
+  abbrev pub Lacks : Part T Core → Type 0
+  Lacks p = ReadsAs p (Err parse.MissingData) p.link ⊎ ReadsAs p (Err parse.MissingFD) p.link
+
+  -- the message at the front asks for memory: before it is read, or for its texts and arrays
+  abbrev pub AsksForMemory : Part T Core → Type 0
+  AsksForMemory p =
+      (reader.asks p.core (sender_of p.link.incoming.bytes) (opcode_of p.link.incoming.bytes) ≡ true) ⊎ ReadsAs p (Err parse.OutOfMemory) p.link
+
+  -- the message at the front is taken, and comes to this; or malformed bytes, which stay
+  abbrev pub Takes : Part T Core → Verdict Core Event → LinkState T → Type 0
+  Takes p v link = (m : WireMessage) × ReadsAs p (Ok m) link × (v ≡ reader.handles p.core m)
+
+  abbrev pub Leaves : Part T Core → Verdict Core Event → LinkState T → Type 0
+  Leaves p v link = ReadsAs p (Err parse.Malformed) p.link × (link ≡ p.link) × (v ≡ reader.malformed p.core)
+
+  -- no receive is left; or there is no memory for what the message asks for, or for the tokens of a receive
+  abbrev pub Halts : ℕ → Part T Core → Gives Event → Type 0
+  Halts left p out =
+      (Lacks p × (left ≡ 0) × (out ≡ stops (Some fault.WouldBlock) false left))
+      ⊎ ((AsksForMemory p × (out ≡ stops (Some fault.OutOfMemory) true left))
+      ⊎ (Lacks p × ((n : ℕ) × (left ≡ suc n) × (out ≡ stops (Some fault.OutOfMemory) true n))))
+
+  abbrev pub Stops : ℕ → Part T Core → Gives Event → Type 0
+  Stops left p out = MatchBool (reader.reads_on p.core) (Halts left p out) (out ≡ stops None false left)
+
+  -- a verdict is carried out, and then it goes on
+  abbrev pub Then : (Part T Core → Verdict Core Event → LinkState T → Type 0) → Part T Core → List Sending → Gives Event
+      → (Part T Core → Gives Event → Type 0) → Type 0
+  Then Found before es out on =
+      (reader.reads_on before.core ≡ true)
+      × ((v : Verdict Core Event) × (link : LinkState T) × (first : List (Given Event)) × (lacked : Bool) × (mid : Part T Core) × (rest : Gives Event)
+      × Found before v link × CarriesOut v link es first lacked mid × (out ≡ behind first lacked rest) × on mid rest)
+
+  -- a reading with so many receives left
+  abbrev pub Reads : (T → ℕ → Result Queue IoFault → T → Type 0) → ℕ → Part T Core → List Turn → Gives Event → Part T Core → Type 0
+  Reads receives left before [] out after = (after ≡ before) × Stops left before out
+  Reads receives left before (Received r ∷ turns) out after =
+      (reader.reads_on before.core ≡ true) × Lacks before
+      × ((n : ℕ) × (left ≡ suc n)
+      × ((link : LinkState T) × FilledBy receives before.link r (counted_answer (count_of r)) link
+      × MatchResult (counted_answer (count_of r))
+      (λ _. Reads receives n (with_link before link) turns out after)
+      (λ f. (turns ≡ []) × (out ≡ stops (Some f) (lacked_memory (Err f)) n) × (after ≡ record { core = reader.faulted before.core f; link = link }))))
+  Reads receives left before (Handled es ∷ turns) out after =
+      Then Takes before es out (λ mid rest. Reads receives left mid turns rest after)
+  Reads receives left before (Unread es ∷ turns) out after =
+      Then Leaves before es out (λ mid rest. Reads receives left mid turns rest after)
+
+  -- what is open is ended with these data, which it takes
+  abbrev pub Ends : Part T Core → Finish → List Sending → List (Given Event) → Bool → Part T Core → Type 0
+  Ends before u es gave refused after =
+      (v : Verdict Core Event) × (reader.takes before.core u ≡ Some v) × CarriesOut v before.link es gave refused after

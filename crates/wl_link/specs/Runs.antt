@@ -1,0 +1,53 @@
+-- Calls one after another, whatever is called.
+--
+-- A step is a call that changes something, with its arguments; what one does is a relation of the value before it, its
+-- reply, whether memory was refused in it, and the value after it. Of a call that moves a transport the relation names
+-- the transport's value after it.
+use Rattle.std.specs.Prelude.{◌≡◌, ◌⊎◌, ℕ, Bool, true, false, List, [], ◌∷◌, ◌++◌, length, reverse}
+
+-- a step of a run, its reply, and whether memory was refused in it
+pub record Entry (Step Reply : Type 0) : Type 0 where
+  pub step : Step
+  pub answer : Reply
+  pub refused : Bool
+
+module _ {Step Reply : Type 0} where
+  -- the steps in which no memory was refused, with their replies
+  abbrev pub entries : List Step → List Reply → List (Entry Step Reply)
+  entries [] replies = []
+  entries (s ∷ steps) [] = []
+  entries (s ∷ steps) (r ∷ replies) = record { step = s; answer = r; refused = false } ∷ entries steps replies
+
+-- as many replies, and each the same as the other's at its place
+abbrev pub AllSame : {Reply : Type 0} → (Reply → Reply → Type 0) → List Reply → List Reply → Type 0
+AllSame same [] [] = Unit {0}
+AllSame same [] (r' ∷ replies') = ⊥
+AllSame same (r ∷ replies) [] = ⊥
+AllSame same (r ∷ replies) (r' ∷ replies') = same r r' × AllSame same replies replies'
+
+module _ {State Step Reply : Type 0} (makes : State → Step → Reply → Bool → State → Type 0) where
+  -- the entries lead from one value to another
+  abbrev pub Leads : State → List (Entry Step Reply) → State → Type 0
+  Leads before [] after = after ≡ before
+  Leads before (e ∷ run) after = (mid : State) × makes before e.step e.answer e.refused mid × Leads mid run after
+
+  -- A run stopped in a step: there was no room for the replies, and nothing was done; or the steps before it were made
+  -- with these replies, and it met a want of memory.
+  abbrev pub StopsAt : State → List Step → ℕ → List Reply → State → Type 0
+  StopsAt before steps n replies after =
+      ((n ≡ 0) × (replies ≡ []) × (after ≡ before))
+      ⊎ ((done : List Step) × (next : Step) × (left : List Step) × (answer : Reply) × (mid : State)
+      × (steps ≡ done ++ next ∷ left) × (n ≡ length done) × (n ≡ length replies)
+      × Leads before (entries done replies) mid × makes mid next answer true after)
+
+  -- where memory is not refused, a step has one reply, up to what is the same, and leaves one value
+  abbrev pub HasOneOutcome : (Reply → Reply → Type 0) → Type 0
+  HasOneOutcome same =
+      (before x y : State) (call : Step) (p q : Reply) → makes before call p false x → makes before call q false y → same p q × (x ≡ y)
+
+  -- ---- a run that is being made
+
+  -- these steps were made and have these replies; what is left is kept with the last of it first
+  abbrev pub MadeSoFar : State → List Step → List Reply → List Step → State → Type 0
+  MadeSoFar start steps replies rest now =
+      (done : List Step) × (steps ≡ done ++ reverse rest) × (length done ≡ length replies) × Leads start (entries done replies) now

@@ -1,0 +1,77 @@
+//! What follows from the definitions of a reader alone, whatever it makes of the messages that it reads. Each function
+//! has a law as its contract, and does nothing.
+
+ghost use Rattle.std.specs.Prelude.{◌≡◌, ◌∷◌, ℕ, Bool, true, false, IsTrue, List, Result};
+ghost use Rattle.wl_wire.specs.declared.error.IoFault.{IoFault};
+ghost use Rattle.wl_wire.specs.declared.error.IoFault.TheVariants as fault;
+ghost use Rattle.wl_link.specs.Exchange.{Queue, Sending, nothing};
+ghost use Rattle.wl_link.specs.OneLaws.{IsFunction, IsReceiveFunction};
+ghost use Rattle.wl_link.specs.Reader.{AllFed, Ends, Given, Gives, Part, Reader, Reads, Turn, came_in, sends_in};
+ghost use Rattle.wl_link.specs.ReaderLaws.{SameReading};
+ghost use Rattle.wl_link.specs.RespectLaws.{Respects, RespectsCores};
+ghost use Rattle.wl_link.specs.Served.{GoesOnAs, ServedFrom, Told};
+
+use crate::transport::Transport;
+
+/// Where the answers of a transport follow from its value, and memory is not refused, a reading has one outcome.
+pub fn a_reading_has_one_outcome<T: Transport, Core, Event, Finish>()
+    ensures { IsFunction T.sends → IsReceiveFunction T.receives → (reader : Reader Core Event Finish) (left : ℕ)
+        (before x y : Part T Core) (turns others : List Turn) (a b : Gives Event) → a.refused ≡ false → b.refused ≡ false →
+        Reads T.sends reader T.receives left before turns a x → Reads T.sends reader T.receives left before others b y →
+        SameReading a b x y }
+{}
+
+/// What each verdict of a reader respects, each of its readings and each of its finishes does, also where memory is
+/// refused: a relation of its cores and of what was given between them, or of its cores alone.
+///
+/// A clause cannot speak of every relation, so it is said here of those that are truth values. The laws in
+/// `specs/RespectLaws`, which the proofs of the crates above cite, are of every relation.
+pub fn readings_respect_what_verdicts_do<T: Transport, Core, Event, Finish>()
+    ensures reading { (reader : Reader Core Event Finish) (holds : Core → List (Given Event) → Core → Bool) →
+        Respects reader (λ c gave d. IsTrue (holds c gave d)) →
+        (left : ℕ) (before after : Part T Core) (turns : List Turn) (out : Gives Event) →
+        Reads T.sends reader T.receives left before turns out after → IsTrue (holds before.core out.gave after.core) }
+    ensures finish { (reader : Reader Core Event Finish) (holds : Core → List (Given Event) → Core → Bool) →
+        Respects reader (λ c gave d. IsTrue (holds c gave d)) →
+        (before after : Part T Core) (u : Finish) (es : List Sending) (gave : List (Given Event)) (refused : Bool) →
+        Ends T.sends reader before u es gave refused after → IsTrue (holds before.core gave after.core) }
+    ensures cores { (reader : Reader Core Event Finish) (holds : Core → Core → Bool) →
+        RespectsCores reader (λ c d. IsTrue (holds c d)) → Respects reader (λ c gave d. IsTrue (holds c d)) }
+{}
+
+/// However bytes and tokens are cut, a reader serves the same: what it served in a reading, or by a finish that it took,
+/// is the beginning of what is served of the joined stream, and what is left of that is what it serves from there on.
+/// Each receive of the reading brought a byte or would have blocked, and memory was not refused.
+///
+/// The sends may be those of any transport in which they follow from its value, or be told their answers.
+pub fn cutting_does_not_matter_to_a_reader<T: Transport, S: Transport, Core, Event, Finish>()
+    ensures reading { IsFunction S.sends → (reader : Reader Core Event Finish) →
+        ((core : Core) → reader.faulted core fault.WouldBlock ≡ core) →
+        (left : ℕ) (before after : Part T Core) (turns : List Turn) (out : Gives Event) →
+        Reads T.sends reader T.receives left before turns out after → AllFed turns → out.refused ≡ false →
+        (finishes : List Finish) →
+        GoesOnAs S.sends reader before (came_in turns) (sends_in turns) finishes out.gave after finishes }
+    ensures told { (reader : Reader Core Event Finish) → ((core : Core) → reader.faulted core fault.WouldBlock ≡ core) →
+        (left : ℕ) (before after : Part T Core) (turns : List Turn) (out : Gives Event) →
+        Reads T.sends reader T.receives left before turns out after → AllFed turns → out.refused ≡ false →
+        (finishes : List Finish) →
+        GoesOnAs Told reader before (came_in turns) (sends_in turns) finishes out.gave after finishes }
+    ensures finish { IsFunction S.sends → (reader : Reader Core Event Finish) (before after : Part T Core) (u : Finish)
+        (es : List Sending) (gave : List (Given Event)) → reader.reads_on before.core ≡ false →
+        Ends T.sends reader before u es gave false after → (finishes : List Finish) →
+        GoesOnAs S.sends reader before nothing es (u ∷ finishes) gave after finishes }
+    ensures told_finish { (reader : Reader Core Event Finish) (before after : Part T Core) (u : Finish)
+        (es : List Sending) (gave : List (Given Event)) → reader.reads_on before.core ≡ false →
+        Ends T.sends reader before u es gave false after → (finishes : List Finish) →
+        GoesOnAs Told reader before nothing es (u ∷ finishes) gave after finishes }
+{}
+
+/// What is served has one outcome.
+pub fn what_is_served_has_one_outcome<S: Transport, Core, Event, Finish>()
+    ensures transport { IsFunction S.sends → (reader : Reader Core Event Finish) (before x y : Part S Core)
+        (finishes : List Finish) (g h : List (Given Event)) → ServedFrom S.sends reader before finishes g x →
+        ServedFrom S.sends reader before finishes h y → (g ≡ h) × (x ≡ y) }
+    ensures told { (reader : Reader Core Event Finish) (before x y : Part (List (Result ℕ IoFault)) Core)
+        (finishes : List Finish) (g h : List (Given Event)) → ServedFrom Told reader before finishes g x →
+        ServedFrom Told reader before finishes h y → (g ≡ h) × (x ≡ y) }
+{}
