@@ -27,6 +27,3 @@ pub use memory::{ArriveError, Memory};
 pub use object::Object;
 pub use object_map::{InsertError, NewError, ObjectMap, SERVER_ID_LIMIT};
 pub use transport::Transport;
-
-#[cfg(test)]
-mod tests;

@@ -257,6 +257,3 @@ impl<Data: Drop> ObjectMap<Data> {
         }
     }
 }
-
-#[cfg(test)]
-mod tests;

@@ -105,6 +105,3 @@ impl<Id, Fd> Default for Argument<Id, Fd> {
         Argument::Int(0)
     }
 }
-
-#[cfg(test)]
-mod tests;

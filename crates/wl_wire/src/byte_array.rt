@@ -58,6 +58,3 @@ impl PartialEq for ByteArray {
 impl Eq for ByteArray {
     ghost laws = { lists_equiv nat_eq_equiv };
 }
-
-#[cfg(test)]
-mod tests;

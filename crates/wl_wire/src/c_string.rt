@@ -89,6 +89,3 @@ impl PartialEq for CString {
 impl Eq for CString {
     ghost laws = { lists_equiv nat_eq_equiv };
 }
-
-#[cfg(test)]
-mod tests;

@@ -92,6 +92,3 @@ impl<T: WaylandEnum> From<WEnum<T>> for Result<T, WEnumError> {
         value.into_result()
     }
 }
-
-#[cfg(test)]
-mod tests;

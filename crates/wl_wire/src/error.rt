@@ -116,6 +116,3 @@ impl fmt::Display for ProtocolError {
 }
 
 impl std::error::Error for ProtocolError {}
-
-#[cfg(test)]
-mod tests;

@@ -32,6 +32,3 @@ pub use protocol::{
 };
 pub use text::Text;
 pub use write::{message_size, write_to_buffers};
-
-#[cfg(test)]
-mod tests;

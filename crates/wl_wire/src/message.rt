@@ -87,6 +87,3 @@ impl<Id: Drop, Fd: Drop> Message<Id, Fd> {
         })
     }
 }
-
-#[cfg(test)]
-mod tests;

@@ -136,6 +136,3 @@ pub fn check_for_signature<Id, Fd>(signature: &[ArgumentType], args: &[Argument<
     }
     true
 }
-
-#[cfg(test)]
-mod tests;

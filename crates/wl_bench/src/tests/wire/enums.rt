@@ -1,5 +1,9 @@
-use super::*;
+//! Enums of the protocol, and the numbers that stand for their values.
+
+use super::texts;
+use crate::tests::tells;
 use std::test::Fail;
+use wl_wire::{WEnum, WEnumError, WaylandEnum};
 
 /// An enum of two values.
 #[derive(Clone, Copy, Debug, PartialEq, Eq)]
@@ -11,7 +15,7 @@ enum Mode {
 impl WaylandEnum for Mode {
     ghost use Rattle.std.specs.Prelude.{[], ◌∷◌};
     ghost use Rattle.wl_wire.specs.Enum.{value_in, value_in-turns_back};
-    ghost use Rattle.wl_wire.specs.declared.enums.tests.Mode.TheVariants.{Off, On};
+    ghost use Rattle.wl_bench.specs.declared.tests.wire.enums.Mode.TheVariants.{Off, On};
 
     const NAME: &'static str = "mode";
 
@@ -35,32 +39,40 @@ impl WaylandEnum for Mode {
 }
 
 #[test]
-fn known_numbers_are_values(rt: HostRuntime) -> Result<(), Fail> {
+fn known_numbers_are_values(rt: HostRuntime) {
     let on: WEnum<Mode> = WEnum::from(1);
-    assert_eq!(rt; on, WEnum::Value(Mode::On));
-    assert_eq!(rt; on.into_result()?, Mode::On);
-    assert_eq!(rt; u32::from(on), 1);
-    assert_eq!(rt; u32::from(WEnum::Value(Mode::Off)), 0);
-    Ok(())
+    assert_eq!(rt;
+        (on, on.into_result(), u32::from(on)),
+        (WEnum::Value(Mode::On), Ok(Mode::On), 1)
+    );
 }
 
 #[test]
-fn unknown_numbers_are_kept(rt: HostRuntime) -> Result<(), Fail> {
+fn values_turn_into_their_numbers(rt: HostRuntime) {
+    assert_eq!(rt; u32::from(WEnum::Value(Mode::Off)), 0);
+}
+
+/// What is answered for the number 7.
+fn seven_is_no_mode() -> WEnumError {
+    WEnumError {
+        name: Mode::NAME,
+        value: 7,
+    }
+}
+
+#[test]
+fn unknown_numbers_are_kept(rt: HostRuntime) {
     let unknown: WEnum<Mode> = WEnum::from(7);
-    assert_eq!(rt; unknown, WEnum::Unknown(7));
-    assert_eq!(rt; u32::from(unknown), 7);
     let refused: Result<Mode, WEnumError> = unknown.into();
-    let Err(error) = refused else {
-        return Err(Fail::new("7 is no mode"));
-    };
-    assert_eq!(rt;
-        error,
-        WEnumError {
-            name: Mode::NAME,
-            value: 7
-        }
-    );
-    let text = format!(in rt.alloc(); "{error}")?;
-    assert_eq!(rt; text.as_str(), "Unknown numeric value 7 for enum mode");
-    Ok(())
+    assert_eq!(rt; (unknown, u32::from(unknown)), (WEnum::Unknown(7), 7));
+    assert_eq!(rt; refused, Err(seven_is_no_mode()));
+}
+
+#[test]
+fn unknown_numbers_are_told(rt: HostRuntime) -> Result<(), Fail> {
+    tells(
+        &rt,
+        texts(rt.alloc(), &[seven_is_no_mode()]),
+        "Unknown numeric value 7 for enum mode\n",
+    )
 }

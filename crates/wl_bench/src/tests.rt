@@ -1,0 +1,16 @@
+//! The tests of the program and of the crates that it stands on, by crate and topic.
+
+mod hex;
+mod link;
+mod message;
+mod quad;
+mod wire;
+
+use std::process::Abort;
+use std::test::Fail;
+
+/// Fails where the log is not there, or is not this text.
+fn tells(rt: &impl Abort, log: Result<String, Fail>, text: &str) -> Result<(), Fail> {
+    assert_eq!(rt; log?.as_str(), text);
+    Ok(())
+}

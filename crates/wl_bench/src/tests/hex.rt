@@ -1,0 +1,18 @@
+//! Bytes as text.
+
+use super::tells;
+use crate::hex::hex_line;
+use std::alloc::Global;
+use std::test::Fail;
+
+fn line(alloc: Global, bytes: &[u8]) -> Result<String, Fail> {
+    Ok(hex_line(alloc, bytes)?)
+}
+
+#[test]
+fn hex_of_bytes(rt: HostRuntime) -> Result<(), Fail> {
+    let alloc = rt.alloc();
+    tells(&rt, line(alloc, &[]), "")?;
+    tells(&rt, line(alloc, &[0x0a]), "0a")?;
+    tells(&rt, line(alloc, &[0, 255, 16]), "00 ff 10")
+}

@@ -1,0 +1,237 @@
+//! The map of objects: its calls as a list, and what each tells. Numbers of objects are told in hex.
+
+use crate::tests::tells;
+use std::alloc::Global;
+use std::test::Fail;
+use wl_link::{InsertError, NewError, Object, ObjectMap};
+use wl_wire::{OutOfMemory, WL_CALLBACK_INTERFACE};
+
+/// A call of a map whose objects are numbers.
+#[derive(Clone, Copy)]
+enum Act {
+    /// Puts a number at the number of an object.
+    InsertAt(u32, u32),
+    /// Puts a new object of the client.
+    ClientNew(u32),
+    /// Puts a new object of the server.
+    ServerNew(u32),
+    /// Makes room, and puts a new object of the client.
+    ReserveAndNew(u32),
+    Reserve,
+    NextClient,
+    Remove(u32),
+    Find(u32),
+    /// Lends the object, in whose place the second number is written.
+    With(u32, u32),
+    /// All objects.
+    All,
+}
+
+fn object(value: u32) -> Object<u32> {
+    Object {
+        interface: WL_CALLBACK_INTERFACE,
+        version: 1,
+        value,
+    }
+}
+
+fn tell_inserted(
+    log: &mut String,
+    number: u32,
+    inserted: Result<(), InsertError>,
+) -> Result<(), Fail> {
+    let written = match inserted {
+        Ok(()) => writeln!(log, "insert at {number:x}: done"),
+        Err(error) => writeln!(log, "insert at {number:x}: {error}"),
+    };
+    Ok(written?)
+}
+
+/// Tells the number that a new object was given, by which call.
+fn tell_new(log: &mut String, call: &str, new: Result<u32, NewError>) -> Result<(), Fail> {
+    let written = match new {
+        Ok(number) => writeln!(log, "{call}: {number:x}"),
+        Err(error) => writeln!(log, "{call}: {error}"),
+    };
+    Ok(written?)
+}
+
+/// Tells the value that a call found at a number.
+fn tell_value(log: &mut String, call: &str, number: u32, value: Option<u32>) -> Result<(), Fail> {
+    let written = match value {
+        Some(value) => writeln!(log, "{call} {number:x}: {value}"),
+        None => writeln!(log, "{call} {number:x}: none"),
+    };
+    Ok(written?)
+}
+
+/// Inserts without a want of memory once there is room: what `reserve` promises.
+fn insert_reserved(map: &mut ObjectMap<u32>, value: u32) -> Result<Option<u32>, OutOfMemory> {
+    map.reserve()?;
+    match map.client_insert_new(object(value)) {
+        Ok(number) => Ok(Some(number)),
+        Err(NewError::IdsExhausted) => Ok(None),
+        Err(NewError::OutOfMemory) => unreachable!(),
+    }
+}
+
+fn reserve_and_new(log: &mut String, map: &mut ObjectMap<u32>, value: u32) -> Result<(), Fail> {
+    let new = insert_reserved(map, value)?;
+    tell_new(log, "reserve and new", new.ok_or(NewError::IdsExhausted))
+}
+
+fn reserve(log: &mut String, map: &mut ObjectMap<u32>) -> Result<(), Fail> {
+    map.reserve()?;
+    Ok(writeln!(log, "reserve: done")?)
+}
+
+fn next_client(log: &mut String, map: &mut ObjectMap<u32>) -> Result<(), Fail> {
+    let next = map.next_client();
+    tell_new(log, "next client", next.ok_or(NewError::IdsExhausted))
+}
+
+fn remove(log: &mut String, map: &mut ObjectMap<u32>, number: u32) -> Result<(), Fail> {
+    let removed = map.remove(number).map(|object| object.value);
+    tell_value(log, "remove", number, removed)
+}
+
+fn find(log: &mut String, map: &ObjectMap<u32>, number: u32) -> Result<(), Fail> {
+    let found = map.find(number).map(|object| object.value);
+    tell_value(log, "find", number, found)
+}
+
+/// Lends the object, and tells the value that it had and whether the closure was called.
+fn with(log: &mut String, map: &mut ObjectMap<u32>, number: u32, value: u32) -> Result<(), Fail> {
+    let mut called = false;
+    let before = map.with(number, |object| {
+        called = true;
+        let before = object.value;
+        object.value = value;
+        before
+    });
+    let call = if called {
+        "called with"
+    } else {
+        "not called with"
+    };
+    tell_value(log, call, number, before)
+}
+
+fn tell_object(log: &mut String, number: u32, object: &Object<u32>) -> Result<(), Fail> {
+    Ok(write!(log, " {number:x}={}", object.value)?)
+}
+
+fn tell_objects(log: &mut String, map: &ObjectMap<u32>) -> Result<(), Fail> {
+    for (number, object) in map.all_objects() {
+        tell_object(log, number, object)?;
+    }
+    Ok(())
+}
+
+/// Tells all objects, each number with its value.
+fn all(log: &mut String, map: &ObjectMap<u32>) -> Result<(), Fail> {
+    write!(log, "all:")?;
+    tell_objects(log, map)?;
+    Ok(writeln!(log, "")?)
+}
+
+/// Makes the call, and tells its answer.
+fn perform(log: &mut String, map: &mut ObjectMap<u32>, act: Act) -> Result<(), Fail> {
+    match act {
+        Act::InsertAt(number, value) => {
+            tell_inserted(log, number, map.insert_at(number, object(value)))
+        }
+        Act::ClientNew(value) => tell_new(log, "client new", map.client_insert_new(object(value))),
+        Act::ServerNew(value) => tell_new(log, "server new", map.server_insert_new(object(value))),
+        Act::ReserveAndNew(value) => reserve_and_new(log, map, value),
+        Act::Reserve => reserve(log, map),
+        Act::NextClient => next_client(log, map),
+        Act::Remove(number) => remove(log, map, number),
+        Act::Find(number) => find(log, map, number),
+        Act::With(number, value) => with(log, map, number, value),
+        Act::All => all(log, map),
+    }
+}
+
+/// What the calls of a new map tell.
+fn map_log(alloc: Global, acts: &[Act]) -> Result<String, Fail> {
+    let mut log = String::new(alloc);
+    let mut map = ObjectMap::new(alloc);
+    for act in acts {
+        perform(&mut log, &mut map, *act)?;
+    }
+    Ok(log)
+}
+
+#[test]
+fn numbers_are_taken_freed_and_taken_again(rt: HostRuntime) -> Result<(), Fail> {
+    let acts = [
+        Act::InsertAt(1, 10),
+        Act::InsertAt(3, 30),
+        Act::InsertAt(2, 20),
+        Act::InsertAt(3, 30),
+        Act::InsertAt(0, 0),
+        Act::Remove(2),
+        Act::InsertAt(2, 21),
+        Act::InsertAt(2, 22),
+        Act::Reserve,
+        Act::NextClient,
+        Act::ClientNew(40),
+        Act::ServerNew(50),
+        Act::InsertAt(0xFF00_0002, 60),
+        Act::Remove(4),
+        Act::InsertAt(5, 70),
+        Act::ClientNew(80),
+        Act::With(9, 90),
+        Act::All,
+    ];
+    tells(
+        &rt,
+        map_log(rt.alloc(), &acts),
+        "insert at 1: done\ninsert at 3: the number is not free\ninsert at 2: done\ninsert at 3: done\ninsert at 0: the number is not free\nremove 2: 20\ninsert at 2: done\ninsert at 2: the number is not free\nreserve: done\nnext client: 4\nclient new: 4\nserver new: ff000000\ninsert at ff000002: the number is not free\nremove 4: 40\ninsert at 5: done\nclient new: 4\nnot called with 9: none\nall: 1=10 2=21 3=30 4=80 5=70 ff000000=50\n",
+    )
+}
+
+#[test]
+fn the_client_range_is_walked_before_the_server_range(rt: HostRuntime) -> Result<(), Fail> {
+    let acts = [
+        Act::All,
+        Act::ServerNew(1),
+        Act::InsertAt(0xFF00_0001, 2),
+        Act::ClientNew(3),
+        Act::ClientNew(4),
+        Act::Remove(0xFF00_0000),
+        Act::All,
+    ];
+    tells(
+        &rt,
+        map_log(rt.alloc(), &acts),
+        "all:\nserver new: ff000000\ninsert at ff000001: done\nclient new: 1\nclient new: 2\nremove ff000000: 1\nall: 1=3 2=4 ff000001=2\n",
+    )
+}
+
+#[test]
+fn an_object_is_lent_and_written_to(rt: HostRuntime) -> Result<(), Fail> {
+    let acts = [
+        Act::ClientNew(7),
+        Act::With(1, 8),
+        Act::Find(1),
+        Act::Find(2),
+        Act::Find(0),
+    ];
+    tells(
+        &rt,
+        map_log(rt.alloc(), &acts),
+        "client new: 1\ncalled with 1: 7\nfind 1: 8\nfind 2: none\nfind 0: none\n",
+    )
+}
+
+#[test]
+fn an_insertion_after_reserve_takes_no_memory(rt: HostRuntime) -> Result<(), Fail> {
+    let acts = [Act::ReserveAndNew(1), Act::ReserveAndNew(2)];
+    tells(
+        &rt,
+        map_log(rt.alloc(), &acts),
+        "reserve and new: 1\nreserve and new: 2\n",
+    )
+}

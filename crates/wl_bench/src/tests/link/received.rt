@@ -1,0 +1,102 @@
+//! Messages that are read from what arrived.
+
+use super::run::{Act, Fact, run_log};
+use super::script::Cue;
+use crate::tests::tells;
+use std::test::Fail;
+use wl_wire::Token;
+
+/// Three messages: a number and a string, two descriptors, a number and a descriptor.
+static THREE_MESSAGES: [u8; 52] = [
+    42, 0, 0, 0, 0, 0, 32, 0, 42, 0, 0, 0, 14, 0, 0, 0, b'I', b' ', b'l', b'i', b'k', b'e', b' ',
+    b't', b'r', b'a', b'i', b'n', b's', 0, 0, 0, 42, 0, 0, 0, 1, 0, 8, 0, 42, 0, 0, 0, 2, 0, 12, 0,
+    3, 0, 0, 0,
+];
+
+/// Their tokens.
+static THREE_TOKENS: [Token; 3] = [Token(1), Token(0), Token(2)];
+
+#[test]
+fn three_messages_in_one_chunk(rt: HostRuntime) -> Result<(), Fail> {
+    let acts = [
+        Act::Fill,
+        Act::Tell(Fact::Waiting),
+        Act::Read,
+        Act::Read,
+        Act::Read,
+        Act::Tell(Fact::Waiting),
+    ];
+    tells(
+        &rt,
+        run_log(
+            rt.alloc(),
+            &[Cue::Arrive(&THREE_MESSAGES, &THREE_TOKENS)],
+            None,
+            &acts,
+        ),
+        "receive: done\nwaiting: 52, 3, 0, 0\nread: 42, 0: int 42: string I like trains\nread: 42, 1: fd 1: fd 0\nread: 42, 2: uint 3: fd 2\nwaiting: 0, 0, 0, 0\n0 sends recorded\n",
+    )
+}
+
+#[test]
+fn three_messages_byte_by_byte(rt: HostRuntime) -> Result<(), Fail> {
+    let cues = [Cue::ArriveSingly(&THREE_MESSAGES, &THREE_TOKENS)];
+    let acts = [Act::FillAndRead(52), Act::Tell(Fact::Waiting), Act::Fill];
+    tells(
+        &rt,
+        run_log(rt.alloc(), &cues, None, &acts),
+        "32 read: 42, 0: int 42: string I like trains\n40 read: 42, 1: fd 1: fd 0\n52 read: 42, 2: uint 3: fd 2\nwaiting: 0, 0, 0, 0\nreceive: would block\n0 sends recorded\n",
+    )
+}
+
+#[test]
+fn more_than_28_tokens_do_not_arrive(rt: HostRuntime) -> Result<(), Fail> {
+    let cues = [
+        Cue::ArriveTokens(29),
+        Cue::ArrivalsLeft,
+        Cue::ArriveTokens(28),
+    ];
+    tells(
+        &rt,
+        run_log(
+            rt.alloc(),
+            &cues,
+            None,
+            &[Act::Fill, Act::Tell(Fact::Waiting)],
+        ),
+        "arrive: more than 28 tokens in one chunk\n0 arrivals left\nreceive: broken pipe\nwaiting: 0, 28, 0, 0\n0 sends recorded\n",
+    )
+}
+
+#[test]
+fn unknown_messages_stay(rt: HostRuntime) -> Result<(), Fail> {
+    let cues = [Cue::Arrive(&[42, 0, 0, 0, 1, 0, 8, 0], &[Token(1)])];
+    let acts = [
+        Act::Fill,
+        Act::ReadUnknown,
+        Act::Tell(Fact::Waiting),
+        Act::Read,
+        Act::Tell(Fact::Waiting),
+    ];
+    tells(
+        &rt,
+        run_log(rt.alloc(), &cues, None, &acts),
+        "receive: done\nread: The message is malformed and cannot be parsed\nwaiting: 8, 1, 0, 0\nread: The message references a FD but the buffer FD is empty.\nwaiting: 8, 1, 0, 0\n0 sends recorded\n",
+    )
+}
+
+#[test]
+fn part_of_a_header_is_missing_data(rt: HostRuntime) -> Result<(), Fail> {
+    let cues = [Cue::Arrive(&[42, 0, 0, 0, 1, 0, 8], &[Token(1)])];
+    let acts = [
+        Act::Fill,
+        Act::ReadUnknown,
+        Act::Read,
+        Act::Tell(Fact::Waiting),
+    ];
+    tells(
+        &rt,
+        run_log(rt.alloc(), &cues, None, &acts),
+        "receive: done\nread: More data is needed to deserialize the message\nread: More data is needed to deserialize the message\nwaiting: 7, 1, 0, 0\n0 sends recorded\n",
+    )
+}

@@ -1,0 +1,305 @@
+//! What a test has a link do, as a list of calls, and what each call tells.
+
+use super::script::{Cue, scripted};
+use super::transports::Record;
+use crate::tests::message::{Arg, message, push, tell_bytes, tell_message};
+use std::alloc::Global;
+use std::test::Fail;
+use wl_link::{BufferedSocket, Transport};
+use wl_wire::{AllowNull, ArgumentType, IoFault, Message, MessageParseError, Token};
+
+/// A call of a link.
+#[derive(Clone, Copy)]
+pub enum Act {
+    /// Writes a message of this sender and opcode.
+    Write((u32, u16), &'static [Arg]),
+    /// Writes a message of so many descriptors, and of no bytes but its header.
+    WriteDescriptors(usize),
+    /// Sends what waits.
+    Flush,
+    /// Receives once.
+    Fill,
+    /// Reads a message, of those that have a signature.
+    Read,
+    /// Reads where no message has a signature.
+    ReadUnknown,
+    /// Receives and reads so many times, and tells the messages that were there to their end.
+    FillAndRead(usize),
+    /// Sets the limit of the outgoing storage, and tells nothing.
+    SetLimit(Option<usize>),
+    /// Takes the record of what each send took, and tells it.
+    TakeSent,
+    /// Tells what the link or its transport says.
+    Tell(Fact),
+}
+
+/// What a link or its transport is asked.
+#[derive(Clone, Copy)]
+pub enum Fact {
+    /// What was received and not read, and what was written and not sent: bytes and tokens.
+    Waiting,
+    /// The sizes of the incoming and the outgoing storage.
+    Storage,
+    /// The limit of the outgoing storage.
+    Limit,
+    /// The bytes and tokens of each send that is recorded.
+    Sent,
+    /// How many bytes and tokens each of them took.
+    SendSizes,
+}
+
+const STR: ArgumentType = ArgumentType::Str(AllowNull::No);
+
+static TRAINS: [ArgumentType; 2] = [ArgumentType::Int, STR];
+
+static TWO_FDS: [ArgumentType; 2] = [ArgumentType::Fd, ArgumentType::Fd];
+
+static NUMBER_AND_FD: [ArgumentType; 2] = [ArgumentType::Uint, ArgumentType::Fd];
+
+/// The signatures of the messages that are read.
+fn signature(_sender: u32, opcode: u16) -> Option<&'static [ArgumentType]> {
+    match opcode {
+        0 => Some(&TRAINS),
+        1 => Some(&TWO_FDS),
+        2 => Some(&NUMBER_AND_FD),
+        _ => None,
+    }
+}
+
+/// Tells what a call answers.
+fn tell_answer(log: &mut String, call: &str, answer: Result<(), IoFault>) -> Result<(), Fail> {
+    let written = match answer {
+        Ok(()) => writeln!(log, "{call}: done"),
+        Err(fault) => writeln!(log, "{call}: {fault}"),
+    };
+    Ok(written?)
+}
+
+fn write<T: Transport>(
+    log: &mut String,
+    link: &mut BufferedSocket<T>,
+    header: (u32, u16),
+    args: &[Arg],
+) -> Result<(), Fail> {
+    let message = message(*log.allocator(), header, args)?;
+    tell_answer(log, "write", link.write_message(&message))
+}
+
+/// A message of so many descriptors.
+fn descriptors(alloc: Global, count: usize) -> Result<Message<u32, Token>, Fail> {
+    let mut message = message(alloc, (42, 1), &[])?;
+    for _ in 0..count {
+        push(alloc, &mut message, Arg::Fd(7))?;
+    }
+    Ok(message)
+}
+
+fn write_descriptors<T: Transport>(
+    log: &mut String,
+    link: &mut BufferedSocket<T>,
+    count: usize,
+) -> Result<(), Fail> {
+    let message = descriptors(*log.allocator(), count)?;
+    tell_answer(log, "write", link.write_message(&message))
+}
+
+fn flush<T: Transport>(log: &mut String, link: &mut BufferedSocket<T>) -> Result<(), Fail> {
+    tell_answer(log, "flush", link.flush())
+}
+
+fn fill<T: Transport>(log: &mut String, link: &mut BufferedSocket<T>) -> Result<(), Fail> {
+    tell_answer(log, "receive", link.fill_incoming_buffers())
+}
+
+/// Tells the message, or why none was read.
+fn tell_read(
+    log: &mut String,
+    read: &Result<Message<u32, Token>, MessageParseError>,
+) -> Result<(), Fail> {
+    write!(log, "read: ")?;
+    match read {
+        Ok(message) => tell_message(log, message)?,
+        Err(error) => write!(log, "{error}")?,
+    }
+    Ok(writeln!(log, "")?)
+}
+
+fn read<T>(log: &mut String, link: &mut BufferedSocket<T>) -> Result<(), Fail> {
+    let read = link.read_one_message(|sender, opcode| signature(sender, opcode));
+    tell_read(log, &read)
+}
+
+fn read_unknown<T>(log: &mut String, link: &mut BufferedSocket<T>) -> Result<(), Fail> {
+    let read = link.read_one_message(|_, _| None);
+    tell_read(log, &read)
+}
+
+/// Tells the message behind the number of its receive, unless it is not there to its end.
+fn tell_whole(
+    log: &mut String,
+    number: usize,
+    read: &Result<Message<u32, Token>, MessageParseError>,
+) -> Result<(), Fail> {
+    if let Err(MessageParseError::MissingData) = read {
+        return Ok(());
+    }
+    write!(log, "{number} ")?;
+    tell_read(log, read)
+}
+
+/// Receives once and reads; behind the number of the receive it tells a message that was there to its end.
+fn fill_and_read<T: Transport>(
+    log: &mut String,
+    link: &mut BufferedSocket<T>,
+    number: usize,
+) -> Result<(), Fail> {
+    link.fill_incoming_buffers()?;
+    let read = link.read_one_message(|sender, opcode| signature(sender, opcode));
+    tell_whole(log, number, &read)
+}
+
+fn fill_and_read_each<T: Transport>(
+    log: &mut String,
+    link: &mut BufferedSocket<T>,
+    count: usize,
+) -> Result<(), Fail> {
+    for number in 1..=count {
+        fill_and_read(log, link, number)?;
+    }
+    Ok(())
+}
+
+fn waiting<T>(log: &mut String, link: &BufferedSocket<T>) -> Result<(), Fail> {
+    let [bytes_in, tokens_in, bytes_out, tokens_out] = link.waiting();
+    writeln!(
+        log,
+        "waiting: {bytes_in}, {tokens_in}, {bytes_out}, {tokens_out}"
+    )?;
+    Ok(())
+}
+
+fn storage<T>(log: &mut String, link: &BufferedSocket<T>) -> Result<(), Fail> {
+    let [incoming, outgoing] = link.storage();
+    writeln!(log, "storage: {incoming}, {outgoing}")?;
+    Ok(())
+}
+
+fn limit<T>(log: &mut String, link: &BufferedSocket<T>) -> Result<(), Fail> {
+    let written = match link.max_buffer_size() {
+        Some(limit) => writeln!(log, "limit: {limit}"),
+        None => writeln!(log, "no limit"),
+    };
+    Ok(written?)
+}
+
+/// Tells the bytes and tokens of each send.
+fn tell_sends(log: &mut String, sends: &[(Vec<u8>, Vec<Token>)]) -> Result<(), Fail> {
+    writeln!(log, "{} sends", sends.len())?;
+    for (bytes, tokens) in sends {
+        tell_bytes(log, bytes, tokens)?;
+        writeln!(log, "")?;
+    }
+    Ok(())
+}
+
+fn tell_size(log: &mut String, bytes: usize, tokens: usize) -> Result<(), Fail> {
+    Ok(write!(log, " {bytes} + {tokens}")?)
+}
+
+/// Tells how many bytes and tokens each send took.
+fn tell_sizes(log: &mut String, sends: &[(Vec<u8>, Vec<Token>)]) -> Result<(), Fail> {
+    write!(log, "sends:")?;
+    for (bytes, tokens) in sends {
+        tell_size(log, bytes.len(), tokens.len())?;
+    }
+    Ok(writeln!(log, "")?)
+}
+
+/// Tells the fact.
+fn tell<T: Record>(log: &mut String, link: &BufferedSocket<T>, fact: Fact) -> Result<(), Fail> {
+    match fact {
+        Fact::Waiting => waiting(log, link),
+        Fact::Storage => storage(log, link),
+        Fact::Limit => limit(log, link),
+        Fact::Sent => tell_sends(log, link.transport().sends()),
+        Fact::SendSizes => tell_sizes(log, link.transport().sends()),
+    }
+}
+
+fn take_sent<T: Record>(log: &mut String, link: &mut BufferedSocket<T>) -> Result<(), Fail> {
+    let sends = link.transport_mut().take_sends(*log.allocator());
+    tell_sends(log, &sends)
+}
+
+/// Makes the call, and tells its answer.
+fn perform<T: Transport + Record>(
+    log: &mut String,
+    link: &mut BufferedSocket<T>,
+    act: Act,
+) -> Result<(), Fail> {
+    match act {
+        Act::Write(header, args) => write(log, link, header, args),
+        Act::WriteDescriptors(count) => write_descriptors(log, link, count),
+        Act::Flush => flush(log, link),
+        Act::Fill => fill(log, link),
+        Act::Read => read(log, link),
+        Act::ReadUnknown => read_unknown(log, link),
+        Act::FillAndRead(count) => fill_and_read_each(log, link, count),
+        Act::SetLimit(bytes) => {
+            link.set_max_buffer_size(bytes);
+            Ok(())
+        }
+        Act::TakeSent => take_sent(log, link),
+        Act::Tell(fact) => tell(log, link, fact),
+    }
+}
+
+/// Makes the calls of a new link with that limit over the transport, and answers the transport.
+fn linked<T: Transport + Record + Drop>(
+    log: &mut String,
+    transport: T,
+    limit: Option<usize>,
+    acts: &[Act],
+) -> Result<T, Fail> {
+    let mut link = BufferedSocket::new(*log.allocator(), transport, limit)?;
+    for act in acts {
+        perform(log, &mut link, *act)?;
+    }
+    Ok(link.into_transport())
+}
+
+/// Tells the calls of a new link with that limit over the transport, and how many sends are recorded in the end.
+fn tell_run<T: Transport + Record + Drop>(
+    log: &mut String,
+    transport: T,
+    limit: Option<usize>,
+    acts: &[Act],
+) -> Result<(), Fail> {
+    let transport = linked(log, transport, limit, acts)?;
+    Ok(writeln!(log, "{} sends recorded", transport.sends().len())?)
+}
+
+/// What the calls of a new link with that limit over the transport tell, and how many sends are recorded in the end.
+pub fn link_log<T: Transport + Record + Drop>(
+    alloc: Global,
+    transport: T,
+    limit: Option<usize>,
+    acts: &[Act],
+) -> Result<String, Fail> {
+    let mut log = String::new(alloc);
+    tell_run(&mut log, transport, limit, acts)?;
+    Ok(log)
+}
+
+/// What the calls of a script tell, and then those of a link over it as in `link_log`.
+pub fn run_log(
+    alloc: Global,
+    cues: &[Cue],
+    limit: Option<usize>,
+    acts: &[Act],
+) -> Result<String, Fail> {
+    let mut log = String::new(alloc);
+    let memory = scripted(&mut log, cues)?;
+    tell_run(&mut log, memory, limit, acts)?;
+    Ok(log)
+}

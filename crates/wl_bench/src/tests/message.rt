@@ -1,0 +1,136 @@
+//! Messages that are written down as data, and how a message is told in a line.
+
+use crate::hex::hex_line;
+use smallvec::SmallVec;
+use std::alloc::Global;
+use std::test::Fail;
+use wl_wire::{Argument, ArgumentType, ByteArray, CString, Message, Token};
+
+/// An argument as plain data.
+#[derive(Clone, Copy)]
+pub enum Arg {
+    Int(i32),
+    Uint(u32),
+    Fixed(i32),
+    Str(&'static [u8]),
+    Object(u32),
+    NewId(u32),
+    Array(&'static [u8]),
+    /// An array of so many bytes, each 1.
+    Ones(usize),
+    Fd(i32),
+}
+
+fn string(alloc: Global, bytes: &[u8]) -> Result<Argument<u32, Token>, Fail> {
+    let text = CString::new(Vec::from_slice(alloc, bytes)?)?;
+    Ok(Argument::Str(Some(text)))
+}
+
+/// The argument.
+fn argument(alloc: Global, arg: Arg) -> Result<Argument<u32, Token>, Fail> {
+    match arg {
+        Arg::Int(value) => Ok(Argument::Int(value)),
+        Arg::Uint(value) => Ok(Argument::Uint(value)),
+        Arg::Fixed(value) => Ok(Argument::Fixed(value)),
+        Arg::Str(bytes) => string(alloc, bytes),
+        Arg::Object(number) => Ok(Argument::Object(number)),
+        Arg::NewId(number) => Ok(Argument::NewId(number)),
+        Arg::Array(bytes) => Ok(Argument::Array(ByteArray::new(Vec::from_slice(alloc, bytes)?))),
+        Arg::Ones(len) => Ok(Argument::Array(ByteArray::new(Vec::from_elem(alloc, 1, len)?))),
+        Arg::Fd(number) => Ok(Argument::Fd(Token(number))),
+    }
+}
+
+/// Puts an argument behind those of the message.
+pub fn push(alloc: Global, message: &mut Message<u32, Token>, arg: Arg) -> Result<(), Fail> {
+    message.args.push(argument(alloc, arg)?)?;
+    Ok(())
+}
+
+/// The message of these arguments.
+pub fn message(
+    alloc: Global,
+    (sender_id, opcode): (u32, u16),
+    args: &[Arg],
+) -> Result<Message<u32, Token>, Fail> {
+    let mut message = Message {
+        sender_id,
+        opcode,
+        args: SmallVec::new(alloc),
+    };
+    for arg in args {
+        push(alloc, &mut message, *arg)?;
+    }
+    Ok(message)
+}
+
+fn tell_hex(log: &mut String, bytes: &[u8]) -> Result<(), Fail> {
+    let line = hex_line(*log.allocator(), bytes)?;
+    Ok(write!(log, "{line}")?)
+}
+
+fn tell_text(log: &mut String, text: &CString) -> Result<(), Fail> {
+    let text = text.to_string_lossy(*log.allocator())?;
+    Ok(write!(log, "{}", text.as_str())?)
+}
+
+fn tell_string(log: &mut String, text: Option<&CString>) -> Result<(), Fail> {
+    match text {
+        Some(text) => tell_text(log, text),
+        None => Ok(write!(log, "(null)")?),
+    }
+}
+
+/// The name that the type has in a protocol.
+fn type_name(kind: ArgumentType) -> &'static str {
+    match kind {
+        ArgumentType::Int => "int",
+        ArgumentType::Uint => "uint",
+        ArgumentType::Fixed => "fixed",
+        ArgumentType::Str(_) => "string",
+        ArgumentType::Object(_) => "object",
+        ArgumentType::NewId => "new_id",
+        ArgumentType::Array => "array",
+        ArgumentType::Fd => "fd",
+    }
+}
+
+fn tell_number(log: &mut String, value: i64) -> Result<(), Fail> {
+    Ok(write!(log, "{value}")?)
+}
+
+fn tell_value(log: &mut String, arg: &Argument<u32, Token>) -> Result<(), Fail> {
+    match arg {
+        Argument::Int(value) | Argument::Fixed(value) => tell_number(log, i64::from(*value)),
+        Argument::Uint(value) | Argument::Object(value) | Argument::NewId(value) => {
+            tell_number(log, i64::from(*value))
+        }
+        Argument::Str(text) => tell_string(log, text.as_ref()),
+        Argument::Array(bytes) => tell_hex(log, bytes.as_slice()),
+        Argument::Fd(token) => tell_number(log, i64::from(token.0)),
+    }
+}
+
+/// Tells an argument: the name of its type and its value.
+fn tell_argument(log: &mut String, arg: &Argument<u32, Token>) -> Result<(), Fail> {
+    write!(log, ": {} ", type_name(arg.get_type()))?;
+    tell_value(log, arg)
+}
+
+/// Tells a message: its sender, its opcode, and behind a colon each its arguments.
+pub fn tell_message(log: &mut String, message: &Message<u32, Token>) -> Result<(), Fail> {
+    write!(log, "{}, {}", message.sender_id, message.opcode)?;
+    for arg in message.args.as_slice() {
+        tell_argument(log, arg)?;
+    }
+    Ok(())
+}
+
+/// Tells the bytes in hex, and behind them the number of each token.
+pub fn tell_bytes(log: &mut String, bytes: &[u8], tokens: &[Token]) -> Result<(), Fail> {
+    tell_hex(log, bytes)?;
+    for token in tokens {
+        write!(log, ", fd {}", token.0)?;
+    }
+    Ok(())
+}

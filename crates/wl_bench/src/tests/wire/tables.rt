@@ -1,0 +1,227 @@
+//! The table of interfaces: which lists it takes, and what it tells of each interface.
+
+use super::OBJECT;
+use crate::tests::quad::{QUAD, quad_table};
+use crate::tests::tells;
+use std::alloc::{AllocError, Global};
+use std::process::Abort;
+use std::test::Fail;
+use wl_wire::{
+    ANONYMOUS_INTERFACE, ArgumentType, Interface, InterfaceId, MessageDesc, Protocol, TableError,
+    WL_CALLBACK_INTERFACE, WL_DISPLAY_INTERFACE, same_interface, same_interface_or_anonymous,
+};
+
+/// A message of a list as plain data: its name, its signature, its child interface and its argument interfaces.
+#[derive(Clone, Copy)]
+struct Row(
+    &'static str,
+    &'static [ArgumentType],
+    Option<InterfaceId>,
+    &'static [InterfaceId],
+);
+
+/// An interface of a list as plain data: its name, its requests and its events.
+#[derive(Clone, Copy)]
+struct Plan(&'static str, &'static [Row], &'static [Row]);
+
+/// The message of the row.
+fn described(
+    alloc: Global,
+    Row(name, signature, child, objects): Row,
+) -> Result<MessageDesc, AllocError> {
+    Ok(MessageDesc {
+        name: String::from_str(alloc, name)?,
+        signature: Vec::from_slice(alloc, signature)?,
+        since: 1,
+        is_destructor: false,
+        child_interface: child,
+        arg_interfaces: Vec::from_slice(alloc, objects)?,
+    })
+}
+
+/// Puts the messages behind the others.
+fn push_messages(
+    alloc: Global,
+    messages: &mut Vec<MessageDesc>,
+    rows: &[Row],
+) -> Result<(), AllocError> {
+    for row in rows {
+        messages.push(described(alloc, *row)?)?;
+    }
+    Ok(())
+}
+
+/// The interface of that name, without messages yet.
+fn named(alloc: Global, name: &str) -> Result<Interface, AllocError> {
+    Ok(Interface {
+        name: String::from_str(alloc, name)?,
+        version: 3,
+        requests: Vec::new(alloc),
+        events: Vec::new(alloc),
+    })
+}
+
+/// The interface of the plan.
+fn planned(alloc: Global, Plan(name, requests, events): Plan) -> Result<Interface, AllocError> {
+    let mut interface = named(alloc, name)?;
+    push_messages(alloc, &mut interface.requests, requests)?;
+    push_messages(alloc, &mut interface.events, events)?;
+    Ok(interface)
+}
+
+/// The list of these interfaces.
+fn listed(alloc: Global, plans: &[Plan]) -> Result<Vec<Interface>, Fail> {
+    let mut interfaces = Vec::new(alloc);
+    for plan in plans {
+        interfaces.push(planned(alloc, *plan)?)?;
+    }
+    Ok(interfaces)
+}
+
+/// Fails where the fault of the list of these interfaces is another.
+fn faults(
+    rt: &impl Abort,
+    alloc: Global,
+    plans: &[Plan],
+    fault: Option<TableError>,
+) -> Result<(), Fail> {
+    let interfaces = listed(alloc, plans)?;
+    assert_eq!(rt; Protocol::new(alloc, interfaces).err(), fault);
+    Ok(())
+}
+
+/// Tells the names of the first interfaces, so many, by their ids.
+fn tell_names(log: &mut String, table: &Protocol, count: usize) -> Result<(), Fail> {
+    for id in 0..count {
+        writeln!(log, "{id} {}", table.name(InterfaceId(id)))?;
+    }
+    Ok(())
+}
+
+/// Whether each message ends its object.
+fn all_destructors(messages: &[MessageDesc]) -> bool {
+    messages.iter().all(|message| message.is_destructor)
+}
+
+/// Tells the version of an interface, how many requests and events it has, and whether each event ends its object.
+fn tell_interface(log: &mut String, interface: &Interface) -> Result<(), Fail> {
+    let [requests, events] = [interface.requests.len(), interface.events.len()];
+    write!(log, "{}: {requests}, {events}, ", interface.version)?;
+    Ok(writeln!(log, "{}", all_destructors(&interface.events))?)
+}
+
+/// Tells of the interface of that id.
+fn tell_found(log: &mut String, table: &Protocol, id: InterfaceId) -> Result<(), Fail> {
+    match table.get(id) {
+        Some(interface) => tell_interface(log, interface),
+        None => Ok(writeln!(log, "none")?),
+    }
+}
+
+/// Tells of the table of `quad` and `pair`, behind which no interface has a name.
+fn tell_table(log: &mut String, table: &Protocol) -> Result<(), Fail> {
+    tell_names(log, table, 7)?;
+    for id in [WL_CALLBACK_INTERFACE, QUAD, InterfaceId(6)] {
+        tell_found(log, table, id)?;
+    }
+    Ok(())
+}
+
+fn table_log(alloc: Global) -> Result<String, Fail> {
+    let mut log = String::new(alloc);
+    tell_table(&mut log, &quad_table(alloc)?)?;
+    Ok(log)
+}
+
+#[test]
+fn fixed_interfaces_come_first(rt: HostRuntime) -> Result<(), Fail> {
+    tells(
+        &rt,
+        table_log(rt.alloc()),
+        "0 <anonymous>\n1 wl_display\n2 wl_registry\n3 wl_callback\n4 quad\n5 pair\n6 <unknown>\n1: 0, 1, true\n3: 5, 3, false\nnone\n",
+    )
+}
+
+static LINKS: [Row; 1] = [Row("link", &[OBJECT, OBJECT], None, &[QUAD, QUAD])];
+
+static GONE: [Row; 1] = [Row("gone", &[], None, &[])];
+
+/// An interface that any list may have at its front.
+fn linked() -> Plan {
+    Plan("quad", &LINKS, &GONE)
+}
+
+#[test]
+fn names_are_taken_once(rt: HostRuntime) -> Result<(), Fail> {
+    let alloc = rt.alloc();
+    let twice = [linked(), linked()];
+    faults(&rt, alloc, &twice, Some(TableError::DuplicateName(1)))?;
+    let fixed = [Plan("wl_display", &[], &[])];
+    faults(&rt, alloc, &fixed, Some(TableError::DuplicateName(0)))
+}
+
+static TWO_NEW_IDS: [Row; 1] = [Row("r", &[ArgumentType::NewId, ArgumentType::NewId], None, &[])];
+
+static CHILD_OUTSIDE: [Row; 1] = [Row("r", &[ArgumentType::NewId], Some(InterfaceId(5)), &[])];
+
+static NO_CHILD: [Row; 1] = [Row("r", &[ArgumentType::NewId, OBJECT], None, &[])];
+
+#[test]
+fn first_fault_is_answered(rt: HostRuntime) -> Result<(), Fail> {
+    let alloc = rt.alloc();
+    let new_ids = [Plan("a", &TWO_NEW_IDS, &[])];
+    faults(&rt, alloc, &new_ids, Some(TableError::TooManyNewIds(0)))?;
+    let outside = [Plan("a", &CHILD_OUTSIDE, &[])];
+    faults(&rt, alloc, &outside, Some(TableError::UnknownInterface(0)))?;
+    let both = [Plan("a", &NO_CHILD, &[])];
+    faults(&rt, alloc, &both, Some(TableError::MissingChild(0)))
+}
+
+static OWN_CHILD: [Row; 1] = [Row("r", &[ArgumentType::NewId], Some(InterfaceId(4)), &[])];
+
+static CHILD_OF_NOTHING: [Row; 1] = [Row("r", &[], Some(InterfaceId(4)), &[])];
+
+#[test]
+fn interface_may_be_its_own_child(rt: HostRuntime) -> Result<(), Fail> {
+    let alloc = rt.alloc();
+    faults(&rt, alloc, &[Plan("a", &OWN_CHILD, &[])], None)?;
+    faults(&rt, alloc, &[Plan("a", &CHILD_OF_NOTHING, &[])], None)
+}
+
+static NO_OBJECT: [Row; 1] = [Row("e", &[OBJECT], None, &[])];
+
+static ZERO: [Row; 1] = [Row("\0", &[], None, &[])];
+
+#[test]
+fn earlier_interface_goes_first(rt: HostRuntime) -> Result<(), Fail> {
+    let alloc = rt.alloc();
+    let objects_first = [Plan("a", &[], &NO_OBJECT), Plan("\0", &[], &[])];
+    faults(
+        &rt,
+        alloc,
+        &objects_first,
+        Some(TableError::ArgInterfaces(0)),
+    )?;
+    let zero_alone = [linked(), Plan("b", &ZERO, &[])];
+    faults(&rt, alloc, &zero_alone, Some(TableError::ZeroInName(1)))
+}
+
+#[test]
+fn anonymous_is_any_interface(rt: HostRuntime) {
+    let [any, display] = [ANONYMOUS_INTERFACE, WL_DISPLAY_INTERFACE];
+    assert_eq!(rt;
+        [
+            same_interface(display, display),
+            same_interface(any, display)
+        ],
+        [true, false]
+    );
+    assert_eq!(rt;
+        [
+            same_interface_or_anonymous(any, display),
+            same_interface_or_anonymous(display, display),
+            same_interface_or_anonymous(display, any),
+        ],
+        [true, true, false]
+    );
+}
