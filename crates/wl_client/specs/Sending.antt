@@ -6,7 +6,7 @@ use Rattle.wl_wire.specs.Message.{WireMessage}
 use Rattle.wl_link.specs.declared.object.Object.{Object}
 use Rattle.wl_link.specs.Exchange.{Queue}
 use Rattle.wl_link.specs.Link.{LinkState, Wrote}
-use Rattle.wl_link.specs.Store.{Store, client_range, held, stored, IsLeastAbsent, IsFull}
+use Rattle.wl_link.specs.Store.{Store, client_range, held, stored, is_free, IsLeastAbsent, IsFull}
 use Rattle.wl_client.specs.declared.error.RequestError.{RequestError}
 use Rattle.wl_client.specs.declared.error.RequestError.TheVariants as refused
 use Rattle.wl_client.specs.declared.error.WaylandError.{WaylandError}
@@ -19,9 +19,11 @@ use Rattle.wl_client.specs.Requests.{Spec, Numbered, error_after, lacked_memory,
 use Rattle.wl_client.specs.Session.{SessionState, last_possible_serial, id_at}
 
 module _ {U : Type 0} where
-  -- an object that may be the client's next one: its number is the least that is absent, and its serial the next
+  -- an object that may be the client's next one: its number is the least that is absent, which is free, and its serial
+  -- the next
   pub record IsNext (store : Store (Kept U)) (last_serial : ℕ) (new : Numbered U) : Type 0 where
     pub number : IsLeastAbsent client_range store new.0
+    pub free : is_free store new.0 ≡ true
     pub serial : new.1.value.serial ≡ last_serial + 1
 
   -- the store with the new object, if there is one
@@ -61,6 +63,7 @@ module _ {T U : Type 0} where
   abbrev pub IsNextObject : SessionState T U → Spec → U → Numbered U → Type 0
   IsNextObject s child u new =
       IsLeastAbsent client_range s.store new.0 × ((s.last_serial == last_possible_serial) ≡ false) × (new.1 ≡ new_child s child u)
+      × (is_free s.store new.0 ≡ true)
 
   -- why there is no next object
   abbrev pub LacksNext : SessionState T U → RequestError → Type 0

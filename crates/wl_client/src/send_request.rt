@@ -114,8 +114,8 @@ fn put_new<U: Drop>(
     };
     let serial = object.value.serial;
     let id = ObjectId::from_parts(number, serial, object.interface);
-    match objects.client_insert_new(object) {
-        Ok(_) => {
+    match objects.insert_at(number, object) {
+        Ok(()) => {
             *last_serial = serial;
             id
         }

@@ -1,21 +1,24 @@
 -- The places of the two ranges, and the store that they keep.
-use Rattle.std.proofs.Common.{◌≡◌, ◌≢◌, ◌⊎◌, ℕ, zero, suc, ◌+◌, ◌-◌, ◌<◌, ◌≤◌, Bool, true, false, cond, ◌&&◌, eqb, nat_le, T, List, [], ◌∷◌, ◌++◌, length, set, get_or-set_other, Option, None, Some, is_some, refl, sym, ap, ap₂, ◌∙◌, subst, arith, nat_cmp, is_lt, Less, append-nil, Result, Ok, Err, MatchOption}
+use Rattle.std.proofs.Common.{◌≡◌, ◌≢◌, ◌⊎◌, ℕ, zero, suc, ◌+◌, ◌-◌, ◌<◌, ◌≤◌, Bool, true, false, true≢false, cond, ◌&&◌, eqb, nat_le, T, List, [], ◌∷◌, ◌++◌, length, set, get_or-set_other, Option, None, Some, is_some, refl, sym, ap, ap₂, ◌∙◌, subst, arith, nat_cmp, is_lt, Less, append-nil, Result, Ok, Err, MatchOption}
 use mathlib.Core.Logic.{inl, inr}
 use Rattle.std.proofs.lemmas.Bool.{eq-eqb, ne_eqb, lt-leb, le-leb, lt-ltb, cases_eq, cases_lt}
 use Rattle.std.proofs.lemmas.List.{get_or_past}
 use Rattle.std.proofs.lemmas.Grind.{get_or-set_at}
 use Rattle.std.specs.Option.{option_or}
+use Rattle.std.specs.Result.{result_map_both}
 use Rattle.std.specs.Cmp.{unsigned_tied, nat_cmp_total, nat_cmp_is}
 use Rattle.std.specs.Ordering.{eq_by_cmp}
 use Rattle.std.specs.FinMap as map
 use Rattle.std.specs.FinMap.Entries.{below_all}
 use Rattle.wl_link.specs.declared.object.Object.{Object}
-use Rattle.wl_link.specs.Store.{Store, client_range, server_range, is_server_number, unused_after, empty_store, held, first_unused, is_free, stored, removed, rewritten, IsLeastAbsent, IsFull, IsWalk}
+use Rattle.wl_link.specs.Store.{Store, Range, client_range, server_range, is_server_number, unused_after, empty_store, held, first_unused, is_free, stored, removed, rewritten, IsLeastAbsent, IsFull, IsWalk}
 use Rattle.wl_link.specs.declared.object_map.InsertError.{InsertError}
 use Rattle.wl_link.specs.declared.object_map.InsertError.TheVariants as insert
-use Rattle.wl_link.specs.ObjectMap.{InsertsAt, Lends}
+use Rattle.wl_link.specs.declared.object_map.NewError.{NewError}
+use Rattle.wl_link.specs.declared.object_map.NewError.TheVariants as new
+use Rattle.wl_link.specs.ObjectMap.{InsertsAt, InsertsNew, NextNew, InsertionsGive, Lends}
 use Rattle.wl_link.specs.StoreLaws.{walk_of_entries}
-use Rattle.wl_link.specs.PlaceList.{place, put_len, Puts, is_free_place, PutsAt, LendsAt, IsFirstFree, entries_from, store_of, Within}
+use Rattle.wl_link.specs.PlaceList.{place, put_len, Puts, is_free_place, PutsAt, PutsNew, LendsAt, IsFirstFree, entries_from, store_of, Within}
 
 -- ---- tests on numbers
 
@@ -342,6 +345,37 @@ module _ {D : Type 0} (c s : List (Option (Object D))) (w : Within c s) where
     each = λ k low high. ap is_some (held_server c s w k (k - server_range.first) (omega arith)) ∙ first.taken (k - server_range.first) (omega arith);
   }
 
+pub first_is_free : {A : Type 0} (places : List (Option A)) (at : ℕ) → IsFirstFree places at → is_free_place places at ≡ true
+first_is_free places at first = rw (first.free, le-leb at (length places) first.within) refl
+
+-- ---- the number that is told
+
+is_held : {A : Type 0} (o : Option A) → o ≡ None → is_some o ≡ true → ⊥
+is_held None e h = true≢false (sym h)
+is_held (Some x) e h = true≢false (ap is_some e)
+
+module _ {D : Type 0} (range : Range) (store : Store D) where
+  one_least : (n m : ℕ) → IsLeastAbsent range store n → IsLeastAbsent range store m → n ≡ m
+  one_least n m a b =
+      elim (cases_lt n m) [
+        | inl before ↦ absurd (is_held (held store n) a.absent (b.least n a.within before))
+        | inr h ↦ elim (cases_lt m n) [
+          | inl after ↦ absurd (is_held (held store m) b.absent (a.least m b.within after))
+          | inr g ↦ omega arith
+        ]
+      ]
+
+  not_full : (n : ℕ) → IsLeastAbsent range store n → IsFull range store → ⊥
+  not_full n a full = is_held (held store n) a.absent (full.each n a.within a.below)
+
+  pub told_is_given : (next : Option ℕ) → NextNew range store next → InsertionsGive range store next
+  told_is_given (Some n) least x (Ok m) after (other, _) = ap Some (one_least n m least other)
+  told_is_given (Some n) least x (Err new.IdsExhausted) after (full, _) = absurd (not_full n least full)
+  told_is_given (Some n) least x (Err new.OutOfMemory) after _ = refl
+  told_is_given None full x (Ok m) after (other, _) = absurd (not_full m other full)
+  told_is_given None full x (Err new.IdsExhausted) after _ = refl
+  told_is_given None full x (Err new.OutOfMemory) after ((m, other, _), _) = absurd (not_full m other full)
+
 -- ---- a map without objects
 
 pub store_none : {D : Type 0} → store_of {D = D} [] [] ≡ empty_store
@@ -378,6 +412,28 @@ module _ {D : Type 0} (c s : List (Option (Object D))) (w : Within c s) where
   inserts_server s' at n x (Err insert.NotFree) e h (taken, same) = (free_server c s w n at e ∙ taken, ap (λ k. store_of c k) same)
   inserts_server s' at n x (Err insert.OutOfMemory) e h (free, last, same) =
       (free_server c s w n at e ∙ free, unused_server c s w n at e last, ap (λ k. store_of c k) same)
+
+  pub inserts_new_client : (c' : List (Option (Object D))) (x : Object D) (r : Result ℕ NewError) → PutsNew c 4278190079 x r c'
+      → InsertsNew client_range (store_of c s) x (result_map_both (λ at. at + 1) (λ e. e) r) (store_of c' s)
+  inserts_new_client c' x (Ok at) (below, first, puts, len) =
+      let h : at + 1 < client_range.end = omega arith in
+      (least_client c s w at (at + 1) (omega arith) h first, stored_client c s w c' at (at + 1) x (omega arith) h puts len)
+  inserts_new_client c' x (Err new.IdsExhausted) ((at, past, first), same) =
+      (full_client c s w at (omega arith) first, ap (λ k. store_of k s) same)
+  inserts_new_client c' x (Err new.OutOfMemory) ((at, below, first, last), same) =
+      let h : at + 1 < client_range.end = omega arith in
+      ((at + 1, least_client c s w at (at + 1) (omega arith) h first, unused_client c s w (at + 1) at (omega arith) h last), ap (λ k. store_of k s) same)
+
+  pub inserts_new_server : (s' : List (Option (Object D))) (x : Object D) (r : Result ℕ NewError) → PutsNew s 16777216 x r s'
+      → InsertsNew server_range (store_of c s) x (result_map_both (λ at. at + 4278190080) (λ e. e) r) (store_of c s')
+  inserts_new_server s' x (Ok at) (below, first, puts, len) =
+      let h : at + 4278190080 < server_range.end = omega arith in
+      (least_server c s w at (at + 4278190080) (omega arith) h first, stored_server c s w s' at (at + 4278190080) x (omega arith) h puts len)
+  inserts_new_server s' x (Err new.IdsExhausted) ((at, past, first), same) =
+      (full_server c s w at (omega arith) first, ap (λ k. store_of c k) same)
+  inserts_new_server s' x (Err new.OutOfMemory) ((at, below, first, last), same) =
+      let h : at + 4278190080 < server_range.end = omega arith in
+      ((at + 4278190080, least_server c s w at (at + 4278190080) (omega arith) h first, unused_server c s w (at + 4278190080) at (omega arith) last), ap (λ k. store_of c k) same)
 
   pub lends_nowhere : {R : Type 0} (call : Object D → R → Object D → Type 0) (n : ℕ) → n ≡ 0
       → Lends call (store_of c s) n None (store_of c s)

@@ -1,5 +1,6 @@
 pub mod Store
 pub mod ObjectMap
+pub mod FreeTree
 pub mod PlaceList
 pub mod StoreLaws
 pub mod Identity

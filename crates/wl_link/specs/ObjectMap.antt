@@ -1,5 +1,5 @@
 -- What contracts see of an object map, and the answers of its calls.
-use Rattle.std.specs.Prelude.{◌≡◌, ℕ, Bool, true, false, Option, None, Some, Result, Ok, Err, MatchOption, refl}
+use Rattle.std.specs.Prelude.{◌≡◌, ℕ, ◌-◌, ◌<◌, ◌≤◌, Bool, true, false, Option, None, Some, is_some, IsSome, Result, Ok, Err, MatchOption, refl}
 use Rattle.std.specs.Coded.{Coded, code_by, coded×, coded_ℕ, coded_bool}
 use Rattle.std.specs.FinMap as map
 use Rattle.wl_wire.specs.declared.interface.InterfaceId.{InterfaceId}
@@ -8,12 +8,14 @@ use Rattle.wl_link.specs.declared.object_map.InsertError.{InsertError}
 use Rattle.wl_link.specs.declared.object_map.InsertError.TheVariants as insert
 use Rattle.wl_link.specs.declared.object_map.NewError.{NewError}
 use Rattle.wl_link.specs.declared.object_map.NewError.TheVariants as new
+use Rattle.wl_link.specs.FreeTree.{IsHeight}
 use Rattle.wl_link.specs.Store.{Store, Range, held, is_free, first_unused, stored, rewritten, IsLeastAbsent, IsFull}
 
--- what a map keeps, and whether its next insertion takes no memory
+-- what a map keeps, whether its next insertion takes no memory, and how many words the last search for a number read
 pub record MapState (D : Type 0) : Type 0 where
   pub store : Store D
   pub reserved : Bool
+  pub words_read : ℕ
 
 abbrev pub interface_code : Coded InterfaceId
 interface_code = code_by ℕ coded_ℕ (λ i. i.0) (λ n. record { 0 = n }) (λ _. refl)
@@ -39,11 +41,17 @@ store_code {D} code =
 abbrev pub map_code : {D : Type 0} → Coded D → Coded (MapState D)
 map_code {D} code =
     code_by
-    (Store D × Bool)
-    (coded× (store_code code) coded_bool)
-    (λ m. (m.store, m.reserved))
-    (λ p. record { store = p.0; reserved = p.1 })
+    (Store D × (Bool × ℕ))
+    (coded× (store_code code) (coded× coded_bool coded_ℕ))
+    (λ m. (m.store, (m.reserved, m.words_read)))
+    (λ p. record { store = p.0; reserved = p.1.0; words_read = p.1.1 })
     (λ _. refl)
+
+-- the number that was told is the one that an insertion gives, and there is none where no number is left
+abbrev pub IsGiven : Option ℕ → Result ℕ NewError → Type 0
+IsGiven next (Ok n) = next ≡ Some n
+IsGiven next (Err new.IdsExhausted) = next ≡ None
+IsGiven next (Err new.OutOfMemory) = IsSome next
 
 module _ {D : Type 0} where
   -- an object is put at a number: exactly where the number is free, and memory is wanted only at the first unused one
@@ -64,6 +72,20 @@ module _ {D : Type 0} where
   abbrev pub NextNew : Range → Store D → Option ℕ → Type 0
   NextNew range store (Some n) = IsLeastAbsent range store n
   NextNew range store None = IsFull range store
+
+  -- each insertion of a new object gives the number that was told, unless there is no memory
+  abbrev pub InsertionsGive : Range → Store D → Option ℕ → Type 0
+  InsertionsGive range store next =
+      (x : Object D) (answer : Result ℕ NewError) (after : Store D) → InsertsNew range store x answer after → IsGiven next answer
+
+  -- how many words the search for a new number reads: none where no number of the range was in use, one where each that
+  -- was holds an object, else one on each level over them
+  pub record WordsRead (range : Range) (store : Store D) (read : ℕ) : Type 0 where
+    pub none : first_unused store range.first ≡ range.first → read ≡ 0
+    pub full : range.first < first_unused store range.first
+        → ((n : ℕ) → range.first ≤ n → n < first_unused store range.first → is_some (held store n) ≡ true) → read ≡ 1
+    pub some : (n : ℕ) → range.first ≤ n → n < first_unused store range.first → held store n ≡ None
+        → IsHeight (first_unused store range.first - range.first) read
 
   -- the one call of a closure at the object of a number, which then holds what the call left; without an object, no call
   abbrev pub Lends : {R : Type 0} → (Object D → R → Object D → Type 0) → Store D → ℕ → Option R → Store D → Type 0

@@ -1,16 +1,15 @@
 -- The objects of a range of numbers as the code keeps them: a place for each number that was ever in use.
-use Rattle.std.specs.Prelude.{Vec, vec_len, vec_capacity, nat_lt, ◌≡◌, ℕ, ◌+◌, ◌<◌, ◌≤◌, Bool, true, false, not, ◌&&◌, nat_le, Result, Ok, Err, MatchOption, List, [], ◌∷◌, ◌++◌, length, Option, None, Some, is_some, slice_index_or, if◌then◌else◌, ◌==◌}
+use Rattle.std.specs.Prelude.{Vec, nat_lt, ◌≡◌, ℕ, ◌+◌, ◌<◌, ◌≤◌, Bool, true, false, not, ◌&&◌, nat_le, Result, Ok, Err, MatchOption, List, [], ◌∷◌, ◌++◌, length, Option, None, Some, is_some, slice_index_or, if◌then◌else◌, ◌==◌}
 use Rattle.std.specs.FinMap as map
 use Rattle.wl_link.specs.declared.object.Object.{Object}
 use Rattle.wl_link.specs.declared.object_map.InsertError.{InsertError}
 use Rattle.wl_link.specs.declared.object_map.InsertError.TheVariants as insert
+use Rattle.wl_link.specs.declared.object_map.NewError.{NewError}
+use Rattle.wl_link.specs.declared.object_map.NewError.TheVariants as new
 use Rattle.wl_link.specs.declared.object_map.Place.{Place}
 use Rattle.wl_link.specs.declared.object_map.Place.TheVariants.{Nowhere, Client, Server}
+use Rattle.wl_link.specs.FreeTree.{IsTree, IsHeight, words_of, has_room, is_ready}
 use Rattle.wl_link.specs.Store.{Store, client_range, server_range}
-
--- whether a vector takes one item more without memory
-abbrev pub has_room : {A Z : Type 0} → Vec A Z → Bool
-has_room v = nat_lt (vec_len v) (vec_capacity v)
 
 -- how many places there are, once something is put at this one
 abbrev pub put_len : ℕ → ℕ → ℕ
@@ -49,11 +48,44 @@ module _ {A : Type 0} where
     pub free : place places at ≡ None
     pub taken : (i : ℕ) → i < at → is_some (place places i) ≡ true
 
+  -- something new is put at the first place that holds nothing, where that is below the end
+  abbrev pub PutsNew : List (Option A) → ℕ → A → Result ℕ NewError → List (Option A) → Type 0
+  PutsNew before end x (Ok at) after =
+      (at < end) × IsFirstFree before at × Puts before at (Some x) after × (length after ≡ put_len at (length before))
+  PutsNew before end x (Err new.IdsExhausted) after = ((at : ℕ) × (end ≤ at) × IsFirstFree before at) × (after ≡ before)
+  PutsNew before end x (Err new.OutOfMemory) after =
+      ((at : ℕ) × (at < end) × IsFirstFree before at × (at ≡ length before)) × (after ≡ before)
+
   -- what the places hold, each with its number, where the first place has this number
   abbrev pub entries_from : ℕ → List (Option A) → List (ℕ × A)
   entries_from n [] = []
   entries_from n (None ∷ rest) = entries_from (n + 1) rest
   entries_from n (Some x ∷ rest) = (n, x) ∷ entries_from (n + 1) rest
+
+-- ---- the free places
+
+module _ {A : Type 0} where
+  -- there is such a place, and it holds nothing
+  abbrev pub free_flag : List (Option A) → ℕ → Bool
+  free_flag places at = nat_lt at (length places) && not (is_some (place places at))
+
+  -- the words are the tree of the free places
+  pub record ShowsFree {Z : Type 0} (places : List (Option A)) (levels : List (Vec ℕ Z)) : Type 0 where
+    pub tree : IsTree (free_flag places) (length places) (words_of levels)
+    pub small : length places < 4294967296
+
+  -- how many words the search for a free place reads: none without places, one where no place is free, else one on each
+  -- level
+  pub record WordsReadIn (places : List (Option A)) (read : ℕ) : Type 0 where
+    pub none : length places ≡ 0 → read ≡ 0
+    pub full : 0 < length places → ((i : ℕ) → i < length places → is_some (place places i) ≡ true) → read ≡ 1
+    pub some : (i : ℕ) → i < length places → place places i ≡ None → IsHeight (length places) read
+
+-- whether one place more takes no memory
+abbrev pub has_place_room : {A Y Z X : Type 0} → Vec A Y → Vec (Vec ℕ Z) X → Bool
+has_place_room slots levels = has_room slots && is_ready levels.items
+
+-- ---- both ranges
 
 -- the place of a number in its range
 abbrev pub IsPlaceOf : ℕ → Place → Type 0
@@ -74,3 +106,9 @@ module _ {D : Type 0} where
   pub record Within (clients servers : List (Option (Object D))) : Type 0 where
     pub clients_fit : client_range.first + length clients ≤ client_range.end
     pub servers_fit : server_range.first + length servers ≤ server_range.end
+
+  -- what holds of a map: over the places of each range stands the tree of those that are free
+  pub record Whole {Y Z : Type 0} (clients servers : List (Option (Object D))) (client_levels : List (Vec ℕ Y)) (server_levels : List (Vec ℕ Z)) : Type 0 where
+    pub within : Within clients servers
+    pub client_tree : ShowsFree clients client_levels
+    pub server_tree : ShowsFree servers server_levels

@@ -4,6 +4,7 @@
 mod all_objects;
 mod buffer;
 mod buffered_socket;
+mod free_tree;
 mod identity;
 mod laws;
 mod limit;

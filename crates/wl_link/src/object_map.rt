@@ -1,10 +1,10 @@
 //! The objects of a session by their numbers.
 
-ghost use Rattle.std.specs.Prelude.{◌≡◌, ◌<◌, false, true, Err, OnOk, OnErr, IsSome, option_copied};
+ghost use Rattle.std.specs.Prelude.{◌≡◌, ◌<◌, ◌≤◌, false, true, Err, OnOk, OnErr, IfSome, IsSome, option_copied};
 ghost use Rattle.std.specs.Fn.{FnOnceReturnsAtMut};
 ghost use Rattle.std.specs.FinMap as map;
-ghost use Rattle.wl_link.specs.Store.{client_range, server_range, empty_store, first_unused, held, removed, IsWalk};
-ghost use Rattle.wl_link.specs.ObjectMap.{InsertsAt, InsertsNew, NextNew, Lends};
+ghost use Rattle.wl_link.specs.Store.{client_range, server_range, empty_store, first_unused, held, is_free, removed, IsWalk};
+ghost use Rattle.wl_link.specs.ObjectMap.{InsertsAt, InsertsNew, NextNew, InsertionsGive, WordsRead, Lends};
 ghost use Rattle.wl_link.specs.PlaceList.{IsPlaceOf};
 ghost use Rattle.wl_link.specs.declared.object_map.InsertError.TheVariants as insert;
 ghost use Rattle.wl_link.specs.declared.object_map.NewError.TheVariants as new;
@@ -54,6 +54,7 @@ pub enum NewError {
 pub struct ObjectMap<Data> {
     clients: Places<Data>,
     servers: Places<Data>,
+    words_read: u32,
 }
 
 impl<Data> Model for ObjectMap<Data> {
@@ -64,14 +65,15 @@ impl<Data> Model for ObjectMap<Data> {
 
     ghost coded = { map_code Data.code };
 
-    ghost use Rattle.wl_link.specs.PlaceList.{has_room, store_of, Within};
+    ghost use Rattle.wl_link.specs.PlaceList.{has_place_room, store_of, Whole};
 
     ghost view = { λ m. record {
       store = store_of m.clients.slots.items m.servers.slots.items;
-      reserved = has_room m.clients.slots && has_room m.servers.slots;
+      reserved = has_place_room m.clients.slots m.clients.free.levels && has_place_room m.servers.slots m.servers.free.levels;
+      words_read = m.words_read;
     } };
 
-    ghost invariant = { λ m. Within m.clients.slots.items m.servers.slots.items };
+    ghost invariant = { λ m. Whole m.clients.slots.items m.servers.slots.items m.clients.free.levels.items m.servers.free.levels.items };
 }
 
 /// Where the object of a number is kept.
@@ -100,11 +102,14 @@ fn place_of(number: u32) -> Place
 impl<Data: Drop> ObjectMap<Data> {
     /// A map without objects. It takes no memory.
     pub fn new(alloc: Global) -> Self
-        ensures { result.store ≡ empty_store }
+        ensures store { result.store ≡ empty_store }
+        ensures no_words { result.words_read ≡ 0 }
+        ensures limit { (SERVER_ID_LIMIT ≡ client_range.end) × (SERVER_ID_LIMIT ≡ server_range.first) }
     {
         ObjectMap {
             clients: Places::new(alloc),
             servers: Places::new(alloc),
+            words_read: 0,
         }
     }
 
@@ -125,6 +130,7 @@ impl<Data: Drop> ObjectMap<Data> {
         ensures found { result ≡ held self.old.store number }
         ensures removed { self.new.store ≡ removed self.old.store number }
         ensures reserved { self.new.reserved ≡ self.old.reserved }
+        ensures words_read { self.new.words_read ≡ self.old.words_read }
     {
         match place_of(number) {
             Place::Nowhere => None,
@@ -141,6 +147,7 @@ impl<Data: Drop> ObjectMap<Data> {
         ensures inserts { InsertsAt self.old.store number object result self.new.store }
         ensures reserved { result ≡ Err insert.OutOfMemory → self.old.reserved ≡ false }
         ensures kept { OnErr result (self.old.reserved ≡ true → self.new.reserved ≡ true) }
+        ensures words_read { self.new.words_read ≡ self.old.words_read }
     {
         match place_of(number) {
             Place::Nowhere => Err(InsertError::NotFree),
@@ -155,14 +162,15 @@ impl<Data: Drop> ObjectMap<Data> {
         ensures inserts { InsertsNew client_range self.old.store object result self.new.store }
         ensures reserved { result ≡ Err new.OutOfMemory → self.old.reserved ≡ false }
         ensures kept { OnErr result (self.old.reserved ≡ true → self.new.reserved ≡ true) }
+        ensures words_read { WordsRead client_range self.old.store self.new.words_read }
+        ensures few_words { self.new.words_read ≤ 6 }
     {
-        let at = self.clients.first_free();
-        if at >= CLIENT_PLACES {
-            return Err(NewError::IdsExhausted);
-        }
-        match self.clients.put(at, object) {
-            Ok(()) => Ok(at as u32 + 1),
-            Err(OutOfMemory) => Err(NewError::OutOfMemory),
+        match self
+            .clients
+            .insert_new(CLIENT_PLACES, object, &mut self.words_read)
+        {
+            Ok(at) => Ok(at as u32 + 1),
+            Err(error) => Err(error),
         }
     }
 
@@ -172,25 +180,30 @@ impl<Data: Drop> ObjectMap<Data> {
         ensures inserts { InsertsNew server_range self.old.store object result self.new.store }
         ensures reserved { result ≡ Err new.OutOfMemory → self.old.reserved ≡ false }
         ensures kept { OnErr result (self.old.reserved ≡ true → self.new.reserved ≡ true) }
+        ensures words_read { WordsRead server_range self.old.store self.new.words_read }
+        ensures few_words { self.new.words_read ≤ 4 }
     {
-        let at = self.servers.first_free();
-        if at >= SERVER_PLACES {
-            return Err(NewError::IdsExhausted);
-        }
-        match self.servers.put(at, object) {
-            Ok(()) => Ok(at as u32 + SERVER_ID_LIMIT),
-            Err(OutOfMemory) => Err(NewError::OutOfMemory),
+        match self
+            .servers
+            .insert_new(SERVER_PLACES, object, &mut self.words_read)
+        {
+            Ok(at) => Ok(at as u32 + SERVER_ID_LIMIT),
+            Err(error) => Err(error),
         }
     }
 
     /// The number that `client_insert_new` would give, or none where each number of its range holds an object. It
-    /// takes no memory.
+    /// takes no memory. `insert_at` takes the number, and then none is searched for again.
     pub fn next_client(&mut self) -> Option<u32>
         ensures next { NextNew client_range self.old.store result }
+        ensures given { InsertionsGive client_range self.old.store result }
+        ensures free { IfSome result (λ number. is_free self.old.store number ≡ true) }
         ensures store { self.new.store ≡ self.old.store }
         ensures reserved { self.new.reserved ≡ self.old.reserved }
+        ensures words_read { WordsRead client_range self.old.store self.new.words_read }
+        ensures few_words { self.new.words_read ≤ 6 }
     {
-        let at = self.clients.first_free();
+        let at = self.clients.first_free(&mut self.words_read);
         if at < CLIENT_PLACES {
             Some(at as u32 + 1)
         } else {
@@ -198,11 +211,20 @@ impl<Data: Drop> ObjectMap<Data> {
         }
     }
 
+    /// How many words of 64 free numbers the last call of `client_insert_new`, `server_insert_new` or `next_client` read
+    /// to find its number; 0 before the first.
+    pub fn words_read(&self) -> u32
+        ensures { result ≡ self.now.words_read }
+    {
+        self.words_read
+    }
+
     /// Makes room, so that the next insertion takes no memory.
     pub fn reserve(&mut self) -> Result<(), OutOfMemory>
         ensures ok { OnOk result (self.new.reserved ≡ true) }
         ensures err { OnErr result (self.old.reserved ≡ false) }
         ensures store { self.new.store ≡ self.old.store }
+        ensures words_read { self.new.words_read ≡ self.old.words_read }
     {
         self.clients.reserve()?;
         self.servers.reserve()
@@ -214,6 +236,7 @@ impl<Data: Drop> ObjectMap<Data> {
         requires { F.IsAlwaysCallable f }
         ensures called { Lends (FnOnceReturnsAtMut F.FnOnce f) self.old.store number result self.new.store }
         ensures reserved { self.new.reserved ≡ self.old.reserved }
+        ensures words_read { self.new.words_read ≡ self.old.words_read }
     {
         match place_of(number) {
             Place::Nowhere => None,

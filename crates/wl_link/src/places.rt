@@ -1,13 +1,15 @@
 //! The objects of one range of numbers, each at the place that its number has in the range.
 
-ghost use Rattle.std.specs.Prelude.{◌≡◌, ◌+◌, ◌<◌, ◌≤◌, [], length, true, false, None, Some, Err, OnOk, OnErr, IsSome, option_copied};
+ghost use Rattle.std.specs.Prelude.{◌≡◌, ◌+◌, ◌<◌, ◌≤◌, ◌^◌, ℕ, [], length, true, false, None, Some, Err, OnOk, OnErr, IsSome, option_copied};
 ghost use Rattle.std.specs.Fn.{FnOnceReturnsAtMut};
-ghost use Rattle.wl_link.specs.PlaceList.{has_room, place, put_len, Puts, PutsAt, LendsAt, IsFirstFree, entries_from};
+ghost use Rattle.wl_link.specs.PlaceList.{place, put_len, has_place_room, Puts, PutsAt, PutsNew, LendsAt, IsFirstFree, ShowsFree, WordsReadIn, entries_from};
 ghost use Rattle.wl_link.specs.declared.object_map.InsertError.TheVariants as insert;
+ghost use Rattle.wl_link.specs.declared.object_map.NewError.TheVariants as new;
 
 use crate::all_objects::RangeObjects;
+use crate::free_tree::FreeTree;
 use crate::object::Object;
-use crate::object_map::InsertError;
+use crate::object_map::{InsertError, NewError};
 use std::alloc::Global;
 use wl_wire::OutOfMemory;
 
@@ -15,15 +17,18 @@ use wl_wire::OutOfMemory;
 #[derive(Drop)]
 pub(crate) struct Places<Data> {
     slots: Vec<Option<Object<Data>>>,
+    free: FreeTree,
 }
 
 impl<Data: Drop> Places<Data> {
     /// No place. It takes no memory.
     pub(crate) fn new(alloc: Global) -> Self
-        ensures { result.slots.items ≡ [] }
+        ensures slots { result.slots.items ≡ [] }
+        ensures free { ShowsFree result.slots.items result.free.levels.items }
     {
         Places {
             slots: Vec::new(alloc),
+            free: FreeTree::new(alloc),
         }
     }
 
@@ -38,27 +43,34 @@ impl<Data: Drop> Places<Data> {
         }
     }
 
-    /// The first place without an object, which may be the one after the last.
-    pub(crate) fn first_free(&self) -> usize
-        ensures { IsFirstFree self.now.slots.items result }
+    /// The first place without an object, which may be the one after the last, and in `words_read` how many words were
+    /// read to find it.
+    pub(crate) fn first_free(&self, words_read: &mut u32) -> usize
+        requires { ShowsFree self.now.slots.items self.now.free.levels.items }
+        ensures first { IsFirstFree self.now.slots.items result }
+        ensures words_read { WordsReadIn self.now.slots.items words_read.new }
+        ensures few_words { (most : ℕ) → 0 < most → length self.now.slots.items ≤ 64 ^ most → words_read.new ≤ most }
     {
-        for (i, slot) in self.slots.iter().enumerate() {
-            if slot.is_none() {
-                return i;
-            }
+        *words_read = 0;
+        match self.free.least(words_read) {
+            Some(at) => at,
+            None => self.slots.len(),
         }
-        self.slots.len()
     }
 
     /// Takes the object at this place out.
     pub(crate) fn remove(&mut self, at: usize) -> Option<Object<Data>>
+        requires { ShowsFree self.old.slots.items self.old.free.levels.items }
+        ensures free { ShowsFree self.new.slots.items self.new.free.levels.items }
         ensures found { result ≡ place self.old.slots.items at }
         ensures places { Puts self.old.slots.items at None self.new.slots.items }
         ensures len { length self.new.slots.items ≡ length self.old.slots.items }
-        ensures room { has_room self.new.slots ≡ has_room self.old.slots }
+        ensures room { has_place_room self.new.slots self.new.free.levels ≡ has_place_room self.old.slots self.old.free.levels }
     {
         if at < self.slots.len() {
-            self.slots[at].take()
+            let object = self.slots[at].take();
+            self.free.mark(at, true);
+            object
         } else {
             None
         }
@@ -66,17 +78,23 @@ impl<Data: Drop> Places<Data> {
 
     /// Puts the object at this place, which may be the one after the last.
     pub(crate) fn put(&mut self, at: usize, object: Object<Data>) -> Result<(), OutOfMemory>
-        requires { at ≤ length self.old.slots.items }
+        requires within { at ≤ length self.old.slots.items }
+        requires fits { length self.old.slots.items + 1 < 4294967296 }
+        requires free { ShowsFree self.old.slots.items self.old.free.levels.items }
+        ensures free { ShowsFree self.new.slots.items self.new.free.levels.items }
         ensures places { OnOk result (Puts self.old.slots.items at (Some object) self.new.slots.items) }
         ensures len { OnOk result (length self.new.slots.items ≡ put_len at (length self.old.slots.items)) }
         ensures err { OnErr result (self.new.slots.items ≡ self.old.slots.items) }
         ensures grows { OnErr result (at ≡ length self.old.slots.items) }
-        ensures full { OnErr result (has_room self.old.slots ≡ false) }
+        ensures full { OnErr result (has_place_room self.old.slots self.old.free.levels ≡ false) }
     {
         if at < self.slots.len() {
             self.slots[at] = Some(object);
+            self.free.mark(at, false);
         } else {
+            self.free.reserve()?;
             self.slots.push(Some(object))?;
+            self.free.push(at);
         }
         Ok(())
     }
@@ -84,9 +102,12 @@ impl<Data: Drop> Places<Data> {
     /// Puts the object at this place if it is free: it holds nothing, and is one of the places or the one after the
     /// last.
     pub(crate) fn insert_at(&mut self, at: usize, object: Object<Data>) -> Result<(), InsertError>
+        requires fits { length self.old.slots.items + 1 < 4294967296 }
+        requires free { ShowsFree self.old.slots.items self.old.free.levels.items }
+        ensures free { ShowsFree self.new.slots.items self.new.free.levels.items }
         ensures places { PutsAt self.old.slots.items at object result self.new.slots.items }
-        ensures full { result ≡ Err insert.OutOfMemory → has_room self.old.slots ≡ false }
-        ensures kept { OnErr result (has_room self.old.slots ≡ true → has_room self.new.slots ≡ true) }
+        ensures full { result ≡ Err insert.OutOfMemory → has_place_room self.old.slots self.old.free.levels ≡ false }
+        ensures kept { OnErr result (has_place_room self.old.slots self.old.free.levels ≡ true → has_place_room self.new.slots self.new.free.levels ≡ true) }
     {
         if at > self.slots.len() || self.find(at).is_some() {
             return Err(InsertError::NotFree);
@@ -97,16 +118,46 @@ impl<Data: Drop> Places<Data> {
         }
     }
 
+    /// Puts a new object at the first place without one, if that is below `end`, and answers the place. How many words
+    /// were read to find it is put into `words_read`.
+    pub(crate) fn insert_new(
+        &mut self,
+        end: usize,
+        object: Object<Data>,
+        words_read: &mut u32,
+    ) -> Result<usize, NewError>
+        requires fits { length self.old.slots.items + 1 < 4294967296 }
+        requires free { ShowsFree self.old.slots.items self.old.free.levels.items }
+        ensures free { ShowsFree self.new.slots.items self.new.free.levels.items }
+        ensures places { PutsNew self.old.slots.items end object result self.new.slots.items }
+        ensures full { result ≡ Err new.OutOfMemory → has_place_room self.old.slots self.old.free.levels ≡ false }
+        ensures kept { OnErr result (has_place_room self.old.slots self.old.free.levels ≡ true
+            → has_place_room self.new.slots self.new.free.levels ≡ true) }
+        ensures words_read { WordsReadIn self.old.slots.items words_read.new }
+        ensures few_words { (most : ℕ) → 0 < most → length self.old.slots.items ≤ 64 ^ most → words_read.new ≤ most }
+    {
+        let at = self.first_free(words_read);
+        if at >= end {
+            return Err(NewError::IdsExhausted);
+        }
+        match self.put(at, object) {
+            Ok(()) => Ok(at),
+            Err(OutOfMemory) => Err(NewError::OutOfMemory),
+        }
+    }
+
     /// Lends the object at this place for writing.
     pub(crate) fn with<R, F: FnOnce(&mut Object<Data>) -> R>(
         &mut self,
         at: usize,
         f: F,
     ) -> Option<R>
-        requires { F.IsAlwaysCallable f }
+        requires callable { F.IsAlwaysCallable f }
+        requires free { ShowsFree self.old.slots.items self.old.free.levels.items }
+        ensures free { ShowsFree self.new.slots.items self.new.free.levels.items }
         ensures called { LendsAt (FnOnceReturnsAtMut F.FnOnce f) self.old.slots.items at result self.new.slots.items }
         ensures len { length self.new.slots.items ≡ length self.old.slots.items }
-        ensures room { has_room self.new.slots ≡ has_room self.old.slots }
+        ensures room { has_place_room self.new.slots self.new.free.levels ≡ has_place_room self.old.slots self.old.free.levels }
     {
         if at < self.slots.len() {
             match &mut self.slots[at] {
@@ -120,10 +171,13 @@ impl<Data: Drop> Places<Data> {
 
     /// Makes room for one place more.
     pub(crate) fn reserve(&mut self) -> Result<(), OutOfMemory>
+        requires { ShowsFree self.old.slots.items self.old.free.levels.items }
+        ensures free { ShowsFree self.new.slots.items self.new.free.levels.items }
         ensures items { self.new.slots.items ≡ self.old.slots.items }
-        ensures ok { OnOk result (has_room self.new.slots ≡ true) }
-        ensures err { OnErr result (has_room self.old.slots ≡ false) }
+        ensures ok { OnOk result (has_place_room self.new.slots self.new.free.levels ≡ true) }
+        ensures err { OnErr result (has_place_room self.old.slots self.old.free.levels ≡ false) }
     {
+        self.free.reserve()?;
         self.slots.reserve(1)?;
         Ok(())
     }

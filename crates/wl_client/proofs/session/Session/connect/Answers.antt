@@ -4,7 +4,7 @@ use Rattle.wl_client.proofs.session.Session.connect.Goals as goal
 
 pub returns : goal.returns
 returns g c =
-    let same = ap (λ store. stored store 1 c.fresh_object-display.result) c.new-objects.ensures
+    let same = ap (λ store. stored store 1 c.fresh_object-display.result) c.new-objects.ensures.store
     ∙ ap (λ x. stored empty_store 1 x) c.fresh_object-display.ensures in (
       c.in_ok-socket.socket,
       c.in_ok-socket.ensures,

@@ -1,0 +1,235 @@
+//! The free places of a range, as a tree of words.
+
+ghost use Rattle.std.specs.Prelude.{◌≡◌, ◌≢◌, ◌+◌, ◌<◌, ◌≤◌, ℕ, Bool, true, false, [], ◌∷◌, ◌++◌, length, Vec, vec_len, OnErr, OnOk, IfOk};
+ghost use Rattle.std.specs.Int.{bit_at};
+ghost use Rattle.wl_link.specs.FreeTree.{word, as_bit, has_room, is_ready, lowest_bit, with_first, words_of, height, reads_of, changed, IsTree, FindsLeast, RoomMade, IsHeight};
+
+use std::alloc::{AllocError, Global};
+
+/// Which places are free, so that the least is found by reading one word on each level.
+///
+/// The lowest level has a bit for each place, set where the place is free. Each level above has a bit for each word
+/// below, set where that word is not 0. The highest is one word.
+#[derive(Debug, Drop)]
+pub(crate) struct FreeTree {
+    /// The words of each level, from the lowest up. A level of no words may stand above: the next one, with room.
+    levels: Vec<Vec<u64>>,
+}
+
+impl FreeTree {
+    /// No places. It takes no memory.
+    pub(crate) fn new(alloc: Global) -> Self
+        ensures { result.levels.items ≡ [] }
+    {
+        FreeTree {
+            levels: Vec::new(alloc),
+        }
+    }
+
+    /// The least free place. The words that are read for it are counted.
+    pub(crate) fn least(&self, reads: &mut u32) -> Option<usize>
+        requires few { reads.old + height (words_of self.now.levels.items) < 4294967296 }
+        requires tree { (flag : ℕ → Bool) × (count : ℕ) × (count < 4294967296) × IsTree flag count (words_of self.now.levels.items) }
+        ensures least { (flag : ℕ → Bool) (count : ℕ) → IsTree flag count (words_of self.now.levels.items) → FindsLeast flag count result }
+        ensures reads { reads.new ≡ reads.old + reads_of result (words_of self.now.levels.items) }
+        ensures height { (flag : ℕ → Bool) (count : ℕ) → IsTree flag count (words_of self.now.levels.items)
+            → IsHeight count (height (words_of self.now.levels.items)) }
+    {
+        least(self.levels.as_slice(), reads)
+    }
+
+    /// Says of a place whether it is free.
+    pub(crate) fn mark(&mut self, at: usize, is_free: bool)
+        requires tree { (flag : ℕ → Bool) × (count : ℕ) × (at < count) × IsTree flag count (words_of self.old.levels.items) }
+        ensures tree { (flag : ℕ → Bool) (count : ℕ) → at < count → IsTree flag count (words_of self.old.levels.items)
+            → IsTree (changed flag at is_free) count (words_of self.new.levels.items) }
+        ensures ready { is_ready self.new.levels.items ≡ is_ready self.old.levels.items }
+    {
+        mark(&mut self.levels, at, is_free);
+    }
+
+    /// Adds the place behind the last, which is not free. It takes no memory.
+    pub(crate) fn push(&mut self, at: usize)
+        requires tree { (flag : ℕ → Bool) × IsTree flag at (words_of self.old.levels.items) }
+        requires ready { is_ready self.old.levels.items ≡ true }
+        ensures tree { (flag : ℕ → Bool) → ((j : ℕ) → at ≤ j → flag j ≡ false) → IsTree flag at (words_of self.old.levels.items)
+            → IsTree flag (at + 1) (words_of self.new.levels.items) }
+    {
+        push(&mut self.levels, at);
+    }
+
+    /// Makes room, so that the next place can be added.
+    pub(crate) fn reserve(&mut self) -> Result<(), AllocError>
+        ensures tree { (flag : ℕ → Bool) (count : ℕ) → IsTree flag count (words_of self.old.levels.items)
+            → IsTree flag count (words_of self.new.levels.items) }
+        ensures ok { OnOk result (is_ready self.new.levels.items ≡ true) }
+        ensures err { OnErr result (is_ready self.old.levels.items ≡ false) }
+        ensures kept { is_ready self.old.levels.items ≡ true → is_ready self.new.levels.items ≡ true }
+    {
+        let alloc = *self.levels.allocator();
+        reserve(&mut self.levels, alloc)
+    }
+}
+
+/// Reads a word for a search, and counts it. Each word that a search reads is read here.
+fn read(words: &[u64], at: usize, reads: &mut u32) -> u64
+    requires within { at < length words.now }
+    requires few { reads.old + 1 < 4294967296 }
+    ensures value { result ≡ word words.now at }
+    ensures count { reads.new ≡ reads.old + 1 }
+{
+    *reads += 1;
+    words[at]
+}
+
+/// The number of the lowest bit that is set in this word of a level, if one is.
+fn lowest(words: &[u64], at: usize, reads: &mut u32) -> Option<usize>
+    requires within { at < length words.now }
+    requires small { length words.now ≤ 67108864 }
+    requires few { reads.old + 1 < 4294967296 }
+    ensures value { result ≡ lowest_bit at (word words.now at) }
+    ensures count { reads.new ≡ reads.old + 1 }
+{
+    let word = read(words, at, reads);
+    if word == 0 {
+        None
+    } else {
+        Some(64 * at + word.trailing_zeros() as usize)
+    }
+}
+
+/// The number of the least bit that is set on the lowest level: the level above says in which word it stands.
+fn least(levels: &[Vec<u64>], reads: &mut u32) -> Option<usize>
+    requires few { reads.old + height (words_of levels.now) < 4294967296 }
+    requires tree { (flag : ℕ → Bool) × (count : ℕ) × (count < 4294967296) × IsTree flag count (words_of levels.now) }
+    ensures least { (flag : ℕ → Bool) (count : ℕ) → IsTree flag count (words_of levels.now) → FindsLeast flag count result }
+    ensures reads { reads.new ≡ reads.old + reads_of result (words_of levels.now) }
+{
+    let (words, above) = match levels.split_first() {
+        Some(level) => level,
+        None => return None,
+    };
+    let len = words.len();
+    if len == 0 {
+        return None;
+    }
+    if len == 1 {
+        return lowest(words, 0, reads);
+    }
+    match least(above, reads) {
+        Some(at) => lowest(words, at, reads),
+        None => None,
+    }
+}
+
+/// The word with this bit set or cleared.
+fn with_bit(word: u64, at: usize, is_set: bool) -> u64
+    requires { at < 64 }
+    ensures here { bit_at result at ≡ as_bit is_set }
+    ensures others { (i : ℕ) → i < 64 → i ≢ at → bit_at result i ≡ bit_at word i }
+{
+    if is_set {
+        word | 1 << at
+    } else {
+        word & !(1 << at)
+    }
+}
+
+/// Sets or clears a bit of the lowest level, and on each level above the bit of the word that changed below.
+fn mark(levels: &mut [Vec<u64>], at: usize, is_set: bool)
+    requires tree { (flag : ℕ → Bool) × (count : ℕ) × (at < count) × IsTree flag count (words_of levels.old) }
+    ensures tree { (flag : ℕ → Bool) (count : ℕ) → at < count → IsTree flag count (words_of levels.old)
+        → IsTree (changed flag at is_set) count (words_of levels.new) }
+    ensures ready { is_ready levels.new ≡ is_ready levels.old }
+    ensures len { length levels.new ≡ length levels.old }
+{
+    if let Some((words, above)) = levels.split_first_mut() {
+        let word = with_bit(words[at / 64], at % 64, is_set);
+        words[at / 64] = word;
+        if words.len() > 1 {
+            mark(above, at / 64, word != 0);
+        }
+    }
+}
+
+/// Adds a word where there is room.
+fn push_word(words: &mut Vec<u64>, word: u64)
+    requires { has_room words.old ≡ true }
+    ensures items { words.new.items ≡ words.old.items ++ word ∷ [] }
+    ensures len { vec_len words.new ≡ vec_len words.old + 1 }
+{
+    match words.push(word) {
+        Ok(()) => (),
+        Err(_) => unreachable!(),
+    }
+}
+
+/// Begins a level by its first word, of which only the first bit may be set.
+fn push_first(levels: &mut [Vec<u64>], is_set: bool)
+    requires { is_ready levels.old ≡ true }
+    ensures words { words_of levels.new ≡ with_first is_set (words_of levels.old) }
+    ensures len { length levels.new ≡ length levels.old }
+{
+    if let Some((words, _above)) = levels.split_first_mut() {
+        push_word(words, is_set as u64);
+    }
+}
+
+/// Adds a bit that is not set behind the bits of the lowest level.
+///
+/// Where it begins a word, that word has a bit on the level above, which begins with the second word.
+fn push(levels: &mut [Vec<u64>], count: usize)
+    requires tree { (flag : ℕ → Bool) × IsTree flag count (words_of levels.old) }
+    requires ready { is_ready levels.old ≡ true }
+    ensures tree { (flag : ℕ → Bool) → ((j : ℕ) → count ≤ j → flag j ≡ false) → IsTree flag count (words_of levels.old)
+        → IsTree flag (count + 1) (words_of levels.new) }
+    ensures len { length levels.new ≡ length levels.old }
+{
+    if count % 64 != 0 {
+        return;
+    }
+    if let Some((words, above)) = levels.split_first_mut() {
+        let len = words.len();
+        push_word(words, 0);
+        if len == 1 {
+            push_first(above, words[0] != 0);
+        } else if len > 1 {
+            push(above, len);
+        }
+    }
+}
+
+/// Makes room for a word on each level up to the first that has none, and answers whether there is such a level.
+fn reserve_levels(levels: &mut [Vec<u64>]) -> Result<bool, AllocError>
+    ensures words { words_of levels.new ≡ words_of levels.old }
+    ensures len { length levels.new ≡ length levels.old }
+    ensures ok { IfOk result (λ found. RoomMade found levels.old levels.new) }
+    ensures err { OnErr result (is_ready levels.old ≡ false) }
+    ensures kept { is_ready levels.old ≡ true → is_ready levels.new ≡ true }
+{
+    if let Some((words, above)) = levels.split_first_mut() {
+        words.reserve(1)?;
+        if words.is_empty() {
+            return Ok(true);
+        }
+        return reserve_levels(above);
+    }
+    Ok(false)
+}
+
+/// Makes room for a word on each level, and for the first word of a level above them.
+fn reserve(levels: &mut Vec<Vec<u64>>, alloc: Global) -> Result<(), AllocError>
+    ensures tree { (flag : ℕ → Bool) (count : ℕ) → IsTree flag count (words_of levels.old.items)
+        → IsTree flag count (words_of levels.new.items) }
+    ensures ok { OnOk result (is_ready levels.new.items ≡ true) }
+    ensures err { OnErr result (is_ready levels.old.items ≡ false) }
+    ensures kept { is_ready levels.old.items ≡ true → is_ready levels.new.items ≡ true }
+{
+    if reserve_levels(levels)? {
+        return Ok(());
+    }
+    let mut top = Vec::new(alloc);
+    top.reserve(1)?;
+    levels.push(top)?;
+    Ok(())
+}
