@@ -6,7 +6,6 @@ use super::values::{Child, Object, Request, message, padded};
 use crate::tests::quad::quad_table;
 use std::alloc::{AllocError, Global};
 use std::fmt::Write;
-use std::process::Abort;
 use std::test::Fail;
 use wl_client::Backend;
 use wl_link::Memory;
@@ -336,19 +335,7 @@ fn log_by(alloc: Global, client: &mut Client, acts: &[Act]) -> Result<String, Fa
 }
 
 /// What the acts tell of a client in which nothing has happened.
-fn log_of(alloc: Global, acts: &[Act]) -> Result<String, Fail> {
+pub fn log_of(alloc: Global, acts: &[Act]) -> Result<String, Fail> {
     let mut client = connected(alloc)?;
     log_by(alloc, &mut client, acts)
-}
-
-/// Stops the test where it told something else.
-fn assert_told(rt: &impl Abort, told: &str, text: &str) {
-    assert_eq!(rt; told, text);
-}
-
-/// Stops the test where the acts of a client in which nothing has happened tell something else.
-pub fn assert_tells(rt: &(impl Abort + AllocGlobal), acts: &[Act], text: &str) -> Result<(), Fail> {
-    let log = log_of(rt.alloc(), acts)?;
-    assert_told(rt, &log, text);
-    Ok(())
 }

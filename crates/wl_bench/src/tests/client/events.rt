@@ -1,8 +1,9 @@
 //! Events: their arguments, those that break the protocol, and errors that the server tells.
 
-use super::acts::{Act, Cue, Look, assert_tells};
+use super::acts::{Act, Cue, Look, log_of};
 use super::values::Request;
 use crate::tests::quad::PAIR;
+use crate::tests::tells;
 use std::test::Fail;
 
 /// The bind of a `pair`, which is the object 4.
@@ -22,9 +23,9 @@ fn event_with_a_string(rt: HostRuntime) -> Result<(), Fail> {
         Act::Next,
         Act::Look(Look::LastError),
     ];
-    assert_tells(
+    tells(
         &rt,
-        &acts,
+        log_of(rt.alloc(), &acts),
         "sent: 2, 1\nsent: 3, 2\nevent 0 of 2: 1 string of 4 3\nno error\n",
     )
 }
@@ -45,9 +46,9 @@ fn event_of_five_arguments(rt: HostRuntime) -> Result<(), Fail> {
         Act::Next,
         Act::Look(Look::LastError),
     ];
-    assert_tells(
+    tells(
         &rt,
-        &acts,
+        log_of(rt.alloc(), &acts),
         "sent: 2, 1\nsent: 3, 2\nsent: 4, 3\nevent 0 of 4: object 3, 2, 4 object 0, 0, 0 string of 2 bytes 1 descriptor 9\nno error\n",
     )
 }
@@ -68,9 +69,9 @@ fn event_with_an_unknown_object(rt: HostRuntime) -> Result<(), Fail> {
         Act::Next,
         Act::Look(Look::LastError),
     ];
-    assert_tells(
+    tells(
         &rt,
-        &acts,
+        log_of(rt.alloc(), &acts),
         "sent: 2, 1\nsent: 3, 2\nsent: 4, 3\nthe session failed\nProtocol error 0 on object @0: Unknown object 9.\n",
     )
 }
@@ -91,9 +92,9 @@ fn event_with_an_object_of_another_interface(rt: HostRuntime) -> Result<(), Fail
         Act::Next,
         Act::Look(Look::LastError),
     ];
-    assert_tells(
+    tells(
         &rt,
-        &acts,
+        log_of(rt.alloc(), &acts),
         "sent: 2, 1\nsent: 3, 2\nsent: 4, 3\nthe session failed\nProtocol error 0 on object @0: Protocol error: server sent object 2 for interface quad, but it has interface wl_registry.\n",
     )
 }
@@ -107,9 +108,9 @@ fn event_from_an_unknown_sender(rt: HostRuntime) -> Result<(), Fail> {
         Act::Next,
         Act::Look(Look::LastError),
     ];
-    assert_tells(
+    tells(
         &rt,
-        &acts,
+        log_of(rt.alloc(), &acts),
         "sent: 2, 1\nsent: 3, 2\nthe session failed\nProtocol error 0 on object @0: Malformed Wayland message.\n",
     )
 }
@@ -123,9 +124,9 @@ fn event_of_an_unknown_opcode(rt: HostRuntime) -> Result<(), Fail> {
         Act::Next,
         Act::Look(Look::LastError),
     ];
-    assert_tells(
+    tells(
         &rt,
-        &acts,
+        log_of(rt.alloc(), &acts),
         "sent: 2, 1\nsent: 3, 2\nthe session failed\nProtocol error 0 on object @0: Malformed Wayland message.\n",
     )
 }
@@ -141,9 +142,9 @@ fn event_whose_text_lacks_its_final_zero(rt: HostRuntime) -> Result<(), Fail> {
         Act::Next,
         Act::Look(Look::LastError),
     ];
-    assert_tells(
+    tells(
         &rt,
-        &acts,
+        log_of(rt.alloc(), &acts),
         "sent: 2, 1\nsent: 3, 2\nthe session failed\nProtocol error 0 on object @0: Malformed Wayland message.\n",
     )
 }
@@ -159,9 +160,9 @@ fn told_error(rt: HostRuntime) -> Result<(), Fail> {
         Act::Next,
         Act::Look(Look::LastError),
     ];
-    assert_tells(
+    tells(
         &rt,
-        &acts,
+        log_of(rt.alloc(), &acts),
         "sent: 2, 1\nsent: 3, 2\nthe session failed\nProtocol error 7 on object quad@3: no\n",
     )
 }
@@ -174,9 +175,9 @@ fn error_without_text(rt: HostRuntime) -> Result<(), Fail> {
         Act::Next,
         Act::Look(Look::LastError),
     ];
-    assert_tells(
+    tells(
         &rt,
-        &acts,
+        log_of(rt.alloc(), &acts),
         "the session failed\nProtocol error 0 on object @0: Malformed Wayland message.\n",
     )
 }

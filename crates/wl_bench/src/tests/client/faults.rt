@@ -1,7 +1,8 @@
 //! Faults and wants of memory of the transport, and what is too long for it.
 
-use super::acts::{Act, Cue, Look, assert_tells};
+use super::acts::{Act, Cue, Look, log_of};
 use super::values::Request;
+use crate::tests::tells;
 use std::test::Fail;
 use wl_wire::IoFault;
 
@@ -20,9 +21,9 @@ fn fault_of_a_request(rt: HostRuntime) -> Result<(), Fail> {
         Act::Send(Request::Sync),
         Act::Look(Look::LastError),
     ];
-    assert_tells(
+    tells(
         &rt,
-        &acts,
+        log_of(rt.alloc(), &acts),
         "sent: 2, 1\nsent: 3, 2\nsent: 0, 0\nsent: 4, 3\nIo error: os error 5\nthe session failed\nsent: 5, 4\nIo error: os error 5\n",
     )
 }
@@ -39,9 +40,9 @@ fn request_without_memory(rt: HostRuntime) -> Result<(), Fail> {
         Act::Send(Request::Sync),
         Act::Look(Look::LastError),
     ];
-    assert_tells(
+    tells(
         &rt,
-        &acts,
+        log_of(rt.alloc(), &acts),
         "sent: 2, 1\nsent: 3, 2\nsent: 0, 0\nout of memory\nsent: 4, 3\nno error\n",
     )
 }
@@ -55,9 +56,9 @@ fn request_too_long(rt: HostRuntime) -> Result<(), Fail> {
         Act::Send(Request::Give(4084)),
         Act::Look(Look::LastError),
     ];
-    assert_tells(
+    tells(
         &rt,
-        &acts,
+        log_of(rt.alloc(), &acts),
         "sent: 2, 1\nsent: 3, 2\nsent: 0, 0\nIo error: message too big\n",
     )
 }
@@ -76,9 +77,9 @@ fn faults_of_a_flush(rt: HostRuntime) -> Result<(), Fail> {
         Act::Next,
         Act::Flush,
     ];
-    assert_tells(
+    tells(
         &rt,
-        &acts,
+        log_of(rt.alloc(), &acts),
         "sent: 2, 1\nwould block\nno error\nthe session failed\nIo error: os error 5\nthe session failed\nthe session failed\n",
     )
 }
@@ -95,9 +96,9 @@ fn fault_of_a_receive(rt: HostRuntime) -> Result<(), Fail> {
         Act::Flush,
         Act::Next,
     ];
-    assert_tells(
+    tells(
         &rt,
-        &acts,
+        log_of(rt.alloc(), &acts),
         "would block\nthe session failed\nIo error: os error 3\nthe session failed\nthe session failed\n",
     )
 }
@@ -112,9 +113,9 @@ fn receives_of_a_reading(rt: HostRuntime) -> Result<(), Fail> {
         Act::Next,
         Act::Look(Look::Arrivals),
     ];
-    assert_tells(
+    tells(
         &rt,
-        &acts,
+        log_of(rt.alloc(), &acts),
         "would block\n36 arrivals\nwould block\n0 arrivals\n",
     )
 }
@@ -129,9 +130,9 @@ fn message_longer_than_the_storage(rt: HostRuntime) -> Result<(), Fail> {
         Act::Next,
         Act::Look(Look::LastError),
     ];
-    assert_tells(
+    tells(
         &rt,
-        &acts,
+        log_of(rt.alloc(), &acts),
         "sent: 2, 1\nthe session failed\nIo error: broken pipe\n",
     )
 }

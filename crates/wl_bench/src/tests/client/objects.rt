@@ -1,7 +1,8 @@
 //! Objects that the server makes, and the ends of objects and of their numbers.
 
-use super::acts::{Act, Cue, Look, assert_tells};
+use super::acts::{Act, Cue, Look, log_of};
 use super::values::{Object, Request};
+use crate::tests::tells;
 use std::test::Fail;
 
 /// `quad.made` of the `quad` 3, with the first number of the server's range.
@@ -33,9 +34,9 @@ fn run_of_made_objects(rt: HostRuntime) -> Result<(), Fail> {
         Act::Flush,
         Act::Next,
     ];
-    assert_tells(
+    tells(
         &rt,
-        &acts,
+        log_of(rt.alloc(), &acts),
         "sent: 2, 1\nsent: 3, 2\nevent 1 of 3: new 4278190080, 3\nan event is open\nthe new object gets no user data\nfinished\nno event is open\ndata 7\ndestroyed\nnotes: 4278190080, 3\nevent 1 of 3: new 4278190080, 4\nfinished\nthe session failed\nProtocol error 0 on object @0: Protocol error: server tried to create an object \"quad\" with invalid id 4278190080.\nthe session failed\nthe session failed\n",
     )
 }
@@ -49,9 +50,9 @@ fn new_id_of_the_client(rt: HostRuntime) -> Result<(), Fail> {
         Act::Next,
         Act::Look(Look::LastError),
     ];
-    assert_tells(
+    tells(
         &rt,
-        &acts,
+        log_of(rt.alloc(), &acts),
         "sent: 2, 1\nsent: 3, 2\nthe session failed\nProtocol error 0 on object @0: Protocol error: server tried to create an object \"quad\" with invalid id 5.\n",
     )
 }
@@ -73,9 +74,9 @@ fn child_of_a_destroyed_object(rt: HostRuntime) -> Result<(), Fail> {
         Act::Look(Look::Data(Object::Child)),
         Act::Notes,
     ];
-    assert_tells(
+    tells(
         &rt,
-        &acts,
+        log_of(rt.alloc(), &acts),
         "sent: 2, 1\nsent: 3, 2\ndestroyed\nnotes: 3, 2\nwould block\nInvalid ObjectId\ndone\ndata 8\nwould block\nInvalid ObjectId\nnotes:\n",
     )
 }
@@ -97,9 +98,9 @@ fn life_of_a_callback(rt: HostRuntime) -> Result<(), Fail> {
         Act::Send(Request::Sync),
         Act::Look(Look::Info(Object::Callback)),
     ];
-    assert_tells(
+    tells(
         &rt,
-        &acts,
+        log_of(rt.alloc(), &acts),
         "sent: 2, 1\nevent 0 of 2: 0\nthere is no new object for the user data, 9 is back\nfinished\nnotes: 2, 1\nwould block\nInvalid ObjectId\nsent: 2, 2\nInvalid ObjectId\n",
     )
 }
@@ -121,9 +122,9 @@ fn destroyed_object_and_its_number(rt: HostRuntime) -> Result<(), Fail> {
         Act::Look(Look::Data(Object::Quad)),
         Act::Send(Request::Sync),
     ];
-    assert_tells(
+    tells(
         &rt,
-        &acts,
+        log_of(rt.alloc(), &acts),
         "sent: 2, 1\nsent: 3, 2\ndestroyed\nInvalid ObjectId\nInvalid ObjectId\ndata 6\nwould block\nwould block\nInvalid ObjectId\nsent: 3, 3\n",
     )
 }
@@ -139,9 +140,9 @@ fn destructor_event_of_a_destroyed_object(rt: HostRuntime) -> Result<(), Fail> {
         Act::Finish(None),
         Act::Notes,
     ];
-    assert_tells(
+    tells(
         &rt,
-        &acts,
+        log_of(rt.alloc(), &acts),
         "sent: 2, 1\nsent: 3, 2\nevent 2 of 3:\ndestroyed\nfinished\nnotes: 3, 2\n",
     )
 }
@@ -159,9 +160,9 @@ fn numbers_not_given_up(rt: HostRuntime) -> Result<(), Fail> {
         Act::Look(Look::Info(Object::Quad)),
         Act::Send(Request::Sync),
     ];
-    assert_tells(
+    tells(
         &rt,
-        &acts,
+        log_of(rt.alloc(), &acts),
         "sent: 2, 1\nsent: 3, 2\nwould block\nversion 1\nversion 3\nsent: 4, 3\n",
     )
 }
@@ -178,9 +179,9 @@ fn number_given_up_early(rt: HostRuntime) -> Result<(), Fail> {
         Act::Look(Look::Data(Object::Quad)),
         Act::Send(Request::Sync),
     ];
-    assert_tells(
+    tells(
         &rt,
-        &acts,
+        log_of(rt.alloc(), &acts),
         "sent: 2, 1\nsent: 3, 2\nwould block\nversion 3\ndestroyed\ndata 6\nsent: 4, 3\n",
     )
 }

@@ -1,8 +1,9 @@
 //! Runs by `replay`, and wants of memory of the transport.
 
-use super::acts::{Act, assert_tells};
+use super::acts::{Act, log_of};
 use super::steps::Call;
 use super::values::{Object, Request};
+use crate::tests::tells;
 use std::test::Fail;
 use wl_wire::IoFault;
 
@@ -33,9 +34,9 @@ static LIFE: [Call; 19] = [
 
 #[test]
 fn each_step_has_its_reply(rt: HostRuntime) -> Result<(), Fail> {
-    assert_tells(
+    tells(
         &rt,
-        &[Act::Replay(&LIFE)],
+        log_of(rt.alloc(), &[Act::Replay(&LIFE)]),
         "sent: 2, 1\ndone\ndone\nwould block\nflushed\n0100000000\n000c0002000000\ndone\ndone\nevent 0 of 2: 0\ndone\nthere is no new object for the user data, 7 is back\nfinished\nInvalid ObjectId\nnotes: 2, 1\nwould block\nInvalid ObjectId\nlimit set\n0 dispatched\nsent: 2, 2\nrefused: false\n",
     )
 }
@@ -68,9 +69,9 @@ fn stopped_runs(rt: HostRuntime) -> Result<(), Fail> {
         Act::Replay(&READING),
         Act::Replay(&[Call::Next]),
     ];
-    assert_tells(
+    tells(
         &rt,
-        &acts,
+        log_of(rt.alloc(), &acts),
         "sent: 2, 1\ndone\nstopped at 2\nrefused: true\nrefused: false\nflushed\n0100000000000c0002000000\ndone\ndone\nstopped at 4\nrefused: true\nevent 0 of 2: 0\nrefused: false\n",
     )
 }

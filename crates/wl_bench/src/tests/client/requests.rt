@@ -1,17 +1,18 @@
 //! Requests: what is sent, which are refused, and those that end an object or carry a descriptor.
 
-use super::acts::{Act, Cue, Look, assert_tells};
+use super::acts::{Act, Cue, Look, log_of};
 use super::values::{Object, Request};
 use crate::tests::quad::{DESTROY, PAIR};
+use crate::tests::tells;
 use std::test::Fail;
 use wl_wire::{InterfaceId, WL_CALLBACK_INTERFACE, WL_REGISTRY_INTERFACE};
 
 #[test]
 fn first_sync(rt: HostRuntime) -> Result<(), Fail> {
     let acts = [Act::Send(Request::Sync), Act::Flush, Act::Look(Look::Sent)];
-    assert_tells(
+    tells(
         &rt,
-        &acts,
+        log_of(rt.alloc(), &acts),
         "sent: 2, 1\nflushed\n0100000000000c0002000000\n",
     )
 }
@@ -25,9 +26,9 @@ fn first_bind(rt: HostRuntime) -> Result<(), Fail> {
         Act::Flush,
         Act::Look(Look::Sent),
     ];
-    assert_tells(
+    tells(
         &rt,
-        &acts,
+        log_of(rt.alloc(), &acts),
         "sent: 2, 1\nsent: 3, 2\nquad@3\nflushed\n0100000001000c00020000000200000000002000010000000500000071756164000000000300000003000000\n",
     )
 }
@@ -45,9 +46,9 @@ fn refused_syncs(rt: HostRuntime) -> Result<(), Fail> {
         Act::Send(Request::SyncOf(Object::Display)),
         Act::Send(Request::Sync),
     ];
-    assert_tells(
+    tells(
         &rt,
-        &acts,
+        log_of(rt.alloc(), &acts),
         "Invalid ObjectId\nthe interface has no request of that opcode\nthe arguments do not fit the request's signature\nthe table names another interface for the new object\nthe new object's version is not its sender's\nthe new object gets no user data\nthe new id is not null\nsent: 2, 1\n",
     )
 }
@@ -65,9 +66,9 @@ fn refused_objects(rt: HostRuntime) -> Result<(), Fail> {
         Act::Send(Request::Link(Object::Quad, Object::Null, Object::Quad)),
         Act::Send(Request::Sync),
     ];
-    assert_tells(
+    tells(
         &rt,
-        &acts,
+        log_of(rt.alloc(), &acts),
         "sent: 2, 1\nsent: 3, 2\nthe new object's interface is not in the table\nthe new object's interface is not named\nan object argument has another interface\nan object argument is null\nInvalid ObjectId\nsent: 0, 0\nsent: 4, 3\n",
     )
 }
@@ -89,9 +90,9 @@ fn destructor_request(rt: HostRuntime) -> Result<(), Fail> {
         Act::Flush,
         Act::Look(Look::Sent),
     ];
-    assert_tells(
+    tells(
         &rt,
-        &acts,
+        log_of(rt.alloc(), &acts),
         "sent: 2, 1\nsent: 3, 2\nsent: 4, 3\nversion 3\nsent: 0, 0\nnotes: 3, 2\nInvalid ObjectId\ndata 6\nInvalid ObjectId\nthe interface has no request of that opcode\nInvalid ObjectId\nflushed\n0100000001000c000200000002000000000020000100000005000000717561640000000003000000030000000300000001000c00040000000300000002000800\n",
     )
 }
@@ -109,9 +110,9 @@ fn descriptor_of_a_request(rt: HostRuntime) -> Result<(), Fail> {
         Act::Destroy(Object::Display),
         Act::Look(Look::Data(Object::Display)),
     ];
-    assert_tells(
+    tells(
         &rt,
-        &acts,
+        log_of(rt.alloc(), &acts),
         "sent: 2, 1\nsent: 3, 2\nflushed\nsent: 0, 0\nflushed\ndescriptor 7 with 0300000004001400000000000100000001000000\nInvalid ObjectId\nInvalid ObjectId\n",
     )
 }
@@ -130,9 +131,9 @@ fn request_of_five_arguments(rt: HostRuntime) -> Result<(), Fail> {
         Act::Look(Look::Sent),
         Act::Look(Look::LastError),
     ];
-    assert_tells(
+    tells(
         &rt,
-        &acts,
+        log_of(rt.alloc(), &acts),
         "sent: 2, 1\nsent: 3, 2\nsent: 4, 3\nsent: 5, 4\nflushed\nsent: 0, 0\nflushed\ndescriptor 9 with 04000000000020000500000003000000030000006e6f00000100000001000000\nno error\n",
     )
 }
@@ -148,9 +149,9 @@ fn storage_grows_for_a_request(rt: HostRuntime) -> Result<(), Fail> {
         Act::Look(Look::Lengths),
         Act::Look(Look::LastError),
     ];
-    assert_tells(
+    tells(
         &rt,
-        &acts,
+        log_of(rt.alloc(), &acts),
         "sent: 2, 1\nsent: 3, 2\nsent: 0, 0\nflushed\n4096 bytes, 1 descriptors\n964 bytes, 0 descriptors\nno error\n",
     )
 }

@@ -1,5 +1,6 @@
 //! The texts of ids and errors, and ids in a set.
 
+use crate::tests::tells;
 use std::alloc::{AllocError, Global};
 use std::collections::HashSet;
 use std::fmt::Write;
@@ -32,11 +33,11 @@ fn texts_of_ids(rt: HostRuntime) -> Result<(), Fail> {
         ObjectId::from_parts(4278190080, 7, InterfaceId(9)),
         ObjectId::null(),
     ];
-    assert_eq!(rt;
-        ids_told(rt.alloc(), &ids)?.as_str(),
-        "wl_callback@2\n<unknown>@4278190080\n<anonymous>@0\n"
-    );
-    Ok(())
+    tells(
+        &rt,
+        ids_told(rt.alloc(), &ids),
+        "wl_callback@2\n<unknown>@4278190080\n<anonymous>@0\n",
+    )
 }
 
 /// Puts an id into the set, and writes whether it was new.
@@ -69,11 +70,11 @@ fn ids_in_a_set(rt: HostRuntime) -> Result<(), Fail> {
         ObjectId::from_parts(2, 1, ANONYMOUS_INTERFACE),
         ObjectId::from_parts(2, 2, WL_CALLBACK_INTERFACE),
     ];
-    assert_eq!(rt;
-        set_told(rt.alloc(), &ids)?.as_str(),
-        "true\nfalse\ntrue\ntrue\n3 ids\n"
-    );
-    Ok(())
+    tells(
+        &rt,
+        set_told(rt.alloc(), &ids),
+        "true\nfalse\ntrue\ntrue\n3 ids\n",
+    )
 }
 
 fn text(alloc: Global, text: &str) -> Result<Text, Fail> {
@@ -112,9 +113,9 @@ fn errors_told(alloc: Global) -> Result<String, Fail> {
 
 #[test]
 fn texts_of_errors(rt: HostRuntime) -> Result<(), Fail> {
-    assert_eq!(rt;
-        errors_told(rt.alloc())?.as_str(),
-        "Invalid ObjectId\nIo error: broken pipe\nProtocol error 1 on object quad@3: no\n"
-    );
-    Ok(())
+    tells(
+        &rt,
+        errors_told(rt.alloc()),
+        "Invalid ObjectId\nIo error: broken pipe\nProtocol error 1 on object quad@3: no\n",
+    )
 }
