@@ -31,7 +31,7 @@ use Rattle.wl_bench.specs.Sync.{one_argument, all_bytes, request_bytes}
 
 -- ---- what the calls are made with
 
-abbrev fresh_script : Script
+abbrev pub fresh_script : Script
 fresh_script = record { arrivals = []; answers = []; sent = [] }
 
 abbrev fresh_link : LinkState Script

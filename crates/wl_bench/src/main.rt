@@ -11,6 +11,7 @@ mod stop;
 mod sync;
 
 use hex::hex_line;
+use std::alloc::Global;
 use std::process::ExitCode;
 use std::rt::Env;
 use std::{env, io};
@@ -40,12 +41,24 @@ fn requested(rt: &(impl Env + Alloc)) -> Result<Command, Stop> {
     }
 }
 
+/// The line of the client's request.
+fn request_line(alloc: Global) -> Result<String, Stop> {
+    let request = sync::request(alloc)?;
+    Ok(hex_line(alloc, request.as_slice())?)
+}
+
+/// The line of the server's answer.
+fn answer_line(alloc: Global) -> Result<String, Stop> {
+    let table = Protocol::new(alloc, Vec::new(alloc))?;
+    let answer = sync::answer(alloc, &table)?;
+    Ok(hex_line(alloc, answer.as_slice())?)
+}
+
 /// Prints the first exchange.
 fn print_sync(rt: &(impl Print + AllocGlobal)) -> Result<(), Stop> {
     let alloc = rt.alloc();
-    let request = hex_line(alloc, sync::request(alloc)?.as_slice())?;
-    let table = Protocol::new(alloc, Vec::new(alloc))?;
-    let answer = hex_line(alloc, sync::answer(alloc, &table)?.as_slice())?;
+    let request = request_line(alloc)?;
+    let answer = answer_line(alloc)?;
     println!(rt; "{request}")?;
     println!(rt; "{answer}")?;
     Ok(())

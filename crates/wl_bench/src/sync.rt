@@ -1,8 +1,8 @@
 //! The first exchange of a client and a server: `wl_display.sync`, and its answer.
 
-ghost use Rattle.std.specs.Prelude.{◌≡◌, ◌++◌, [], ◌∷◌, IfOk, OnOk};
+ghost use Rattle.std.specs.Prelude.{◌≡◌, ◌++◌, IfOk, OnOk};
 ghost use Rattle.wl_wire.specs.Message.{content, spelling};
-ghost use Rattle.wl_bench.specs.Sync.{one_argument, all_bytes, request_bytes, answer_bytes};
+ghost use Rattle.wl_bench.specs.Sync.{IsFresh, one_argument, all_bytes, request_bytes, answer_bytes};
 
 use crate::stop::Stop;
 use smallvec::SmallVec;
@@ -89,12 +89,13 @@ fn sent_bytes(alloc: Global, transport: &Memory) -> Result<Vec<u8>, Stop>
     Ok(bytes)
 }
 
-/// The bytes that a fresh client sends for its first `wl_display.sync`.
-pub fn request(alloc: Global) -> Result<Vec<u8>, Stop>
-    ensures { IfOk result (λ v. v.items ≡ request_bytes) }
+/// A client's session over the transport by script.
+type Client = Backend<Memory, ()>;
+
+/// Sends the first `wl_display.sync` of a session in which nothing has happened.
+fn send_sync(alloc: Global, client: &mut Client) -> Result<(), Stop>
+    ensures { OnOk result (IsFresh client.old.session → all_bytes client.new.session.link.transport.sent ≡ request_bytes) }
 {
-    let table = Protocol::new(alloc, Vec::new(alloc))?;
-    let mut client: Backend<Memory, ()> = Backend::connect(alloc, table, Memory::new(alloc))?;
     let mut args = SmallVec::new(alloc);
     args.push(Argument::NewId(ObjectId::null()))?;
     let sync = Message {
@@ -104,6 +105,16 @@ pub fn request(alloc: Global) -> Result<Vec<u8>, Stop>
     };
     let _callback = client.send_request(sync, Some(()), None)?;
     client.flush()?;
+    Ok(())
+}
+
+/// The bytes that a fresh client sends for its first `wl_display.sync`.
+pub fn request(alloc: Global) -> Result<Vec<u8>, Stop>
+    ensures { IfOk result (λ v. v.items ≡ request_bytes) }
+{
+    let table = Protocol::new(alloc, Vec::new(alloc))?;
+    let mut client = Backend::connect(alloc, table, Memory::new(alloc))?;
+    send_sync(alloc, &mut client)?;
     sent_bytes(alloc, client.transport())
 }
 

@@ -1,6 +1,6 @@
 //! The client's session as a program uses it.
 
-ghost use Rattle.std.specs.Prelude.{◌≡◌, [], true, false, None, Some, Ok, IfOk, MatchResult, option_copied};
+ghost use Rattle.std.specs.Prelude.{◌≡◌, [], false, None, Some, Ok, IfOk, MatchResult, option_copied};
 ghost use Rattle.std.specs.Borrow.{sem};
 ghost use Rattle.wl_wire.specs.Table.{display_id};
 ghost use Rattle.wl_link.specs.Link.{LinkState, LimitSet};

@@ -1,8 +1,7 @@
 //! What an event does to the objects of a session.
 
-ghost use Rattle.std.specs.Prelude.{◌≡◌, ◌+◌, ◌≤◌, ◌<◌, ◌∷◌, [], false, true, Ok, Err, IfOk, MatchResult, length, option_copied, reverse};
+ghost use Rattle.std.specs.Prelude.{◌≡◌, ◌+◌, ◌<◌, false, true, Ok, Err, IfOk, MatchResult, length, reverse};
 ghost use Rattle.smallvec.specs.SmallVec.{HasRoomFor};
-ghost use Rattle.wl_wire.specs.Table.{message_row};
 ghost use Rattle.wl_link.specs.Store.{is_free};
 ghost use Rattle.wl_wire.specs.Asked.{next_interface, rest_of};
 ghost use Rattle.wl_client.specs.Events.{Wrong, convert, object_argument, vacated};

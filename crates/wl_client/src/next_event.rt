@@ -1,6 +1,6 @@
 //! A reading: messages are handled, and more is received where none waits whole.
 
-ghost use Rattle.std.specs.Prelude.{◌≡◌, List};
+ghost use Rattle.std.specs.Prelude.{List};
 ghost use Rattle.wl_client.specs.Reading.{NextEvent, Reads, Turn as ReadingTurn, receives_allowed};
 ghost use Rattle.wl_client.specs.Turns.{ReceivedTo, Waited, event_answer, event_refused};
 

@@ -1,10 +1,10 @@
 //! What a session holds, and the calls on its objects.
 
-ghost use Rattle.std.specs.Prelude.{◌≡◌, ◌≢◌, Ok, Err, IfOk, IfErr, IsTrue, option_copied};
+ghost use Rattle.std.specs.Prelude.{◌≡◌, Ok, Err, IfOk, option_copied};
 ghost use Rattle.wl_client.specs.Session.{IsConnected, named, alive};
-ghost use Rattle.wl_client.specs.Objects.{info_of, user_data_of, DataSet, DestroyedBy, destroyable};
+ghost use Rattle.wl_client.specs.Objects.{info_of, user_data_of};
 
-use crate::error::{DestroyError, InvalidId, WaylandError};
+use crate::error::WaylandError;
 use crate::kept::Kept;
 use crate::note::Note;
 use crate::object_id::ObjectId;
@@ -12,7 +12,6 @@ use crate::objects::{fresh_object, live_in, named_in};
 use crate::open_event::OpenEvent;
 use std::alloc::Global;
 use std::marker::Model;
-use std::mem;
 use wl_link::{BufferedSocket, Object, ObjectMap};
 use wl_wire::{ObjectInfo, OutOfMemory, Protocol, WL_DISPLAY_INTERFACE};
 

@@ -3,13 +3,11 @@
 ghost use Rattle.std.specs.Prelude.{◌≡◌, ◌≢◌, ◌≤◌, [], true, false, None, Some, Ok, Err, MatchResult, length, IfOk};
 ghost use Rattle.smallvec.specs.SmallVec.{HasRoomFor};
 ghost use Rattle.wl_wire.specs.Message.{content};
-ghost use Rattle.wl_wire.specs.Table.{message_row};
 ghost use Rattle.wl_wire.specs.declared.error.IoFault.TheVariants as io;
-ghost use Rattle.wl_link.specs.Store.{held};
 ghost use Rattle.wl_client.specs.declared.error.EventError.TheVariants as no_event;
 ghost use Rattle.wl_client.specs.declared.error.WaylandError.TheVariants.{Io, Protocol as ProtocolFault};
 ghost use Rattle.wl_client.specs.Events.{error_of};
-ghost use Rattle.wl_client.specs.Reading.{Stores, row_in, with_error};
+ghost use Rattle.wl_client.specs.Reading.{Stores, with_error};
 ghost use Rattle.wl_client.specs.Turns.{HandledTo, NotTaken, NotTakenTo, TookWith, Turns};
 
 use crate::display::{DisplayEvent, display_event};

@@ -1,8 +1,7 @@
 //! Bytes that wait, in a storage that is used again.
 
-ghost use Rattle.std.specs.Prelude.{◌≡◌, ◌≢◌, ◌+◌, ◌-◌, ◌<◌, ◌≤◌, ◌^◌, ◌↔◌, ◌++◌, [], length, take, drop, slice_range, Err, IfOk, OnOk, OnErr};
-ghost use Rattle.wl_wire.specs.Message.{IsMessage, content, size, spelling, tokens};
-ghost use Rattle.wl_link.specs.Exchange.{Lands, receipt};
+ghost use Rattle.std.specs.Prelude.{◌≡◌, ◌≢◌, ◌+◌, ◌-◌, ◌<◌, ◌≤◌, ◌^◌, [], length, take, drop, slice_range, Err, IfOk, OnOk, OnErr};
+ghost use Rattle.wl_wire.specs.Message.{IsMessage, content, size, tokens};
 ghost use Rattle.wl_link.specs.Storage.{waits, beside, arrived, Received, Appended};
 
 use crate::token_queue::TokenQueue;

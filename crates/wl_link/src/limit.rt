@@ -1,6 +1,6 @@
 //! How far the outgoing storage may grow.
 
-ghost use Rattle.std.specs.Prelude.{◌≡◌, ◌≢◌, ◌↔◌, ◌+◌, ◌*◌, ◌^◌, ◌<◌, ◌≤◌, IsTrue, IfSome, MatchOption};
+ghost use Rattle.std.specs.Prelude.{◌≢◌, ◌↔◌, ◌<◌, ◌≤◌, IsTrue, IfSome, MatchOption};
 ghost use Rattle.wl_link.specs.Link.{AreLimits, IsLimit, Grows, Wants};
 
 /// The limit of the outgoing storage that a connection has where nothing else is asked for. It is the least limit, and

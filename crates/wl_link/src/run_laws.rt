@@ -1,6 +1,6 @@
 //! What follows from the definitions of a run of calls alone. Each function has a law as its contract, and does nothing.
 
-ghost use Rattle.std.specs.Prelude.{◌≡◌, ◌++◌, ℕ, Bool, IsTrue, List, length};
+ghost use Rattle.std.specs.Prelude.{◌≡◌, ◌++◌, Bool, IsTrue, List, length};
 ghost use Rattle.wl_link.specs.Runs.{AllSame, Entry, HasOneOutcome, Leads, entries};
 
 /// Runs join, and where each step has one outcome, so has each run in which memory is not refused.

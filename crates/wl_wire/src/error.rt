@@ -1,7 +1,5 @@
 //! Why a call of this crate, or of the crates above it, was refused.
 
-ghost use Rattle.std.specs.Prelude.{◌≡◌};
-
 use crate::text::Text;
 use std::alloc::{AllocError, AllocFailed};
 use std::fmt;

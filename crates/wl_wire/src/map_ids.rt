@@ -5,7 +5,7 @@ ghost use Rattle.wl_wire.specs.MapIds.{AnswersAs, MapsId, MapsIds, numbered};
 ghost use Rattle.wl_wire.specs.Message.{content};
 
 use crate::argument::{Argument, Token};
-use crate::message::{INLINE_ARGS, Message};
+use crate::message::Message;
 use smallvec::SmallVec;
 
 /// The number that the closure gives for the id, and the closure again.

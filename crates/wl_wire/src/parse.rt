@@ -1,17 +1,16 @@
 //! Reading a message from bytes and tokens.
 
-ghost use Rattle.std.specs.Prelude.{None, ℕ, List, MatchOption, MatchResult, ◌≡◌, ◌≢◌, ◌↔◌, ◌<◌, ◌≤◌, ◌++◌, length, drop, IsTrue, IsOk, IsSome, IfSome, is_some, All, IfOk, IfErr, OnOk, OnErr, option_map, slice_index_or};
+ghost use Rattle.std.specs.Prelude.{None, ℕ, List, MatchOption, MatchResult, ◌≡◌, ◌≢◌, ◌↔◌, ◌<◌, ◌≤◌, ◌++◌, length, drop, IsOk, IsSome, IfSome, is_some, All, IfOk, IfErr, OnOk, OnErr, option_map, slice_index_or};
 ghost use Rattle.std.specs.VecDeque.{deque_len};
-ghost use Rattle.std.specs.List.{count_by};
 ghost use Rattle.wl_wire.specs.declared.error.MessageParseError.TheVariants as errors;
 ghost use Rattle.wl_wire.specs.declared.error.MessageParseError.TheVariants.{OutOfMemory};
 ghost use Rattle.smallvec.specs.SmallVec.{HasRoomFor};
 ghost use Rattle.wl_wire.specs.declared.argument.Token.{Token as WireToken};
 ghost use Rattle.wl_wire.specs.Argument.{Matches};
 ghost use Rattle.wl_wire.specs.Message.{WireMessage, IsMessage, content, pad_len, spelling, tokens};
-ghost use Rattle.wl_wire.specs.Parse.{fd_count, is_fd, IsInline, IsSmall, length_of, payload_of, sender_of, opcode_of, ReadsMessage, RefusesMessage, IsWhole};
+ghost use Rattle.wl_wire.specs.Parse.{fd_count, IsInline, IsSmall, length_of, sender_of, opcode_of, ReadsMessage, RefusesMessage, IsWhole};
 ghost use Rattle.wl_wire.specs.Text.{HasNoZero};
-ghost use Rattle.wl_wire.specs.Cursor.{IsNumber, text_at, word_at, counted_at, text_of, argument_at, arguments_at, rests, with_front, Gives, Fails, RefusesArguments, RefusesHeader};
+ghost use Rattle.wl_wire.specs.Cursor.{IsNumber, text_at, word_at, counted_at, text_of, argument_at, arguments_at, rests, with_front, Gives, RefusesArguments, RefusesHeader};
 
 use crate::argument::{Argument, ArgumentType, Token};
 use crate::byte_array::ByteArray;
@@ -19,7 +18,7 @@ use crate::c_string::CString;
 use crate::error::MessageParseError;
 use crate::message::{INLINE_ARGS, Message};
 use smallvec::SmallVec;
-use std::alloc::{AllocError, AllocFailed, Global};
+use std::alloc::{AllocError, Global};
 use std::collections::VecDeque;
 
 impl From<AllocError> for MessageParseError {

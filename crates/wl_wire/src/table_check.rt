@@ -5,7 +5,7 @@ ghost use Rattle.wl_wire.specs.declared.protocol.TableError.{TableError as Fault
 ghost use Rattle.std.specs.List.{list_any};
 ghost use Rattle.std.specs.Str.{bytes_eq};
 ghost use Rattle.std.specs.String.{string_bytes};
-ghost use Rattle.wl_wire.specs.Table.{HasFault, IsFirstFault, LacksFirst, fixed_rows, is_repeated, is_taken, place, rank, table_of, holds_zero, interfaces_of, interface_row, interface_rows, is_at_fault, is_message_at_fault, is_name_at_fault, is_new_id, is_object, message_row, messages, new_ids, objects};
+ghost use Rattle.wl_wire.specs.Table.{HasFault, IsFirstFault, LacksFirst, fixed_rows, is_repeated, is_taken, place, rank, table_of, holds_zero, interfaces_of, interface_row, is_at_fault, is_message_at_fault, is_name_at_fault, message_row, messages, new_ids, objects};
 
 use crate::argument::ArgumentType;
 use crate::interface::{Interface, InterfaceId, MessageDesc};

@@ -3,7 +3,7 @@
 ghost use Rattle.std.specs.Prelude.{◌≡◌, ◌≢◌, ◌↔◌, ◌+◌, ◌<◌, ◌≤◌, ◌^◌, ◌++◌, [], Err, length, drop, replicate, IfOk, OnOk, OnErr, MatchOption, vec_len, vec_capacity};
 ghost use Rattle.wl_wire.specs.declared.error.MessageWriteError.TheVariants.{OutOfMemory};
 ghost use Rattle.std.specs.List.{AllByRecursion};
-ghost use Rattle.wl_wire.specs.Message.{content, IsArgument, IsMessage, counted, pad_len, piece, pieces, size, spelling, token, tokens, word};
+ghost use Rattle.wl_wire.specs.Message.{content, IsArgument, IsMessage, counted, piece, pieces, size, spelling, token, tokens, word};
 ghost use Rattle.wl_wire.specs.Buffer.{overwritten, counted_len, piece_len};
 
 use crate::argument::{Argument, Token};
