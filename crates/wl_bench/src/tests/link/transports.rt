@@ -107,3 +107,49 @@ impl Record for OneByte {
         Vec::new(alloc)
     }
 }
+
+/// Takes nothing, and gives nothing: a receive would block where the queue has room for the most tokens that one gives, and
+/// is refused where it has not.
+#[derive(Drop)]
+pub struct WantsRoom;
+
+impl Transport for WantsRoom {
+    ghost use Rattle.std.specs.Prelude.{IsErr};
+    ghost use Rattle.std.proofs.Common.{rules};
+
+    ghost sends = { λ before offer answer after. IsErr answer };
+
+    ghost receives = { λ before room answer after. IsErr answer };
+
+    fn send_msg(&mut self, _bytes: &[u8], _tokens: &[Token]) -> Result<usize, IoFault> {
+        Err(IoFault::WouldBlock)
+    }
+
+    fn rcv_msg(
+        &mut self,
+        _buffer: &mut [u8],
+        tokens: &mut VecDeque<Token>,
+    ) -> Result<usize, IoFault> {
+        if tokens.capacity() - tokens.len() < 28 {
+            Err(IoFault::InvalidInput)
+        } else {
+            Err(IoFault::WouldBlock)
+        }
+    }
+
+    ghost within_offer = { λ before after offer n sent. Prim.search rules };
+
+    ghost within_room = { λ before after room came received. Prim.search rules };
+
+    ghost few_tokens = { λ before after room came received. Prim.search rules };
+}
+
+impl Record for WantsRoom {
+    fn sends(&self) -> &[(Vec<u8>, Vec<Token>)] {
+        &[]
+    }
+
+    fn take_sends(&mut self, alloc: Global) -> Vec<(Vec<u8>, Vec<Token>)> {
+        Vec::new(alloc)
+    }
+}
