@@ -32,3 +32,8 @@ pub mod ReaderLoops
 pub mod Lending
 pub mod Runs
 pub mod RunLaws
+pub mod Stretch
+pub mod SendingLaws
+pub mod ArrivalLaws
+pub mod RanLaws
+pub mod StretchLaws
