@@ -4,6 +4,7 @@ pub mod PlaceList
 pub mod StoreLaws
 pub mod Identity
 pub mod IdentityLaw
+pub mod EndsLaw
 pub mod Exchange
 pub mod Script
 pub mod ScriptLaws

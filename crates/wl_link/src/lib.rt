@@ -19,7 +19,7 @@ mod transport;
 
 pub use all_objects::AllObjects;
 pub use buffered_socket::{BufferedSocket, DEFAULT_MAX_BUFFER_SIZE, MAX_BYTES_OUT, MAX_FDS_OUT};
-pub use identity::each_id_names_its_own_object;
+pub use identity::{each_id_names_its_own_object, no_object_ends_twice};
 pub use laws::{
     cutting_does_not_matter, flush_loses_nothing, messages_come_back, one_outcome,
     read_takes_first_message, script_has_one_outcome, write_loses_nothing,
