@@ -119,6 +119,7 @@ argument_ids_both (arg.NewId id ∷ args) others = ap (λ ids. id ∷ ids) (argu
 argument_ids_both (arg.Array _ ∷ args) others = argument_ids_both args others
 argument_ids_both (arg.Fd _ ∷ args) others = argument_ids_both args others
 
+module _ {D : Type 0} where
   made_before : (run : List (List (Change D))) (step : List (Change D)) (id : Id) → IsMadeIn run id → IsMadeIn (run ++ step ∷ []) id
   made_before [] step id made = absurd made
   made_before (s ∷ run) step id made = elim made [ inl here ↦ inl here | inr later ↦ inr (made_before run step id later) ]
