@@ -16,7 +16,7 @@ use Rattle.wl_wire.specs.Table.{InterfaceRow, MessageRow}
 use Rattle.wl_link.specs.declared.object.Object.{Object}
 use Rattle.wl_link.specs.Exchange.{Queue}
 use Rattle.wl_link.specs.Identity.{Id, Objects, Change, Born, Gone, Wrote, Made, begun, named_in, names, StepLeads, RunLeads, IsMadeInStep, IsMadeIn}
-use Rattle.wl_link.specs.IdentityLaw.{identity_law, step_joins}
+use Rattle.wl_link.specs.IdentityLaw.{made_first, made_later, identity_law, step_joins}
 use Rattle.wl_link.specs.Link.{counted_answer, count_of}
 use Rattle.wl_link.specs.declared.memory.ArriveError.TheVariants as arrive
 use Rattle.wl_link.specs.Script.{Script, ScriptSends, ScriptReceives}
@@ -120,20 +120,6 @@ argument_ids_both (arg.Array _ ∷ args) others = argument_ids_both args others
 argument_ids_both (arg.Fd _ ∷ args) others = argument_ids_both args others
 
 module _ {D : Type 0} where
-  made_first : (changes others : List (Change D)) (id : Id) → IsMadeInStep changes id → IsMadeInStep (changes ++ others) id
-  made_first [] others id made = absurd made
-  made_first (Born n x ∷ changes) others id made = made_first changes others id made
-  made_first (Gone n ∷ changes) others id made = made_first changes others id made
-  made_first (Wrote n x ∷ changes) others id made = made_first changes others id made
-  made_first (Made other ∷ changes) others id made = elim made [ inl e ↦ inl e | inr later ↦ inr (made_first changes others id later) ]
-
-  made_later : (changes others : List (Change D)) (id : Id) → IsMadeInStep others id → IsMadeInStep (changes ++ others) id
-  made_later [] others id made = made
-  made_later (Born n x ∷ changes) others id made = made_later changes others id made
-  made_later (Gone n ∷ changes) others id made = made_later changes others id made
-  made_later (Wrote n x ∷ changes) others id made = made_later changes others id made
-  made_later (Made other ∷ changes) others id made = inr (made_later changes others id made)
-
   made_before : (run : List (List (Change D))) (step : List (Change D)) (id : Id) → IsMadeIn run id → IsMadeIn (run ++ step ∷ []) id
   made_before [] step id made = absurd made
   made_before (s ∷ run) step id made = elim made [ inl here ↦ inl here | inr later ↦ inr (made_before run step id later) ]

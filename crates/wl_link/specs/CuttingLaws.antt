@@ -45,8 +45,8 @@ module _ {T S : Type 0} (sends : T → Queue → Result ℕ IoFault → T → Ty
       inr (asks, was, none, is, ap (λ (x : Part T Core). part_as x more u) same ∙ ap (λ (w : S). part_as p more w) still)
 
 -- what came has a byte, so the receive did not fail
-pub counted : (came : Queue) → came.bytes ≢ [] → counted_answer (count_of (Ok came)) ≡ Ok tt
-counted came some =
+pub byte_came : (came : Queue) → came.bytes ≢ [] → counted_answer (count_of (Ok came)) ≡ Ok tt
+byte_came came some =
     ap (λ (b : Bool). let r : Result (Unit {0}) IoFault = cond b (Err fault.Pipe) (Ok tt) in r)
     (ne_eqb (length came.bytes) 0 (λ none. some (nil_from_length came.bytes none)))
 
@@ -54,7 +54,7 @@ module _ {S Core Event Finish : Type 0} (others' : S → Queue → Result ℕ Io
   serves_hearing : reader.reads_on p.core ≡ true → Handles others' reader p gave false after → ServesOne others' reader p finishes gave after finishes
   serves_hearing on hears = at_true (TakesNext others' reader p finishes gave after finishes) (reader.reads_on p.core) on (hears, refl)
 
-  serves_ending : (u : Finish) (es : List Sending) → reader.reads_on p.core ≡ false → Ends others' reader p u es gave false after → ServesOne others' reader p (u ∷ finishes) gave after finishes
+  pub serves_ending : (u : Finish) (es : List Sending) → reader.reads_on p.core ≡ false → Ends others' reader p u es gave false after → ServesOne others' reader p (u ∷ finishes) gave after finishes
   serves_ending u es off ends = at_false (Handles others' reader p gave false after × (finishes ≡ u ∷ finishes)) (reader.reads_on p.core) off (es, ends, refl)
 
 module _ {T S Core Event Finish : Type 0} (sends : T → Queue → Result ℕ IoFault → T → Type 0) (receives : T → ℕ → Result Queue IoFault → T → Type 0)
@@ -73,7 +73,7 @@ module _ {T S Core Event Finish : Type 0} (sends : T → Queue → Result ℕ Io
       inr (other_malformed looks p.link (link_as p.link more answers) more refl p.link malformed, ap (λ (l : LinkState T). link_as l more answers) same, is)
 
   module _ (blocks : (core : Core) → reader.faulted core fault.WouldBlock ≡ core) (after : Part T Core) (rest : Queue) (last : S) (finishes : List Finish) where
-    abbrev Comes : Part T Core → Queue → S → List (Given Event) → Type 0
+    abbrev pub Comes : Part T Core → Queue → S → List (Given Event) → Type 0
     Comes p came first gave = (n : ℕ) × Serves others' reader n (part_as p (joined came rest) first) finishes gave (part_as after rest last) finishes
 
     moved : (p : Part T Core) (link : LinkState T) (came came' : Queue) (t : S) → link ≡ with_incoming p.link link.transport (joined p.link.incoming came)
@@ -116,13 +116,13 @@ module _ {T S Core Event Finish : Type 0} (sends : T → Queue → Result ℕ Io
         = serves_hearing others' reader (part_as p q first) (part_as mid q parts.0) finishes put on heard' in
         (suc r.0, (put, more.gave, part_as mid q parts.0, finishes, one, ap (λ (o : Gives Event). o.gave) split, r.1))
 
-    comes : (left : ℕ) (p : Part T Core) (turns : List Turn) (out : Gives Event) (first : S) → AllFed turns → out.refused ≡ false → Chain others' first (sends_in turns) last
+    pub comes : (left : ℕ) (p : Part T Core) (turns : List Turn) (out : Gives Event) (first : S) → AllFed turns → out.refused ≡ false → Chain others' first (sends_in turns) last
         → Reads sends reader receives left p turns out after → Comes p (came_in turns) first out.gave
     comes left p [] out first fed ample chain (same, stops') =
         (zero, (stopped_nothing left p out stops', ap (λ (x : Part T Core). part_as x rest last) same ∙ ap (λ (t : S). part_as p rest t) chain, refl))
     comes left p (Received (Ok came) ∷ turns) out first (fed, others) ample chain (on, lacks, (n, is, (link, filled, h))) =
         let more = subst (λ (c : Result (Unit {0}) IoFault). MatchResult c (λ _. Reads sends reader receives n (with_link p link) turns out after)
-        (λ f. (turns ≡ []) × (out ≡ stops (Some f) (lacked_memory (Err f)) n) × (after ≡ record { core = reader.faulted p.core f; link = link }))) (counted came fed) h in
+        (λ f. (turns ≡ []) × (out ≡ stops (Some f) (lacked_memory (Err f)) n) × (after ≡ record { core = reader.faulted p.core f; link = link }))) (byte_came came fed) h in
         let r = comes n (with_link p link) turns out first others ample chain more in
         (r.0, subst (λ (x : Part S Core). Serves others' reader r.0 x finishes out.gave (part_as after rest last) finishes) (moved p link came (came_in turns) first filled.2) r.1)
     comes left p (Received (Err f) ∷ turns) out first (blocked, others) ample chain (on, lacks, (n, is, (link, filled, (none, ends, same)))) =

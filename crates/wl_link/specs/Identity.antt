@@ -2,7 +2,7 @@
 --
 -- Objects carry a serial, which `serial_of` reads. A session gives the serials out by one counter, so that an id,
 -- which has a number and a serial, never names an object that took the number of its own.
-use Rattle.std.specs.Prelude.{◌≡◌, ℕ, ◌+◌, ◌≤◌, ◌==◌, if◌then◌else◌, List, [], ◌∷◌, Option, None, Some, IsSome, Contains, ◌↔◌, ◌⊎◌}
+use Rattle.std.specs.Prelude.{◌≡◌, ◌≢◌, ℕ, ◌+◌, ◌≤◌, ◌==◌, if◌then◌else◌, Bool, true, false, List, [], ◌∷◌, ◌++◌, Option, None, Some, IsSome, AllPairs, Contains, ◌↔◌, ◌⊎◌}
 use Rattle.wl_link.specs.declared.object.Object.{Object}
 use Rattle.wl_link.specs.Store.{Store, empty_store, held, stored, removed, rewritten}
 
@@ -21,11 +21,13 @@ pub record Objects (D : Type 0) : Type 0 where
   pub store : Store D
   pub last_serial : ℕ
 
--- what a step does, in order: an object is put at a number, leaves its number, is written to, or an id is made of it
+-- What a step does, in order: an object is put at a number, leaves its number, is written to, ends, or an id is made of
+-- it. An object that ends was the program's, and is so no more: it leaves its number, or stays there as this.
 pub data Change (D : Type 0) : Type 0 where
   Born : (number : ℕ) (object : Object D) → Change D
   Gone : (number : ℕ) → Change D
   Wrote : (number : ℕ) (object : Object D) → Change D
+  Ended : (number : ℕ) (object : Object D) (left : Option (Object D)) → Change D
   Made : (id : Id) → Change D
 
 -- the birth of the object at each number, and the ids that were made, each with the birth of its object
@@ -47,6 +49,8 @@ births_in next births (Born n _ ∷ rest) =
     births_in (record next { place = next.place + 1 }) (record births { of_number = at_number births.of_number n (Some next) }) rest
 births_in next births (Gone n ∷ rest) = births_in next (record births { of_number = at_number births.of_number n None }) rest
 births_in next births (Wrote _ _ ∷ rest) = births_in next births rest
+births_in next births (Ended n _ None ∷ rest) = births_in next (record births { of_number = at_number births.of_number n None }) rest
+births_in next births (Ended n _ (Some _) ∷ rest) = births_in next births rest
 births_in next births (Made id ∷ rest) = births_in next (with_made births id (births.of_number id.number)) rest
 
 -- the births after the steps of a run, of which the next has this number
@@ -86,8 +90,8 @@ module _ {D : Type 0} (serial_of : D → ℕ) where
   abbrev pub names : Id → Store D → Option (Object D)
   names id store = if id.number == 0 then None else named_in id (held store id.number)
 
-  -- A new object takes a number that holds none, and the next serial; one that is written to keeps its serial; an
-  -- id is made of the object that it then names.
+  -- A new object takes a number that holds none, and the next serial; one that is written to, or stays where it ended,
+  -- keeps its serial; an id is made of the object that it then names.
   abbrev pub Changes : Objects D → Change D → Objects D → Type 0
   Changes before (Born n x) after =
       (held before.store n ≡ None) × (serial_of x.value ≡ before.last_serial + 1)
@@ -96,6 +100,9 @@ module _ {D : Type 0} (serial_of : D → ℕ) where
   Changes before (Wrote n x) after =
       ((y : Object D) × (held before.store n ≡ Some y) × (serial_of x.value ≡ serial_of y.value))
       × (after ≡ record before { store = rewritten before.store n x })
+  Changes before (Ended n x None) after = (held before.store n ≡ Some x) × (after ≡ record before { store = removed before.store n })
+  Changes before (Ended n x (Some y)) after =
+      (held before.store n ≡ Some x) × (serial_of y.value ≡ serial_of x.value) × (after ≡ record before { store = rewritten before.store n y })
   Changes before (Made id) after = IsSome (names id before.store) × (after ≡ before)
 
   -- the changes of a step, one after the other
@@ -136,3 +143,46 @@ module _ {D : Type 0} (serial_of : D → ℕ) where
   IdentityLaw =
       (display : Object D) → serial_of display.value ≡ 0 → (run : List (List (Change D))) (after : Objects D)
       → RunLeads (begun display) run after → HasIdentity run after
+
+-- ---- objects that end
+
+module _ {D : Type 0} (serial_of : D → ℕ) (counts : Object D → Bool) where
+  -- the number and the serial of the object, if it counts
+  abbrev pub counted_id : ℕ → Object D → List Id
+  counted_id n x = if counts x then (record { number = n; serial = serial_of x.value } ∷ []) else []
+
+  -- those of the objects that end in a step, and over the steps of a run, in order
+  abbrev pub ended_in : List (Change D) → List Id
+  ended_in [] = []
+  ended_in (Ended n x _ ∷ rest) = counted_id n x ++ ended_in rest
+  ended_in (_ ∷ rest) = ended_in rest
+
+  abbrev pub ended_over : List (List (Change D)) → List Id
+  ended_over [] = []
+  ended_over (step ∷ rest) = ended_in step ++ ended_over rest
+
+module _ {D : Type 0} (serial_of : D → ℕ) (is_over : D → Bool) where
+  -- An object ends that is not over, and is over where it stays; it is not written to so that it would be the program's
+  -- again.
+  abbrev pub Owns : Objects D → Change D → Type 0
+  Owns before (Ended n x None) = is_over x.value ≡ false
+  Owns before (Ended n x (Some y)) = (is_over x.value ≡ false) × (is_over y.value ≡ true)
+  Owns before (Wrote n x) = (y : Object D) → held before.store n ≡ Some y → is_over y.value ≡ true → is_over x.value ≡ true
+  Owns before _ = Unit {0}
+
+  -- the changes of a step, one after the other, each of which keeps to that
+  abbrev pub StepOwns : Objects D → List (Change D) → Objects D → Type 0
+  StepOwns before [] after = after ≡ before
+  StepOwns before (change ∷ rest) after =
+      (between : Objects D) × Changes serial_of before change between × Owns before change × StepOwns between rest after
+
+  -- and the steps of a run
+  abbrev pub RunOwns : Objects D → List (List (Change D)) → Objects D → Type 0
+  RunOwns before [] after = after ≡ before
+  RunOwns before (step ∷ rest) after = (between : Objects D) × StepOwns before step between × RunOwns between rest after
+
+  -- over every run of a session no number and serial ends twice, whichever objects count
+  abbrev pub EndsOnceLaw : (Object D → Bool) → Type 0
+  EndsOnceLaw counts =
+      (display : Object D) → serial_of display.value ≡ 0 → (run : List (List (Change D))) (after : Objects D)
+      → RunOwns (begun display) run after → AllPairs (λ a b. a ≢ b) (ended_over serial_of counts run)

@@ -6,7 +6,7 @@ use Rattle.std.proofs.lemmas.Bool.{eq-eqb, ne_eqb, eqb-true, cases_eq}
 use Rattle.wl_link.specs.declared.object.Object.{Object}
 use Rattle.wl_link.specs.Store.{Store, empty_store, held, stored, removed, rewritten}
 use Rattle.wl_link.specs.StoreLaws.{stored_here, stored_other, removed_here, removed_other, rewritten_here, rewritten_other, held_empty}
-use Rattle.wl_link.specs.Identity.{Id, Birth, Objects, Change, Born, Gone, Wrote, Made, Births, at_number, with_made, births_in, births_over, display_born, begun, named_in, names, StepLeads, RunLeads, IsMadeInStep, IsMadeIn, HasSerials, NamesOwn, IdentityLaw}
+use Rattle.wl_link.specs.Identity.{Id, Birth, Objects, Change, Born, Gone, Wrote, Ended, Made, Births, at_number, with_made, births_in, births_over, display_born, begun, named_in, names, StepLeads, RunLeads, IsMadeInStep, IsMadeIn, HasSerials, NamesOwn, IdentityLaw}
 
 -- ---- options
 
@@ -53,6 +53,25 @@ before_step {b} {next} before = record { order = inl (elim before.order [ inl h 
 contains_more : {A : Type 0} (xs : List A) (y x : A) → Contains (y ∷ xs) x → (y ≡ x) ⊎ Contains xs x
 contains_more xs y x (zero, lt, is) = inl is
 contains_more xs y x (suc k, lt, is) = inr (k, omega arith, is)
+
+-- ---- the ids that a step makes
+
+-- what is made in a part of a step is made in it
+pub made_first : {D : Type 0} (changes others : List (Change D)) (id : Id) → IsMadeInStep changes id → IsMadeInStep (changes ++ others) id
+made_first [] others id made = absurd made
+made_first (Born n x ∷ changes) others id made = made_first changes others id made
+made_first (Gone n ∷ changes) others id made = made_first changes others id made
+made_first (Wrote n x ∷ changes) others id made = made_first changes others id made
+made_first (Ended n x left ∷ changes) others id made = made_first changes others id made
+made_first (Made other ∷ changes) others id made = elim made [ inl e ↦ inl e | inr later ↦ inr (made_first changes others id later) ]
+
+pub made_later : {D : Type 0} (changes others : List (Change D)) (id : Id) → IsMadeInStep others id → IsMadeInStep (changes ++ others) id
+made_later [] others id made = made
+made_later (Born n x ∷ changes) others id made = made_later changes others id made
+made_later (Gone n ∷ changes) others id made = made_later changes others id made
+made_later (Wrote n x ∷ changes) others id made = made_later changes others id made
+made_later (Ended n x left ∷ changes) others id made = made_later changes others id made
+made_later (Made other ∷ changes) others id made = inr (made_later changes others id made)
 
 module _ {D : Type 0} (serial_of : D → ℕ) where
   -- what is known of an id that was made, with the birth of its object
@@ -408,6 +427,15 @@ module _ {D : Type 0} (serial_of : D → ℕ) where
       record { last = then.last; same = then.same; lasts = then.lasts; still = then.still; makes = then.makes }
   lasts_in next births s after (Wrote n x ∷ rest) lasts (between, ((y, was, serial), is), leads) =
       let now : Lasts next births between = subst (λ a. Lasts next births a) (sym is) (lasts_wrote next births s lasts n x y was serial) in
+      let then = lasts_in next births between after rest now leads in
+      record { last = then.last; same = then.same; lasts = then.lasts; still = then.still; makes = then.makes }
+  lasts_in next births s after (Ended n x None ∷ rest) lasts (between, (was, is), leads) =
+      let births' : Births = record births { of_number = at_number births.of_number n None } in
+      let now : Lasts next births' between = subst (λ a. Lasts next births' a) (sym is) (lasts_gone next births s lasts n) in
+      let then = lasts_in next births' between after rest now leads in
+      record { last = then.last; same = then.same; lasts = then.lasts; still = then.still; makes = then.makes }
+  lasts_in next births s after (Ended n x (Some y) ∷ rest) lasts (between, (was, serial, is), leads) =
+      let now : Lasts next births between = subst (λ a. Lasts next births a) (sym is) (lasts_wrote next births s lasts n y x was serial) in
       let then = lasts_in next births between after rest now leads in
       record { last = then.last; same = then.same; lasts = then.lasts; still = then.still; makes = then.makes }
   lasts_in next births s after (Made id ∷ rest) lasts (between, (named, is), leads) =

@@ -5,6 +5,7 @@ pub mod PlaceList
 pub mod StoreLaws
 pub mod Identity
 pub mod IdentityLaw
+pub mod EndsLaw
 pub mod Exchange
 pub mod Script
 pub mod ScriptLaws
@@ -33,3 +34,8 @@ pub mod ReaderLoops
 pub mod Lending
 pub mod Runs
 pub mod RunLaws
+pub mod Stretch
+pub mod SendingLaws
+pub mod ArrivalLaws
+pub mod RanLaws
+pub mod StretchLaws

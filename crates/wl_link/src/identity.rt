@@ -1,7 +1,8 @@
 //! What an id names, over every run.
 
-ghost use Rattle.std.specs.Prelude.{ℕ};
-ghost use Rattle.wl_link.specs.Identity.{IdentityLaw};
+ghost use Rattle.std.specs.Prelude.{ℕ, Bool};
+ghost use Rattle.wl_link.specs.Identity.{EndsOnceLaw, IdentityLaw};
+ghost use Rattle.wl_link.specs.declared.object.Object.{Object as Kept};
 
 /// The identity law of a session whose objects carry a serial, and in which one counter gives the serials out.
 ///
@@ -9,4 +10,11 @@ ghost use Rattle.wl_link.specs.Identity.{IdentityLaw};
 /// of an object names that object exactly while it is kept, and afterwards none. The call itself does nothing.
 pub fn each_id_names_its_own_object<Data>()
     ensures { (serial_of : Data → ℕ) → IdentityLaw serial_of }
+{}
+
+/// No object ends twice in a session whose objects carry a serial and whether they are over, and in which one counter
+/// gives the serials out: over every run of changes the objects that ended, or those of them that count, differ in number
+/// or serial. The call itself does nothing.
+pub fn no_object_ends_twice<Data>()
+    ensures { (serial_of : Data → ℕ) (is_over : Data → Bool) (counts : Kept Data → Bool) → EndsOnceLaw serial_of is_over counts }
 {}

@@ -20,7 +20,7 @@ mod transport;
 
 pub use all_objects::AllObjects;
 pub use buffered_socket::BufferedSocket;
-pub use identity::each_id_names_its_own_object;
+pub use identity::{each_id_names_its_own_object, no_object_ends_twice};
 pub use laws::{
     cutting_does_not_matter, flush_loses_nothing, messages_come_back, one_outcome,
     read_takes_first_message, script_has_one_outcome, write_loses_nothing,
@@ -31,7 +31,8 @@ pub use object::Object;
 pub use object_map::{InsertError, NewError, ObjectMap, SERVER_ID_LIMIT};
 pub use reader_laws::{
     a_reading_has_one_outcome, cutting_does_not_matter_to_a_reader,
-    readings_respect_what_verdicts_do, what_is_served_has_one_outcome,
+    cutting_does_not_matter_to_a_stretch, readings_respect_what_verdicts_do,
+    what_is_served_has_one_outcome,
 };
 pub use run_laws::runs_do_what_their_steps_do;
 pub use transport::{MAX_BYTES_OUT, MAX_FDS_OUT, Transport};

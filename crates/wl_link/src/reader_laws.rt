@@ -9,7 +9,9 @@ ghost use Rattle.wl_link.specs.OneLaws.{IsFunction, IsReceiveFunction};
 ghost use Rattle.wl_link.specs.Reader.{AllFed, Ends, Given, Gives, Part, Reader, Reads, Turn, came_in, sends_in};
 ghost use Rattle.wl_link.specs.ReaderLaws.{SameReading};
 ghost use Rattle.wl_link.specs.RespectLaws.{Respects, RespectsCores};
-ghost use Rattle.wl_link.specs.Served.{GoesOnAs, ServedFrom, Told};
+ghost use Rattle.wl_link.specs.Script.{Script};
+ghost use Rattle.wl_link.specs.Served.{GoesOnAs, ServedFrom, Told, part_as};
+ghost use Rattle.wl_link.specs.Stretch.{Act, EndsByPipe, IsServed, IsStretch, arrivals_of, arrived, ended, given_in, left_over, sending_side};
 
 use crate::transport::Transport;
 
@@ -74,4 +76,21 @@ pub fn what_is_served_has_one_outcome<S: Transport, Core, Event, Finish>()
     ensures told { (reader : Reader Core Event Finish) (before x y : Part (List (Result ℕ IoFault)) Core)
         (finishes : List Finish) (g h : List (Given Event)) → ServedFrom Told reader before finishes g x →
         ServedFrom Told reader before finishes h y → (g ≡ h) × (x ≡ y) }
+{}
+
+/// However bytes and tokens are cut over the transport by script, a stretch in which they arrive, are read, and what is
+/// open is ended gives what is served of all that arrived, with the data with which something was ended. So two
+/// stretches over which the same arrives and is ended give the same, and lead to the same.
+///
+/// Each arrival brought a byte or says that the transport would block, memory was not refused, and no receive found the
+/// storage full.
+pub fn cutting_does_not_matter_to_a_stretch<Core, Event, Finish>()
+    ensures served { (reader : Reader Core Event Finish) → EndsByPipe reader → (before after : Part Script Core)
+        (acts : List (Act Event Finish)) → IsStretch reader before acts after → IsServed reader before acts after }
+    ensures same { (reader : Reader Core Event Finish) → EndsByPipe reader → (before after other : Part Script Core)
+        (acts others : List (Act Event Finish)) → IsStretch reader before acts after → IsStretch reader before others other →
+        arrived acts ≡ arrived others → ended acts ≡ ended others →
+        (given_in acts ≡ given_in others)
+        × (part_as after (left_over (arrivals_of after)) (sending_side after.link.transport)
+        ≡ part_as other (left_over (arrivals_of other)) (sending_side other.link.transport)) }
 {}

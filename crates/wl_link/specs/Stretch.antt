@@ -1,0 +1,129 @@
+-- A stretch over the transport by script in which bytes arrive, and a reader reads and ends what is open.
+--
+-- What a session does in a run of its calls is a list of such acts, where its other calls change nothing.
+use Rattle.std.specs.Prelude.{◌≡◌, ◌⊎◌, ℕ, ◌-◌, false, List, [], ◌∷◌, ◌++◌, None, Some, Result, length}
+use Rattle.wl_wire.specs.declared.error.IoFault.{IoFault}
+use Rattle.wl_wire.specs.declared.error.IoFault.TheVariants as fault
+use Rattle.wl_link.specs.Exchange.{Queue, Sending, joined, nothing}
+use Rattle.wl_link.specs.Link.{with_transport}
+use Rattle.wl_link.specs.Reader.{Ends, Given, Gives, IsFed, Lacks, Part, Reader, Reads, Turn, came_by, with_link}
+use Rattle.wl_link.specs.Served.{Served, part_as}
+use Rattle.wl_link.specs.Script.{Script, ScriptReceives, ScriptSends}
+
+-- ---- what has not been received yet
+
+abbrev pub left_over : List (Result Queue IoFault) → Queue
+left_over [] = nothing
+left_over (r ∷ arrivals) = joined (came_by r) (left_over arrivals)
+
+-- each brings a byte, or says that the transport would block
+abbrev pub AllPieces : List (Result Queue IoFault) → Type 0
+AllPieces [] = Unit {0}
+AllPieces (r ∷ arrivals) = IsFed r × AllPieces arrivals
+
+-- the script apart from its arrivals, of which no send takes notice
+abbrev pub sending_side : Script → Script
+sending_side script = record { arrivals = []; answers = script.answers; sent = script.sent }
+
+-- ---- acts
+
+-- something arrives; a reading gives this; or what is open is ended with these data, which gives this
+pub data Act (Event Finish : Type 0) : Type 0 where
+  Arrived : Result Queue IoFault → Act Event Finish
+  HasRead : Gives Event → Act Event Finish
+  HasEnded : Finish → List (Given Event) → Act Event Finish
+
+module _ {Event Finish : Type 0} where
+  abbrev pub arrived_by : Act Event Finish → Queue
+  arrived_by (Arrived r) = came_by r
+  arrived_by _ = nothing
+
+  -- what arrived in all
+  abbrev pub arrived : List (Act Event Finish) → Queue
+  arrived [] = nothing
+  arrived (a ∷ acts) = joined (arrived_by a) (arrived acts)
+
+  abbrev pub ended_by : Act Event Finish → List Finish
+  ended_by (HasEnded u _) = u ∷ []
+  ended_by _ = []
+
+  -- the data with which something was ended
+  abbrev pub ended : List (Act Event Finish) → List Finish
+  ended [] = []
+  ended (a ∷ acts) = ended_by a ++ ended acts
+
+  abbrev pub given_by : Act Event Finish → List (Given Event)
+  given_by (Arrived _) = []
+  given_by (HasRead out) = out.gave
+  given_by (HasEnded _ gave) = gave
+
+  -- what was given in all
+  abbrev pub given_in : List (Act Event Finish) → List (Given Event)
+  given_in [] = []
+  given_in (a ∷ acts) = given_by a ++ given_in acts
+
+  -- a reading that ended because the transport would block
+  abbrev pub IsWaiting : Act Event Finish → Type 0
+  IsWaiting (HasRead out) = out.stopped ≡ Some fault.WouldBlock
+  IsWaiting _ = ⊥
+
+  -- the last act is one
+  abbrev pub EndsWaiting : List (Act Event Finish) → Type 0
+  EndsWaiting [] = ⊥
+  EndsWaiting (a ∷ []) = IsWaiting a
+  EndsWaiting (_ ∷ acts) = EndsWaiting acts
+
+module _ {Core : Type 0} where
+  abbrev pub arrivals_of : Part Script Core → List (Result Queue IoFault)
+  arrivals_of p = p.link.transport.arrivals
+
+  abbrev pub with_arrival : Part Script Core → Result Queue IoFault → Part Script Core
+  with_arrival p r = with_link p (with_transport p.link (record p.link.transport { arrivals = arrivals_of p ++ r ∷ [] }))
+
+  -- how much room is offered to a receive
+  abbrev pub room_of : {T : Type 0} → Part T Core → ℕ
+  room_of p = p.link.room - length p.link.incoming.bytes
+
+module _ {Core Event Finish : Type 0} (reader : Reader Core Event Finish) where
+  -- memory is not refused in it
+  abbrev pub Does : Part Script Core → Act Event Finish → Part Script Core → Type 0
+  Does before (Arrived r) after = IsFed r × (after ≡ with_arrival before r)
+  Does before (HasRead out) after =
+      (out.refused ≡ false) × ((left : ℕ) × (turns : List Turn) × Reads ScriptSends reader ScriptReceives left before turns out after)
+  Does before (HasEnded u gave) after =
+      (reader.reads_on before.core ≡ false) × ((es : List Sending) × Ends ScriptSends reader before u es gave false after)
+
+  -- the acts, one after another
+  abbrev pub DoesAll : Part Script Core → List (Act Event Finish) → Part Script Core → Type 0
+  DoesAll before [] after = after ≡ before
+  DoesAll before (a ∷ acts) after = (mid : Part Script Core) × Does before a mid × DoesAll mid acts after
+
+  -- No receive found the storage full: what is there is not what such a receive leaves of a part in which no whole message
+  -- waits.
+  abbrev pub NotFull : Part Script Core → Type 0
+  NotFull after =
+      (p : Part Script Core) → Lacks ScriptSends reader p → room_of p ≡ 0 → after.link.incoming ≡ p.link.incoming → after.link.room ≡ p.link.room
+      → after.core ≡ reader.faulted p.core fault.Pipe → ⊥
+
+  -- it reads on no more, and ends nothing
+  abbrev pub IsOver : Core → Type 0
+  IsOver core = (reader.reads_on core ≡ false) × ((u : Finish) → reader.takes core u ≡ None)
+
+  -- that the transport would block changes nothing, and the end of the stream is the end of the reader
+  pub record EndsByPipe : Type 0 where
+    pub blocks : (core : Core) → reader.faulted core fault.WouldBlock ≡ core
+    pub over : (core : Core) → IsOver (reader.faulted core fault.Pipe)
+
+  -- A stretch ends where the reader reads on no more, or with a reading that would block where no arrival is left.
+  pub record IsStretch (before : Part Script Core) (acts : List (Act Event Finish)) (after : Part Script Core) : Type 0 where
+    pub does : DoesAll before acts after
+    pub pieces : AllPieces (arrivals_of before)
+    pub ends : (reader.reads_on after.core ≡ false) ⊎ (EndsWaiting acts × (arrivals_of after ≡ []))
+    pub roomy : NotFull after
+
+  -- What it gave, and what it came to, is what is served of all that arrived, with the data with which something was
+  -- ended, over the script's answers to the sends.
+  abbrev pub IsServed : Part Script Core → List (Act Event Finish) → Part Script Core → Type 0
+  IsServed before acts after =
+      Served ScriptSends reader before (joined (left_over (arrivals_of before)) (arrived acts)) (sending_side before.link.transport) (ended acts) (given_in acts)
+      (part_as after (left_over (arrivals_of after)) (sending_side after.link.transport))
