@@ -10,7 +10,7 @@ use std::alloc::{AllocError, Global};
 ///
 /// The lowest level has a bit for each place, set where the place is free. Each level above has a bit for each word
 /// below, set where that word is not 0. The highest is one word.
-#[derive(Debug, Drop)]
+#[derive(Drop)]
 pub(crate) struct FreeTree {
     /// The words of each level, from the lowest up. A level of no words may stand above: the next one, with room.
     levels: Vec<Vec<u64>>,

@@ -50,6 +50,19 @@ pub enum NewError {
 
 /// The objects of a session, by number: 1 to 0xFEFFFFFF for those that the client makes, 0xFF000000 to 0xFFFFFFFF
 /// for those that the server makes.
+///
+/// A new object gets the least number of its range that holds none. That is looked up in a tree of words, in a time
+/// that does not grow with the objects but for one word more each time that they are 64 times as many. This was
+/// measured by a program of its own that puts objects at 1 to `live` and then goes through so many rounds of
+///
+/// ```text
+/// let _ = map.remove(live);
+/// map.client_insert_new(object)?;
+/// ```
+///
+/// The instructions that `valgrind --tool=callgrind` collects of the built program with 110,000 rounds, less those with
+/// 10,000, are those of 100,000 rounds: 117 a round with 10 objects, 176 with 100 and with 1000, 235 with 10,000 and
+/// with 100,000. By the clock a round took 14 ns with 10 objects and 22 ns with 100,000.
 #[derive(Drop)]
 pub struct ObjectMap<Data> {
     clients: Places<Data>,

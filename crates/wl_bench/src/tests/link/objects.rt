@@ -11,6 +11,8 @@ use wl_wire::{OutOfMemory, WL_CALLBACK_INTERFACE};
 enum Act {
     /// Puts a number at the number of an object.
     InsertAt(u32, u32),
+    /// Puts numbers at the numbers from 1 to this one.
+    Fill(u32),
     /// Puts a new object of the client.
     ClientNew(u32),
     /// Puts a new object of the server.
@@ -27,6 +29,8 @@ enum Act {
     Find(u32),
     /// Lends the object, in whose place the second number is written.
     With(u32, u32),
+    /// How many words the last search for a number read.
+    WordsRead,
     /// All objects.
     All,
 }
@@ -51,6 +55,18 @@ fn tell_inserted(
         Err(error) => writeln!(log, "insert at {number:x}: {error}"),
     };
     Ok(written?)
+}
+
+/// Puts an object at each number up to this one.
+fn insert_up_to(map: &mut ObjectMap<u32>, last: u32) -> Result<(), InsertError> {
+    for before in 0..last {
+        map.insert_at(before + 1, object(before))?;
+    }
+    Ok(())
+}
+
+fn fill(log: &mut String, map: &mut ObjectMap<u32>, last: u32) -> Result<(), Fail> {
+    tell_inserted(log, last, insert_up_to(map, last))
 }
 
 /// Tells the number that a new object was given, by which call.
@@ -128,6 +144,11 @@ fn with(log: &mut String, map: &mut ObjectMap<u32>, number: u32, value: u32) -> 
     tell_value(log, call, number, before)
 }
 
+/// Tells how many words the last search for a number read.
+fn words_read(log: &mut String, map: &ObjectMap<u32>) -> Result<(), Fail> {
+    Ok(writeln!(log, "words read: {}", map.words_read())?)
+}
+
 /// Tells the number and the value of an object.
 fn tell_object(log: &mut String, number: u32, object: &Object<u32>) -> Result<(), Fail> {
     Ok(write!(log, " {number:x}={}", object.value)?)
@@ -162,6 +183,8 @@ fn perform(log: &mut String, map: &mut ObjectMap<u32>, act: Act) -> Result<(), F
         Act::Remove(number) => remove(log, map, number),
         Act::Find(number) => find(log, map, number),
         Act::With(number, value) => with(log, map, number, value),
+        Act::Fill(last) => fill(log, map, last),
+        Act::WordsRead => words_read(log, map),
         Act::All => all(log, map),
     }
 }
@@ -246,5 +269,72 @@ fn an_insertion_after_reserve_takes_no_memory(rt: HostRuntime) -> Result<(), Fai
         &rt,
         map_log(rt.alloc(), &acts),
         "reserve and new: 1\nreserve and new: 2\n",
+    )
+}
+
+#[test]
+fn the_first_number_is_found_without_a_word(rt: HostRuntime) -> Result<(), Fail> {
+    let acts = [Act::WordsRead, Act::ClientNew(7), Act::WordsRead];
+    tells(
+        &rt,
+        map_log(rt.alloc(), &acts),
+        "words read: 0\nclient new: 1\nwords read: 0\n",
+    )
+}
+
+#[test]
+fn freed_numbers_are_found_from_the_least_by_two_words(rt: HostRuntime) -> Result<(), Fail> {
+    let acts = [
+        Act::Fill(200),
+        Act::Remove(131),
+        Act::Remove(70),
+        Act::Remove(3),
+        Act::ClientNew(7),
+        Act::WordsRead,
+        Act::NextClient,
+        Act::WordsRead,
+        Act::ClientNew(7),
+        Act::WordsRead,
+        Act::ClientNew(7),
+        Act::WordsRead,
+        Act::ClientNew(7),
+        Act::WordsRead,
+        Act::Remove(1),
+        Act::WordsRead,
+    ];
+    tells(
+        &rt,
+        map_log(rt.alloc(), &acts),
+        "insert at c8: done\nremove 83: 130\nremove 46: 69\nremove 3: 2\nclient new: 3\nwords read: 2\nnext client: 46\nwords read: 2\nclient new: 46\nwords read: 2\nclient new: 83\nwords read: 2\nclient new: c9\nwords read: 1\nremove 1: 0\nwords read: 1\n",
+    )
+}
+
+#[test]
+fn the_last_of_4096_numbers_is_found_by_two_words(rt: HostRuntime) -> Result<(), Fail> {
+    let acts = [
+        Act::Fill(4096),
+        Act::Remove(4096),
+        Act::ClientNew(7),
+        Act::WordsRead,
+    ];
+    tells(
+        &rt,
+        map_log(rt.alloc(), &acts),
+        "insert at 1000: done\nremove 1000: 4095\nclient new: 1000\nwords read: 2\n",
+    )
+}
+
+#[test]
+fn the_last_of_4097_numbers_is_found_by_three_words(rt: HostRuntime) -> Result<(), Fail> {
+    let acts = [
+        Act::Fill(4097),
+        Act::Remove(4097),
+        Act::ClientNew(7),
+        Act::WordsRead,
+    ];
+    tells(
+        &rt,
+        map_log(rt.alloc(), &acts),
+        "insert at 1001: done\nremove 1001: 4096\nclient new: 1001\nwords read: 3\n",
     )
 }
