@@ -155,3 +155,22 @@ fn storage_grows_for_a_request(rt: HostRuntime) -> Result<(), Fail> {
         "sent: 2, 1\nsent: 3, 2\nsent: 0, 0\nflushed\n4096 bytes, 1 descriptors\n964 bytes, 0 descriptors\nno error\n",
     )
 }
+
+/// The storage is full, and may not grow: what waits is sent first, and the request with its descriptor after it.
+#[test]
+fn request_behind_a_flush_for_room(rt: HostRuntime) -> Result<(), Fail> {
+    let acts = [
+        Act::Limit(0),
+        Act::Bound,
+        Act::Send(Request::Give(4036)),
+        Act::Send(Request::Give(1)),
+        Act::Flush,
+        Act::Look(Look::Lengths),
+        Act::Look(Look::LastError),
+    ];
+    tells(
+        &rt,
+        log_of(rt.alloc(), &acts),
+        "sent: 2, 1\nsent: 3, 2\nsent: 0, 0\nsent: 0, 0\nflushed\n4096 bytes, 1 descriptors\n20 bytes, 1 descriptors\nno error\n",
+    )
+}

@@ -27,6 +27,35 @@ fn storage_grows_without_a_limit(rt: HostRuntime) -> Result<(), Fail> {
 }
 
 #[test]
+fn storage_grows_for_a_message_with_a_descriptor(rt: HostRuntime) -> Result<(), Fail> {
+    let acts = [
+        Act::Write((42, 0), &[Arg::Ones(4088), Arg::Fd(7)]),
+        Act::Tell(Fact::Storage),
+        Act::Tell(Fact::Waiting),
+    ];
+    tells(
+        &rt,
+        run_log(rt.alloc(), &[], None, &acts),
+        "write: done\nstorage: 4096, 8192\nwaiting: 0, 0, 4100, 1\n0 sends recorded\n",
+    )
+}
+
+/// The storage is full, and may not grow: what waits is sent first.
+#[test]
+fn message_with_a_descriptor_waits_behind_a_flush(rt: HostRuntime) -> Result<(), Fail> {
+    let acts = [
+        WRITE_4096,
+        Act::Write((42, 1), &[Arg::Fd(7)]),
+        Act::Tell(Fact::Waiting),
+    ];
+    tells(
+        &rt,
+        run_log(rt.alloc(), &[], Some(4096), &acts),
+        "write: done\nwrite: done\nwaiting: 0, 0, 8, 1\n1 sends recorded\n",
+    )
+}
+
+#[test]
 fn message_of_the_limit_fits(rt: HostRuntime) -> Result<(), Fail> {
     let acts = [
         WRITE_4096,

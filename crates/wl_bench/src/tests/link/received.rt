@@ -110,3 +110,30 @@ fn receive_has_room_for_its_tokens(rt: HostRuntime) -> Result<(), Fail> {
         "receive: would block\n0 sends recorded\n",
     )
 }
+
+#[test]
+fn array_is_read(rt: HostRuntime) -> Result<(), Fail> {
+    let cues = [Cue::Arrive(&[42, 0, 0, 0, 3, 0, 16, 0, 3, 0, 0, 0, 1, 2, 3, 0], &[])];
+    let acts = [Act::Fill, Act::Read, Act::Tell(Fact::Waiting)];
+    tells(
+        &rt,
+        run_log(rt.alloc(), &cues, None, &acts),
+        "receive: done\nread: 42, 3: array 01 02 03\nwaiting: 0, 0, 0, 0\n0 sends recorded\n",
+    )
+}
+
+#[test]
+fn five_arguments_are_read(rt: HostRuntime) -> Result<(), Fail> {
+    let cues = [Cue::Arrive(
+        &[
+            42, 0, 0, 0, 4, 0, 28, 0, 1, 0, 0, 0, 2, 0, 0, 0, 3, 0, 0, 0, 4, 0, 0, 0, 5, 0, 0, 0,
+        ],
+        &[],
+    )];
+    let acts = [Act::Fill, Act::Read, Act::Tell(Fact::Waiting)];
+    tells(
+        &rt,
+        run_log(rt.alloc(), &cues, None, &acts),
+        "receive: done\nread: 42, 4: uint 1: uint 2: uint 3: uint 4: uint 5\nwaiting: 0, 0, 0, 0\n0 sends recorded\n",
+    )
+}

@@ -60,12 +60,26 @@ static TWO_FDS: [ArgumentType; 2] = [ArgumentType::Fd, ArgumentType::Fd];
 /// A number and a descriptor.
 static NUMBER_AND_FD: [ArgumentType; 2] = [ArgumentType::Uint, ArgumentType::Fd];
 
+/// Some bytes.
+static BYTES: [ArgumentType; 1] = [ArgumentType::Array];
+
+/// More numbers than the arguments that lie in a message itself.
+static FIVE_NUMBERS: [ArgumentType; 5] = [
+    ArgumentType::Uint,
+    ArgumentType::Uint,
+    ArgumentType::Uint,
+    ArgumentType::Uint,
+    ArgumentType::Uint,
+];
+
 /// The signatures of the messages that are read.
 fn signature(_sender: u32, opcode: u16) -> Option<&'static [ArgumentType]> {
     match opcode {
         0 => Some(&TRAINS),
         1 => Some(&TWO_FDS),
         2 => Some(&NUMBER_AND_FD),
+        3 => Some(&BYTES),
+        4 => Some(&FIVE_NUMBERS),
         _ => None,
     }
 }

@@ -25,15 +25,37 @@ fn has(message: &Message<u32, u32>, header: (u32, u16), args: &[Argument<u32, u3
     (message.sender_id, message.opcode) == header && message.args.as_slice() == args
 }
 
-/// Whether the descriptors of a message around a number are asked for from left to right.
-fn maps_from_left(alloc: Global) -> Result<bool, Fail> {
-    let mapped = counted(alloc, (42, 7), &[Arg::Fd(5), Arg::Int(1), Arg::Fd(6)])?;
-    let expected = [Argument::Fd(0), Argument::Int(1), Argument::Fd(1)];
-    Ok(has(&mapped, (42, 7), &expected))
+/// Whether these arguments become those.
+fn maps(alloc: Global, args: &[Arg], expected: &[Argument<u32, u32>]) -> Result<bool, Fail> {
+    let mapped = counted(alloc, (42, 7), args)?;
+    Ok(has(&mapped, (42, 7), expected))
 }
 
 #[test]
 fn descriptors_are_mapped_from_left_to_right(rt: HostRuntime) -> Result<(), Fail> {
-    assert!(rt; maps_from_left(rt.alloc())?);
+    let args = [Arg::Fd(5), Arg::Int(1), Arg::Fd(6)];
+    let expected = [Argument::Fd(0), Argument::Int(1), Argument::Fd(1)];
+    assert!(rt; maps(rt.alloc(), &args, &expected)?);
+    Ok(())
+}
+
+/// More arguments than lie in the message itself.
+#[test]
+fn descriptors_of_five_arguments_are_mapped(rt: HostRuntime) -> Result<(), Fail> {
+    let args = [
+        Arg::Fd(5),
+        Arg::Int(1),
+        Arg::Fd(6),
+        Arg::Uint(2),
+        Arg::Fd(7),
+    ];
+    let expected = [
+        Argument::Fd(0),
+        Argument::Int(1),
+        Argument::Fd(1),
+        Argument::Uint(2),
+        Argument::Fd(2),
+    ];
+    assert!(rt; maps(rt.alloc(), &args, &expected)?);
     Ok(())
 }

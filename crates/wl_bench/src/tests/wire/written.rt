@@ -201,6 +201,21 @@ fn tokens_are_read_beside_the_bytes(rt: HostRuntime) -> Result<(), Fail> {
     )
 }
 
+#[test]
+fn array_and_back(rt: HostRuntime) -> Result<(), Fail> {
+    tells(
+        &rt,
+        again_log(
+            rt.alloc(),
+            (42, 3),
+            &[Arg::Array(&[1, 2, 3])],
+            16,
+            &[ArgumentType::Array],
+        ),
+        "size 16\n42, 3: array 01 02 03; 0 bytes; the same; 0 tokens left",
+    )
+}
+
 /// What the writer answers for a buffer of so many bytes.
 fn write_answer(
     alloc: Global,
