@@ -38,3 +38,4 @@ pub mod SendingLaws
 pub mod ArrivalLaws
 pub mod RanLaws
 pub mod StretchLaws
+pub mod LogLaws
