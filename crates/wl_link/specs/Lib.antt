@@ -39,3 +39,5 @@ pub mod ArrivalLaws
 pub mod RanLaws
 pub mod StretchLaws
 pub mod LogLaws
+pub mod FoundLaws
+pub mod TotalLaws

@@ -16,6 +16,7 @@ ghost use Rattle.wl_link.specs.ReaderLaws.{SameReading};
 ghost use Rattle.wl_link.specs.RespectLaws.{Respects, RespectsCores};
 ghost use Rattle.wl_link.specs.Script.{Script};
 ghost use Rattle.wl_link.specs.Served.{GoesOnAs, ServedFrom, Told, part_as};
+ghost use Rattle.wl_link.specs.TotalLaws.{GoesOn, IsServedTo};
 ghost use Rattle.wl_link.specs.Stretch.{Act, EndsByPipe, IsServed, IsStretch, arrivals_of, arrived, ended, given_in, left_over, sending_side};
 ghost use Rattle.wl_link.specs.Sides.{spelled_all};
 
@@ -105,6 +106,15 @@ pub fn what_is_served_has_one_outcome<S: Transport, Core, Event, Finish>()
     ensures told { (reader : Reader Core Event Finish) (before x y : Part (List (Result ℕ IoFault)) Core)
         (finishes : List Finish) (g h : List (Given Event)) → ServedFrom Told reader before finishes g x →
         ServedFrom Told reader before finishes h y → (g ≡ h) × (x ≡ y) }
+{}
+
+/// Something is always served, where each verdict of the reader can be carried out and malformed bytes are the end of it.
+/// So it is of a reader that puts nothing over every transport.
+pub fn something_is_always_served<S: Transport, Core, Event, Finish>()
+    ensures transport { (reader : Reader Core Event Finish) → GoesOn S.sends reader → (before : Part S Core)
+        (finishes : List Finish) → IsServedTo S.sends reader before finishes }
+    ensures told { (reader : Reader Core Event Finish) → GoesOn Told reader → (before : Part (List (Result ℕ IoFault)) Core)
+        (finishes : List Finish) → IsServedTo Told reader before finishes }
 {}
 
 /// However bytes and tokens are cut over the transport by script, a stretch in which they arrive, are read, and what is
