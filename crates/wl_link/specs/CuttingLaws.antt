@@ -51,7 +51,7 @@ byte_came came some =
     (ne_eqb (length came.bytes) 0 (λ none. some (nil_from_length came.bytes none)))
 
 module _ {S Core Event Finish : Type 0} (others' : S → Queue → Result ℕ IoFault → S → Type 0) (reader : Reader Core Event Finish) (p after : Part S Core) (finishes : List Finish) (gave : List (Given Event)) where
-  serves_hearing : reader.reads_on p.core ≡ true → Handles others' reader p gave false after → ServesOne others' reader p finishes gave after finishes
+  pub serves_hearing : reader.reads_on p.core ≡ true → Handles others' reader p gave false after → ServesOne others' reader p finishes gave after finishes
   serves_hearing on hears = at_true (TakesNext others' reader p finishes gave after finishes) (reader.reads_on p.core) on (hears, refl)
 
   pub serves_ending : (u : Finish) (es : List Sending) → reader.reads_on p.core ≡ false → Ends others' reader p u es gave false after → ServesOne others' reader p (u ∷ finishes) gave after finishes

@@ -39,3 +39,6 @@ pub mod SendingLaws
 pub mod ArrivalLaws
 pub mod RanLaws
 pub mod StretchLaws
+pub mod LogLaws
+pub mod FoundLaws
+pub mod TotalLaws

@@ -53,6 +53,12 @@ pub data Given (Event : Type 0) : Type 0 where
   Queued : WireMessage → Given Event
   HandedOut : Event → Given Event
 
+-- the messages that were put
+abbrev pub queued_in : {Event : Type 0} → List (Given Event) → List WireMessage
+queued_in [] = []
+queued_in (Queued m ∷ gave) = m ∷ queued_in gave
+queued_in (HandedOut _ ∷ gave) = queued_in gave
+
 -- an entry of a reading: a receive, a message that was handled, or malformed bytes that were, with their sends
 pub data Turn : Type 0 where
   Received : Result Queue IoFault → Turn

@@ -30,7 +30,7 @@ kept_joined : (es : List Sending) (before added after : Queue) → NoZero es →
 kept_joined es before added after none kept =
     queue_is _ _ kept.bytes (ap (λ (ts : List Token). ts ++ after.tokens) (sym (gone-taken es none)) ∙ kept.tokens)
 
-spelled_all-append : (ms ns : List WireMessage) → spelled_all (ms ++ ns) ≡ joined (spelled_all ms) (spelled_all ns)
+pub spelled_all-append : (ms ns : List WireMessage) → spelled_all (ms ++ ns) ≡ joined (spelled_all ms) (spelled_all ns)
 spelled_all-append [] ns = refl
 spelled_all-append (m ∷ ms) ns = ap (λ (q : Queue). joined (spelled m) q) (spelled_all-append ms ns) ∙ sym (joined_assoc (spelled m) (spelled_all ms) (spelled_all ns))
 

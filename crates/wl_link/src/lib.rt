@@ -31,8 +31,8 @@ pub use object::Object;
 pub use object_map::{InsertError, NewError, ObjectMap, SERVER_ID_LIMIT};
 pub use reader_laws::{
     a_reading_has_one_outcome, cutting_does_not_matter_to_a_reader,
-    cutting_does_not_matter_to_a_stretch, readings_respect_what_verdicts_do,
-    what_is_served_has_one_outcome,
+    cutting_does_not_matter_to_a_stretch, nothing_that_is_put_is_lost, putting_has_one_outcome,
+    readings_respect_what_verdicts_do, something_is_always_served, what_is_served_has_one_outcome,
 };
 pub use run_laws::runs_do_what_their_steps_do;
 pub use transport::{MAX_BYTES_OUT, MAX_FDS_OUT, Transport};

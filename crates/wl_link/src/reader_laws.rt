@@ -1,19 +1,49 @@
 //! What follows from the definitions of a reader alone, whatever it makes of the messages that it reads. Each function
 //! has a law as its contract, and does nothing.
 
-ghost use Rattle.std.specs.Prelude.{◌≡◌, ◌∷◌, ℕ, Bool, false, IsTrue, List, Result};
+ghost use Rattle.std.specs.Prelude.{◌≡◌, ◌≢◌, ◌∷◌, ℕ, Bool, true, false, IsTrue, List, Result, Err};
 ghost use Rattle.wl_wire.specs.declared.error.IoFault.{IoFault};
 ghost use Rattle.wl_wire.specs.declared.error.IoFault.TheVariants as fault;
-ghost use Rattle.wl_link.specs.Exchange.{Sending, nothing};
+ghost use Rattle.wl_link.specs.Exchange.{Queue, Sending, nothing};
+ghost use Rattle.wl_wire.specs.Message.{WireMessage};
+ghost use Rattle.wl_link.specs.Kept.{Kept};
+ghost use Rattle.wl_link.specs.Link.{LinkState};
 ghost use Rattle.wl_link.specs.OneLaws.{IsFunction, IsReceiveFunction};
-ghost use Rattle.wl_link.specs.Reader.{AllFed, Ends, Given, Gives, Part, Reader, Reads, Turn, came_in, sends_in};
+ghost use Rattle.wl_link.specs.Puts.{PutsOut};
+ghost use Rattle.wl_link.specs.PutsLaws.{SamePut};
+ghost use Rattle.wl_link.specs.Reader.{AllFed, Ends, Given, Gives, Part, Reader, Reads, Turn, came_in, queued_in, sends_in};
 ghost use Rattle.wl_link.specs.ReaderLaws.{SameReading};
 ghost use Rattle.wl_link.specs.RespectLaws.{Respects, RespectsCores};
 ghost use Rattle.wl_link.specs.Script.{Script};
 ghost use Rattle.wl_link.specs.Served.{GoesOnAs, ServedFrom, Told, part_as};
+ghost use Rattle.wl_link.specs.TotalLaws.{GoesOn, IsServedTo};
 ghost use Rattle.wl_link.specs.Stretch.{Act, EndsByPipe, IsServed, IsStretch, arrivals_of, arrived, ended, given_in, left_over, sending_side};
+ghost use Rattle.wl_link.specs.Sides.{spelled_all};
 
 use crate::transport::Transport;
+
+/// Messages are put up to the first that fails, and what is put is not lost: what the sends took and the tokens that are
+/// gone, followed by what waits, is what waited, followed by the spellings of the messages that were put. So it is of a
+/// reading and of the end of what is open.
+pub fn nothing_that_is_put_is_lost<T: Transport, Core, Event, Finish>()
+    ensures puts { (before after : LinkState T) (messages put : List WireMessage) (es : List Sending) (answer : _) →
+        PutsOut T.sends before messages es put answer after → Kept es before.outgoing (spelled_all put) after.outgoing }
+    ensures reading { (reader : Reader Core Event Finish) (left : ℕ) (before after : Part T Core) (turns : List Turn)
+        (out : Gives Event) → Reads T.sends reader T.receives left before turns out after →
+        Kept (sends_in turns) before.link.outgoing (spelled_all (queued_in out.gave)) after.link.outgoing }
+    ensures finish { (reader : Reader Core Event Finish) (before after : Part T Core) (u : Finish) (es : List Sending)
+        (gave : List (Given Event)) (refused : Bool) → Ends T.sends reader before u es gave refused after →
+        Kept es before.link.outgoing (spelled_all (queued_in gave)) after.link.outgoing }
+{}
+
+/// Where the answers of a transport to sends follow from its value, and memory is not refused, putting messages has one
+/// outcome.
+pub fn putting_has_one_outcome<T: Transport>()
+    ensures { IsFunction T.sends → (messages : List WireMessage) (before x y : LinkState T) (es fs : List Sending)
+        (put others : List WireMessage) (a b : _) → a ≢ Err fault.OutOfMemory → b ≢ Err fault.OutOfMemory →
+        PutsOut T.sends before messages es put a x → PutsOut T.sends before messages fs others b y →
+        SamePut put others a b x y }
+{}
 
 /// Where the answers of a transport follow from its value, and memory is not refused, a reading has one outcome.
 pub fn a_reading_has_one_outcome<T: Transport, Core, Event, Finish>()
@@ -76,6 +106,15 @@ pub fn what_is_served_has_one_outcome<S: Transport, Core, Event, Finish>()
     ensures told { (reader : Reader Core Event Finish) (before x y : Part (List (Result ℕ IoFault)) Core)
         (finishes : List Finish) (g h : List (Given Event)) → ServedFrom Told reader before finishes g x →
         ServedFrom Told reader before finishes h y → (g ≡ h) × (x ≡ y) }
+{}
+
+/// Something is always served, where each verdict of the reader can be carried out and malformed bytes are the end of it.
+/// So it is of a reader that puts nothing over every transport.
+pub fn something_is_always_served<S: Transport, Core, Event, Finish>()
+    ensures transport { (reader : Reader Core Event Finish) → GoesOn S.sends reader → (before : Part S Core)
+        (finishes : List Finish) → IsServedTo S.sends reader before finishes }
+    ensures told { (reader : Reader Core Event Finish) → GoesOn Told reader → (before : Part (List (Result ℕ IoFault)) Core)
+        (finishes : List Finish) → IsServedTo Told reader before finishes }
 {}
 
 /// However bytes and tokens are cut over the transport by script, a stretch in which they arrive, are read, and what is

@@ -1,0 +1,112 @@
+-- Something is always served: with the law of one outcome, exactly one outcome.
+use Rattle.std.proofs.Common.{◌≡◌, ℕ, zero, suc, ◌+◌, ◌<◌, Bool, true, false, List, [], ◌∷◌, ◌++◌, Option, None, Some, Result, Ok, refl, sym, ap, subst, arith, length}
+use mathlib.Core.Logic.{inl, inr}
+use Rattle.wl_wire.specs.declared.error.IoFault.{IoFault}
+use Rattle.wl_wire.specs.Message.{WireMessage}
+use Rattle.wl_link.specs.Exchange.{Queue, Sending}
+use Rattle.wl_link.specs.Link.{LinkState}
+use Rattle.wl_link.specs.Puts.{FlushesOut, PutsOut}
+use Rattle.wl_link.specs.Reader.{CarriesOut, Given, Lacks, Part, Reader, Verdict, put_and_gave}
+use Rattle.wl_link.specs.Served.{NoneFits, Rests, ServedFrom, ServesOne}
+use Rattle.wl_link.specs.Stretch.{IsOver}
+use Rattle.wl_link.specs.FoundLaws.{Fronts, front_of}
+use Rattle.wl_link.specs.CuttingLaws.{serves_ending, serves_hearing}
+use Rattle.wl_link.specs.Branches.{at_false, at_true}
+
+module _ {T Core Event Finish : Type 0} (sends : T → Queue → Result ℕ IoFault → T → Type 0) (reader : Reader Core Event Finish) where
+  -- a verdict can be carried out without a want of memory, and leaves what waits to be read
+  pub record Carried (v : Verdict Core Event) (link : LinkState T) : Type 0 where
+    pub sent : List Sending
+    pub gave : List (Given Event)
+    pub after : Part T Core
+    pub carried : CarriesOut sends reader v link sent gave false after
+    pub waits : after.link.incoming ≡ link.incoming
+
+  -- where nothing is put, over every transport
+  pub carried_at_once : (v : Verdict Core Event) (link : LinkState T) → v.puts ≡ [] → v.flushes ≡ false → Carried v link
+  carried_at_once v link none still = record {
+    sent = [];
+    gave = put_and_gave [] (v.events (v.last v.core));
+    after = record { core = v.last v.core; link = link };
+    carried = inl (
+      [],
+      [],
+      [],
+      Ok tt,
+      link,
+      false,
+      subst (λ (ms : List WireMessage). PutsOut sends link ms [] [] (Ok tt) link) (sym none) (refl, refl, refl, refl),
+      subst (λ (b : Bool). FlushesOut sends b link [] false link) (sym still) (refl, refl, refl),
+      refl,
+      refl,
+      refl,
+      refl,
+    );
+    waits = refl;
+  }
+
+  -- each verdict of the reader can be carried out, and malformed bytes, which stay, are the end of it
+  pub record GoesOn : Type 0 where
+    pub handles : (c : Core) (m : WireMessage) (link : LinkState T) → Carried (reader.handles c m) link
+    pub malformed : (c : Core) (link : LinkState T) → Carried (reader.malformed c) link
+    pub over : (c : Core) (link : LinkState T) → IsOver reader (malformed c link).after.core
+    pub takes : (c : Core) (u : Finish) (v : Verdict Core Event) (link : LinkState T) → reader.takes c u ≡ Some v → Carried v link
+
+  abbrev pub IsServedTo : Part T Core → List Finish → Type 0
+  IsServedTo p finishes = (gave : List (Given Event)) × (after : Part T Core) × ServedFrom sends reader p finishes gave after
+
+  resting : (p : Part T Core) (finishes : List Finish) → Rests sends reader p finishes → IsServedTo p finishes
+  resting p finishes rests = ([], p, record { count = zero; left = finishes; serves = (refl, refl, refl); rests = rests })
+
+  turn_more : (p mid : Part T Core) (finishes between : List Finish) (gave : List (Given Event)) → ServesOne sends reader p finishes gave mid between → IsServedTo mid between
+      → IsServedTo p finishes
+  turn_more p mid finishes between gave one (others, after, served) = (
+    gave ++ others,
+    after,
+    record { count = suc served.count; left = served.left; serves = (gave, others, mid, between, one, refl, served.serves); rests = served.rests },
+  )
+
+  none_fits : (p : Part T Core) (finishes : List Finish) → ((u : Finish) → reader.takes p.core u ≡ None) → NoneFits sends reader p.core finishes
+  none_fits p [] none = tt
+  none_fits p (u ∷ finishes) none = none u
+
+  resting_over : (p : Part T Core) (finishes : List Finish) → IsOver reader p.core → IsServedTo p finishes
+  resting_over p finishes over = resting p finishes (at_false (Lacks sends reader p) (reader.reads_on p.core) over.0 (none_fits p finishes over.1))
+
+  -- one turn, where what has fewer bytes and finishes is served
+  module _ (goes : GoesOn) (n : ℕ) (p : Part T Core) (finishes : List Finish) (less : length p.link.incoming.bytes + length finishes < suc n)
+      (on : (q : Part T Core) (fs : List Finish) → length q.link.incoming.bytes + length fs < n → IsServedTo q fs) where
+    by_finishes : (fs : List Finish) → finishes ≡ fs → reader.reads_on p.core ≡ false → IsServedTo p fs
+    by_finishes [] is off = resting p [] (at_false (Lacks sends reader p) (reader.reads_on p.core) off tt)
+    by_finishes (u ∷ fs) is off = go (reader.takes p.core u) refl
+      where
+        go : (o : Option (Verdict Core Event)) → reader.takes p.core u ≡ o → IsServedTo p (u ∷ fs)
+        go None none = resting p (u ∷ fs) (at_false (Lacks sends reader p) (reader.reads_on p.core) off none)
+        go (Some v) some =
+            let c = goes.takes p.core u v p.link some in
+            turn_more p c.after (u ∷ fs) fs c.gave (serves_ending sends reader p c.after fs c.gave u c.sent off (v, some, c.carried))
+            (on c.after fs (omega (arith, less, ap length is, ap (λ (q : Queue). length q.bytes) c.waits)))
+
+    by_front : reader.reads_on p.core ≡ true → Fronts (reader.signature p.core) p.link → IsServedTo p finishes
+    by_front reads (inl lacks) = resting p finishes (at_true (NoneFits sends reader p.core finishes) (reader.reads_on p.core) reads lacks)
+    by_front reads (inr (inl malformed)) =
+        let c = goes.malformed p.core p.link in
+        turn_more p c.after finishes finishes c.gave
+        (serves_hearing sends reader p c.after finishes c.gave reads (reader.malformed p.core, p.link, c.sent, inr (malformed, refl, refl), c.carried))
+        (resting_over c.after finishes (goes.over p.core p.link))
+    by_front reads (inr (inr (m, link, read, shorter))) =
+        let c = goes.handles p.core m link in
+        turn_more p c.after finishes finishes c.gave
+        (serves_hearing sends reader p c.after finishes c.gave reads (reader.handles p.core m, link, c.sent, inl (m, read, refl), c.carried))
+        (on c.after finishes (omega (arith, less, shorter, ap (λ (q : Queue). length q.bytes) c.waits)))
+
+    by_core : (b : Bool) → reader.reads_on p.core ≡ b → IsServedTo p finishes
+    by_core true reads = by_front reads (front_of (reader.signature p.core) p.link)
+    by_core false off = by_finishes finishes refl off
+
+  served_within : GoesOn → (n : ℕ) (p : Part T Core) (finishes : List Finish) → length p.link.incoming.bytes + length finishes < n → IsServedTo p finishes
+  served_within goes zero p finishes less = absurd (omega (arith, less))
+  served_within goes (suc n) p finishes less = by_core goes n p finishes less (λ q fs fewer. served_within goes n q fs fewer) (reader.reads_on p.core) refl
+
+  pub always_served : GoesOn → (p : Part T Core) (finishes : List Finish) → IsServedTo p finishes
+  always_served goes p finishes = served_within goes (length p.link.incoming.bytes + length finishes + 1) p finishes (omega arith)
