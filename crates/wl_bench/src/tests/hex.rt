@@ -5,6 +5,7 @@ use crate::hex::hex_line;
 use std::alloc::Global;
 use std::test::Fail;
 
+/// The line of these bytes.
 fn line(alloc: Global, bytes: &[u8]) -> Result<String, Fail> {
     Ok(hex_line(alloc, bytes)?)
 }

@@ -9,18 +9,27 @@ use wl_wire::{Argument, ArgumentType, ByteArray, CString, Message, Token};
 /// An argument as plain data.
 #[derive(Clone, Copy)]
 pub enum Arg {
+    /// A signed number.
     Int(i32),
+    /// An unsigned number.
     Uint(u32),
+    /// A signed number of 24.8 bits: the value times 256.
     Fixed(i32),
+    /// A string of these bytes.
     Str(&'static [u8]),
+    /// An object.
     Object(u32),
+    /// The object that the message creates.
     NewId(u32),
+    /// An array of these bytes.
     Array(&'static [u8]),
     /// An array of so many bytes, each 1.
     Ones(usize),
+    /// The descriptor of this token.
     Fd(i32),
 }
 
+/// A string of these bytes.
 fn string(alloc: Global, bytes: &[u8]) -> Result<Argument<u32, Token>, Fail> {
     let text = CString::new(Vec::from_slice(alloc, bytes)?)?;
     Ok(Argument::Str(Some(text)))
@@ -64,16 +73,19 @@ pub fn message(
     Ok(message)
 }
 
+/// Tells the bytes in hex.
 fn tell_hex(log: &mut String, bytes: &[u8]) -> Result<(), Fail> {
     let line = hex_line(*log.allocator(), bytes)?;
     Ok(write!(log, "{line}")?)
 }
 
+/// Tells the bytes of a string as text.
 fn tell_text(log: &mut String, text: &CString) -> Result<(), Fail> {
     let text = text.to_string_lossy(*log.allocator())?;
     Ok(write!(log, "{}", text.as_str())?)
 }
 
+/// Tells a string, or that it is null.
 fn tell_string(log: &mut String, text: Option<&CString>) -> Result<(), Fail> {
     match text {
         Some(text) => tell_text(log, text),
@@ -95,10 +107,12 @@ fn type_name(kind: ArgumentType) -> &'static str {
     }
 }
 
+/// Tells a number.
 fn tell_number(log: &mut String, value: i64) -> Result<(), Fail> {
     Ok(write!(log, "{value}")?)
 }
 
+/// Tells the value of an argument.
 fn tell_value(log: &mut String, arg: &Argument<u32, Token>) -> Result<(), Fail> {
     match arg {
         Argument::Int(value) | Argument::Fixed(value) => tell_number(log, i64::from(*value)),

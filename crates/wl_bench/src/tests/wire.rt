@@ -44,6 +44,7 @@ fn queue(alloc: Global, tokens: &[Token]) -> Result<VecDeque<Token>, Fail> {
 /// What a parse answers: a message and what follows it, or why there is none.
 type Parsed<'a> = Result<(Message<u32, Token>, &'a [u8]), MessageParseError>;
 
+/// Tells the message, and how many bytes follow it.
 fn tell_followed(log: &mut String, message: &Message<u32, Token>, rest: &[u8]) -> Result<(), Fail> {
     tell_message(log, message)?;
     Ok(write!(log, "; {} bytes", rest.len())?)

@@ -19,9 +19,13 @@ enum Act {
     ServerNew(u32),
     /// Makes room, and puts a new object of the client.
     ReserveAndNew(u32),
+    /// Makes room for the next insertion.
     Reserve,
+    /// Asks for the number of the next new object of the client.
     NextClient,
+    /// Takes the object of this number out.
     Remove(u32),
+    /// Looks for the object of this number.
     Find(u32),
     /// Lends the object, in whose place the second number is written.
     With(u32, u32),
@@ -31,6 +35,7 @@ enum Act {
     All,
 }
 
+/// An object that is this number.
 fn object(value: u32) -> Object<u32> {
     Object {
         interface: WL_CALLBACK_INTERFACE,
@@ -39,6 +44,7 @@ fn object(value: u32) -> Object<u32> {
     }
 }
 
+/// Tells the answer to an insertion at a number.
 fn tell_inserted(
     log: &mut String,
     number: u32,
@@ -59,6 +65,7 @@ fn insert_up_to(map: &mut ObjectMap<u32>, last: u32) -> Result<(), InsertError> 
     Ok(())
 }
 
+/// Tells how the last of these insertions went, or the first that was refused.
 fn fill(log: &mut String, map: &mut ObjectMap<u32>, last: u32) -> Result<(), Fail> {
     tell_inserted(log, last, insert_up_to(map, last))
 }
@@ -91,26 +98,31 @@ fn insert_reserved(map: &mut ObjectMap<u32>, value: u32) -> Result<Option<u32>, 
     }
 }
 
+/// Tells the number that `insert_reserved` answers.
 fn reserve_and_new(log: &mut String, map: &mut ObjectMap<u32>, value: u32) -> Result<(), Fail> {
     let new = insert_reserved(map, value)?;
     tell_new(log, "reserve and new", new.ok_or(NewError::IdsExhausted))
 }
 
+/// Makes room.
 fn reserve(log: &mut String, map: &mut ObjectMap<u32>) -> Result<(), Fail> {
     map.reserve()?;
     Ok(writeln!(log, "reserve: done")?)
 }
 
+/// Tells the number of the next new object of the client.
 fn next_client(log: &mut String, map: &mut ObjectMap<u32>) -> Result<(), Fail> {
     let next = map.next_client();
     tell_new(log, "next client", next.ok_or(NewError::IdsExhausted))
 }
 
+/// Takes an object out, and tells its value.
 fn remove(log: &mut String, map: &mut ObjectMap<u32>, number: u32) -> Result<(), Fail> {
     let removed = map.remove(number).map(|object| object.value);
     tell_value(log, "remove", number, removed)
 }
 
+/// Tells the value of an object.
 fn find(log: &mut String, map: &ObjectMap<u32>, number: u32) -> Result<(), Fail> {
     let found = map.find(number).map(|object| object.value);
     tell_value(log, "find", number, found)
@@ -133,14 +145,17 @@ fn with(log: &mut String, map: &mut ObjectMap<u32>, number: u32, value: u32) -> 
     tell_value(log, call, number, before)
 }
 
+/// Tells how many words the last search read.
 fn words_read(log: &mut String, map: &ObjectMap<u32>) -> Result<(), Fail> {
     Ok(writeln!(log, "words read: {}", map.words_read())?)
 }
 
+/// Tells the number and the value of an object.
 fn tell_object(log: &mut String, number: u32, object: &Object<u32>) -> Result<(), Fail> {
     Ok(write!(log, " {number:x}={}", object.value)?)
 }
 
+/// Tells each object.
 fn tell_objects(log: &mut String, map: &ObjectMap<u32>) -> Result<(), Fail> {
     for (number, object) in map.all_objects() {
         tell_object(log, number, object)?;

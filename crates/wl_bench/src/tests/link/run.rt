@@ -48,12 +48,16 @@ pub enum Fact {
     SendSizes,
 }
 
+/// A string that may not be null.
 const STR: ArgumentType = ArgumentType::Str(AllowNull::No);
 
+/// A number and a string.
 static TRAINS: [ArgumentType; 2] = [ArgumentType::Int, STR];
 
+/// Two descriptors.
 static TWO_FDS: [ArgumentType; 2] = [ArgumentType::Fd, ArgumentType::Fd];
 
+/// A number and a descriptor.
 static NUMBER_AND_FD: [ArgumentType; 2] = [ArgumentType::Uint, ArgumentType::Fd];
 
 /// The signatures of the messages that are read.
@@ -75,6 +79,7 @@ fn tell_answer(log: &mut String, call: &str, answer: Result<(), IoFault>) -> Res
     Ok(written?)
 }
 
+/// Writes the message of these arguments.
 fn write<T: Transport>(
     log: &mut String,
     link: &mut BufferedSocket<T>,
@@ -94,6 +99,7 @@ fn descriptors(alloc: Global, count: usize) -> Result<Message<u32, Token>, Fail>
     Ok(message)
 }
 
+/// Writes a message of so many descriptors.
 fn write_descriptors<T: Transport>(
     log: &mut String,
     link: &mut BufferedSocket<T>,
@@ -103,10 +109,12 @@ fn write_descriptors<T: Transport>(
     tell_answer(log, "write", link.write_message(&message))
 }
 
+/// Sends what waits.
 fn flush<T: Transport>(log: &mut String, link: &mut BufferedSocket<T>) -> Result<(), Fail> {
     tell_answer(log, "flush", link.flush())
 }
 
+/// Receives once.
 fn fill<T: Transport>(log: &mut String, link: &mut BufferedSocket<T>) -> Result<(), Fail> {
     tell_answer(log, "receive", link.fill_incoming_buffers())
 }
@@ -124,11 +132,13 @@ fn tell_read(
     Ok(writeln!(log, "")?)
 }
 
+/// Reads under the signatures of `signature`.
 fn read<T>(log: &mut String, link: &mut BufferedSocket<T>) -> Result<(), Fail> {
     let read = link.read_one_message(|sender, opcode| signature(sender, opcode));
     tell_read(log, &read)
 }
 
+/// Reads where no message has a signature.
 fn read_unknown<T>(log: &mut String, link: &mut BufferedSocket<T>) -> Result<(), Fail> {
     let read = link.read_one_message(|_, _| None);
     tell_read(log, &read)
@@ -158,6 +168,7 @@ fn fill_and_read<T: Transport>(
     tell_whole(log, number, &read)
 }
 
+/// Receives and reads so many times.
 fn fill_and_read_each<T: Transport>(
     log: &mut String,
     link: &mut BufferedSocket<T>,
@@ -169,6 +180,7 @@ fn fill_and_read_each<T: Transport>(
     Ok(())
 }
 
+/// Tells what waits on both sides.
 fn waiting<T>(log: &mut String, link: &BufferedSocket<T>) -> Result<(), Fail> {
     let [bytes_in, tokens_in, bytes_out, tokens_out] = link.waiting();
     writeln!(
@@ -178,12 +190,14 @@ fn waiting<T>(log: &mut String, link: &BufferedSocket<T>) -> Result<(), Fail> {
     Ok(())
 }
 
+/// Tells the sizes of both storages.
 fn storage<T>(log: &mut String, link: &BufferedSocket<T>) -> Result<(), Fail> {
     let [incoming, outgoing] = link.storage();
     writeln!(log, "storage: {incoming}, {outgoing}")?;
     Ok(())
 }
 
+/// Tells the limit of the outgoing storage.
 fn limit<T>(log: &mut String, link: &BufferedSocket<T>) -> Result<(), Fail> {
     let written = match link.max_buffer_size() {
         Some(limit) => writeln!(log, "limit: {limit}"),
@@ -202,6 +216,7 @@ fn tell_sends(log: &mut String, sends: &[(Vec<u8>, Vec<Token>)]) -> Result<(), F
     Ok(())
 }
 
+/// Tells how many bytes and tokens a send took.
 fn tell_size(log: &mut String, bytes: usize, tokens: usize) -> Result<(), Fail> {
     Ok(write!(log, " {bytes} + {tokens}")?)
 }
@@ -226,6 +241,7 @@ fn tell<T: Record>(log: &mut String, link: &BufferedSocket<T>, fact: Fact) -> Re
     }
 }
 
+/// Takes the record of the sends, and tells it.
 fn take_sent<T: Record>(log: &mut String, link: &mut BufferedSocket<T>) -> Result<(), Fail> {
     let sends = link.transport_mut().take_sends(*log.allocator());
     tell_sends(log, &sends)

@@ -29,6 +29,7 @@ pub enum Cue {
     ArrivalsLeft,
 }
 
+/// Tells why a chunk was refused.
 fn tell_refused(log: &mut String, arrived: Result<(), ArriveError>) -> Result<(), Fail> {
     match arrived {
         Ok(()) => Ok(()),
@@ -36,6 +37,7 @@ fn tell_refused(log: &mut String, arrived: Result<(), ArriveError>) -> Result<()
     }
 }
 
+/// Puts a chunk behind the arrivals.
 fn arrive(
     log: &mut String,
     memory: &mut Memory,
@@ -47,12 +49,14 @@ fn arrive(
     tell_refused(log, memory.arrive(bytes, tokens))
 }
 
+/// Puts a chunk of no bytes and so many tokens behind the arrivals.
 fn arrive_tokens(log: &mut String, memory: &mut Memory, count: usize) -> Result<(), Fail> {
     let alloc = *log.allocator();
     let tokens = Vec::from_elem(alloc, Token(1), count)?;
     tell_refused(log, memory.arrive(Vec::new(alloc), tokens))
 }
 
+/// Puts a chunk for each byte behind the arrivals, of which the first has all tokens.
 fn arrive_singly(
     log: &mut String,
     memory: &mut Memory,
@@ -67,6 +71,7 @@ fn arrive_singly(
     Ok(())
 }
 
+/// Tells a receive of so many bytes.
 fn tell_count(log: &mut String, count: usize, buffer: &[u8], tokens: &[Token]) -> Result<(), Fail> {
     write!(log, "received {count} in ")?;
     tell_bytes(log, buffer, tokens)?;
@@ -86,6 +91,7 @@ fn tell_received(
     }
 }
 
+/// Receives into so many bytes.
 fn receive(log: &mut String, memory: &mut Memory, room: usize) -> Result<(), Fail> {
     let alloc = *log.allocator();
     let mut buffer = Vec::from_elem(alloc, 0, room)?;
@@ -94,6 +100,7 @@ fn receive(log: &mut String, memory: &mut Memory, room: usize) -> Result<(), Fai
     tell_received(log, received, &buffer, tokens.make_contiguous())
 }
 
+/// Tells how many arrivals are left.
 fn arrivals_left(log: &mut String, memory: &Memory) -> Result<(), Fail> {
     Ok(writeln!(log, "{} arrivals left", memory.arrivals_left())?)
 }

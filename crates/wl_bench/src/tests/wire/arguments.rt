@@ -11,6 +11,7 @@ fn kinds_are_the_same_whatever_they_say_of_null(rt: HostRuntime) {
     assert!(rt; !ArgumentType::Int.same_type(ArgumentType::Uint));
 }
 
+/// The type of the argument.
 fn type_of(arg: Argument<u32, Token>) -> ArgumentType {
     arg.get_type()
 }
@@ -25,6 +26,7 @@ fn arguments_have_kinds_that_allow_null(rt: HostRuntime) {
     );
 }
 
+/// Whether the argument is the signed number 0.
 fn is_zero(arg: Argument<u32, Token>) -> bool {
     arg == Argument::Int(0)
 }
@@ -34,6 +36,7 @@ fn blank_argument_is_the_number_zero(rt: HostRuntime) {
     assert!(rt; is_zero(Argument::default()));
 }
 
+/// Whether a null string and a descriptor fit the signature.
 fn fit(signature: &[ArgumentType]) -> bool {
     let text: Argument<u32, Token> = Argument::Str(None);
     check_for_signature(signature, &[text, Argument::Fd(Token(3))])

@@ -20,6 +20,7 @@ fn counted(alloc: Global, header: (u32, u16), args: &[Arg]) -> Result<Message<u3
     }
 }
 
+/// Whether the message has this sender and opcode and these arguments.
 fn has(message: &Message<u32, u32>, header: (u32, u16), args: &[Argument<u32, u32>]) -> bool {
     (message.sender_id, message.opcode) == header && message.args.as_slice() == args
 }

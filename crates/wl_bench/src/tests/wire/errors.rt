@@ -6,6 +6,7 @@ use std::alloc::{AllocError, Global};
 use std::test::Fail;
 use wl_wire::{IoFault, MessageParseError, MessageWriteError, ProtocolError, Text};
 
+/// The error 1 of a `quad`, of this message.
 fn protocol_error(alloc: Global, message: &str) -> Result<ProtocolError, AllocError> {
     Ok(ProtocolError {
         code: 1,
@@ -35,6 +36,7 @@ fn protocol_errors_end_in_their_message(rt: HostRuntime) -> Result<(), Fail> {
     )
 }
 
+/// Whether the errors of these two messages are equal.
 fn are_equal(alloc: Global, one: &str, other: &str) -> Result<bool, Fail> {
     let one = protocol_error(alloc, one)?;
     let other = protocol_error(alloc, other)?;

@@ -7,6 +7,7 @@ use std::collections::VecDeque;
 use std::test::Fail;
 use wl_wire::{Argument, ArgumentType, CString, Message, Token, parse_message, write_to_buffers};
 
+/// Puts the arguments of the bind into the message.
 fn push_arguments(bind: &mut Message<u32, Token>, name: CString) -> Result<(), Fail> {
     bind.args.push(Argument::Uint(18))?;
     bind.args.push(Argument::Str(Some(name)))?;

@@ -6,6 +6,7 @@ use std::alloc::Global;
 use std::test::Fail;
 use wl_wire::{ByteArray, CString, ZeroByte};
 
+/// The array of these bytes.
 fn array(alloc: Global, bytes: &[u8]) -> Result<ByteArray, Fail> {
     Ok(ByteArray::new(Vec::from_slice(alloc, bytes)?))
 }
@@ -22,6 +23,7 @@ fn vector_log(alloc: Global, bytes: &[u8]) -> Result<String, Fail> {
     Ok(hex_line(alloc, &bytes)?)
 }
 
+/// Whether the array of these bytes equals the one of none.
 fn is_empty_array(alloc: Global, bytes: &[u8]) -> Result<bool, Fail> {
     let array = array(alloc, bytes)?;
     Ok(array == ByteArray::new(Vec::new(alloc)))
@@ -39,6 +41,7 @@ fn arrays_of_other_bytes_differ(rt: HostRuntime) -> Result<(), Fail> {
     Ok(())
 }
 
+/// The string of these bytes, if they are one.
 fn string(alloc: Global, bytes: &[u8]) -> Result<Result<CString, ZeroByte>, Fail> {
     Ok(CString::new(Vec::from_slice(alloc, bytes)?))
 }
@@ -49,10 +52,12 @@ fn string_log(alloc: Global, bytes: &[u8]) -> Result<String, Fail> {
     Ok(hex_line(alloc, text.as_bytes())?)
 }
 
+/// Whether these bytes are refused as a string.
 fn is_refused(alloc: Global, bytes: &[u8]) -> Result<bool, Fail> {
     Ok(string(alloc, bytes)? == Err(ZeroByte))
 }
 
+/// Whether the string of these bytes equals the one of none.
 fn is_empty_string(alloc: Global, bytes: &[u8]) -> Result<bool, Fail> {
     Ok(string(alloc, bytes)? == CString::new(Vec::new(alloc)))
 }

@@ -127,6 +127,7 @@ fn tell_table(log: &mut String, table: &Protocol) -> Result<(), Fail> {
     Ok(())
 }
 
+/// What `tell_table` tells of that table.
 fn table_log(alloc: Global) -> Result<String, Fail> {
     let mut log = String::new(alloc);
     tell_table(&mut log, &quad_table(alloc)?)?;
@@ -142,8 +143,10 @@ fn fixed_interfaces_come_first(rt: HostRuntime) -> Result<(), Fail> {
     )
 }
 
+/// A request with two objects of `quad`.
 static LINKS: [Row; 1] = [Row("link", &[OBJECT, OBJECT], None, &[QUAD, QUAD])];
 
+/// An event without arguments.
 static GONE: [Row; 1] = [Row("gone", &[], None, &[])];
 
 /// An interface that any list may have at its front.
@@ -160,10 +163,13 @@ fn names_are_taken_once(rt: HostRuntime) -> Result<(), Fail> {
     faults(&rt, alloc, &fixed, Some(TableError::DuplicateName(0)))
 }
 
+/// It has two new ids, and no child interface.
 static TWO_NEW_IDS: [Row; 1] = [Row("r", &[ArgumentType::NewId, ArgumentType::NewId], None, &[])];
 
+/// Its child interface is behind the only interface of the list.
 static CHILD_OUTSIDE: [Row; 1] = [Row("r", &[ArgumentType::NewId], Some(InterfaceId(5)), &[])];
 
+/// It has a new id without a child interface, and an object without an argument interface.
 static NO_CHILD: [Row; 1] = [Row("r", &[ArgumentType::NewId, OBJECT], None, &[])];
 
 #[test]
@@ -177,8 +183,10 @@ fn first_fault_is_answered(rt: HostRuntime) -> Result<(), Fail> {
     faults(&rt, alloc, &both, Some(TableError::MissingChild(0)))
 }
 
+/// Its child interface is the first interface of the list.
 static OWN_CHILD: [Row; 1] = [Row("r", &[ArgumentType::NewId], Some(InterfaceId(4)), &[])];
 
+/// It has a child interface and no new id.
 static CHILD_OF_NOTHING: [Row; 1] = [Row("r", &[], Some(InterfaceId(4)), &[])];
 
 #[test]
@@ -188,8 +196,10 @@ fn interface_may_be_its_own_child(rt: HostRuntime) -> Result<(), Fail> {
     faults(&rt, alloc, &[Plan("a", &CHILD_OF_NOTHING, &[])], None)
 }
 
+/// It has an object without an argument interface.
 static NO_OBJECT: [Row; 1] = [Row("e", &[OBJECT], None, &[])];
 
+/// Its name holds a zero byte.
 static ZERO: [Row; 1] = [Row("\0", &[], None, &[])];
 
 #[test]

@@ -39,6 +39,7 @@ fn tell_written(log: &mut String, message: &Message<u32, Token>, room: usize) ->
     tell_bytes(log, &bytes, &tokens)
 }
 
+/// Whether that message was read.
 fn is_parsed(parsed: &Parsed<'_>, message: &Message<u32, Token>) -> bool {
     match parsed {
         Ok((again, _)) => *again == *message,
