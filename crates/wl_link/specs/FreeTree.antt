@@ -78,6 +78,38 @@ abbrev pub with_first : Bool → List (List ℕ) → List (List ℕ)
 with_first on [] = []
 with_first on (words ∷ up) = (words ++ as_bit on ∷ []) ∷ up
 
+-- ---- what holds of the levels, whatever their flags are
+
+-- they are a tree of some flags
+abbrev pub IsSomeTree : List (List ℕ) → Type 0
+IsSomeTree levels = (flag : ℕ → Bool) × (count : ℕ) × (count < 4294967296) × IsTree flag count levels
+
+-- and this is the number of one of them
+abbrev pub HasFlag : ℕ → List (List ℕ) → Type 0
+HasFlag at levels = (flag : ℕ → Bool) × (count : ℕ) × (at < count) × IsTree flag count levels
+
+-- the answer is the least that is set
+abbrev pub IsLeastOf : List (List ℕ) → Option ℕ → Type 0
+IsLeastOf levels answer = (flag : ℕ → Bool) (count : ℕ) → IsTree flag count levels → FindsLeast flag count answer
+
+-- there are as many levels as it takes
+abbrev pub HasHeight : List (List ℕ) → Type 0
+HasHeight levels = (flag : ℕ → Bool) (count : ℕ) → IsTree flag count levels → IsHeight count (height levels)
+
+-- the flags are the same
+abbrev pub KeepsFlags : List (List ℕ) → List (List ℕ) → Type 0
+KeepsFlags before after = (flag : ℕ → Bool) (count : ℕ) → IsTree flag count before → IsTree flag count after
+
+-- one of them is changed
+abbrev pub ChangesFlag : ℕ → Bool → List (List ℕ) → List (List ℕ) → Type 0
+ChangesFlag at on before after =
+    (flag : ℕ → Bool) (count : ℕ) → at < count → IsTree flag count before → IsTree (changed flag at on) count after
+
+-- there is one more, which is not set
+abbrev pub AddsFlag : ℕ → List (List ℕ) → List (List ℕ) → Type 0
+AddsFlag count before after =
+    (flag : ℕ → Bool) → ((j : ℕ) → count ≤ j → flag j ≡ false) → IsTree flag count before → IsTree flag (count + 1) after
+
 -- ---- room
 
 -- whether a vector takes one item more without memory

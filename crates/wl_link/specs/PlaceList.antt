@@ -1,5 +1,5 @@
 -- The objects of a range of numbers as the code keeps them: a place for each number that was ever in use.
-use Rattle.std.specs.Prelude.{Vec, nat_lt, ◌≡◌, ℕ, ◌+◌, ◌<◌, ◌≤◌, Bool, true, false, not, ◌&&◌, nat_le, Result, Ok, Err, MatchOption, List, [], ◌∷◌, ◌++◌, length, Option, None, Some, is_some, slice_index_or, if◌then◌else◌, ◌==◌}
+use Rattle.std.specs.Prelude.{Vec, nat_lt, ◌≡◌, ℕ, ◌+◌, ◌<◌, ◌≤◌, ◌^◌, Bool, true, false, not, ◌&&◌, nat_le, Result, Ok, Err, MatchOption, List, [], ◌∷◌, ◌++◌, length, Option, None, Some, is_some, slice_index_or, if◌then◌else◌, ◌==◌}
 use Rattle.std.specs.FinMap as map
 use Rattle.wl_link.specs.declared.object.Object.{Object}
 use Rattle.wl_link.specs.declared.object_map.InsertError.{InsertError}
@@ -80,6 +80,10 @@ module _ {A : Type 0} where
     pub none : length places ≡ 0 → read ≡ 0
     pub full : 0 < length places → ((i : ℕ) → i < length places → is_some (place places i) ≡ true) → read ≡ 1
     pub some : (i : ℕ) → i < length places → place places i ≡ None → IsHeight (length places) read
+
+  -- no more words than so many levels have place for
+  abbrev pub ReadsFew : List (Option A) → ℕ → Type 0
+  ReadsFew places read = (most : ℕ) → 0 < most → length places ≤ 64 ^ most → read ≤ most
 
 -- whether one place more takes no memory
 abbrev pub has_place_room : {A Y Z X : Type 0} → Vec A Y → Vec (Vec ℕ Z) X → Bool

@@ -2,7 +2,7 @@
 
 ghost use Rattle.std.specs.Prelude.{◌≡◌, ◌≢◌, ◌+◌, ◌<◌, ◌≤◌, ℕ, Bool, true, false, [], ◌∷◌, ◌++◌, length, Vec, vec_len, OnErr, OnOk, IfOk};
 ghost use Rattle.std.specs.Int.{bit_at};
-ghost use Rattle.wl_link.specs.FreeTree.{word, as_bit, has_room, is_ready, lowest_bit, with_first, words_of, height, reads_of, changed, IsTree, FindsLeast, RoomMade, IsHeight};
+ghost use Rattle.wl_link.specs.FreeTree.{word, as_bit, has_room, is_ready, lowest_bit, with_first, words_of, height, reads_of, IsTree, IsSomeTree, HasFlag, HasHeight, IsLeastOf, KeepsFlags, ChangesFlag, AddsFlag, RoomMade};
 
 use std::alloc::{AllocError, Global};
 
@@ -29,20 +29,18 @@ impl FreeTree {
     /// The least free place. The words that are read for it are counted.
     pub(crate) fn least(&self, reads: &mut u32) -> Option<usize>
         requires few { reads.old + height (words_of self.now.levels.items) < 4294967296 }
-        requires tree { (flag : ℕ → Bool) × (count : ℕ) × (count < 4294967296) × IsTree flag count (words_of self.now.levels.items) }
-        ensures least { (flag : ℕ → Bool) (count : ℕ) → IsTree flag count (words_of self.now.levels.items) → FindsLeast flag count result }
+        requires tree { IsSomeTree (words_of self.now.levels.items) }
+        ensures least { IsLeastOf (words_of self.now.levels.items) result }
         ensures reads { reads.new ≡ reads.old + reads_of result (words_of self.now.levels.items) }
-        ensures height { (flag : ℕ → Bool) (count : ℕ) → IsTree flag count (words_of self.now.levels.items)
-            → IsHeight count (height (words_of self.now.levels.items)) }
+        ensures height { HasHeight (words_of self.now.levels.items) }
     {
         least(self.levels.as_slice(), reads)
     }
 
     /// Says of a place whether it is free.
     pub(crate) fn mark(&mut self, at: usize, is_free: bool)
-        requires tree { (flag : ℕ → Bool) × (count : ℕ) × (at < count) × IsTree flag count (words_of self.old.levels.items) }
-        ensures tree { (flag : ℕ → Bool) (count : ℕ) → at < count → IsTree flag count (words_of self.old.levels.items)
-            → IsTree (changed flag at is_free) count (words_of self.new.levels.items) }
+        requires tree { HasFlag at (words_of self.old.levels.items) }
+        ensures tree { ChangesFlag at is_free (words_of self.old.levels.items) (words_of self.new.levels.items) }
         ensures ready { is_ready self.new.levels.items ≡ is_ready self.old.levels.items }
     {
         mark(&mut self.levels, at, is_free);
@@ -52,16 +50,14 @@ impl FreeTree {
     pub(crate) fn push(&mut self, at: usize)
         requires tree { (flag : ℕ → Bool) × IsTree flag at (words_of self.old.levels.items) }
         requires ready { is_ready self.old.levels.items ≡ true }
-        ensures tree { (flag : ℕ → Bool) → ((j : ℕ) → at ≤ j → flag j ≡ false) → IsTree flag at (words_of self.old.levels.items)
-            → IsTree flag (at + 1) (words_of self.new.levels.items) }
+        ensures tree { AddsFlag at (words_of self.old.levels.items) (words_of self.new.levels.items) }
     {
         push(&mut self.levels, at);
     }
 
     /// Makes room, so that the next place can be added.
     pub(crate) fn reserve(&mut self) -> Result<(), AllocError>
-        ensures tree { (flag : ℕ → Bool) (count : ℕ) → IsTree flag count (words_of self.old.levels.items)
-            → IsTree flag count (words_of self.new.levels.items) }
+        ensures tree { KeepsFlags (words_of self.old.levels.items) (words_of self.new.levels.items) }
         ensures ok { OnOk result (is_ready self.new.levels.items ≡ true) }
         ensures err { OnErr result (is_ready self.old.levels.items ≡ false) }
         ensures kept { is_ready self.old.levels.items ≡ true → is_ready self.new.levels.items ≡ true }
@@ -101,8 +97,8 @@ fn lowest(words: &[u64], at: usize, reads: &mut u32) -> Option<usize>
 /// The number of the least bit that is set on the lowest level: the level above says in which word it stands.
 fn least(levels: &[Vec<u64>], reads: &mut u32) -> Option<usize>
     requires few { reads.old + height (words_of levels.now) < 4294967296 }
-    requires tree { (flag : ℕ → Bool) × (count : ℕ) × (count < 4294967296) × IsTree flag count (words_of levels.now) }
-    ensures least { (flag : ℕ → Bool) (count : ℕ) → IsTree flag count (words_of levels.now) → FindsLeast flag count result }
+    requires tree { IsSomeTree (words_of levels.now) }
+    ensures least { IsLeastOf (words_of levels.now) result }
     ensures reads { reads.new ≡ reads.old + reads_of result (words_of levels.now) }
 {
     let (words, above) = match levels.split_first() {
@@ -137,9 +133,8 @@ fn with_bit(word: u64, at: usize, is_set: bool) -> u64
 
 /// Sets or clears a bit of the lowest level, and on each level above the bit of the word that changed below.
 fn mark(levels: &mut [Vec<u64>], at: usize, is_set: bool)
-    requires tree { (flag : ℕ → Bool) × (count : ℕ) × (at < count) × IsTree flag count (words_of levels.old) }
-    ensures tree { (flag : ℕ → Bool) (count : ℕ) → at < count → IsTree flag count (words_of levels.old)
-        → IsTree (changed flag at is_set) count (words_of levels.new) }
+    requires tree { HasFlag at (words_of levels.old) }
+    ensures tree { ChangesFlag at is_set (words_of levels.old) (words_of levels.new) }
     ensures ready { is_ready levels.new ≡ is_ready levels.old }
     ensures len { length levels.new ≡ length levels.old }
 {
@@ -181,8 +176,7 @@ fn push_first(levels: &mut [Vec<u64>], is_set: bool)
 fn push(levels: &mut [Vec<u64>], count: usize)
     requires tree { (flag : ℕ → Bool) × IsTree flag count (words_of levels.old) }
     requires ready { is_ready levels.old ≡ true }
-    ensures tree { (flag : ℕ → Bool) → ((j : ℕ) → count ≤ j → flag j ≡ false) → IsTree flag count (words_of levels.old)
-        → IsTree flag (count + 1) (words_of levels.new) }
+    ensures tree { AddsFlag count (words_of levels.old) (words_of levels.new) }
     ensures len { length levels.new ≡ length levels.old }
 {
     if count % 64 != 0 {
@@ -219,8 +213,7 @@ fn reserve_levels(levels: &mut [Vec<u64>]) -> Result<bool, AllocError>
 
 /// Makes room for a word on each level, and for the first word of a level above them.
 fn reserve(levels: &mut Vec<Vec<u64>>, alloc: Global) -> Result<(), AllocError>
-    ensures tree { (flag : ℕ → Bool) (count : ℕ) → IsTree flag count (words_of levels.old.items)
-        → IsTree flag count (words_of levels.new.items) }
+    ensures tree { KeepsFlags (words_of levels.old.items) (words_of levels.new.items) }
     ensures ok { OnOk result (is_ready levels.new.items ≡ true) }
     ensures err { OnErr result (is_ready levels.old.items ≡ false) }
     ensures kept { is_ready levels.old.items ≡ true → is_ready levels.new.items ≡ true }

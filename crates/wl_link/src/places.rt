@@ -1,8 +1,8 @@
 //! The objects of one range of numbers, each at the place that its number has in the range.
 
-ghost use Rattle.std.specs.Prelude.{◌≡◌, ◌+◌, ◌<◌, ◌≤◌, ◌^◌, ℕ, [], length, true, false, None, Some, Err, OnOk, OnErr, IsSome, option_copied};
+ghost use Rattle.std.specs.Prelude.{◌≡◌, ◌+◌, ◌<◌, ◌≤◌, [], length, true, false, None, Some, Err, OnOk, OnErr, IsSome, option_copied};
 ghost use Rattle.std.specs.Fn.{FnOnceReturnsAtMut};
-ghost use Rattle.wl_link.specs.PlaceList.{place, put_len, has_place_room, Puts, PutsAt, PutsNew, LendsAt, IsFirstFree, ShowsFree, WordsReadIn, entries_from};
+ghost use Rattle.wl_link.specs.PlaceList.{place, put_len, has_place_room, Puts, PutsAt, PutsNew, LendsAt, IsFirstFree, ShowsFree, WordsReadIn, ReadsFew, entries_from};
 ghost use Rattle.wl_link.specs.declared.object_map.InsertError.TheVariants as insert;
 ghost use Rattle.wl_link.specs.declared.object_map.NewError.TheVariants as new;
 
@@ -49,7 +49,7 @@ impl<Data: Drop> Places<Data> {
         requires { ShowsFree self.now.slots.items self.now.free.levels.items }
         ensures first { IsFirstFree self.now.slots.items result }
         ensures words_read { WordsReadIn self.now.slots.items words_read.new }
-        ensures few_words { (most : ℕ) → 0 < most → length self.now.slots.items ≤ 64 ^ most → words_read.new ≤ most }
+        ensures few_words { ReadsFew self.now.slots.items words_read.new }
     {
         *words_read = 0;
         match self.free.least(words_read) {
@@ -134,7 +134,7 @@ impl<Data: Drop> Places<Data> {
         ensures kept { OnErr result (has_place_room self.old.slots self.old.free.levels ≡ true
             → has_place_room self.new.slots self.new.free.levels ≡ true) }
         ensures words_read { WordsReadIn self.old.slots.items words_read.new }
-        ensures few_words { (most : ℕ) → 0 < most → length self.old.slots.items ≤ 64 ^ most → words_read.new ≤ most }
+        ensures few_words { ReadsFew self.old.slots.items words_read.new }
     {
         let at = self.first_free(words_read);
         if at >= end {

@@ -65,6 +65,7 @@ fn insert_up_to(map: &mut ObjectMap<u32>, last: u32) -> Result<(), InsertError> 
     Ok(())
 }
 
+/// Tells how the last of these insertions went, or the first that was refused.
 fn fill(log: &mut String, map: &mut ObjectMap<u32>, last: u32) -> Result<(), Fail> {
     tell_inserted(log, last, insert_up_to(map, last))
 }
