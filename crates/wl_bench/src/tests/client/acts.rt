@@ -96,11 +96,13 @@ fn told(client: &Client, written: Result<(), AllocError>) -> Result<(), Fail> {
     }
 }
 
+/// Sets the limit of the storage of what waits to be sent.
 fn limit(client: &mut Client, bytes: usize) -> Result<(), Fail> {
     client.set_max_buffer_size(Some(bytes));
     told(client, Ok(()))
 }
 
+/// Sends the request, with these data and this wish for the object that it makes.
 fn send_with(
     alloc: Global,
     client: &mut Client,
@@ -114,6 +116,7 @@ fn send_with(
     told(client, written)
 }
 
+/// Sends the request.
 fn send(
     alloc: Global,
     client: &mut Client,
@@ -123,6 +126,7 @@ fn send(
     send_with(alloc, client, log, request, request.child())
 }
 
+/// Sends the request, and fails where there was memory for it.
 fn send_in_want(
     alloc: Global,
     client: &mut Client,
@@ -140,47 +144,55 @@ fn send_in_want(
     }
 }
 
+/// Sends the requests of the registry and of a `quad` of version 3.
 fn bound(alloc: Global, client: &mut Client, log: &mut String) -> Result<(), Fail> {
     send(alloc, client, log, Request::GetRegistry)?;
     send(alloc, client, log, Request::Bind)
 }
 
+/// Sends what waits.
 fn flush(client: &mut Client, log: &mut String) -> Result<(), Fail> {
     let answer = client.flush();
     let written = write_flushed(log, &answer);
     told(client, written)
 }
 
+/// Reads the next event.
 fn next(client: &mut Client, log: &mut String) -> Result<(), Fail> {
     let answer = client.next_event();
     let written = write_read(log, &answer);
     told(client, written)
 }
 
+/// Finishes the open event, with these data for the object that it made.
 fn finish(client: &mut Client, log: &mut String, data: Option<u32>) -> Result<(), Fail> {
     let answer = client.finish_event(data);
     let written = write_finished(log, &answer);
     told(client, written)
 }
 
+/// Gives the object these data.
 fn set_data(client: &mut Client, log: &mut String, object: Object, data: u32) -> Result<(), Fail> {
     let answer = client.set_data(&object.id(), data);
     let written = write_done(log, &answer);
     told(client, written)
 }
 
+/// Destroys the object.
 fn destroy(client: &mut Client, log: &mut String, object: Object) -> Result<(), Fail> {
     let answer = client.destroy_object(&object.id());
     let written = write_destroyed(log, &answer);
     told(client, written)
 }
 
+/// Takes the notes.
 fn notes(client: &mut Client, log: &mut String) -> Result<(), Fail> {
     let notes = client.take_notes();
     let written = write_notes(log, notes.as_slice());
     told(client, written)
 }
 
+/// Tells the version of the object.
 fn info(client: &Client, log: &mut String, object: Object) -> Result<(), Fail> {
     let written = match client.info(&object.id()) {
         Ok(info) => writeln!(log, "version {}", info.version),
@@ -189,6 +201,7 @@ fn info(client: &Client, log: &mut String, object: Object) -> Result<(), Fail> {
     told(client, written)
 }
 
+/// Tells the data of the object.
 fn data(client: &Client, log: &mut String, object: Object) -> Result<(), Fail> {
     let written = match client.get_data(&object.id()) {
         Ok(data) => writeln!(log, "data {data}"),
@@ -197,12 +210,14 @@ fn data(client: &Client, log: &mut String, object: Object) -> Result<(), Fail> {
     told(client, written)
 }
 
+/// Tells the text of the object's id.
 fn text(alloc: Global, client: &Client, log: &mut String, object: Object) -> Result<(), Fail> {
     let text = object.id().display(alloc, client.protocol())?;
     let written = writeln!(log, "{text}");
     told(client, written)
 }
 
+/// Tells the session's error.
 fn last_error(client: &Client, log: &mut String) -> Result<(), Fail> {
     let written = match client.last_error() {
         Some(error) => writeln!(log, "{error}"),
@@ -218,6 +233,7 @@ fn arrive(alloc: Global, client: &mut Client, bytes: &[u8], len: usize) -> Resul
     Ok(())
 }
 
+/// Puts the bytes with the descriptor behind what is to arrive.
 fn arrive_with(
     alloc: Global,
     client: &mut Client,
@@ -230,6 +246,7 @@ fn arrive_with(
     Ok(())
 }
 
+/// Puts the bytes and zeros behind them, of that length in all, behind what is to arrive, each by itself.
 fn arrive_bytewise(
     alloc: Global,
     client: &mut Client,
@@ -242,32 +259,38 @@ fn arrive_bytewise(
     Ok(())
 }
 
+/// Puts the fault behind what is to arrive.
 fn arrive_fault(client: &mut Client, fault: IoFault) -> Result<(), Fail> {
     client.transport_mut().arrive_fault(fault)?;
     Ok(())
 }
 
+/// Puts the fault behind the answers to sends.
 fn accept_fault(client: &mut Client, fault: IoFault) -> Result<(), Fail> {
     client.transport_mut().accept_fault(fault)?;
     Ok(())
 }
 
+/// Forgets what was sent.
 fn take_sent(client: &mut Client) -> Result<(), Fail> {
     client.transport_mut().take_sent();
     Ok(())
 }
 
+/// Tells how many arrivals the script has left.
 fn arrivals(client: &Client, log: &mut String) -> Result<(), Fail> {
     let left = client.transport().arrivals_left();
     let written = writeln!(log, "{left} arrivals");
     told(client, written)
 }
 
+/// Tells what was sent, a send a line.
 fn sent(client: &Client, log: &mut String) -> Result<(), Fail> {
     let written = write_taken(log, client.transport().sent());
     told(client, written)
 }
 
+/// Tells how many bytes and descriptors were sent, a send a line.
 fn lengths(client: &Client, log: &mut String) -> Result<(), Fail> {
     let written = write_lengths(log, client.transport().sent());
     told(client, written)

@@ -77,6 +77,7 @@ fn ids_in_a_set(rt: HostRuntime) -> Result<(), Fail> {
     )
 }
 
+/// The text.
 fn text(alloc: Global, text: &str) -> Result<Text, Fail> {
     Ok(Text::new(String::from_str(alloc, text)?))
 }
