@@ -1,4 +1,4 @@
-use Rattle.std.proofs.Common.{List, ℕ, IfOk, ap, subst, ◌∙◌}
+use Rattle.std.proofs.Common.{◌≡◌, List, ℕ, IfOk, ap, subst, ◌∙◌}
 use Rattle.wl_wire.specs.Table.{InterfaceRow, table_of, fixed_rows}
 use Rattle.wl_link.specs.Script.{Script}
 use Rattle.wl_client.specs.Session.{IsConnected}
