@@ -9,6 +9,7 @@ use Rattle.wl_link.specs.declared.memory.ArriveError.TheVariants as arrive
 use Rattle.wl_link.specs.declared.object.Object.{Object}
 use Rattle.wl_link.specs.Exchange.{Queue}
 use Rattle.wl_link.specs.Script.{Script, ScriptSends, ScriptReceives}
+use Rattle.wl_link.specs.Branches.{either_bool, either_option, either_result}
 use Rattle.wl_client.specs.declared.error.EventError.{EventError}
 use Rattle.wl_client.specs.declared.error.EventError.TheVariants as no_event
 use Rattle.wl_client.specs.declared.error.FlushError.{FlushError}
@@ -24,7 +25,6 @@ use Rattle.wl_client.specs.declared.step.Step.TheVariants as step
 use Rattle.wl_client.specs.ObjectId.{IdParts}
 use Rattle.wl_client.specs.Failed.{AnswersFailed, StaysFailed}
 use Rattle.wl_client.specs.Finish.{Closes, Finishes, SessionFlushed, after_destructor, with_data_for, with_dead}
-use Rattle.wl_client.specs.IdentityLaws.{either_bool, either_option, either_result}
 use Rattle.wl_client.specs.Objects.{DataSet, DestroyedBy, destroyable}
 use Rattle.wl_client.specs.Reading.{NextEvent, event_content}
 use Rattle.wl_client.specs.Requests.{Numbered, Requested, Sent, SentAs, SentWithChild, SessionMessage, Spec, Written, ended_by, error_after, lacked_memory, new_child, number_of_new, request_check, session_content, wire_message, with_born, with_ended}

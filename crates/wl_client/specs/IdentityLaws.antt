@@ -1,5 +1,5 @@
 -- The identity law of a session: the changes of each step, and so those of a run.
-use Rattle.std.proofs.Common.{◌≡◌, ◌≢◌, ◌⊎◌, ℕ, zero, suc, ◌+◌, Bool, true, false, not, ◌&&◌, cond, eqb, List, [], ◌∷◌, ◌++◌, Option, None, Some, is_some, IsSome, option_map, Result, Ok, Err, MatchOption, MatchResult, MatchBool, refl, sym, ap, subst, ◌∙◌, true≢false, not-suc-le-zero, le_of_suc-le-suc, append-nil}
+use Rattle.std.proofs.Common.{◌≡◌, ◌≢◌, ◌⊎◌, ℕ, zero, suc, ◌+◌, Bool, true, false, not, ◌&&◌, cond, eqb, List, [], ◌∷◌, ◌++◌, Option, None, Some, is_some, IsSome, option_map, Result, Ok, Err, refl, sym, ap, subst, ◌∙◌, true≢false, not-suc-le-zero, le_of_suc-le-suc, append-nil}
 use mathlib.Core.Logic.{inl, inr}
 use Rattle.std.specs.Prelude.{All}
 use Rattle.std.proofs.lemmas.Bool.{eq-eqb, ne_eqb, cases_eq}
@@ -23,6 +23,7 @@ use Rattle.wl_link.specs.Script.{Script, ScriptSends, ScriptReceives}
 use Rattle.wl_link.specs.Store.{Store, held, is_free, is_server_number, removed, rewritten, stored}
 use Rattle.wl_link.specs.StoreLaws.{stored_here, stored_other}
 use Rattle.wl_wire.specs.Asked.{fits, next_interface}
+use Rattle.wl_link.specs.Branches.{either_bool, either_option, either_result}
 use Rattle.wl_client.specs.declared.error.EventError.{EventError}
 use Rattle.wl_client.specs.declared.error.FlushError.{FlushError}
 use Rattle.wl_client.specs.declared.error.RequestError.{RequestError}
@@ -56,18 +57,6 @@ not_some (Some x) b e = absurd (true≢false (sym e))
 both : (a b : Bool) → (a && b) ≡ true → (a ≡ true) × (b ≡ true)
 both true b e = (refl, e)
 both false b e = absurd (true≢false (sym e))
-
-pub either_option : {A P : Type 0} {Q : A → Type 0} (o : Option A) → MatchOption o P Q → ((o ≡ None) × P) ⊎ ((x : A) × (o ≡ Some x) × Q x)
-either_option None p = inl (refl, p)
-either_option (Some x) q = inr (x, refl, q)
-
-pub either_result : {A E : Type 0} {P : A → Type 0} {Q : E → Type 0} (r : Result A E) → MatchResult r P Q → ((x : A) × P x) ⊎ ((e : E) × Q e)
-either_result (Ok x) p = inl (x, p)
-either_result (Err e) q = inr (e, q)
-
-pub either_bool : {P Q : Type 0} (b : Bool) → MatchBool b P Q → P ⊎ Q
-either_bool true p = inl p
-either_bool false q = inr q
 
 -- ---- ids of which something is known
 

@@ -27,6 +27,7 @@ use Rattle.wl_link.specs.Script.{Script, ScriptSends, ScriptReceives}
 use Rattle.wl_link.specs.Store.{Store, empty_store, held, removed, rewritten, stored}
 use Rattle.wl_link.specs.StoreLaws.{held_empty, removed_here, removed_other, rewritten_here, rewritten_other, stored_here, stored_other}
 use Rattle.wl_wire.specs.Asked.{next_interface}
+use Rattle.wl_link.specs.Branches.{either_bool, either_option, either_result}
 use Rattle.wl_client.specs.declared.error.EventError.{EventError}
 use Rattle.wl_client.specs.declared.error.FlushError.{FlushError}
 use Rattle.wl_client.specs.declared.error.RequestError.{RequestError}
@@ -45,7 +46,7 @@ use Rattle.wl_client.specs.ObjectId.{IdParts}
 use Rattle.wl_client.specs.Events.{Converting, Converted, Outcome, Whole, Wrong, after_delete, convert, convert_one, deleted, display_event, DisplayEvent, Fails, Deletes, Unreadable, going_on, is_destroyed, is_valid_new, made_object, object_argument, start, vacated, with_new_argument, with_new_at, with_object_argument}
 use Rattle.wl_client.specs.Finish.{Closes, Finishes, FlushEnds, SessionFlushed, after_destructor, data_given, with_data_for, with_dead}
 use Rattle.wl_client.specs.Handed.{note_ids}
-use Rattle.wl_client.specs.IdentityLaws.{destroyable_held, either_bool, either_option, either_result, named_held, none_some}
+use Rattle.wl_client.specs.IdentityLaws.{destroyable_held, named_held, none_some}
 use Rattle.wl_client.specs.Noted.{NotedOnce, notes_in, notes_of}
 use Rattle.wl_client.specs.Objects.{DataSet, DestroyedBy, destroyable}
 use Rattle.wl_client.specs.Reading.{Turn, Received, Handled, Ends, Faulted, Handles, HandlesConverted, HandlesDisplay, HandlesEvent, NextEvent, Reads, Stores, event_content, receives_allowed, row_of, with_link}

@@ -16,6 +16,7 @@ use Rattle.wl_link.specs.RunLaws.{run_one as each_run_one}
 use Rattle.wl_link.specs.Script.{Script, ScriptSends, ScriptReceives}
 use Rattle.wl_link.specs.ScriptLaws.{script_sends_function, script_receives_function}
 use Rattle.wl_link.specs.Store.{Range, Store, client_range, IsLeastAbsent, IsFull}
+use Rattle.wl_link.specs.Branches.{both_bool, both_option, both_result}
 use Rattle.wl_client.specs.declared.error.FinishRefused.{FinishRefused}
 use Rattle.wl_client.specs.declared.error.FlushError.{FlushError}
 use Rattle.wl_client.specs.declared.error.RequestError.{RequestError}
@@ -29,7 +30,7 @@ use Rattle.wl_client.specs.ObjectId.{IdParts}
 use Rattle.wl_client.specs.Finish.{Closes, Finishes, FlushEnds, SessionFlushed}
 use Rattle.wl_client.specs.Objects.{DataSet, DestroyedBy, destroyable}
 use Rattle.wl_client.specs.Reading.{event_content}
-use Rattle.wl_client.specs.ReadingLaws.{SameEnd, both_bool, both_option, both_result, next_event_one, same_end}
+use Rattle.wl_client.specs.ReadingLaws.{SameEnd, next_event_one, same_end}
 use Rattle.wl_client.specs.Replies.{SameReply, SameReplies}
 use Rattle.wl_client.specs.Requests.{Numbered, Requested, Sent, SentAs, SentWithChild, SessionMessage, Spec, Written, ended_by, error_after, id_of_new, lacked_memory, new_child, number_of_new, request_check, session_content, wire_message, with_born, with_ended}
 use Rattle.wl_client.specs.Session.{SessionState, last_possible_serial, named}

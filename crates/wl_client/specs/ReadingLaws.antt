@@ -2,7 +2,7 @@
 --
 -- At each value of the session either a message waits whole, or what waits lacks data or tokens, or it is malformed;
 -- so two readings make the same turns.
-use Rattle.std.proofs.Common.{◌≡◌, ◌≢◌, ◌⊎◌, ℕ, suc, Bool, true, false, eqb, List, [], ◌∷◌, Option, None, Some, Result, Ok, Err, is_ok, MatchOption, MatchResult, MatchBool, refl, sym, ap, subst, ◌∙◌, true≢false, arith}
+use Rattle.std.proofs.Common.{◌≡◌, ◌≢◌, ℕ, suc, false, eqb, List, [], ◌∷◌, Option, None, Some, Result, Ok, Err, is_ok, MatchResult, sym, ap, subst, ◌∙◌, true≢false, arith}
 use mathlib.Core.Logic.{inl, inr}
 use Rattle.wl_wire.specs.declared.error.IoFault.{IoFault}
 use Rattle.wl_wire.specs.declared.error.IoFault.TheVariants as fault
@@ -17,6 +17,7 @@ use Rattle.wl_link.specs.Link.{LinkState, counted_answer, count_of}
 use Rattle.wl_link.specs.OneLaws.{IsReceiveFunction, one_fill_lem}
 use Rattle.wl_link.specs.ReadLaws.{SameRead, one_read_lem}
 use Rattle.wl_link.specs.Store.{held}
+use Rattle.wl_link.specs.Branches.{both_bool, both_option, both_result}
 use Rattle.wl_client.specs.declared.error.EventError.{EventError}
 use Rattle.wl_client.specs.declared.kept.Kept.{Kept}
 use Rattle.wl_client.specs.Events.{Outcome, Whole, Wrong, DisplayEvent, Fails, Deletes, Unreadable, display_event}
@@ -25,20 +26,6 @@ use Rattle.wl_client.specs.Requests.{SessionMessage}
 use Rattle.wl_client.specs.Session.{SessionState, with_objects}
 
 -- ---- one look at what two outcomes share
-
-pub both_option : {A P P' : Type 0} {Q Q' : A → Type 0} (o : Option A) → MatchOption o P Q → MatchOption o P' Q'
-    → ((o ≡ None) × P × P') ⊎ ((x : A) × (o ≡ Some x) × Q x × Q' x)
-both_option None p p' = inl (refl, p, p')
-both_option (Some x) q q' = inr (x, refl, q, q')
-
-pub both_result : {A E : Type 0} {P P' : A → Type 0} {Q Q' : E → Type 0} (r : Result A E) → MatchResult r P Q → MatchResult r P' Q'
-    → ((x : A) × P x × P' x) ⊎ ((e : E) × Q e × Q' e)
-both_result (Ok x) p p' = inl (x, p, p')
-both_result (Err e) q q' = inr (e, q, q')
-
-pub both_bool : {P P' Q Q' : Type 0} (b : Bool) → MatchBool b P Q → MatchBool b P' Q' → (P × P') ⊎ (Q × Q')
-both_bool true p p' = inl (p, p')
-both_bool false q q' = inr (q, q')
 
 pub suc_same : (n m : ℕ) → suc n ≡ suc m → n ≡ m
 suc_same n m same = omega (arith, same)

@@ -12,7 +12,7 @@ use Rattle.wl_link.specs.Kept.{Kept, gone, gone_by, queued_by, taken, taken_by}
 use Rattle.wl_link.specs.Sides.{spelled_all}
 use Rattle.wl_link.specs.StreamLaws.{spelled_all-append}
 use Rattle.wl_link.specs.KeptLaws.{Within, flush_kept, write_kept}
-use Rattle.wl_link.specs.Puts.{FlushesOut, PutBy, PutsOut, lacked_memory}
+use Rattle.wl_link.specs.Puts.{FlushesOut, PutBy, PutsOut, Said, lacked_memory, messages_of}
 use Rattle.wl_link.specs.Reader.{CarriesOut, Given, Gives, Halts, HandedOut, Handled, Part, Queued, Reader, Reads, Received, Stops, Turn, Unread, Verdict, behind, came_to, put_and_gave, queued_in, sends_in, stops, with_link}
 use Rattle.wl_link.specs.Served.{Finds}
 use Rattle.wl_link.specs.LaterLaws.{other_reads}
@@ -53,16 +53,20 @@ kept_still es a c none same =
 
 queued-append : {Event : Type 0} (gave others : List (Given Event)) → queued_in (gave ++ others) ≡ queued_in gave ++ queued_in others
 queued-append [] others = refl
-queued-append (Queued m ∷ gave) others = ap (λ (ms : List WireMessage). m ∷ ms) (queued-append gave others)
+queued-append (Queued m ∷ gave) others = ap (λ (ms : List Said). m ∷ ms) (queued-append gave others)
 queued-append (HandedOut e ∷ gave) others = queued-append gave others
+
+messages-append : (said others : List Said) → messages_of (said ++ others) ≡ messages_of said ++ messages_of others
+messages-append [] others = refl
+messages-append (s ∷ said) others = ap (λ (ms : List WireMessage). s.message ∷ ms) (messages-append said others)
 
 queued_handed : {Event : Type 0} (events : List Event) → queued_in (map HandedOut events) ≡ []
 queued_handed [] = refl
 queued_handed (e ∷ events) = queued_handed events
 
-queued_put : {Event : Type 0} (put : List WireMessage) (events : List Event) → queued_in (put_and_gave put events) ≡ put
+queued_put : {Event : Type 0} (put : List Said) (events : List Event) → queued_in (put_and_gave put events) ≡ put
 queued_put [] events = queued_handed events
-queued_put (m ∷ put) events = ap (λ (ms : List WireMessage). m ∷ ms) (queued_put put events)
+queued_put (m ∷ put) events = ap (λ (ms : List Said). m ∷ ms) (queued_put put events)
 
 module _ {T : Type 0} (sends : T → Queue → Result ℕ IoFault → T → Type 0) (within : Within sends) where
   pub put_by_kept : (m : WireMessage) (before after : LinkState T) (es : List Sending) (answer : Result (Unit {0}) IoFault) → PutBy sends before m es answer after
@@ -72,21 +76,21 @@ module _ {T : Type 0} (sends : T → Queue → Result ℕ IoFault → T → Type
       subst (λ (a : Result (Unit {0}) IoFault). Kept es before.outgoing (queued_by a m) after.outgoing) (sym is)
       (kept_still es before.outgoing after.outgoing none (ap (λ (l : LinkState T). l.outgoing) same))
 
-  pub puts_kept : (ms : List WireMessage) (before after : LinkState T) (es : List Sending) (put : List WireMessage) (answer : Result (Unit {0}) IoFault)
-      → PutsOut sends before ms es put answer after → Kept es before.outgoing (spelled_all put) after.outgoing
+  pub puts_kept : (ms : List Said) (before after : LinkState T) (es : List Sending) (put : List Said) (answer : Result (Unit {0}) IoFault)
+      → PutsOut sends before ms es put answer after → Kept es before.outgoing (spelled_all (messages_of put)) after.outgoing
   puts_kept [] before after es put answer (none, nothing', is, same) =
-      subst (λ (ms : List WireMessage). Kept es before.outgoing (spelled_all ms) after.outgoing) (sym nothing')
+      subst (λ (ms : List Said). Kept es before.outgoing (spelled_all (messages_of ms)) after.outgoing) (sym nothing')
       (kept_still es before.outgoing after.outgoing none (ap (λ (l : LinkState T). l.outgoing) same))
   puts_kept (m ∷ ms) before after es put answer (first, Ok u, mid, one, (next, rest, split, is, puts)) =
-      let both = kept_then first next before.outgoing mid.outgoing after.outgoing (spelled m) (spelled_all rest)
-      (put_by_kept m before mid first (Ok u) one) (puts_kept ms mid after next rest answer puts) in
-      let sent = subst (λ (fs : List Sending). Kept fs before.outgoing (spelled_all (m ∷ rest)) after.outgoing) (sym split) both in
-      subst (λ (ns : List WireMessage). Kept es before.outgoing (spelled_all ns) after.outgoing) (sym is) sent
+      let both = kept_then first next before.outgoing mid.outgoing after.outgoing (spelled m.message) (spelled_all (messages_of rest))
+      (put_by_kept m.message before mid first (Ok u) one) (puts_kept ms mid after next rest answer puts) in
+      let sent = subst (λ (fs : List Sending). Kept fs before.outgoing (spelled_all (messages_of (m ∷ rest))) after.outgoing) (sym split) both in
+      subst (λ (ns : List Said). Kept es before.outgoing (spelled_all (messages_of ns)) after.outgoing) (sym is) sent
   puts_kept (m ∷ ms) before after es put answer (first, Err f, mid, one, (split, none, is, same)) =
-      let here = put_by_kept m before mid first (Err f) one in
+      let here = put_by_kept m.message before mid first (Err f) one in
       let sent = subst (λ (fs : List Sending). Kept fs before.outgoing nothing mid.outgoing) (sym split) here in
       let end = subst (λ (l : LinkState T). Kept es before.outgoing nothing l.outgoing) (sym same) sent in
-      subst (λ (ns : List WireMessage). Kept es before.outgoing (spelled_all ns) after.outgoing) (sym none) end
+      subst (λ (ns : List Said). Kept es before.outgoing (spelled_all (messages_of ns)) after.outgoing) (sym none) end
 
   pub flushes_kept : (flushes lacked : Bool) (before after : LinkState T) (es : List Sending) → FlushesOut sends flushes before es lacked after
       → Kept es before.outgoing nothing after.outgoing
@@ -101,18 +105,18 @@ module _ {T : Type 0} (sends : T → Queue → Result ℕ IoFault → T → Type
 module _ {T Core Event Finish : Type 0} (sends : T → Queue → Result ℕ IoFault → T → Type 0) (within : Within sends) (reader : Reader Core Event Finish) where
   -- what was put is what is gone and what waits more
   abbrev pub KeptLog : LinkState T → List Sending → List (Given Event) → LinkState T → Type 0
-  KeptLog before es gave after = Kept es before.outgoing (spelled_all (queued_in gave)) after.outgoing
+  KeptLog before es gave after = Kept es before.outgoing (spelled_all (messages_of (queued_in gave))) after.outgoing
 
   pub carries_kept : (v : Verdict Core Event) (before : LinkState T) (after : Part T Core) (es : List Sending) (gave : List (Given Event)) (refused : Bool)
       → CarriesOut sends reader v before es gave refused after → KeptLog before es gave after.link
   carries_kept v before after es gave refused (inl (first, others, put, wrote, mid, lacked, puts, flushes, split, end, is, was)) =
-      let both = kept_then first others before.outgoing mid.outgoing after.link.outgoing (spelled_all put) nothing
+      let both = kept_then first others before.outgoing mid.outgoing after.link.outgoing (spelled_all (messages_of put)) nothing
       (puts_kept sends within v.puts before mid first put wrote puts) (flushes_kept sends within v.flushes lacked mid after.link others flushes) in
-      let sent = subst (λ (fs : List Sending). Kept fs before.outgoing (joined (spelled_all put) nothing) after.link.outgoing) (sym split) both in
+      let sent = subst (λ (fs : List Sending). Kept fs before.outgoing (joined (spelled_all (messages_of put)) nothing) after.link.outgoing) (sym split) both in
       let put_is : queued_in gave ≡ put = ap queued_in is ∙ queued_put put (v.events (came_to reader v wrote)) in
-      subst (λ (q : Queue). Kept es before.outgoing q after.link.outgoing) (joined_nothing (spelled_all put) ∙ ap spelled_all (sym put_is)) sent
+      subst (λ (q : Queue). Kept es before.outgoing q after.link.outgoing) (joined_nothing (spelled_all (messages_of put)) ∙ ap (λ (ms : List Said). spelled_all (messages_of ms)) (sym put_is)) sent
   carries_kept v before after es gave refused (inr (asks, was, none, is, same)) =
-      subst (λ (ms : List WireMessage). Kept es before.outgoing (spelled_all ms) after.link.outgoing) (sym (ap queued_in is ∙ queued_handed (v.events v.starved)))
+      subst (λ (ms : List Said). Kept es before.outgoing (spelled_all (messages_of ms)) after.link.outgoing) (sym (ap queued_in is ∙ queued_handed (v.events v.starved)))
       (kept_still es before.outgoing after.link.outgoing none (ap (λ (x : Part T Core). x.link.outgoing) same))
 
   -- what was found is taken off what waits to be read alone
@@ -143,10 +147,12 @@ module _ {T Core Event Finish : Type 0} (sends : T → Queue → Result ℕ IoFa
       (out rest : Gives Event) → Finds sends reader p v link → CarriesOut sends reader v link es first lacked mid → out ≡ behind first lacked rest
       → KeptLog mid.link others rest.gave after.link → KeptLog p.link (es ++ others) out.gave after.link
   kept_heard p after link v es others first lacked mid out rest found carried split more =
-      let one = subst (λ (q : Queue). Kept es q (spelled_all (queued_in first)) mid.link.outgoing) (found_outgoing p v link found) (carries_kept v link mid es first lacked carried) in
-      let both = kept_then es others p.link.outgoing mid.link.outgoing after.link.outgoing (spelled_all (queued_in first)) (spelled_all (queued_in rest.gave)) one more in
-      let log : joined (spelled_all (queued_in first)) (spelled_all (queued_in rest.gave)) ≡ spelled_all (queued_in out.gave)
-      = sym (spelled_all-append (queued_in first) (queued_in rest.gave)) ∙ ap spelled_all (sym (queued-append first rest.gave)) ∙ ap (λ (o : Gives Event). spelled_all (queued_in o.gave)) (sym split) in
+      let one = subst (λ (q : Queue). Kept es q (spelled_all (messages_of (queued_in first))) mid.link.outgoing) (found_outgoing p v link found) (carries_kept v link mid es first lacked carried) in
+      let both = kept_then es others p.link.outgoing mid.link.outgoing after.link.outgoing (spelled_all (messages_of (queued_in first))) (spelled_all (messages_of (queued_in rest.gave))) one more in
+      let log : joined (spelled_all (messages_of (queued_in first))) (spelled_all (messages_of (queued_in rest.gave))) ≡ spelled_all (messages_of (queued_in out.gave))
+      = sym (spelled_all-append (messages_of (queued_in first)) (messages_of (queued_in rest.gave)))
+      ∙ ap spelled_all (sym (messages-append (queued_in first) (queued_in rest.gave)))
+      ∙ ap (λ (ms : List Said). spelled_all (messages_of ms)) (sym (queued-append first rest.gave)) ∙ ap (λ (o : Gives Event). spelled_all (messages_of (queued_in o.gave))) (sym split) in
       subst (λ (q : Queue). Kept (es ++ others) p.link.outgoing q after.link.outgoing) log both
 
   module _ (receives : T → ℕ → Result Queue IoFault → T → Type 0) (after : Part T Core) where
@@ -154,7 +160,7 @@ module _ {T Core Event Finish : Type 0} (sends : T → Queue → Result ℕ IoFa
         → KeptLog p.link (sends_in turns) out.gave after.link
     reads_kept left p [] out (same, ends) = kept_nothing p.link after.link [] out.gave refl (nothing_put left p out ends) (ap (λ (x : Part T Core). x.link.outgoing) same)
     reads_kept left p (Received r ∷ turns) out (on, lacks, (n, is, (link, filled, h))) =
-        subst (λ (q : Queue). Kept (sends_in turns) q (spelled_all (queued_in out.gave)) after.link.outgoing) (ap (λ (l : LinkState T). l.outgoing) filled.2)
+        subst (λ (q : Queue). Kept (sends_in turns) q (spelled_all (messages_of (queued_in out.gave))) after.link.outgoing) (ap (λ (l : LinkState T). l.outgoing) filled.2)
         (go (counted_answer (count_of r)) h (λ more. reads_kept n (with_link p link) turns out more))
       where
         go : (c : Result (Unit {0}) IoFault)

@@ -1,7 +1,7 @@
 -- Messages that are put behind what waits to be sent, up to the first that fails.
 --
 -- A message of one's own that has a text takes memory before it is written.
-use Rattle.std.specs.Prelude.{◌≡◌, ◌⊎◌, ℕ, Bool, true, false, List, [], ◌∷◌, ◌++◌, Result, Ok, Err, MatchResult, MatchBool}
+use Rattle.std.specs.Prelude.{◌≡◌, ◌⊎◌, ℕ, Bool, true, false, List, [], ◌∷◌, ◌++◌, Result, Ok, Err, MatchResult, MatchBool, map}
 use Rattle.std.specs.List.{list_any}
 use Rattle.wl_wire.specs.declared.error.IoFault.{IoFault}
 use Rattle.wl_wire.specs.declared.error.IoFault.TheVariants as fault
@@ -23,6 +23,14 @@ abbrev pub lacked_memory : Result (Unit {0}) IoFault → Bool
 lacked_memory (Err fault.OutOfMemory) = true
 lacked_memory _ = false
 
+-- a message that is put, and the serial of the object that sends it, which tells that object from others of its number
+pub record Said : Type 0 where
+  pub serial : ℕ
+  pub message : WireMessage
+
+abbrev pub messages_of : List Said → List WireMessage
+messages_of said = map (λ s. s.message) said
+
 module _ {T : Type 0} (sends : T → Queue → Result ℕ IoFault → T → Type 0) where
   -- the message is written; or there was no memory for its text
   abbrev pub PutBy : LinkState T → WireMessage → List Sending → Result (Unit {0}) IoFault → LinkState T → Type 0
@@ -30,12 +38,12 @@ module _ {T : Type 0} (sends : T → Queue → Result ℕ IoFault → T → Type
       WroteBy sends before m es answer after ⊎ ((es ≡ []) × (answer ≡ Err fault.OutOfMemory) × (after ≡ before) × (has_text m ≡ true))
 
   -- the messages are put one after another, up to the first that fails
-  abbrev pub PutsOut : LinkState T → List WireMessage → List Sending → List WireMessage → Result (Unit {0}) IoFault → LinkState T → Type 0
+  abbrev pub PutsOut : LinkState T → List Said → List Sending → List Said → Result (Unit {0}) IoFault → LinkState T → Type 0
   PutsOut before [] es put answer after = (es ≡ []) × (put ≡ []) × (answer ≡ Ok tt) × (after ≡ before)
   PutsOut before (m ∷ ms) es put answer after =
-      (first : List Sending) × (one : Result (Unit {0}) IoFault) × (mid : LinkState T) × PutBy before m first one mid
+      (first : List Sending) × (one : Result (Unit {0}) IoFault) × (mid : LinkState T) × PutBy before m.message first one mid
       × MatchResult one
-      (λ _. (others : List Sending) × (more : List WireMessage) × (es ≡ first ++ others) × (put ≡ m ∷ more) × PutsOut mid ms others more answer after)
+      (λ _. (others : List Sending) × (more : List Said) × (es ≡ first ++ others) × (put ≡ m ∷ more) × PutsOut mid ms others more answer after)
       (λ f. (es ≡ first) × (put ≡ []) × (answer ≡ Err f) × (after ≡ mid))
 
   -- a fault of the flush is dropped

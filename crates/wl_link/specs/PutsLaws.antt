@@ -7,7 +7,7 @@ use Rattle.wl_wire.specs.declared.error.IoFault.TheVariants as fault
 use Rattle.wl_wire.specs.Message.{WireMessage, size}
 use Rattle.wl_link.specs.Exchange.{Chain, Queue, Sending}
 use Rattle.wl_link.specs.Link.{FlushedBy, LinkState, PlacedBy, Put, WroteBy, has_room, ignoring}
-use Rattle.wl_link.specs.Puts.{FlushesOut, PutBy, PutsOut, lacked_memory}
+use Rattle.wl_link.specs.Puts.{FlushesOut, PutBy, PutsOut, Said, lacked_memory}
 use Rattle.wl_link.specs.Served.{link_as}
 use Rattle.wl_link.specs.OneLaws.{IsFunction, one_flush_lem, one_write_lem}
 use Rattle.wl_link.specs.Branches.{both_bool, both_result, map_bool, map_result}
@@ -67,16 +67,16 @@ module _ {T S : Type 0} (sends : T → Queue → Result ℕ IoFault → T → Ty
     put_by_there before (inl wrote) = inl (wrote_there before wrote)
     put_by_there before (inr (none, is, same, text)) = inr (none, is, stays es before after t u chain none same, text)
 
-  pub puts_there : (ms : List WireMessage) (before after : LinkState T) (es : List Sending) (put : List WireMessage) (answer : Result (Unit {0}) IoFault) (t u : S)
+  pub puts_there : (ms : List Said) (before after : LinkState T) (es : List Sending) (put : List Said) (answer : Result (Unit {0}) IoFault) (t u : S)
       → Chain others t es u → PutsOut sends before ms es put answer after → PutsOut others (link_as before more t) ms es put answer (link_as after more u)
   puts_there [] before after es put answer t u chain (none, nothing', is, same) = (none, nothing', is, stays es before after t u chain none same)
   puts_there (m ∷ ms) before after es put answer t u chain (first, Ok _, mid, one, (next, rest, split, is, puts)) =
       let parts = chain_parts others first next t u (subst (λ (fs : List Sending). Chain others t fs u) split chain) in
-      let here = put_by_there m first (Ok tt) mid t parts.0 parts.1 before one in
+      let here = put_by_there m.message first (Ok tt) mid t parts.0 parts.1 before one in
       (first, Ok tt, link_as mid more parts.0, here, (next, rest, split, is, puts_there ms mid after next rest answer parts.0 u parts.2 puts))
   puts_there (m ∷ ms) before after es put answer t u chain (first, Err f, mid, one, (split, none, is, same)) =
       let chain' = subst (λ (fs : List Sending). Chain others t fs u) split chain in
-      let here = put_by_there m first (Err f) mid t u chain' before one in
+      let here = put_by_there m.message first (Err f) mid t u chain' before one in
       (first, Err f, link_as mid more u, here, (split, none, is, ap (λ (l : LinkState T). link_as l more u) same))
 
   pub flushes_there : (flushes lacked : Bool) (before after : LinkState T) (es : List Sending) (t u : S) → Chain others t es u
@@ -89,7 +89,7 @@ module _ {T S : Type 0} (sends : T → Queue → Result ℕ IoFault → T → Ty
 pub not_lacked : (r : Result (Unit {0}) IoFault) → lacked_memory r ≡ false → r ≢ Err fault.OutOfMemory
 not_lacked r none is = true≢false (sym (ap lacked_memory is) ∙ none)
 
-pub record SamePut {T : Type 0} (p q : List WireMessage) (a b : Result (Unit {0}) IoFault) (x y : LinkState T) : Type 0 where
+pub record SamePut {T : Type 0} (p q : List Said) (a b : Result (Unit {0}) IoFault) (x y : LinkState T) : Type 0 where
   pub put : p ≡ q
   pub answer : a ≡ b
   pub after : x ≡ y
@@ -103,29 +103,29 @@ module _ {S : Type 0} (sends : S → Queue → Result ℕ IoFault → S → Type
   put_by_one m before x y es fs a b (inl wrote) (inr (none, is, same, text)) ok ok' = absurd (ok' is)
 
   -- what is done after a put
-  abbrev PutThen : WireMessage → List WireMessage → List Sending → List Sending → List WireMessage → Result (Unit {0}) IoFault → LinkState S → LinkState S → Result (Unit {0}) IoFault → Type 0
+  abbrev PutThen : Said → List Said → List Sending → List Sending → List Said → Result (Unit {0}) IoFault → LinkState S → LinkState S → Result (Unit {0}) IoFault → Type 0
   PutThen m ms first es put answer after mid one =
       MatchResult one
-      (λ _. (others : List Sending) × (more : List WireMessage) × (es ≡ first ++ others) × (put ≡ m ∷ more) × PutsOut sends mid ms others more answer after)
+      (λ _. (others : List Sending) × (more : List Said) × (es ≡ first ++ others) × (put ≡ m ∷ more) × PutsOut sends mid ms others more answer after)
       (λ f. (es ≡ first) × (put ≡ []) × (answer ≡ Err f) × (after ≡ mid))
 
-  put_allowed : (m : WireMessage) (ms : List WireMessage) (first es : List Sending) (put : List WireMessage) (answer : Result (Unit {0}) IoFault) (after mid : LinkState S)
+  put_allowed : (m : Said) (ms : List Said) (first es : List Sending) (put : List Said) (answer : Result (Unit {0}) IoFault) (after mid : LinkState S)
       (one : Result (Unit {0}) IoFault) → answer ≢ Err fault.OutOfMemory → PutThen m ms first es put answer after mid one → one ≢ Err fault.OutOfMemory
   put_allowed m ms first es put answer after mid (Ok u) ok h is = true≢false (ap is_ok is)
   put_allowed m ms first es put answer after mid (Err f) ok h is = ok (h.2 ∙ is)
 
-  pub puts_one : (ms : List WireMessage) (before x y : LinkState S) (es fs : List Sending) (p q : List WireMessage) (a b : Result (Unit {0}) IoFault)
+  pub puts_one : (ms : List Said) (before x y : LinkState S) (es fs : List Sending) (p q : List Said) (a b : Result (Unit {0}) IoFault)
       → a ≢ Err fault.OutOfMemory → b ≢ Err fault.OutOfMemory → PutsOut sends before ms es p a x → PutsOut sends before ms fs q b y → SamePut p q a b x y
   puts_one [] before x y es fs p q a b ok ok' (none, put, is, same) (none', put', is', same') =
       record { put = put ∙ sym put'; answer = is ∙ sym is'; after = same ∙ sym same' }
   puts_one (m ∷ ms) before x y es fs p q a b ok ok' (first, o, mid, wrote, end) (first', o', mid', wrote', end') =
-      let one = put_by_one m before mid mid' first first' o o' wrote wrote' (put_allowed m ms first es p a x mid o ok end) (put_allowed m ms first' fs q b y mid' o' ok' end') in
+      let one = put_by_one m.message before mid mid' first first' o o' wrote wrote' (put_allowed m ms first es p a x mid o ok end) (put_allowed m ms first' fs q b y mid' o' ok' end') in
       let answered = subst (λ (r : Result (Unit {0}) IoFault). PutThen m ms first' fs q b y mid' r) (sym one.0) end' in
       let linked = subst (λ (l : LinkState S). PutThen m ms first' fs q b y l o) (sym one.1) answered in
       elim (both_result o end linked) [
         | inl (u, (others, rest, split, is, puts), (others', rest', split', is', puts')) ↦
             let s = puts_one ms mid x y others others' rest rest' a b ok ok' puts puts' in
-            record { put = is ∙ ap (λ (z : List WireMessage). m ∷ z) s.put ∙ sym is'; answer = s.answer; after = s.after }
+            record { put = is ∙ ap (λ (z : List Said). m ∷ z) s.put ∙ sym is'; answer = s.answer; after = s.after }
         | inr (f, (split, none, is, same), (split', none', is', same')) ↦
             record { put = none ∙ sym none'; answer = is ∙ sym is'; after = same ∙ sym same' }
       ]
@@ -139,11 +139,11 @@ module _ {S : Type 0} (sends : S → Queue → Result ℕ IoFault → S → Type
 
 module _ {T : Type 0} (sends : T → Queue → Result ℕ IoFault → T → Type 0) where
   -- the messages that were put are a front of those that were to be put
-  pub puts_front : (ms : List WireMessage) (before after : LinkState T) (es : List Sending) (put : List WireMessage) (a : Result (Unit {0}) IoFault)
-      → PutsOut sends before ms es put a after → (others : List WireMessage) × (ms ≡ put ++ others)
-  puts_front [] before after es put a (none, nothing', is, same) = ([], ap (λ (z : List WireMessage). z ++ []) (sym nothing'))
+  pub puts_front : (ms : List Said) (before after : LinkState T) (es : List Sending) (put : List Said) (a : Result (Unit {0}) IoFault)
+      → PutsOut sends before ms es put a after → (others : List Said) × (ms ≡ put ++ others)
+  puts_front [] before after es put a (none, nothing', is, same) = ([], ap (λ (z : List Said). z ++ []) (sym nothing'))
   puts_front (m ∷ ms) before after es put a (first, Ok u, mid, one, (next, more, split, is, puts)) =
       let rest = puts_front ms mid after next more a puts in
-      (rest.0, ap (λ (z : List WireMessage). m ∷ z) rest.1 ∙ ap (λ (z : List WireMessage). z ++ rest.0) (sym is))
+      (rest.0, ap (λ (z : List Said). m ∷ z) rest.1 ∙ ap (λ (z : List Said). z ++ rest.0) (sym is))
   puts_front (m ∷ ms) before after es put a (first, Err f, mid, one, (split, none, is, same)) =
-      (m ∷ ms, ap (λ (z : List WireMessage). z ++ m ∷ ms) (sym none))
+      (m ∷ ms, ap (λ (z : List Said). z ++ m ∷ ms) (sym none))

@@ -14,13 +14,13 @@ use Rattle.wl_wire.specs.Message.{WireMessage}
 use Rattle.wl_wire.specs.Parse.{opcode_of, sender_of}
 use Rattle.wl_link.specs.Exchange.{Queue, Sending, joined, nothing}
 use Rattle.wl_link.specs.Link.{FilledBy, LinkState, ReadOne, count_of, counted_answer}
-use Rattle.wl_link.specs.Puts.{FlushesOut, PutsOut, lacked_memory}
+use Rattle.wl_link.specs.Puts.{FlushesOut, PutsOut, Said, lacked_memory}
 
 pub record Verdict (Core Event : Type 0) : Type 0 where
   -- what the core becomes at once
   pub core : Core
   -- what is put behind what waits to be sent, up to the first that fails, and whether a flush follows
-  pub puts : List WireMessage
+  pub puts : List Said
   pub flushes : Bool
   -- what the core becomes behind that
   pub last : Core → Core
@@ -50,11 +50,11 @@ pub record Part (T Core : Type 0) : Type 0 where
 
 -- what it gives to others: a message that was put behind what waits to be sent, or what is handed out
 pub data Given (Event : Type 0) : Type 0 where
-  Queued : WireMessage → Given Event
+  Queued : Said → Given Event
   HandedOut : Event → Given Event
 
 -- the messages that were put
-abbrev pub queued_in : {Event : Type 0} → List (Given Event) → List WireMessage
+abbrev pub queued_in : {Event : Type 0} → List (Given Event) → List Said
 queued_in [] = []
 queued_in (Queued m ∷ gave) = m ∷ queued_in gave
 queued_in (HandedOut _ ∷ gave) = queued_in gave
@@ -118,7 +118,7 @@ module _ {T Core : Type 0} where
 
 -- ---- a verdict is carried out
 
-abbrev pub put_and_gave : {Event : Type 0} → List WireMessage → List Event → List (Given Event)
+abbrev pub put_and_gave : {Event : Type 0} → List Said → List Event → List (Given Event)
 put_and_gave put events = map Queued put ++ map HandedOut events
 
 module _ {Core Event Finish : Type 0} (reader : Reader Core Event Finish) where
@@ -131,7 +131,7 @@ module _ {Core Event Finish : Type 0} (reader : Reader Core Event Finish) where
 module _ {T Core Event Finish : Type 0} (sends : T → Queue → Result ℕ IoFault → T → Type 0) (reader : Reader Core Event Finish) where
   abbrev pub Carries : Verdict Core Event → LinkState T → List Sending → List (Given Event) → Bool → Part T Core → Type 0
   Carries v before es gave refused after =
-      (first : List Sending) × (others : List Sending) × (put : List WireMessage) × (wrote : Result (Unit {0}) IoFault) × (mid : LinkState T) × (lacked : Bool)
+      (first : List Sending) × (others : List Sending) × (put : List Said) × (wrote : Result (Unit {0}) IoFault) × (mid : LinkState T) × (lacked : Bool)
       × PutsOut sends before v.puts first put wrote mid × FlushesOut sends v.flushes mid others lacked after.link
       × (es ≡ first ++ others) × (after.core ≡ came_to reader v wrote) × (gave ≡ put_and_gave put (v.events (came_to reader v wrote)))
       × (refused ≡ lacked_memory wrote || lacked)

@@ -7,13 +7,13 @@ use Rattle.wl_wire.specs.declared.error.IoFault.TheVariants as fault
 use Rattle.wl_wire.specs.Message.{WireMessage}
 use Rattle.wl_link.specs.Exchange.{Queue, Sending}
 use Rattle.wl_link.specs.Link.{LinkState, count_of, counted_answer}
-use Rattle.wl_link.specs.Puts.{lacked_memory}
+use Rattle.wl_link.specs.Puts.{Said, lacked_memory}
 use Rattle.wl_link.specs.Reader.{CarriesOut, Ends, Given, Gives, Halts, HandedOut, Handled, Part, Reader, Reads, Received, Stops, Turn, Unread, Verdict, came_to, put_and_gave, stops, with_link}
 use Rattle.wl_link.specs.PutsLaws.{puts_front}
 
 -- a relation of cores and of what was given between them that a verdict respects, in each of its ends
 pub record Keeps {Core Event Finish : Type 0} (reader : Reader Core Event Finish) (R : Core → List (Given Event) → Core → Type 0) (c : Core) (v : Verdict Core Event) : Type 0 where
-  pub carried : (put others : List WireMessage) (wrote : Result (Unit {0}) IoFault) → v.puts ≡ put ++ others
+  pub carried : (put others : List Said) (wrote : Result (Unit {0}) IoFault) → v.puts ≡ put ++ others
       → R c (put_and_gave put (v.events (came_to reader v wrote))) (came_to reader v wrote)
   pub starved : v.asks ≡ true → R c (map HandedOut (v.events v.starved)) v.starved
 

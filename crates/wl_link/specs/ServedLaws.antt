@@ -7,7 +7,7 @@ use Rattle.wl_wire.specs.declared.error.MessageParseError.TheVariants as parse
 use Rattle.wl_wire.specs.Message.{WireMessage}
 use Rattle.wl_link.specs.Exchange.{Chain, Queue, Sending}
 use Rattle.wl_link.specs.Link.{LinkState}
-use Rattle.wl_link.specs.Puts.{FlushesOut, lacked_memory}
+use Rattle.wl_link.specs.Puts.{FlushesOut, Said, lacked_memory}
 use Rattle.wl_link.specs.Reader.{CarriesOut, Given, Lacks, Part, Reader, ReadsAs, Verdict, came_to, put_and_gave}
 use Rattle.wl_link.specs.Served.{Answers, Finds, NoneFits, Rests, ServedFrom, Serves, ServesOne, TakesNext, Told, answers_of}
 use Rattle.wl_link.specs.OneLaws.{IsFunction}
@@ -68,7 +68,7 @@ module _ {S Core Event Finish : Type 0} (sends : S → Queue → Result ℕ IoFa
       let known = subst (λ (l : Bool). FlushesOut sends v.flushes mid others l x.link) ample.1 flushes in
       let known' = subst (λ (l : Bool). FlushesOut sends v.flushes mid' others' l y.link) ample'.1 flushes' in
       let begun = subst (λ (l : LinkState S). FlushesOut sends v.flushes l others' false y.link) (sym s.after) known' in record {
-        gave = is ∙ ap (λ (z : List WireMessage). put_and_gave z (v.events (came_to reader v a))) s.put
+        gave = is ∙ ap (λ (z : List Said). put_and_gave z (v.events (came_to reader v a))) s.put
             ∙ ap (λ (r : Result (Unit {0}) IoFault). put_and_gave put' (v.events (came_to reader v r))) s.answer ∙ sym is';
         after = part_is x y (end ∙ ap (came_to reader v) s.answer ∙ sym end') (flushes_one sends function v.flushes mid x.link y.link others others' known begun);
       }

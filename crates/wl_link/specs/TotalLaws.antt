@@ -5,7 +5,7 @@ use Rattle.wl_wire.specs.declared.error.IoFault.{IoFault}
 use Rattle.wl_wire.specs.Message.{WireMessage}
 use Rattle.wl_link.specs.Exchange.{Queue, Sending}
 use Rattle.wl_link.specs.Link.{LinkState}
-use Rattle.wl_link.specs.Puts.{FlushesOut, PutsOut}
+use Rattle.wl_link.specs.Puts.{FlushesOut, PutsOut, Said}
 use Rattle.wl_link.specs.Reader.{CarriesOut, Given, Lacks, Part, Reader, Verdict, put_and_gave}
 use Rattle.wl_link.specs.Served.{NoneFits, Rests, ServedFrom, ServesOne}
 use Rattle.wl_link.specs.Stretch.{IsOver}
@@ -35,7 +35,7 @@ module _ {T Core Event Finish : Type 0} (sends : T → Queue → Result ℕ IoFa
       Ok tt,
       link,
       false,
-      subst (λ (ms : List WireMessage). PutsOut sends link ms [] [] (Ok tt) link) (sym none) (refl, refl, refl, refl),
+      subst (λ (ms : List Said). PutsOut sends link ms [] [] (Ok tt) link) (sym none) (refl, refl, refl, refl),
       subst (λ (b : Bool). FlushesOut sends b link [] false link) (sym still) (refl, refl, refl),
       refl,
       refl,

@@ -5,11 +5,10 @@ ghost use Rattle.std.specs.Prelude.{◌≡◌, ◌≢◌, ◌∷◌, ℕ, Bool, 
 ghost use Rattle.wl_wire.specs.declared.error.IoFault.{IoFault};
 ghost use Rattle.wl_wire.specs.declared.error.IoFault.TheVariants as fault;
 ghost use Rattle.wl_link.specs.Exchange.{Queue, Sending, nothing};
-ghost use Rattle.wl_wire.specs.Message.{WireMessage};
 ghost use Rattle.wl_link.specs.Kept.{Kept};
 ghost use Rattle.wl_link.specs.Link.{LinkState};
 ghost use Rattle.wl_link.specs.OneLaws.{IsFunction, IsReceiveFunction};
-ghost use Rattle.wl_link.specs.Puts.{PutsOut};
+ghost use Rattle.wl_link.specs.Puts.{PutsOut, Said, messages_of};
 ghost use Rattle.wl_link.specs.PutsLaws.{SamePut};
 ghost use Rattle.wl_link.specs.Reader.{AllFed, Ends, Given, Gives, Part, Reader, Reads, Turn, came_in, queued_in, sends_in};
 ghost use Rattle.wl_link.specs.ReaderLaws.{SameReading};
@@ -26,21 +25,21 @@ use crate::transport::Transport;
 /// gone, followed by what waits, is what waited, followed by the spellings of the messages that were put. So it is of a
 /// reading and of the end of what is open.
 pub fn nothing_that_is_put_is_lost<T: Transport, Core, Event, Finish>()
-    ensures puts { (before after : LinkState T) (messages put : List WireMessage) (es : List Sending) (answer : _) →
-        PutsOut T.sends before messages es put answer after → Kept es before.outgoing (spelled_all put) after.outgoing }
+    ensures puts { (before after : LinkState T) (messages put : List Said) (es : List Sending) (answer : _) →
+        PutsOut T.sends before messages es put answer after → Kept es before.outgoing (spelled_all (messages_of put)) after.outgoing }
     ensures reading { (reader : Reader Core Event Finish) (left : ℕ) (before after : Part T Core) (turns : List Turn)
         (out : Gives Event) → Reads T.sends reader T.receives left before turns out after →
-        Kept (sends_in turns) before.link.outgoing (spelled_all (queued_in out.gave)) after.link.outgoing }
+        Kept (sends_in turns) before.link.outgoing (spelled_all (messages_of (queued_in out.gave))) after.link.outgoing }
     ensures finish { (reader : Reader Core Event Finish) (before after : Part T Core) (u : Finish) (es : List Sending)
         (gave : List (Given Event)) (refused : Bool) → Ends T.sends reader before u es gave refused after →
-        Kept es before.link.outgoing (spelled_all (queued_in gave)) after.link.outgoing }
+        Kept es before.link.outgoing (spelled_all (messages_of (queued_in gave))) after.link.outgoing }
 {}
 
 /// Where the answers of a transport to sends follow from its value, and memory is not refused, putting messages has one
 /// outcome.
 pub fn putting_has_one_outcome<T: Transport>()
-    ensures { IsFunction T.sends → (messages : List WireMessage) (before x y : LinkState T) (es fs : List Sending)
-        (put others : List WireMessage) (a b : _) → a ≢ Err fault.OutOfMemory → b ≢ Err fault.OutOfMemory →
+    ensures { IsFunction T.sends → (messages : List Said) (before x y : LinkState T) (es fs : List Sending)
+        (put others : List Said) (a b : _) → a ≢ Err fault.OutOfMemory → b ≢ Err fault.OutOfMemory →
         PutsOut T.sends before messages es put a x → PutsOut T.sends before messages fs others b y →
         SamePut put others a b x y }
 {}
