@@ -357,7 +357,7 @@ words_of_append (v ∷ up) more = ap (λ ls. v.items ∷ ls) (words_of_append up
 -- ---- the flags of places
 
 module _ {A : Type 0} where
-  free_past : (places : List (Option A)) (j : ℕ) → length places ≤ j → free_flag places j ≡ false
+  pub free_past : (places : List (Option A)) (j : ℕ) → length places ≤ j → free_flag places j ≡ false
   free_past places j l = ap (λ (b : Bool). b && not (is_some (place places j))) (le-ltb j (length places) l)
 
   free_in : (places : List (Option A)) (j : ℕ) → j < length places → free_flag places j ≡ not (is_some (place places j))
@@ -395,8 +395,8 @@ module _ {A : Type 0} where
           here l = omega arith
 
   -- the least free flag is the first free place
-  pub first_is : (places : List (Option A)) (levels : List (List ℕ)) (at : ℕ) → IsLeast (free_flag places) at → IsFirstFree places at
-  first_is places levels at least =
+  pub first_is : (places : List (Option A)) (at : ℕ) → IsLeast (free_flag places) at → IsFirstFree places at
+  first_is places at least =
       elim (cases_lt at (length places)) [
         | inl l ↦ record {
           within = omega arith;
@@ -442,9 +442,6 @@ module _ {A : Type 0} where
             (same_flags (words_of levels) _ _ (length places + 1) (free_pushed places x) t);
         small = omega arith;
       }
-
-  pub past_free : (places : List (Option A)) (j : ℕ) → length places ≤ j → free_flag places j ≡ false
-  past_free = free_past
 
   pub reads_places : (places : List (Option A)) (levels : List (List ℕ)) (result : Option ℕ) (read : ℕ) → FindsLeast (free_flag places) (length places) result
       → IsHeight (length places) (height levels) → read ≡ 0 + reads_of result levels → WordsReadIn places read

@@ -1,7 +1,7 @@
-use Rattle.std.proofs.Common.{arith, length, Some, None}
+use Rattle.std.proofs.Common.{◌≡◌, arith, length, Some, None}
 use Rattle.wl_link.specs.FreeTree.{words_of}
 use Rattle.wl_link.specs.PlaceList.{free_flag}
-use Rattle.wl_link.proofs.Trees.{height_within, reads_places, few_reads}
+use Rattle.wl_link.proofs.Trees.{first_is, none_is, height_within, reads_places, few_reads}
 use Rattle.wl_link.proofs.places.Places.first_free.Goals as goal
 
 pub least-requires-clause-few : goal.least-requires-clause-few
@@ -34,3 +34,14 @@ returns-in-None-clause-few_words g c = λ most some fits.
     let places = c.args.self.now.slots.items in
     few_reads (length places) (words_of c.args.self.now.free.levels.items) None most _
     (c.least.ensures.height (free_flag places) (length places) c.requires.tree) some fits c.in-None.ensures.reads
+
+pub returns-in-Some-clause-first : goal.returns-in-Some-clause-first
+returns-in-Some-clause-first g c =
+    let places = c.args.self.now.slots.items in
+    first_is places c.in-Some.at (c.in-Some.ensures.least (free_flag places) (length places) c.requires.tree)
+
+pub returns-in-None-clause-first : goal.returns-in-None-clause-first
+returns-in-None-clause-first g c =
+    let places = c.args.self.now.slots.items in
+    let len : c.len.result ≡ length places = omega (arith, c.len.ensures) in
+    rw len (none_is places (c.in-None.ensures.least (free_flag places) (length places) c.requires.tree))

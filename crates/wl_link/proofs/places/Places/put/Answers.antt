@@ -1,7 +1,7 @@
 use Rattle.std.proofs.Common.{◌≡◌, ◌<◌, ◌+◌, arith, length, subst, sym, Some}
 use Rattle.wl_link.specs.FreeTree.{IsTree, words_of}
 use Rattle.wl_link.specs.PlaceList.{free_flag}
-use Rattle.wl_link.proofs.Trees.{marks_set, marks_pushed, past_free}
+use Rattle.wl_link.proofs.Trees.{marks_set, marks_pushed, free_past}
 use Rattle.wl_link.proofs.places.Places.put.Goals as goal
 
 pub push-requires-else-at-len-clause-tree : goal.push-requires-else-at-len-clause-tree
@@ -28,6 +28,6 @@ returns-in_ok-push-clause-free g c =
     let reserved = c.in_ok-reserve.ensures.tree (free_flag places) (length places) c.requires.free.tree in
     let pushed : IsTree (free_flag places) (length places + 1) (words_of levels) =
     subst (λ n. IsTree (free_flag places) (n + 1) (words_of levels)) (sym last)
-    (c.push-else-at-len.ensures.tree (free_flag places) (λ j past. past_free places j (omega arith))
+    (c.push-else-at-len.ensures.tree (free_flag places) (λ j past. free_past places j (omega arith))
     (subst (λ n. IsTree (free_flag places) n (words_of c.reserve.new.self.levels.items)) last reserved)) in
     rw (c.in_ok-push.ensures.items) (marks_pushed places c.args.object levels c.requires.fits pushed)
