@@ -84,11 +84,11 @@ sixty_tokens : Flushes (queue (replicate 8 1) (replicate 60 (token 7)))
     ∷ sending (queue (replicate 6 1) (replicate 4 (token 7))) (Ok 6) ∷ []) (Ok tt) nothing
 sixty_tokens = (some_bytes _ 8 refl (lit< tt), refl, (some_bytes _ 7 refl (lit< tt), refl, (some_bytes _ 6 refl (lit< tt), refl, (refl, refl, refl))))
 
--- 8 bytes take 28 tokens each with them, so that of 300 tokens 76 wait
 abbrev after_bytes : ℕ → Queue → Queue
 after_bytes zero q = q
 after_bytes (suc n) q = after_bytes n (left_of 1 q)
 
+-- 8 bytes take 28 tokens each with them, so that of 300 tokens 76 wait
 three_hundred_tokens : after_bytes 8 (queue (replicate 8 1) (replicate 300 (token 7))) ≡ queue [] (replicate 76 (token 7))
 three_hundred_tokens = refl
 
@@ -240,8 +240,11 @@ storage_is_doubled = inr (sending_link nothing 8192 None, (growth_to_8192, refl)
 limit_is_passed : WroteBy ScriptSends (sending_link nothing 4096 (Some 4096)) (array_message 4088) [] (Err fault.TooBig)
     (sending_link nothing 4096 (Some 4096))
 unfolding word piece
-limit_is_passed = inr (sending_link nothing 4096 (Some 4096), (growth_at_the_limit, refl),
-    (sending_link nothing 4096 (Some 4096), Ok tt, (refl, (refl, refl, refl), refl), (refl, refl)))
+limit_is_passed = inr (
+  sending_link nothing 4096 (Some 4096),
+  (growth_at_the_limit, refl),
+  (sending_link nothing 4096 (Some 4096), Ok tt, (refl, (refl, refl, refl), refl), (refl, refl)),
+)
 
 abbrev sync_message : WireMessage
 sync_message = record { sender = 1; opcode = 0; args = arg.NewId 2 ∷ [] }
@@ -251,10 +254,16 @@ flush_makes_room : WroteBy ScriptSends (sending_link (queue (replicate 4090 1) [
     (sending (queue (replicate 4090 1) []) (Ok 4090) ∷ []) (Ok tt)
     (link_over (recording [] (queue (replicate 4090 1) [] ∷ [])) nothing (queue sync []) 4096 (Some 4096))
 unfolding word piece
-flush_makes_room = inr (sending_link (queue (replicate 4090 1) []) 4096 (Some 4096), (growth_at_the_limit, refl),
-    (link_over (recording [] (queue (replicate 4090 1) [] ∷ [])) nothing nothing 4096 (Some 4096), Ok tt,
+flush_makes_room = inr (
+  sending_link (queue (replicate 4090 1) []) 4096 (Some 4096),
+  (growth_at_the_limit, refl),
+  (
+    link_over (recording [] (queue (replicate 4090 1) [] ∷ [])) nothing nothing 4096 (Some 4096),
+    Ok tt,
     ((recording [] (queue (replicate 4090 1) [] ∷ []), inl (refl, refl), refl), (some_bytes _ 4090 refl (lit< tt), refl, (refl, refl, refl)), refl),
-    inl (refl, refl)))
+    inl (refl, refl),
+  ),
+)
 
 -- a flush that would block counts as one that was done, and no other fault does
 ignored_faults : (ignoring (Err fault.WouldBlock) ≡ Ok tt) × (ignoring (Err fault.Pipe) ≡ Err fault.Pipe)
@@ -308,12 +317,19 @@ no_signature = (None, refl, (refl, refl))
 sync_is_read : ReadsOne (receiving_link [] (queue (sync ++ 1 ∷ 0 ∷ []) [])) (Ok sync_message)
     (receiving_link [] (queue (1 ∷ 0 ∷ []) []))
 unfolding sender_of second_word word_at argument_at arguments_at
-sync_is_read = (Some (kind.NewId ∷ []), refl, (record {
-  whole = record { header = lit≤ tt; counts_header = lit≤ tt; there = lit≤ tt };
-  sender = refl;
-  opcode = refl;
-  args = (arguments_read (kind.NewId ∷ []) (2 ∷ 0 ∷ 0 ∷ 0 ∷ []) [] (arg.NewId 2 ∷ []) [] refl).0;
-}, refl))
+sync_is_read = (
+  Some (kind.NewId ∷ []),
+  refl,
+  (
+    record {
+      whole = record { header = lit≤ tt; counts_header = lit≤ tt; there = lit≤ tt };
+      sender = refl;
+      opcode = refl;
+      args = (arguments_read (kind.NewId ∷ []) (2 ∷ 0 ∷ 0 ∷ 0 ∷ []) [] (arg.NewId 2 ∷ []) [] refl).0;
+    },
+    refl,
+  ),
+)
 
 -- ---- objects by number
 
@@ -459,9 +475,10 @@ height_of_4097 = record { none = λ e. absurd (omega arith); some = λ lt. lit< 
 
 -- six show the client's range, and four the server's
 height_of_the_ranges : IsHeight (client_range.end - client_range.first) 6 × IsHeight (server_range.end - server_range.first) 4
-height_of_the_ranges =
-    (record { none = λ e. absurd (omega arith); some = λ lt. lit< tt; enough = λ lt. lit≤ tt; wanted = λ lt. lit< tt },
-    record { none = λ e. absurd (omega arith); some = λ lt. lit< tt; enough = λ lt. lit≤ tt; wanted = λ lt. lit< tt })
+height_of_the_ranges = (
+  record { none = λ e. absurd (omega arith); some = λ lt. lit< tt; enough = λ lt. lit≤ tt; wanted = λ lt. lit< tt },
+  record { none = λ e. absurd (omega arith); some = λ lt. lit< tt; enough = λ lt. lit≤ tt; wanted = λ lt. lit< tt },
+)
 
 -- Of 200 places 2, 69 and 130 are free: words 0, 1 and 2. The lowest bit of the word above leads to word 0, and its
 -- lowest bit to place 2.
