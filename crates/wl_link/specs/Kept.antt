@@ -1,4 +1,4 @@
--- What the sends of a call took, and that nothing is lost.
+-- What the sends of a call took or dropped, and that nothing else is lost.
 use Rattle.std.specs.Prelude.{◌≡◌, ◌≢◌, ℕ, List, [], ◌∷◌, ◌++◌, ◌*◌, length, take, drop, ◌==◌, Result, Ok, Err, if◌then◌else◌}
 use Rattle.std.specs.List.{AllByRecursion}
 use Rattle.wl_wire.specs.declared.argument.Token.{Token}
@@ -40,7 +40,7 @@ abbrev pub queued_by : Result (Unit {0}) IoFault → WireMessage → Queue
 queued_by (Ok u) m = spelled m
 queued_by (Err fault) m = nothing
 
--- A flush loses nothing.
+-- What a flush's sends took or dropped, and what waits after it, is what waited.
 abbrev pub FlushKeeps : {T : Type 0} → (T → Queue → Result ℕ IoFault → T → Type 0) → LinkState T → Result (Unit {0}) IoFault → LinkState T → Type 0
 FlushKeeps sends before answer after =
     (es : List Sending) × FlushedBy sends before es answer after × Kept es before.outgoing nothing after.outgoing

@@ -17,8 +17,8 @@ ghost use Rattle.wl_link.specs.Sides.{StreamLaw, AllReadLaw, CuttingLaw, ReadTak
 
 use crate::transport::Transport;
 
-/// A flush loses nothing. Where it ends with `Ok` and no send answered 0, no bytes wait, and 28 tokens for each byte
-/// are gone.
+/// A flush loses nothing but the tokens that a send which answered 0 was offered. Where it ends with `Ok` and no send
+/// answered 0, no bytes wait, and 28 tokens for each byte are gone.
 pub fn flush_loses_nothing<T: Transport>()
     ensures kept { (before after : LinkState T) (answer : _) →
         Flushed T.sends before answer after → FlushKeeps T.sends before answer after }

@@ -1,0 +1,85 @@
+//! The lines of the README of `wl_link`: a sync is sent over a script, and its answer comes in two chunks.
+
+use smallvec::SmallVec;
+use std::alloc::Global;
+use std::test::Fail;
+use wl_link::{BufferedSocket, Memory};
+use wl_wire::{Argument, ArgumentType, Message, MessageParseError, Token};
+
+/// What the event `done` has: a number.
+static DONE: [ArgumentType; 1] = [ArgumentType::Uint];
+
+/// Puts the bytes behind the arrivals.
+fn arrive(alloc: Global, script: &mut Memory, bytes: &[u8]) -> Result<(), Fail> {
+    let bytes = Vec::from_slice(alloc, bytes)?;
+    Ok(script.arrive(bytes, Vec::new(alloc))?)
+}
+
+/// A script by which `done` comes in two chunks.
+fn answer_in_two(alloc: Global) -> Result<Memory, Fail> {
+    let mut script = Memory::new(alloc);
+    arrive(alloc, &mut script, &[2, 0, 0, 0, 0, 0, 12, 0])?;
+    arrive(alloc, &mut script, &[9, 0, 0, 0])?;
+    Ok(script)
+}
+
+/// A message of one argument.
+fn message(
+    alloc: Global,
+    sender_id: u32,
+    argument: Argument<u32, Token>,
+) -> Result<Message<u32, Token>, Fail> {
+    let mut message = Message {
+        sender_id,
+        opcode: 0,
+        args: SmallVec::new(alloc),
+    };
+    message.args.push(argument)?;
+    Ok(message)
+}
+
+/// Whether the message is sent as these bytes in one send.
+fn sends(
+    link: &mut BufferedSocket<Memory>,
+    message: &Message<u32, Token>,
+    bytes: &[u8],
+) -> Result<bool, Fail> {
+    link.write_message(message)?;
+    link.flush()?;
+    let sent = link.transport().sent();
+    Ok(sent.len() == 1 && sent[0].0.as_slice() == bytes)
+}
+
+/// Whether the message is read, where a first receive does not bring it to its end and a second does.
+fn reads_in_two(
+    link: &mut BufferedSocket<Memory>,
+    message: &Message<u32, Token>,
+) -> Result<bool, Fail> {
+    link.fill_incoming_buffers()?;
+    let half = link.read_one_message(|_, _| Some(&DONE));
+    link.fill_incoming_buffers()?;
+    let whole = link.read_one_message(|_, _| Some(&DONE))?;
+    Ok(half == Err(MessageParseError::MissingData) && whole == *message)
+}
+
+/// Whether the sync is sent, and its answer read.
+fn asks(link: &mut BufferedSocket<Memory>, alloc: Global) -> Result<(bool, bool), Fail> {
+    let sync = message(alloc, 1, Argument::NewId(2))?;
+    let done = message(alloc, 2, Argument::Uint(9))?;
+    let bytes = [1, 0, 0, 0, 0, 0, 12, 0, 2, 0, 0, 0];
+    Ok((sends(link, &sync, &bytes)?, reads_in_two(link, &done)?))
+}
+
+/// Whether the sync is sent over a new link, its answer read, and nothing left to wait.
+fn asked(alloc: Global) -> Result<(bool, bool, [usize; 4]), Fail> {
+    let script = answer_in_two(alloc)?;
+    let mut link = BufferedSocket::new(alloc, script, None)?;
+    let (sent, answered) = asks(&mut link, alloc)?;
+    Ok((sent, answered, link.waiting()))
+}
+
+#[test]
+fn sync_sent_and_answered(rt: HostRuntime) -> Result<(), Fail> {
+    assert_eq!(rt; asked(rt.alloc())?, (true, true, [0, 0, 0, 0]));
+    Ok(())
+}
