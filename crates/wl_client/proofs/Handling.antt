@@ -1,10 +1,9 @@
 -- How the handling of a message leads to a turn of a reading.
-use Rattle.std.proofs.Common.{◌≡◌, ◌≢◌, ℕ, suc, Bool, true, false, eqb, List, [], ◌∷◌, length, Option, None, Some, is_some, unwrap_or, Result, Ok, Err, is_ok, MatchOption, MatchBool, refl, sym, ap, ap₂, subst, ◌∙◌, true≢false}
+use Rattle.std.proofs.Common.{◌≡◌, ◌≢◌, ◌∙◌, ℕ, suc, Bool, true, false, cond, List, [], ◌∷◌, length, Option, None, Some, is_some, unwrap_or, Result, Ok, Err, is_ok, MatchOption, MatchBool, refl, sym, ap, ap₂, subst, true≢false}
 use mathlib.Core.Logic.{inr}
 use Rattle.std.proofs.lemmas.Bool.{ne_eqb}
 use Rattle.wl_wire.specs.declared.argument.ArgumentType.{ArgumentType}
 use Rattle.wl_wire.specs.declared.argument.Token.{Token}
-use Rattle.wl_wire.specs.declared.error.IoFault.{IoFault}
 use Rattle.wl_wire.specs.declared.error.MessageParseError.{MessageParseError}
 use Rattle.wl_wire.specs.declared.error.MessageParseError.TheVariants as errors
 use Rattle.wl_wire.specs.declared.message.Message.{Message}
@@ -13,27 +12,26 @@ use Rattle.wl_wire.specs.Message.{WireMessage}
 use Rattle.wl_wire.specs.Reading.{Reads as ReadsArgs}
 use Rattle.wl_wire.specs.Table.{MessageRow}
 use Rattle.wl_link.specs.declared.object.Object.{Object}
-use Rattle.wl_link.specs.Exchange.{Queue}
 use Rattle.wl_link.specs.Identity.{Objects}
 use Rattle.wl_link.specs.Link.{LinkState, ReadOne, ReadFound}
 use Rattle.wl_link.specs.ObjectMap.{MapState}
 use Rattle.wl_link.specs.Store.{Store, held}
-use Rattle.wl_client.specs.declared.error.EventError.{EventError}
 use Rattle.wl_client.specs.declared.event_fault.EventFault.{EventFault}
 use Rattle.wl_client.specs.declared.kept.Kept.{Kept}
 use Rattle.wl_client.specs.declared.open_event.OpenEvent.{OpenEvent}
 use Rattle.wl_client.specs.declared.receive.Handled.{Handled}
 use Rattle.wl_client.specs.declared.receive.Handled.TheVariants as handled
-use Rattle.wl_client.specs.ObjectId.{IdParts}
-use Rattle.wl_client.specs.Conversion.{objects_in}
-use Rattle.wl_client.specs.Events.{Outcome, Whole, Wrong, convert, start, error_of, display_event}
-use Rattle.wl_client.specs.Reading.{Handles, HandlesConverted, HandlesDisplay, HandlesEvent, Reads, ReadsAs, Stores, row_of, with_link}
-use Rattle.wl_client.specs.Requests.{SessionMessage, session_content}
-use Rattle.wl_client.specs.Session.{SessionState, objects_of, with_objects}
 use Rattle.wl_client.specs.declared.turn.NoEvent.{NoEvent}
 use Rattle.wl_client.specs.declared.turn.Turn.{Turn as Turned}
 use Rattle.wl_client.specs.declared.turn.Turn.TheVariants as turned
-use Rattle.wl_client.specs.Turns.{HandledAs, HandledTo, Turns, no_turns}
+use Rattle.wl_client.specs.ObjectId.{IdParts}
+use Rattle.wl_client.specs.Conversion.{objects_in}
+use Rattle.wl_client.specs.Events.{Outcome, Whole, Wrong, convert, start, error_of, display_event}
+use Rattle.wl_client.specs.Handling.{Handling, Swallows, HandsOut, Breaks, handling, of_converted, of_display, of_event, event_of, opened_of}
+use Rattle.wl_client.specs.Reading.{ReadsAs, row_of, with_link}
+use Rattle.wl_client.specs.Requests.{SessionMessage}
+use Rattle.wl_client.specs.Session.{SessionState, objects_of, with_objects}
+use Rattle.wl_client.specs.Turns.{HandledAs, HandledTo, Turns}
 
 -- ---- as many arguments as places
 
@@ -80,133 +78,89 @@ known : {A : Type 0} {P : A → Type 0} (o : Option A) → MatchOption o ⊥ P �
 known None p = absurd p
 known (Some x) p = (x, refl, p)
 
-pick_true : (A B : Type 0) (b : Bool) → b ≡ true → A → MatchBool b A B
-pick_true A B true e a = a
-pick_true A B false e a = absurd (true≢false (sym e))
-
-pick_false : (A B : Type 0) (b : Bool) → b ≡ false → B → MatchBool b A B
-pick_false A B true e b = absurd (true≢false e)
-pick_false A B false e b = b
-
 module _ {T U : Type 0} where
-  -- what an event came to, over the session that took it off its link
-  abbrev pub HandledBy : SessionState T U → WireMessage → MessageRow → Handled → Objects (Kept U) → Type 0
-  HandledBy before m row h after =
-      (x : Object (Kept U)) × (held before.store m.sender ≡ Some x)
-      × HandledAs m x row (convert x.version x.value.client_destroyed (start (objects_of before) row) [] m.args) h after
+  -- what an event came to, in each of its cases
+  module _ (before : SessionState T U) (m : WireMessage) (row : MessageRow) (x : Object (Kept U)) where
+    abbrev came : Outcome U → Handling U
+    came outcome = of_converted before.table (objects_of before) m x row outcome
 
-  pub handled_by : (before : SessionState T U) (m : WireMessage) (map : MapState (Kept U)) (row : MessageRow) (h : Handled) (after : Objects (Kept U))
-      → map.store ≡ before.store
-      → MatchOption (held map.store m.sender) ⊥
-      (λ x. HandledAs m x row (convert x.version x.value.client_destroyed (start (objects_in map before.last_serial) row) [] m.args) h after)
-      → HandledBy before m row h after
-  handled_by before m map row h after same fact =
-      known (held before.store m.sender)
-      (subst (λ (s : Store (Kept U)). MatchOption (held s m.sender) ⊥
-      (λ x. HandledAs m x row (convert x.version x.value.client_destroyed (start (record { store = s; last_serial = before.last_serial }) row) [] m.args) h after))
-      same fact)
-
-  -- the words that the cases share: the session, the message, its row, and how the reading may end
-  module _ (before : SessionState T U) (m : WireMessage) (row : MessageRow) (answer : Result SessionMessage EventError) (refused : Bool)
-      (end : SessionState T U) (on : SessionState T U → Type 0) where
-    handles_event : (last : Type 0) (x : Object (Kept U)) → eqb m.sender 1 ≡ false → held before.store m.sender ≡ Some x
-        → row_of before m.sender m.opcode ≡ Some row
-        → HandlesConverted before m x row (convert x.version x.value.client_destroyed (start (objects_of before) row) [] m.args) last answer refused end on
-        → Handles before m last answer refused end on
-    handles_event last x other receiver is c =
-        subst (λ (b : Bool). MatchBool b (HandlesDisplay before (display_event m.opcode m.args) last answer refused end on)
-        (HandlesEvent before m (held before.store m.sender) (row_of before m.sender m.opcode) last answer refused end on)) (sym other)
-        (subst (λ (o : Option (Object (Kept U))). HandlesEvent before m o (row_of before m.sender m.opcode) last answer refused end on) (sym receiver)
-        (subst (λ (r : Option MessageRow). HandlesEvent before m (Some x) r last answer refused end on) (sym is) c))
-
-    swallows : (last : Type 0) (x : Object (Kept U)) (outcome : Outcome U) (objects : Objects (Kept U))
-        → HandledAs m x row outcome handled.Swallowed objects → on (with_objects before objects)
-        → HandlesConverted before m x row outcome last answer refused end on
-    swallows last x (Whole c args) objects (destroyed, same) h =
-        pick_true _ _ x.value.client_destroyed destroyed
-        (subst (λ (o : Objects (Kept U)). on (with_objects before o)) same h)
-    swallows last x (Wrong w o) objects f h = absurd f
-
-    faults : (x : Object (Kept U)) (outcome : Outcome U) (w : EventFault) (objects : Objects (Kept U))
-        → HandledAs m x row outcome (handled.Fault w) objects → Stores (with_objects before objects) (error_of before.table w) answer refused end
-        → HandlesConverted before m x row outcome (no_turns ≡ []) answer refused end on
-    faults x (Whole c args) w objects f s = absurd f
-    faults x (Wrong w' o) w objects (same_fault, same) s = (
-      refl,
-      subst (λ (o' : Objects (Kept U)). Stores (with_objects before o') (error_of before.table w') answer refused end) same
-          (subst (λ (v : EventFault). Stores (with_objects before objects) (error_of before.table v) answer refused end) same_fault s),
-    )
-
-    pub swallowed : (last : Type 0) (objects : Objects (Kept U)) → eqb m.sender 1 ≡ false → row_of before m.sender m.opcode ≡ Some row
-        → HandledBy before m row handled.Swallowed objects → on (with_objects before objects)
-        → Handles before m last answer refused end on
-    swallowed last objects other is (x, receiver, f) h = handles_event last x other receiver is (swallows last x _ objects f h)
-
-    pub faulted : (w : EventFault) (objects : Objects (Kept U)) → eqb m.sender 1 ≡ false → row_of before m.sender m.opcode ≡ Some row
-        → HandledBy before m row (handled.Fault w) objects → Stores (with_objects before objects) (error_of before.table w) answer refused end
-        → Handles before m (no_turns ≡ []) answer refused end on
-    faulted w objects other is (x, receiver, f) s = handles_event (no_turns ≡ []) x other receiver is (faults x _ w objects f s)
-
-  module _ (before : SessionState T U) (m : WireMessage) (row : MessageRow) (on : SessionState T U → Type 0) where
     abbrev opened_in : Objects (Kept U) → OpenEvent → SessionState T U
     opened_in objects opened = record (with_objects before objects) { open_event = Some opened }
 
-    hands : (x : Object (Kept U)) (outcome : Outcome U) (e : Message IdParts Token) (opened : OpenEvent) (objects : Objects (Kept U))
-        → HandledAs m x row outcome (handled.Event e opened) objects
-        → HandlesConverted before m x row outcome (no_turns ≡ []) (Ok (session_content e)) false (opened_in objects opened) on
-    hands x (Whole c args) e opened objects (alive, content_is, opened_is, same) =
-        pick_false _ _ x.value.client_destroyed alive (refl, ap Ok content_is, refl, ap₂ opened_in same opened_is)
-    hands x (Wrong w o) e opened objects f = absurd f
+    -- the two ends of an event whose arguments are whole
+    abbrev whole : Bool → Objects (Kept U) → SessionMessage → OpenEvent → Handling U
+    whole destroyed o e opened = cond destroyed (Swallows o) (HandsOut e opened o)
 
-    pub handed_out : (e : Message IdParts Token) (opened : OpenEvent) (objects : Objects (Kept U)) → eqb m.sender 1 ≡ false
-        → row_of before m.sender m.opcode ≡ Some row → HandledBy before m row (handled.Event e opened) objects
-        → Handles before m (no_turns ≡ []) (Ok (session_content e)) false (record (with_objects before objects) { open_event = Some opened }) on
-    handed_out e opened objects other is (x, receiver, f) =
-        handles_event before m row (Ok (session_content e)) false (opened_in objects opened) on (no_turns ≡ []) x other receiver is (hands x _ e opened objects f)
+    swallows : (outcome : Outcome U) (objects : Objects (Kept U)) → HandledAs m x row outcome handled.Swallowed objects
+        → HandledTo before (came outcome) turned.GoesOn (with_objects before objects)
+    swallows (Whole c args) objects (destroyed, same) =
+        subst (λ (b : Bool). HandledTo before (whole b c.objects (event_of m x args) (opened_of m x row c.created)) turned.GoesOn (with_objects before objects))
+        (sym destroyed) (ap (with_objects before) same)
+    swallows (Wrong w o) objects f = absurd f
 
-  -- ---- turns
+    hands : (outcome : Outcome U) (e : Message IdParts Token) (opened : OpenEvent) (objects : Objects (Kept U)) → HandledAs m x row outcome (handled.Event e opened) objects
+        → HandledTo before (came outcome) (turned.Event e) (opened_in objects opened)
+    hands (Whole c args) e opened objects (alive, content, opens, same) =
+        subst (λ (b : Bool). HandledTo before (whole b c.objects (event_of m x args) (opened_of m x row c.created)) (turned.Event e) (opened_in objects opened))
+        (sym alive) (content, ap₂ opened_in same opens)
+    hands (Wrong w o) e opened objects f = absurd f
 
-  module _ (receives : T → ℕ → Result Queue IoFault → T → Type 0) (before : SessionState T U) (m : WireMessage) (link : LinkState T)
-      (took : ReadsAs before (Ok m) link) where
-    turns_by : (turned : Turned) (after : SessionState T U) → HandledTo receives (with_link before link) m turned after → Turns receives before turned after
-    turns_by turned after h = inr (m, link, took, h)
+    faults : (outcome : Outcome U) (w : EventFault) (objects : Objects (Kept U)) (end : NoEvent) (after : SessionState T U) → HandledAs m x row outcome (handled.Fault w) objects
+        → HandledTo before (Breaks (error_of before.table w) objects) (turned.Ends end) after → HandledTo before (came outcome) (turned.Ends end) after
+    faults (Whole c args) w objects end after f h = absurd f
+    faults (Wrong w' o) w objects end after (fault, same) h =
+        subst (λ (z : Objects (Kept U)). HandledTo before (Breaks (error_of before.table w') z) (turned.Ends end) after) same
+        (subst (λ (z : EventFault). HandledTo before (Breaks (error_of before.table z) objects) (turned.Ends end) after) fault h)
 
-    pub display_turns : (store : Store (Kept U)) (turned : Turned) (after : SessionState T U) → store ≡ before.store
-        → HandledTo receives (record (with_link before link) { store = store }) m turned after → Turns receives before turned after
-    display_turns store turned after same h =
-        turns_by turned after
-        (subst (λ (s : Store (Kept U)). HandledTo receives (record (with_link before link) { store = s }) m turned after) same h)
+  -- the message was taken off the link, and is an event of an object
+  module _ (before : SessionState T U) (m : WireMessage) (link : LinkState T) (took : ReadsAs before (Ok m) link) (map : MapState (Kept U)) (row : MessageRow)
+      (same : map.store ≡ before.store) (other : m.sender ≢ 1) (is : row_of before m.sender m.opcode ≡ Some row) (objects : Objects (Kept U)) where
+    abbrev taken : SessionState T U
+    taken = with_link before link
 
-    -- the event's row, and what handling it came to
-    module _ (map : MapState (Kept U)) (row : MessageRow) (objects : Objects (Kept U)) (same : map.store ≡ before.store)
-        (other : m.sender ≢ 1) (is : row_of before m.sender m.opcode ≡ Some row) where
-      abbrev Came : Handled → Type 0
-      Came h = MatchOption (held map.store m.sender) ⊥
-          (λ x. HandledAs m x row (convert x.version x.value.client_destroyed (start (objects_in map before.last_serial) row) [] m.args) h objects)
+    abbrev outcome : Object (Kept U) → Outcome U
+    outcome x = convert x.version x.value.client_destroyed (start (objects_of before) row) [] m.args
 
-      by : (h : Handled) → Came h → HandledBy (with_link before link) m row h objects
-      by h came = handled_by (with_link before link) m map row h objects same came
+    abbrev Came : Handled → Type 0
+    Came h = MatchOption (held map.store m.sender) ⊥
+        (λ x. HandledAs m x row (convert x.version x.value.client_destroyed (start (objects_in map before.last_serial) row) [] m.args) h objects)
 
-      pub swallowed_turns : Came handled.Swallowed → Turns receives before turned.GoesOn (with_objects (with_link before link) objects)
-      swallowed_turns came =
-          turns_by turned.GoesOn (with_objects (with_link before link) objects) (
-            refl,
-            λ left rest answer refused end goes. swallowed (with_link before link) m row answer refused end
-                (λ mid. Reads receives left mid rest answer refused end) (rest ≡ []) objects (ne_eqb m.sender 1 other) is (by handled.Swallowed came) goes,
-          )
+    by : (h : Handled) (turned : Turned) (after : SessionState T U) → Came h
+        → ((x : Object (Kept U)) → HandledAs m x row (outcome x) h objects → HandledTo taken (of_converted before.table (objects_of before) m x row (outcome x)) turned after)
+        → Turns before turned after
+    by h turned after fact to =
+        let seen = known (held before.store m.sender) (subst (λ (s : Store (Kept U)). MatchOption (held s m.sender) ⊥
+        (λ x. HandledAs m x row (convert x.version x.value.client_destroyed (start (record { store = s; last_serial = before.last_serial }) row) [] m.args) h objects)) same fact) in
+        let row_known = subst (λ (r : Option MessageRow). HandledTo taken (of_event before.table (objects_of before) m (Some seen.0) r) turned after) (sym is) (to seen.0 seen.2) in
+        let known' = subst (λ (o : Option (Object (Kept U))). HandledTo taken (of_event before.table (objects_of before) m o (row_of before m.sender m.opcode)) turned after) (sym seen.1) row_known in
+        inr (
+          m,
+          link,
+          took,
+          subst (λ (b : Bool). HandledTo taken (cond b (of_display before.table (objects_of before) (display_event m.opcode m.args))
+              (of_event before.table (objects_of before) m (held before.store m.sender) (row_of before m.sender m.opcode))) turned after) (sym (ne_eqb m.sender 1 other)) known',
+        )
 
-      pub faulted_turns : (w : EventFault) (end : NoEvent) (after : SessionState T U) → Came (handled.Fault w)
-          → Stores (with_objects (with_link before link) objects) (error_of before.table w) (Err end.error) end.refused after
-          → Turns receives before (turned.Ends end) after
-      faulted_turns w end after came stores =
-          turns_by (turned.Ends end) after
-          (λ left. faulted (with_link before link) m row (Err end.error) end.refused after
-          (λ mid. Reads receives left mid [] (Err end.error) end.refused after) w objects (ne_eqb m.sender 1 other) is (by (handled.Fault w) came) stores)
+    pub swallowed_turns : Came handled.Swallowed → Turns before turned.GoesOn (with_objects taken objects)
+    swallowed_turns fact = by handled.Swallowed turned.GoesOn (with_objects taken objects) fact (λ x h. swallows taken m row x (outcome x) objects h)
 
-      pub handed_turns : (e : Message IdParts Token) (opened : OpenEvent) → Came (handled.Event e opened)
-          → Turns receives before (turned.Event e) (record (with_objects (with_link before link) objects) { open_event = Some opened })
-      handed_turns e opened came =
-          turns_by (turned.Event e) (record (with_objects (with_link before link) objects) { open_event = Some opened })
-          (λ left. handed_out (with_link before link) m row
-          (λ mid. Reads receives left mid [] (Ok (session_content e)) false (record (with_objects (with_link before link) objects) { open_event = Some opened }))
-          e opened objects (ne_eqb m.sender 1 other) is (by (handled.Event e opened) came))
+    pub handed_turns : (e : Message IdParts Token) (opened : OpenEvent) → Came (handled.Event e opened)
+        → Turns before (turned.Event e) (record (with_objects taken objects) { open_event = Some opened })
+    handed_turns e opened fact = by (handled.Event e opened) (turned.Event e) _ fact (λ x h. hands taken m row x (outcome x) e opened objects h)
+
+    pub faulted_turns : (w : EventFault) (end : NoEvent) (after : SessionState T U) → Came (handled.Fault w)
+        → HandledTo (with_objects taken objects) (Breaks (error_of before.table w) objects) (turned.Ends end) after → Turns before (turned.Ends end) after
+    faulted_turns w end after fact ended = by (handled.Fault w) (turned.Ends end) after fact (λ x h. faults taken m row x (outcome x) w objects end after h ended)
+
+  pub display_turns : (before : SessionState T U) (m : WireMessage) (link : LinkState T) → ReadsAs before (Ok m) link → (store : Store (Kept U)) (turned : Turned) (after : SessionState T U)
+      → store ≡ before.store
+      → HandledTo (record (with_link before link) { store = store }) (handling before.table (record { store = store; last_serial = before.last_serial }) m) turned after
+      → Turns before turned after
+  display_turns before m link took store turned after same h =
+      inr (
+        m,
+        link,
+        took,
+        subst (λ (s : Store (Kept U)). HandledTo (record (with_link before link) { store = s })
+            (handling before.table (record { store = s; last_serial = before.last_serial }) m) turned after) same h,
+      )

@@ -1,46 +1,47 @@
--- How turns and receives join to a reading.
-use Rattle.std.proofs.Common.{◌≡◌, ◌≢◌, ◌∙◌, ℕ, suc, ◌+◌, ◌-◌, ◌<◌, ◌≤◌, Bool, Option, None, Some, List, [], ◌∷◌, length, Result, Ok, Err, refl, sym, ap, subst, arith, MatchBool, MatchResult, true, false, true≢false, is_ok}
+-- How the functions of a client's reading say the reader's words.
+use Rattle.std.proofs.Common.{◌≡◌, ◌≢◌, ◌∙◌, ℕ, ◌+◌, ◌<◌, ◌≤◌, Bool, true, false, ◌||◌, ◌&&◌, List, [], ◌∷◌, append-nil, length, nat_lt, Option, None, Some, is_some, is_none, Result, Ok, Err, is_ok, MatchBool, refl, sym, ap, ap₂, subst, arith, true≢false}
 use mathlib.Core.Logic.{inl, inr}
-use Rattle.wl_wire.specs.declared.error.IoFault.{IoFault}
-use Rattle.wl_wire.specs.declared.error.MessageParseError.{MessageParseError}
-use Rattle.wl_wire.specs.declared.error.MessageParseError.TheVariants as errors
-use Rattle.wl_wire.specs.Message.{WireMessage}
-use Rattle.wl_link.specs.Exchange.{Queue}
-use Rattle.wl_link.specs.Link.{LinkState, Filled, ReadFound}
+use Rattle.std.proofs.lemmas.Bool.{lt-ltb}
 use Rattle.std.proofs.lemmas.List.{length-drop}
 use Rattle.wl_wire.specs.declared.argument.ArgumentType.{ArgumentType}
+use Rattle.wl_wire.specs.declared.argument.Token.{Token}
+use Rattle.wl_wire.specs.declared.error.IoFault.{IoFault}
 use Rattle.wl_wire.specs.declared.error.IoFault.TheVariants as fault
+use Rattle.wl_wire.specs.declared.error.MessageParseError.{MessageParseError}
+use Rattle.wl_wire.specs.declared.error.MessageParseError.TheVariants as parse
+use Rattle.wl_wire.specs.declared.interface.InterfaceId.{InterfaceId}
+use Rattle.wl_wire.specs.declared.message.Message.{Message}
+use Rattle.wl_wire.specs.Message.{WireMessage}
 use Rattle.wl_wire.specs.Parse.{length_of}
+use Rattle.wl_wire.specs.Table.{MessageRow}
+use Rattle.wl_link.specs.Exchange.{Queue}
+use Rattle.wl_link.specs.Link.{LinkState, Filled, ReadFound}
+use Rattle.wl_link.specs.Puts.{lacked_memory}
+use Rattle.wl_link.specs.Reader.{AsksForMemory, CarriesOut, Given, HandedOut, Part}
+use Rattle.wl_link.specs.ReaderLoops.{EndsSo, LeadsOn, ReceivedTo as PartReceived, SoFar, begins, ends_at, ends_there, leads_on, none_left, one_more, receive_ends, receive_goes_on, received_fault, starves_there}
+use Rattle.wl_link.specs.Served.{Handles}
 use Rattle.wl_client.specs.declared.error.EventError.{EventError}
 use Rattle.wl_client.specs.declared.error.EventError.TheVariants as no_event
 use Rattle.wl_client.specs.declared.error.WaylandError.TheVariants.{Io}
 use Rattle.wl_client.specs.declared.turn.NoEvent.{NoEvent}
+use Rattle.wl_client.specs.declared.turn.Turn.{Turn as Turned}
 use Rattle.wl_client.specs.declared.turn.Turn.TheVariants as turned
-use Rattle.wl_client.specs.Reading.{Turn, Received, Handled, Faulted, Lacks, Reads, receives_allowed, with_error, with_link}
-use Rattle.wl_wire.specs.declared.argument.Token.{Token}
-use Rattle.wl_wire.specs.declared.message.Message.{Message}
 use Rattle.wl_client.specs.ObjectId.{IdParts}
+use Rattle.wl_client.specs.Handling.{Handling, Swallows, HandsOut, Breaks, front_row, handling}
+use Rattle.wl_client.specs.Reading.{Core, Lacks, ReadsAs, ReadsTo, answered, by_fault, client, core_of, faulted, handed_by, part_of, reads_on, receives_allowed, row_asks, verdict, with_link}
 use Rattle.wl_client.specs.Requests.{SessionMessage, session_content}
-use Rattle.wl_client.specs.Session.{SessionState}
-use Rattle.wl_client.specs.Turns.{EndsSo, LeadsOn, ReceivedTo, Turns, no_turns}
+use Rattle.wl_client.specs.Session.{SessionState, objects_of}
+use Rattle.wl_client.specs.Turns.{EndsAs, HandledTo, Leads, Live, NotTaken, ReceivedTo, RowAsks, Turns, event_answer, event_refused, malformed}
 
 abbrev ok_answer : WireMessage → Result WireMessage MessageParseError
 ok_answer m = Ok m
-
-abbrev error_of_answer : Result SessionMessage EventError → EventError
-error_of_answer (Ok _) = no_event.Failed
-error_of_answer (Err e) = e
-
-abbrev fault_of_answer : Result (Unit {0}) IoFault → IoFault
-fault_of_answer (Ok _) = fault.Pipe
-fault_of_answer (Err f) = f
 
 -- a message that was read has left the link
 shorter_found : {T : Type 0} (found : Option (List ArgumentType)) (before : LinkState T) (m : WireMessage) (after : LinkState T)
     → ReadFound found before (Ok m) after → length after.incoming.bytes < length before.incoming.bytes
 shorter_found None before m after (impossible, same) = absurd (ok_err impossible)
   where
-    ok_err : ok_answer m ≡ Err errors.Malformed → ⊥
+    ok_err : ok_answer m ≡ Err parse.Malformed → ⊥
     ok_err e = true≢false (ap is_ok e)
 shorter_found (Some signature) before m after (reads, left) =
     subst (λ (l : LinkState _). length l.incoming.bytes < length before.incoming.bytes) (sym left)
@@ -48,166 +49,250 @@ shorter_found (Some signature) before m after (reads, left) =
 
 shorter_at : {T : Type 0} (b : Bool) (looks_up : Option (List ArgumentType) → Type 0) (before : LinkState T) (m : WireMessage) (after : LinkState T)
     → MatchBool b ((found : Option (List ArgumentType)) × looks_up found × ReadFound found before (Ok m) after)
-    ((ok_answer m ≡ Err errors.MissingData) × (after ≡ before))
+    ((ok_answer m ≡ Err parse.MissingData) × (after ≡ before))
     → length after.incoming.bytes < length before.incoming.bytes
 shorter_at true looks_up before m after (found, is, read) = shorter_found found before m after read
 shorter_at false looks_up before m after (impossible, same) = absurd (ok_err impossible)
   where
-    ok_err : ok_answer m ≡ Err errors.MissingData → ⊥
+    ok_err : ok_answer m ≡ Err parse.MissingData → ⊥
     ok_err e = true≢false (ap is_ok e)
 
-module _ {T U : Type 0} (receives : T → ℕ → Result Queue IoFault → T → Type 0) where
-  pub here : (s : SessionState T U) → LeadsOn receives s s
-  here s left rest answer refused end r = (rest, r)
+-- what a turn gives, and whether memory was refused in it
+abbrev pub given_by : Turned → List (Given SessionMessage)
+given_by (turned.Event e) = HandedOut (session_content e) ∷ []
+given_by _ = []
 
-  -- a message more
-  pub on_more : (start before : SessionState T U) (after : SessionState T U) → LeadsOn receives start before
-      → Turns receives before turned.GoesOn after → LeadsOn receives start after
-  on_more start before after leads (inl impossible) = absurd impossible
-  on_more start before after leads (inr (m, link, took, on)) =
-      λ left rest answer refused end r. leads left (Handled m ∷ rest) answer refused end (link, took, on.1 left rest answer refused end r)
+abbrev pub refused_by : Turned → Bool
+refused_by (turned.Ends end) = end.refused
+refused_by _ = false
 
-  pub event_ends : (start before : SessionState T U) (e : Message IdParts Token) (after : SessionState T U) → LeadsOn receives start before
-      → Turns receives before (turned.Event e) after → EndsSo receives start (Ok (session_content e)) false after
-  event_ends start before e after leads (inl impossible) = absurd impossible
-  event_ends start before e after leads (inr (m, link, took, last)) =
-      λ left. leads left (Handled m ∷ []) (Ok (session_content e)) false after (link, took, last left)
+and_false : (b : Bool) → b && false ≡ false
+and_false true = refl
+and_false false = refl
 
-  pub end_ends : (start before : SessionState T U) (end : NoEvent) (after : SessionState T U) → LeadsOn receives start before
-      → Turns receives before (turned.Ends end) after → EndsSo receives start (Err end.error) end.refused after
-  end_ends start before end after leads (inl ends) = λ left. leads left [] (Err end.error) end.refused after (ends left)
-  end_ends start before end after leads (inr (m, link, took, last)) =
-      λ left. leads left (Handled m ∷ []) (Err end.error) end.refused after (link, took, last left)
+or_false : (b : Bool) → b ≡ b || false
+or_false true = refl
+or_false false = refl
 
-  pub lacks_waits : (start before : SessionState T U) (after : SessionState T U) → LeadsOn receives start before
-      → Turns receives before turned.Lacks after → Lacks after × LeadsOn receives start after
-  lacks_waits start before after leads (inl (lacks, same)) =
-      (subst (λ (s : SessionState T U). Lacks s) (sym same) lacks, subst (λ (s : SessionState T U). LeadsOn receives start s) (sym same) leads)
-  lacks_waits start before after leads (inr (m, link, took, impossible)) = absurd impossible
+row_asks_memory : (row : Option MessageRow) → RowAsks row → row_asks row ≡ true
+row_asks_memory None asks = absurd asks
+row_asks_memory (Some row) (inl some) = made row.child_interface some
+  where
+    made : (o : Option InterfaceId) → o ≢ None → is_some o || nat_lt 4 (length row.signature) ≡ true
+    made None some = absurd (some refl)
+    made (Some i) some = refl
+row_asks_memory (Some row) (inr many) = or_true (is_some row.child_interface) (nat_lt 4 (length row.signature)) (lt-ltb 4 (length row.signature) many)
+  where
+    or_true : (a b : Bool) → b ≡ true → a || b ≡ true
+    or_true true b is = refl
+    or_true false b is = is
 
-  pub shorter : (before after : SessionState T U) → Turns receives before turned.GoesOn after
-      → length after.link.incoming.bytes < length before.link.incoming.bytes
-  shorter before after (inl impossible) = absurd impossible
-  shorter before after (inr (m, link, took, on)) =
-      subst (λ (l : LinkState T). length l.incoming.bytes < length before.link.incoming.bytes) (sym on.0)
-      (shorter_at _ _ before.link m link took)
+module _ {T U : Type 0} where
+  live_reads : (s : SessionState T U) → Live s → reads_on (core_of s) ≡ true
+  live_reads s (live, unopened) = ap₂ (λ (e : Option _) (o : Option _). is_none e && is_none o) live unopened
 
-  -- ---- receives
-
-  faulted_of : (before : SessionState T U) (link : LinkState T) (end : NoEvent) (after : SessionState T U) → link ≡ before.link
-      → Faulted (with_link before link) fault.OutOfMemory (Err end.error) end.refused after
-      → (end.error ≡ no_event.OutOfMemory) × (end.refused ≡ true) × (after ≡ before)
-  faulted_of before link end after same (error_is, refused_is, after_is) =
-      (ap error_of_answer error_is, refused_is, after_is ∙ ap (with_link before) same)
-
-  -- a fault of a receive ends the reading
-  pub received_fault : (before : SessionState T U) (link : LinkState T) (f : IoFault) (end : NoEvent) (after : SessionState T U)
-      → Filled receives before.link (Err f) link → Faulted (with_link before link) f (Err end.error) end.refused after
-      → ReceivedTo receives before (Some end) after
-  received_fault before link f end after (inl (r, made)) faulted =
-      inl (r, link, (made.0, refl, made.2), (f, sym made.1, faulted))
-  received_fault before link f end after (inr (answer_is, same)) faulted =
-      inr (faulted_of before link end after same
-      (subst (λ (g : IoFault). Faulted (with_link before link) g (Err end.error) end.refused after) (ap fault_of_answer answer_is) faulted))
-
-  -- a fault after which no more may come is stored
-  pub fault_stored : (s after : SessionState T U) (f : IoFault) → f ≢ fault.WouldBlock → f ≢ fault.OutOfMemory
-      → after ≡ with_error s (Io f) → Faulted s f (Err no_event.Failed) false after
-  fault_stored s after fault.WouldBlock blocks memory e = absurd (blocks refl)
-  fault_stored s after fault.Pipe blocks memory e = (refl, refl, e)
-  fault_stored s after fault.TooBig blocks memory e = (refl, refl, e)
-  fault_stored s after fault.Proto blocks memory e = (refl, refl, e)
-  fault_stored s after fault.InvalidInput blocks memory e = (refl, refl, e)
-  fault_stored s after fault.OutOfMemory blocks memory e = absurd (memory refl)
-  fault_stored s after (fault.Other n) blocks memory e = (refl, refl, e)
-
-  -- a receive after which the reading goes on
-  pub received_on : (start before after : SessionState T U) (left : ℕ) → Lacks before → LeadsOn receives start before
-      → ReceivedTo receives before None after
-      → (rest : List Turn) (answer : Result SessionMessage EventError) (refused : Bool) (end : SessionState T U)
-      → Reads receives left after rest answer refused end → (turns : List Turn) × Reads receives (suc left) start turns answer refused end
-  received_on start before after left lacks leads (r, made, came, is) rest answer refused end reads =
-      leads (suc left) (Received r ∷ rest) answer refused end (
-        lacks,
-        (
-          left,
-          refl,
-          (
-            after.link,
-            made,
-            subst (λ (c : Result (Unit {0}) IoFault). MatchResult c
-                (λ _. Reads receives left (with_link before after.link) rest answer refused end)
-                (λ f. (rest ≡ []) × Faulted (with_link before after.link) f answer refused end)) (sym came)
-                (subst (λ (s : SessionState T U). Reads receives left s rest answer refused end) is reads),
-          ),
-        ),
+  -- what a message came to is a verdict that was carried out
+  pub carried : (sends : T → Queue → Result ℕ IoFault → T → Type 0) (s : SessionState T U) (h : Handling U) (turned : Turned) (after : SessionState T U) → HandledTo s h turned after
+      → CarriesOut sends client (verdict (core_of s) h) s.link [] (given_by turned) (refused_by turned) (part_of after)
+  carried sends s (Swallows o) turned.GoesOn after same =
+      inl ([], [], [], Ok tt, s.link, false, (refl, refl, refl, refl), (refl, ap (λ (x : SessionState T U). x.link) same, refl), refl, ap core_of same, refl, refl)
+  carried sends s (HandsOut m event o) (turned.Event e) after (content, same) =
+      inl (
+        [],
+        [],
+        [],
+        Ok tt,
+        s.link,
+        false,
+        (refl, refl, refl, refl),
+        (refl, ap (λ (x : SessionState T U). x.link) same, refl),
+        refl,
+        ap core_of same,
+        ap (λ (x : SessionMessage). let l : List (Given SessionMessage) = HandedOut x ∷ [] in l) content,
+        refl,
       )
+  carried sends s (Breaks e o) (turned.Ends end) after (failed, inl (unasked, same)) =
+      inl ([], [], [], Ok tt, s.link, false, (refl, refl, refl, refl), (refl, ap (λ (x : SessionState T U). x.link) same, refl), refl, ap core_of same, refl, unasked)
+  carried sends s (Breaks e o) (turned.Ends end) after (failed, inr (asked, same)) = inr (refl, asked, refl, refl, ap part_of same)
+  carried sends s (Swallows o) turned.Lacks after h = absurd h
+  carried sends s (Swallows o) (turned.Event e) after h = absurd h
+  carried sends s (Swallows o) (turned.Ends end) after h = absurd h
+  carried sends s (HandsOut m event o) turned.Lacks after h = absurd h
+  carried sends s (HandsOut m event o) turned.GoesOn after h = absurd h
+  carried sends s (HandsOut m event o) (turned.Ends end) after h = absurd h
+  carried sends s (Breaks e o) turned.Lacks after h = absurd h
+  carried sends s (Breaks e o) turned.GoesOn after h = absurd h
+  carried sends s (Breaks e o) (turned.Event e') after h = absurd h
 
-  -- a receive that ends the reading
-  pub received_ends : (start before : SessionState T U) (left : ℕ) (end : NoEvent) (after : SessionState T U) → Lacks before
-      → LeadsOn receives start before → ReceivedTo receives before (Some end) after
-      → (turns : List Turn) × Reads receives (suc left) start turns (Err end.error) end.refused after
-  received_ends start before left end after lacks leads (inl (r, link, made, (f, came, faulted))) =
-      leads (suc left) (Received r ∷ []) (Err end.error) end.refused after (
-        lacks,
-        (
-          left,
-          refl,
-          (
-            link,
-            made,
-            subst (λ (c : Result (Unit {0}) IoFault). MatchResult c
-                (λ _. Reads receives left (with_link before link) [] (Err end.error) end.refused after)
-                (λ g. (no_turns ≡ []) × Faulted (with_link before link) g (Err end.error) end.refused after)) (sym came) (refl, faulted),
-          ),
-        ),
-      )
-  received_ends start before left end after lacks leads (inr (error_is, refused_is, same)) =
-      leads (suc left) [] (Err end.error) end.refused after (inr (inr (ap Err error_is, refused_is, same, inr (inr (lacks, omega (arith))))))
+  -- ---- which turns leave the session live
 
-  -- no receive is left
-  pub none_left : (start before : SessionState T U) → Lacks before → LeadsOn receives start before
-      → (turns : List Turn) × Reads receives 0 start turns (Err no_event.WouldBlock) false before
-  none_left start before lacks leads = leads 0 [] (Err no_event.WouldBlock) false before (inl (lacks, refl, refl, refl, refl))
+  lives : (s after : SessionState T U) (h : Handling U) → Live s → HandledTo s h turned.GoesOn after → Live after
+  lives s after (Swallows o) (live, unopened) same = (ap (λ (x : SessionState T U). x.error) same ∙ live, ap (λ (x : SessionState T U). x.open_event) same ∙ unopened)
+  lives s after (HandsOut m event o) live h = absurd h
+  lives s after (Breaks e o) live h = absurd h
 
-  -- ---- all receives
+  opens : (s after : SessionState T U) (h : Handling U) (e : Message IdParts Token) → HandledTo s h (turned.Event e) after → reads_on (core_of after) ≡ false
+  opens s after (HandsOut m event o) e (content, same) = ap (λ (x : SessionState T U). reads_on (core_of x)) same ∙ and_false (is_none s.error)
+  opens s after (Swallows o) e h = absurd h
+  opens s after (Breaks e' o) e h = absurd h
 
-  -- after so many receives, where those that are left may lead, all may
-  abbrev pub SoFar : SessionState T U → ℕ → SessionState T U → Type 0
-  SoFar start used now =
-      (left : ℕ) → used + left ≡ receives_allowed → (rest : List Turn) (answer : Result SessionMessage EventError) (refused : Bool)
-      (end : SessionState T U) → Reads receives left now rest answer refused end
-      → (turns : List Turn) × Reads receives receives_allowed start turns answer refused end
+  fails : (s after : SessionState T U) (h : Handling U) (end : NoEvent) → HandledTo s h (turned.Ends end) after → (reads_on (core_of after) ≡ false) × (end.error ≡ no_event.Failed)
+  fails s after (Breaks e o) end (failed, inl (unasked, same)) = (ap (λ (x : SessionState T U). reads_on (core_of x)) same, failed)
+  fails s after (Breaks e o) end (failed, inr (asked, same)) = (ap (λ (x : SessionState T U). reads_on (core_of x)) same, failed)
+  fails s after (Swallows o) end h = absurd h
+  fails s after (HandsOut m event o) end h = absurd h
 
-  pub begins : (s : SessionState T U) → SoFar s 0 s
-  begins s left e rest answer refused end reads =
-      let all : left ≡ receives_allowed = omega (arith, e) in
-      (rest, subst (λ (n : ℕ). Reads receives n s rest answer refused end) all reads)
+  module _ (sends : T → Queue → Result ℕ IoFault → T → Type 0) (receives : T → ℕ → Result Queue IoFault → T → Type 0) where
+    -- a message that was taken and handled
+    took : (before after : SessionState T U) (m : WireMessage) (link : LinkState T) (turned : Turned) → ReadsAs before (Ok m) link
+        → HandledTo (with_link before link) (handling before.table (objects_of before) m) turned after
+        → Handles sends client (part_of before) (given_by turned) (refused_by turned) (part_of after)
+    took before after m link turned read h =
+        let came : Handling U = handling before.table (objects_of before) m in
+        (verdict (core_of before) came, link, [], inl (m, read, refl), carried sends (with_link before link) came turned after h)
 
-  pub ends_at : (start before : SessionState T U) (used : ℕ) (answer : Result SessionMessage EventError) (refused : Bool) (after : SessionState T U)
-      → used ≤ receives_allowed → SoFar start used before → EndsSo receives before answer refused after
-      → (turns : List Turn) × Reads receives receives_allowed start turns answer refused after
-  ends_at start before used answer refused after within so_far ends =
-      let left = receives_allowed - used in
-      so_far left (omega (arith, within)) ((ends left).0) answer refused after ((ends left).1)
+    left_there : (before after : SessionState T U) (turned : Turned) → ReadsAs before (Err parse.Malformed) before.link → HandledTo before (malformed before) turned after
+        → Handles sends client (part_of before) (given_by turned) (refused_by turned) (part_of after)
+    left_there before after turned read h =
+        (verdict (core_of before) (malformed before), before.link, [], inr (read, refl, refl), carried sends before (malformed before) turned after h)
 
-  pub receive_ends_at : (start before mid : SessionState T U) (used : ℕ) (end : NoEvent) (after : SessionState T U) → used < receives_allowed
-      → SoFar start used before → Lacks mid × LeadsOn receives before mid → ReceivedTo receives mid (Some end) after
-      → (turns : List Turn) × Reads receives receives_allowed start turns (Err end.error) end.refused after
-  receive_ends_at start before mid used end after within so_far (lacks, leads) made =
-      let left = receives_allowed - suc used in
-      let ended = received_ends before mid left end after lacks leads made in
-      so_far (suc left) (omega (arith, within)) ended.0 (Err end.error) end.refused after ended.1
+    then : (start before after : SessionState T U) (gave : List (Given SessionMessage)) (refused : Bool) → Leads sends receives start before → Live before
+        → Handles sends client (part_of before) gave refused (part_of after) → LeadsOn sends receives client (part_of start) gave refused (part_of after)
+    then start before after gave refused leads live handles =
+        leads_on sends receives client (part_of start) (part_of before) (part_of after) [] gave false refused leads
+        (one_more sends receives client (part_of before) (part_of after) gave refused (live_reads before live) handles)
 
-  pub receive_goes_on : (start before mid after : SessionState T U) (used : ℕ)
-      → SoFar start used before → Lacks mid × LeadsOn receives before mid → ReceivedTo receives mid None after → SoFar start (used + 1) after
-  receive_goes_on start before mid after used so_far (lacks, leads) made left e rest answer refused end reads =
-      let on = received_on before mid after left lacks leads made rest answer refused end reads in
-      so_far (suc left) (omega (arith, e)) on.0 answer refused end on.1
+    pub on_more : (start before after : SessionState T U) → Live before → Leads sends receives start before → Turns before turned.GoesOn after → Live after × Leads sends receives start after
+    on_more start before after live leads (inl impossible) = absurd impossible
+    on_more start before after live leads (inr (m, link, read, h)) = (
+      lives (with_link before link) after (handling before.table (objects_of before) m) live h,
+      then start before after [] false leads live (took before after m link turned.GoesOn read h),
+    )
 
-  pub none_left_at : (start before mid : SessionState T U) (used : ℕ) → used ≡ receives_allowed → SoFar start used before
-      → Lacks mid × LeadsOn receives before mid
-      → (turns : List Turn) × Reads receives receives_allowed start turns (Err no_event.WouldBlock) false mid
-  none_left_at start before mid used all so_far (lacks, leads) =
-      let ended = none_left before mid lacks leads in
-      so_far 0 (omega (arith, all)) ended.0 (Err no_event.WouldBlock) false mid ended.1
+    pub event_ends : (start before after : SessionState T U) (e : Message IdParts Token) → Live before → Leads sends receives start before → Turns before (turned.Event e) after
+        → EndsAs sends receives start (Ok e) after
+    event_ends start before after e live leads (inl impossible) = absurd impossible
+    event_ends start before after e live leads (inr (m, link, read, h)) =
+        let gave : List (Given SessionMessage) = HandedOut (session_content e) ∷ [] in
+        let on = then start before after gave false leads live (took before after m link (turned.Event e) read h) in
+        record {
+          lacked = false;
+          stopped = None;
+          short = false;
+          ends = ends_there sends receives client (part_of start) (part_of after) gave false on (opens (with_link before link) after (handling before.table (objects_of before) m) e h);
+          answer_is = refl;
+          refused_is = refl;
+        }
+
+    -- an error was stored
+    stored : (start before after : SessionState T U) (end : NoEvent) → Live before → Leads sends receives start before
+        → Handles sends client (part_of before) [] end.refused (part_of after) → (reads_on (core_of after) ≡ false) × (end.error ≡ no_event.Failed)
+        → EndsAs sends receives start (Err end) after
+    stored start before after end live leads handles (off, failed) =
+        record {
+          lacked = end.refused;
+          stopped = None;
+          short = false;
+          ends = ends_there sends receives client (part_of start) (part_of after) [] end.refused (then start before after [] end.refused leads live handles) off;
+          answer_is = ap Err failed;
+          refused_is = or_false end.refused;
+        }
+
+    pub end_ends : (start before after : SessionState T U) (end : NoEvent) → Live before → Leads sends receives start before → Turns before (turned.Ends end) after
+        → EndsAs sends receives start (Err end) after
+    end_ends start before after end live leads (inr (m, link, read, h)) =
+        stored start before after end live leads (took before after m link (turned.Ends end) read h) (fails (with_link before link) after (handling before.table (objects_of before) m) end h)
+    end_ends start before after end live leads (inl (inl (read, h))) =
+        stored start before after end live leads (left_there before after (turned.Ends end) read h) (fails before after (malformed before) end h)
+    end_ends start before after end live leads (inl (inr (is, asks, same))) =
+        record {
+          lacked = false;
+          stopped = Some fault.OutOfMemory;
+          short = true;
+          ends = subst (λ (x : SessionState T U). EndsSo sends receives client (part_of start) [] false (Some fault.OutOfMemory) true (part_of x)) (sym same)
+              (starves_there sends receives client (part_of start) (part_of before) [] false leads (live_reads before live) (asked asks));
+          answer_is = ap (λ (e : NoEvent). let r : Result SessionMessage EventError = Err e.error in r) is;
+          refused_is = ap (λ (e : NoEvent). e.refused) is;
+        }
+      where
+        asked : NotTaken before parse.OutOfMemory → AsksForMemory sends client (part_of before)
+        asked (inl read) = inr read
+        asked (inr (same, asks)) = inl (row_asks_memory (front_row before.table before.store before.link.incoming.bytes) asks)
+
+    pub shorter : (before after : SessionState T U) → Turns before turned.GoesOn after → length after.link.incoming.bytes < length before.link.incoming.bytes
+    shorter before after (inl impossible) = absurd impossible
+    shorter before after (inr (m, link, read, h)) =
+        subst (λ (l : LinkState T). length l.incoming.bytes < length before.link.incoming.bytes) (sym (link_is (handling before.table (objects_of before) m) h)) (shorter_at _ _ before.link m link read)
+      where
+        link_is : (h : Handling U) → HandledTo (with_link before link) h turned.GoesOn after → after.link ≡ link
+        link_is (Swallows o) same = ap (λ (x : SessionState T U). x.link) same
+        link_is (HandsOut m' event o) f = absurd f
+        link_is (Breaks e o) f = absurd f
+
+    pub lacks_waits : (start before after : SessionState T U) → Live before → Leads sends receives start before → Turns before turned.Lacks after
+        → Live after × Lacks after × Leads sends receives start after
+    lacks_waits start before after live leads (inl (lacks, same)) =
+        subst (λ (s : SessionState T U). Live s × Lacks s × Leads sends receives start s) (sym same) (live, lacks, leads)
+    lacks_waits start before after live leads (inr (m, link, read, h)) = absurd (nothing (handling before.table (objects_of before) m) h)
+      where
+        nothing : (h : Handling U) → HandledTo (with_link before link) h turned.Lacks after → ⊥
+        nothing (Swallows o) f = f
+        nothing (HandsOut m event o) f = f
+        nothing (Breaks e o) f = f
+
+    -- ---- receives
+
+    pub received : (before : SessionState T U) (link : LinkState T) (f : IoFault) → Filled receives before.link (Err f) link
+        → ReceivedTo sends receives before (Some (record { error = by_fault f; refused = lacked_memory (Err f) })) (record before { link = link; error = (faulted (core_of before) f).error })
+    received before link f filled = (f, subst (λ (p : Part T (Core U)). PartReceived sends receives client (part_of before) (Some f) p) (end f) made, refl)
+      where
+        made : PartReceived sends receives client (part_of before) (Some f) (record { core = faulted (core_of before) f; link = link })
+        made = received_fault sends receives client (λ c. refl) (part_of before) link f filled
+
+        end : (f : IoFault) → ◌≡◌ {A = Part T (Core U)} (record { core = faulted (core_of before) f; link = link }) (part_of (record before { link = link; error = (faulted (core_of before) f).error }))
+        end fault.WouldBlock = refl
+        end fault.Pipe = refl
+        end fault.TooBig = refl
+        end fault.Proto = refl
+        end fault.InvalidInput = refl
+        end fault.OutOfMemory = refl
+        end (fault.Other n) = refl
+
+    -- a fault after which no more may come is stored
+    pub received_other : (before : SessionState T U) (link : LinkState T) (f : IoFault) → f ≢ fault.WouldBlock → f ≢ fault.OutOfMemory → Filled receives before.link (Err f) link
+        → ReceivedTo sends receives before (Some (record { error = no_event.Failed; refused = false })) (record before { link = link; error = Some (Io f) })
+    received_other before link fault.WouldBlock blocks memory filled = absurd (blocks refl)
+    received_other before link fault.Pipe blocks memory filled = received before link fault.Pipe filled
+    received_other before link fault.TooBig blocks memory filled = received before link fault.TooBig filled
+    received_other before link fault.Proto blocks memory filled = received before link fault.Proto filled
+    received_other before link fault.InvalidInput blocks memory filled = received before link fault.InvalidInput filled
+    received_other before link fault.OutOfMemory blocks memory filled = absurd (memory refl)
+    received_other before link (fault.Other n) blocks memory filled = received before link (fault.Other n) filled
+
+    abbrev pub So : SessionState T U → ℕ → SessionState T U → Type 0
+    So start used now = SoFar sends receives client receives_allowed (part_of start) [] false used (part_of now)
+
+    pub starts : (s : SessionState T U) → So s 0 s
+    starts s = begins sends receives client receives_allowed (part_of s)
+
+    pub some_ends : (start before after : SessionState T U) (used : ℕ) (r : Result (Message IdParts Token) NoEvent) → used ≤ receives_allowed → So start used before
+        → EndsAs sends receives before r after → ReadsTo sends receives start (event_answer r) (event_refused r) after
+    some_ends start before after used r within so e =
+        let at = ends_at sends receives client receives_allowed (part_of start) [] false used (part_of before) so (handed_by (event_answer r)) e.lacked e.stopped e.short (part_of after) within e.ends in
+        (at.1.0, _, at.1.1, e.answer_is ∙ ap (answered e.stopped) (sym (append-nil (handed_by (event_answer r)))), append-nil (handed_by (event_answer r)), e.refused_is)
+
+    module _ (start before mid : SessionState T U) (used : ℕ) (so : So start used before) (live : Live mid) (lacks : Lacks mid) (leads : Leads sends receives before mid) where
+      pub fault_ends : (end : NoEvent) (after : SessionState T U) → used < receives_allowed → ReceivedTo sends receives mid (Some end) after
+          → ReadsTo sends receives start (Err end.error) end.refused after
+      fault_ends end after within (f, made, is) =
+          let at = receive_ends sends receives client receives_allowed (part_of start) [] false used (part_of before) so (part_of mid) [] false leads (live_reads mid live) lacks f (part_of after) within made in
+          (at.1.0, _, at.1.1, ap (λ (e : NoEvent). let r : Result SessionMessage EventError = Err e.error in r) is, refl, ap (λ (e : NoEvent). e.refused) is)
+
+      pub none_is_left : used ≡ receives_allowed → ReadsTo sends receives start (Err no_event.WouldBlock) false mid
+      none_is_left all =
+          let at = none_left sends receives client receives_allowed (part_of start) [] false used (part_of before) so (part_of mid) [] false leads (live_reads mid live) lacks all in
+          (at.0, _, at.1, refl, refl, refl)
+
+      pub goes_on : (after : SessionState T U) → ReceivedTo sends receives mid None after → Live after × So start (used + 1) after
+      goes_on after (made, alive) =
+          (alive, receive_goes_on sends receives client receives_allowed (part_of start) [] false used (part_of before) so (part_of mid) [] false leads (live_reads mid live) lacks (part_of after) made)

@@ -159,9 +159,10 @@ module _ {T U : Type 0} where
         | inr (e, some, (is, same)) ↦ (is, lands after _ same failed)
       ]
 
-  reads : (receives : T → ℕ → Result Queue IoFault → T → Type 0) (s : SessionState T U) (answer : Result SessionMessage EventError) (refused : Bool) (after : SessionState T U)
-      → HasError s → NextEvent receives s answer refused after → (answer ≡ Err no_event.Failed) × HasError after
-  reads receives s answer refused after failed h =
+  reads : (sends : T → Queue → Result ℕ IoFault → T → Type 0) (receives : T → ℕ → Result Queue IoFault → T → Type 0) (s : SessionState T U)
+      (answer : Result SessionMessage EventError) (refused : Bool) (after : SessionState T U)
+      → HasError s → NextEvent sends receives s answer refused after → (answer ≡ Err no_event.Failed) × HasError after
+  reads sends receives s answer refused after failed h =
       elim (either_option s.error h) [
         | inl (none, others) ↦ absurd (has_none s.error failed none)
         | inr (e, some, (is, unasked, same)) ↦ (is, lands after _ same failed)
@@ -188,7 +189,7 @@ module _ {U : Type 0} where
       let (told, some) = flushes ScriptSends s r after failed h in
       (is ∙ ap reply.Flush told, some)
   step_stays s step.NextEvent answer refused after failed (r, is, h) =
-      let (told, some) = reads ScriptReceives s (event_content r) refused after failed h in
+      let (told, some) = reads ScriptSends ScriptReceives s (event_content r) refused after failed h in
       (is ∙ ap reply.NextEvent (told_as r no_event.Failed told), some)
   step_stays s (step.FinishEvent u) answer refused after failed (r, is, no_memory, h) = (tt, finishes s u r after failed h)
   step_stays s step.DispatchInnerQueue answer refused after failed (is, no_memory, same) = (tt, lands after _ same failed)

@@ -1,5 +1,5 @@
 -- The identity law of a session: the changes of each step, and so those of a run.
-use Rattle.std.proofs.Common.{◌≡◌, ◌≢◌, ◌⊎◌, ℕ, zero, suc, ◌+◌, Bool, true, false, not, ◌&&◌, cond, eqb, List, [], ◌∷◌, ◌++◌, Option, None, Some, is_some, IsSome, option_map, Result, Ok, Err, refl, sym, ap, subst, ◌∙◌, true≢false, not-suc-le-zero, le_of_suc-le-suc, append-nil}
+use Rattle.std.proofs.Common.{◌≡◌, ◌≢◌, ◌⊎◌, ℕ, zero, suc, ◌+◌, Bool, true, false, not, ◌&&◌, cond, eqb, List, [], ◌∷◌, ◌++◌, Option, None, Some, is_some, IsSome, option_map, Result, Ok, Err, MatchOption, MatchResult, MatchBool, refl, sym, ap, subst, ◌∙◌, true≢false, not-suc-le-zero, le_of_suc-le-suc, append-nil, append_assoc, map}
 use mathlib.Core.Logic.{inl, inr}
 use Rattle.std.specs.Prelude.{All}
 use Rattle.std.proofs.lemmas.Bool.{eq-eqb, ne_eqb, cases_eq}
@@ -8,7 +8,6 @@ use Rattle.wl_wire.specs.declared.argument.Argument.TheVariants as arg
 use Rattle.wl_wire.specs.declared.argument.Token.{Token}
 use Rattle.wl_wire.specs.declared.error.IoFault.{IoFault}
 use Rattle.wl_wire.specs.declared.error.IoFault.TheVariants as fault
-use Rattle.wl_wire.specs.declared.error.ProtocolError.{ProtocolError}
 use Rattle.wl_wire.specs.declared.interface.InterfaceId.{InterfaceId}
 use Rattle.wl_wire.specs.Argument.{WireArgument}
 use Rattle.wl_wire.specs.Message.{WireMessage}
@@ -17,7 +16,7 @@ use Rattle.wl_link.specs.declared.object.Object.{Object}
 use Rattle.wl_link.specs.Exchange.{Queue}
 use Rattle.wl_link.specs.Identity.{Id, Objects, Change, Born, Gone, Wrote, Made, begun, named_in, names, StepLeads, RunLeads, IsMadeInStep, IsMadeIn}
 use Rattle.wl_link.specs.IdentityLaw.{made_first, made_later, identity_law, step_joins}
-use Rattle.wl_link.specs.Link.{counted_answer, count_of}
+use Rattle.wl_link.specs.Reader.{Given, HandedOut, Queued}
 use Rattle.wl_link.specs.declared.memory.ArriveError.TheVariants as arrive
 use Rattle.wl_link.specs.Script.{Script, ScriptSends, ScriptReceives}
 use Rattle.wl_link.specs.Store.{Store, held, is_free, is_server_number, removed, rewritten, stored}
@@ -36,13 +35,15 @@ use Rattle.wl_client.specs.declared.step.Reply.{Reply}
 use Rattle.wl_client.specs.declared.step.Step.{Step}
 use Rattle.wl_client.specs.declared.step.Step.TheVariants as step
 use Rattle.wl_client.specs.ObjectId.{IdParts}
-use Rattle.wl_client.specs.Events.{Converting, Converted, Outcome, Whole, Wrong, object_argument_of, is_destroyed, vacated, is_valid_new, made_object, with_object_argument, with_new_at, with_new_argument, convert_one, going_on, convert, start, DisplayEvent, Fails, Deletes, Unreadable, display_event, deleted, after_delete}
+use Rattle.wl_client.specs.Events.{Converting, Converted, Outcome, Whole, Wrong, object_argument_of, is_destroyed, vacated, is_valid_new, made_object, with_object_argument, with_new_at, with_new_argument, convert_one, going_on, convert, start, DisplayEvent, Fails, Deletes, Unreadable, display_event, after_delete}
 use Rattle.wl_client.specs.Finish.{Closes, Finishes, FlushEnds, SessionFlushed, after_destructor, data_given, with_data_for, with_dead}
 use Rattle.wl_client.specs.Handed.{Follows, HasOwnIds, argument_ids, event_ids, made_by, note_ids, noted_by, request_ids}
 use Rattle.wl_client.specs.Objects.{DataSet, DestroyedBy, destroyable}
-use Rattle.wl_client.specs.Reading.{Turn, Received, Handled, Ends, Faulted, Handles, HandlesConverted, HandlesDisplay, HandlesEvent, NextEvent, Reads, Stores, event_content, receives_allowed, row_of, with_link}
+use Rattle.wl_client.specs.Handling.{Handling, Swallows, HandsOut, event_of, handed, handling, objects_after, of_converted, of_display, of_event, opened_of, row_in}
+use Rattle.wl_client.specs.Reading.{Core, NextEvent, event_content, handed_by, objects_in as cored}
+use Rattle.wl_client.specs.ReadingLaws.{SeesObjects, next_event_respects}
 use Rattle.wl_client.specs.Requests.{Numbered, Requested, error_after, Sent, SentAs, SentWithChild, SessionMessage, Spec, Written, ended_by, id_of_new, lacked_memory, new_child, number_of_new, request_check, session_content, wire_message, with_born, with_ended}
-use Rattle.wl_client.specs.Session.{SessionState, IsConnected, alive, display_object, id_at, id_of, last_possible_serial, named, noted, null_parts, objects_of, serial_of, with_flags, with_objects, with_user_data}
+use Rattle.wl_client.specs.Session.{SessionState, IsConnected, alive, display_object, id_at, id_of, last_possible_serial, named, noted, null_parts, objects_of, serial_of, with_flags, with_user_data}
 use Rattle.wl_client.specs.Steps.{Entry, Leads, StepOf}
 
 -- ---- options and truth values
@@ -273,6 +274,69 @@ module _ {U : Type 0} where
       go true = gone o n
       go false = wrote o n (with_flags false true x) x e refl
 
+-- ---- a reading
+
+-- the ids of what was handed out
+abbrev given_ids : List (Given SessionMessage) → List IdParts
+given_ids [] = []
+given_ids (HandedOut m ∷ gave) = event_ids (Ok m) ++ given_ids gave
+given_ids (Queued m ∷ gave) = given_ids gave
+
+given_ids_both : (gave others : List (Given SessionMessage)) → given_ids (gave ++ others) ≡ given_ids gave ++ given_ids others
+given_ids_both [] others = refl
+given_ids_both (HandedOut m ∷ gave) others =
+    ap (λ ids. event_ids (Ok m) ++ ids) (given_ids_both gave others) ∙ sym (append_assoc (event_ids (Ok m)) (given_ids gave) (given_ids others))
+given_ids_both (Queued m ∷ gave) others = given_ids_both gave others
+
+module _ {U : Type 0} where
+  -- the objects move, and the ids of what was handed out are made; the notes stay
+  abbrev CoreMoves : Core U → List (Given SessionMessage) → Core U → Type 0
+  CoreMoves c gave d = Moved (cored c) (given_ids gave) (cored d) × (d.notes ≡ c.notes)
+
+  -- what a message comes to
+  abbrev HandlingMoves : Objects (Kept U) → Handling U → Type 0
+  HandlingMoves o h = Moved o (given_ids (map HandedOut (handed h))) (objects_after h)
+
+  display_moves : (table : List InterfaceRow) (o : Objects (Kept U)) (e : DisplayEvent) → HandlingMoves o (of_display table o e)
+  display_moves table o (Fails code n text) = still o
+  display_moves table o (Deletes n) = deletes o n (held o.store n) refl
+  display_moves table o Unreadable = still o
+
+  converted_moves : (table : List InterfaceRow) (o : Objects (Kept U)) (m : WireMessage) (receiver : Object (Kept U)) (row : MessageRow) (outcome : Outcome U)
+      → held o.store m.sender ≡ Some receiver → Came receiver.version receiver.value.client_destroyed o outcome → HandlingMoves o (of_converted table o m receiver row outcome)
+  converted_moves table o m receiver row (Wrong w objects) e came = came
+  converted_moves table o m receiver row (Whole c args) e came = go receiver.value.client_destroyed
+    where
+      go : (b : Bool) → HandlingMoves o (cond b (Swallows c.objects) (HandsOut (event_of m receiver args) (opened_of m receiver row c.created) c.objects))
+      go true = record { changes = came.changes; leads = came.leads; made = tt }
+      go false =
+          subst (λ ids. Moved o ids c.objects) (sym (append-nil (id_at m.sender receiver ∷ argument_ids args)))
+          (joined o o c.objects (id_at m.sender receiver ∷ []) (argument_ids args) (marked o m.sender receiver e) came)
+
+  event_moves : (table : List InterfaceRow) (o : Objects (Kept U)) (m : WireMessage) (receiver : Option (Object (Kept U))) (row : Option MessageRow)
+      → held o.store m.sender ≡ receiver → HandlingMoves o (of_event table o m receiver row)
+  event_moves table o m (Some receiver) (Some row) e =
+      converted_moves table o m receiver row _ e (converts receiver.version receiver.value.client_destroyed o (start o row) [] m.args (still o))
+  event_moves table o m (Some receiver) None e = still o
+  event_moves table o m None row e = still o
+
+  handling_moves : (table : List InterfaceRow) (o : Objects (Kept U)) (m : WireMessage) → HandlingMoves o (handling table o m)
+  handling_moves table o m = go (eqb m.sender 1)
+    where
+      go : (b : Bool) → HandlingMoves o (cond b (of_display table o (display_event m.opcode m.args)) (of_event table o m (held o.store m.sender) (row_in table (held o.store m.sender) m.opcode)))
+      go true = display_moves table o (display_event m.opcode m.args)
+      go false = event_moves table o m (held o.store m.sender) (row_in table (held o.store m.sender) m.opcode) refl
+
+  sees : SeesObjects CoreMoves
+  sees = record {
+    joins = λ c d e g h first second. (
+      subst (λ ids. Moved (cored c) ids (cored e)) (sym (given_ids_both g h)) (joined (cored c) (cored d) (cored e) (given_ids g) (given_ids h) first.0 second.0),
+      second.1 ∙ first.1,
+    );
+    handles = λ c m d objects notes. (subst (λ o. Moved (cored c) (given_ids (map HandedOut (handed (handling c.table (cored c) m)))) o) (sym objects) (handling_moves c.table (cored c) m), notes);
+    fails = λ c d objects notes. (subst (λ o. Moved (cored c) [] o) (sym objects) (still (cored c)), notes);
+  }
+
 -- ---- moves of a session
 
 module _ {T U : Type 0} where
@@ -311,94 +375,15 @@ module _ {T U : Type 0} where
 
   -- ---- a reading
 
-  stores : (s : SessionState T U) (e : ProtocolError) (answer : Result SessionMessage EventError) (refused : Bool) (after : SessionState T U)
-      → Stores s e answer refused after → Moves s (event_ids answer) after
-  stores s e answer refused after (is, inl (unasked, same)) = lands s [] (event_ids answer) _ after (ap event_ids is) same (quiet s _ refl refl)
-  stores s e answer refused after (is, inr (unasked, same)) = lands s [] (event_ids answer) _ after (ap event_ids is) same (quiet s _ refl refl)
-
-  faulted : (s : SessionState T U) (f : IoFault) (answer : Result SessionMessage EventError) (refused : Bool) (after : SessionState T U)
-      → Faulted s f answer refused after → Moves s (event_ids answer) after
-  faulted s fault.WouldBlock answer refused after h = lands s [] (event_ids answer) _ after (ap event_ids h.0) h.2 (quiet s _ refl refl)
-  faulted s fault.OutOfMemory answer refused after h = lands s [] (event_ids answer) _ after (ap event_ids h.0) h.2 (quiet s _ refl refl)
-  faulted s other answer refused after h = lands s [] (event_ids answer) _ after (ap event_ids h.0) h.2 (quiet s _ refl refl)
-
-  ends : (left : ℕ) (s : SessionState T U) (answer : Result SessionMessage EventError) (refused : Bool) (after : SessionState T U)
-      → Ends left s answer refused after → Moves s (event_ids answer) after
-  ends left s answer refused after (inl (lacks, none, is, unasked, same)) = lands s [] (event_ids answer) _ after (ap event_ids is) same (quiet s _ refl refl)
-  ends left s answer refused after (inr (inl (read, kept))) = stores s _ answer refused after kept
-  ends left s answer refused after (inr (inr (is, refused_now, same, asks))) = lands s [] (event_ids answer) _ after (ap event_ids is) same (quiet s _ refl refl)
-
-  module _ (s : SessionState T U) (answer : Result SessionMessage EventError) (refused : Bool) (after : SessionState T U) (on : SessionState T U → Type 0)
-      (goes : (between : SessionState T U) → on between → Moves between (event_ids answer) after) where
-    follows : (between : SessionState T U) → Moved (objects_of s) [] (objects_of between) → between.notes ≡ s.notes
-        → Moves between (event_ids answer) after → Moves s (event_ids answer) after
-    follows between moved notes moves = then s between after [] (event_ids answer) (only_objects s between [] moved notes) moves
-
-    handles_display : (e : DisplayEvent) (last : Type 0) → HandlesDisplay s e last answer refused after on → Moves s (event_ids answer) after
-    handles_display (Fails code n text) last (_, kept) = stores s _ answer refused after kept
-    handles_display (Deletes n) last h =
-        follows (record s { store = deleted s.store n }) (deletes (objects_of s) n (held s.store n) refl) refl (goes _ h)
-    handles_display Unreadable last (_, kept) = stores s _ answer refused after kept
-
-    handles_converted : (m : WireMessage) (receiver : Object (Kept U)) (row : MessageRow) (outcome : Outcome U) (last : Type 0)
-        → held s.store m.sender ≡ Some receiver → Came receiver.version receiver.value.client_destroyed (objects_of s) outcome
-        → HandlesConverted s m receiver row outcome last answer refused after on → Moves s (event_ids answer) after
-    handles_converted m receiver row (Wrong w objects) last e came (_, kept) =
-        follows (with_objects s objects) came refl (stores (with_objects s objects) _ answer refused after kept)
-    handles_converted m receiver row (Whole c args) last e came h =
-        elim (either_bool receiver.value.client_destroyed h) [
-          | inl more ↦ follows (with_objects s c.objects) (record { changes = came.changes; leads = came.leads; made = tt }) refl (goes _ more)
-          | inr (_, is, unasked, same) ↦
-              lands s (id_at m.sender receiver ∷ argument_ids args) (event_ids answer) _ after (ap event_ids is) same
-              (only_objects s _ (id_at m.sender receiver ∷ argument_ids args)
-              (joined (objects_of s) (objects_of s) c.objects (id_at m.sender receiver ∷ []) (argument_ids args) (marked (objects_of s) m.sender receiver e) came)
-              refl)
-        ]
-
-    handles_event : (m : WireMessage) (receiver : Option (Object (Kept U))) (row : Option MessageRow) (last : Type 0) → held s.store m.sender ≡ receiver
-        → HandlesEvent s m receiver row last answer refused after on → Moves s (event_ids answer) after
-    handles_event m (Some receiver) (Some row) last e h =
-        handles_converted m receiver row _ last e
-        (converts receiver.version receiver.value.client_destroyed (objects_of s) (start (objects_of s) row) [] m.args (still (objects_of s)))
-        h
-    handles_event m (Some receiver) None last e h = absurd h
-    handles_event m None row last e h = absurd h
-
-    handles : (m : WireMessage) (last : Type 0) → Handles s m last answer refused after on → Moves s (event_ids answer) after
-    handles m last h =
-        elim (either_bool (eqb m.sender 1) h) [
-          | inl d ↦ handles_display (display_event m.opcode m.args) last d
-          | inr e ↦ handles_event m (held s.store m.sender) (row_of s m.sender m.opcode) last refl e
-        ]
-
-  module _ (receives : T → ℕ → Result Queue IoFault → T → Type 0) (answer : Result SessionMessage EventError) (refused : Bool) (after : SessionState T U) where
-    -- a change of the link alone
-    over_link : (s : SessionState T U) (link : _) → Moves (with_link s link) (event_ids answer) after → Moves s (event_ids answer) after
-    over_link s link moves = then s (with_link s link) after [] (event_ids answer) (quiet s (with_link s link) refl refl) moves
-
-    reads : (left : ℕ) (s : SessionState T U) (turns : List Turn) → Reads receives left s turns answer refused after → Moves s (event_ids answer) after
-    reads left s [] h = ends left s answer refused after h
-    reads left s (Received r ∷ rest) (lacks, (n, is, (link, filled, h))) =
-        over_link s link
-        (elim (either_result (counted_answer (count_of r)) h) [
-          | inl (x, more) ↦ reads n (with_link s link) rest more
-          | inr (f, (none, ended)) ↦ faulted (with_link s link) f answer refused after ended
-        ])
-    reads left s (Handled m ∷ rest) (link, read, h) =
-        over_link s link
-        (handles (with_link s link) answer refused after (λ mid. Reads receives left mid rest answer refused after)
-        (λ mid more. reads left mid rest more) m (rest ≡ []) h)
-
-    next_event : (s : SessionState T U) → NextEvent receives s answer refused after → Moves s (event_ids answer) after
-    next_event s h =
-        elim (either_option s.error h) [
-          | inl (none, g) ↦
-              elim (either_option s.open_event g) [
-                | inl (unopened, (turns, made)) ↦ reads receives_allowed s turns made
-                | inr (event, some, (is, unasked, same)) ↦ lands s [] (event_ids answer) s after (ap event_ids is) same (quiet s s refl refl)
-              ]
-          | inr (e, some, (is, unasked, same)) ↦ lands s [] (event_ids answer) s after (ap event_ids is) same (quiet s s refl refl)
-        ]
+  next_event : (sends : T → Queue → Result ℕ IoFault → T → Type 0) (receives : T → ℕ → Result Queue IoFault → T → Type 0) (s : SessionState T U)
+      (answer : Result SessionMessage EventError) (refused : Bool) (after : SessionState T U) → NextEvent sends receives s answer refused after → Hands s (event_ids answer) after
+  next_event sends receives s answer refused after h =
+      let (moved, notes) = next_event_respects CoreMoves sees sends receives s answer refused after h in
+      ([], subst (λ ids. Moves s ids after) (ids_of answer) (only_objects s after (given_ids (handed_by answer)) moved notes))
+    where
+      ids_of : (r : Result SessionMessage EventError) → given_ids (handed_by r) ≡ event_ids r ++ []
+      ids_of (Ok m) = refl
+      ids_of (Err e) = refl
 
   -- ---- objects that are held
 
@@ -649,9 +634,8 @@ module _ {U : Type 0} where
         by_moves reply (request_ids r) after (ap made_by is) (ap noted_by is) (requested ScriptSends s (session_content m) r after u spec h)
     step_makes step.Flush reply refused after (r, is, no_memory, h) = by_moves reply [] after (ap made_by is) (ap noted_by is) ([], flushes ScriptSends s r after h)
     step_makes step.NextEvent reply refused after (r, is, h) =
-        let ids = event_ids (event_content r) in
-        by_moves reply ids after (ap made_by is) (ap noted_by is)
-        ([], subst (λ i. Moves s i after) (sym (append-nil ids)) (next_event ScriptReceives (event_content r) refused after s h))
+        by_moves reply (event_ids (event_content r)) after (ap made_by is) (ap noted_by is)
+        (next_event ScriptSends ScriptReceives s (event_content r) refused after h)
     step_makes (step.FinishEvent u) reply refused after (r, is, no_memory, h) = by_moves reply [] after (ap made_by is) (ap noted_by is) (finishes s u r after h)
     step_makes step.DispatchInnerQueue reply refused after (is, no_memory, same) = by_quiet reply after _ (ap made_by is) (ap noted_by is) same (quiet s s refl refl)
     step_makes (step.SetMaxBufferSize limit) reply refused after (is, no_memory, (link, set, same)) = by_quiet reply after _ (ap made_by is) (ap noted_by is) same (quiet s _ refl refl)

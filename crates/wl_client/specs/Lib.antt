@@ -4,6 +4,7 @@ pub mod Objects
 pub mod Requests
 pub mod Sending
 pub mod Events
+pub mod Handling
 pub mod Reading
 pub mod Finish
 pub mod Conversion
@@ -17,6 +18,7 @@ pub mod NotedLaws
 pub mod Failed
 pub mod FailedLaws
 pub mod Replies
+pub mod Cutting
 pub mod ReadingLaws
 pub mod OutcomeLaws
 pub mod Lending

@@ -13,7 +13,6 @@ use Rattle.wl_wire.specs.declared.argument.Argument.TheVariants as arg
 use Rattle.wl_wire.specs.declared.argument.Token.{Token}
 use Rattle.wl_wire.specs.declared.error.IoFault.{IoFault}
 use Rattle.wl_wire.specs.declared.error.IoFault.TheVariants as fault
-use Rattle.wl_wire.specs.declared.error.ProtocolError.{ProtocolError}
 use Rattle.wl_wire.specs.declared.interface.InterfaceId.{InterfaceId}
 use Rattle.wl_wire.specs.Argument.{WireArgument}
 use Rattle.wl_wire.specs.Message.{WireMessage}
@@ -22,7 +21,7 @@ use Rattle.wl_link.specs.declared.object.Object.{Object}
 use Rattle.wl_link.specs.declared.memory.ArriveError.TheVariants as arrive
 use Rattle.wl_link.specs.Exchange.{Queue}
 use Rattle.wl_link.specs.Identity.{Id, Objects}
-use Rattle.wl_link.specs.Link.{counted_answer, count_of}
+use Rattle.wl_link.specs.Reader.{Given}
 use Rattle.wl_link.specs.Script.{Script, ScriptSends, ScriptReceives}
 use Rattle.wl_link.specs.Store.{Store, empty_store, held, removed, rewritten, stored}
 use Rattle.wl_link.specs.StoreLaws.{held_empty, removed_here, removed_other, rewritten_here, rewritten_other, stored_here, stored_other}
@@ -43,15 +42,17 @@ use Rattle.wl_client.specs.declared.step.Reply.{Reply}
 use Rattle.wl_client.specs.declared.step.Step.{Step}
 use Rattle.wl_client.specs.declared.step.Step.TheVariants as step
 use Rattle.wl_client.specs.ObjectId.{IdParts}
-use Rattle.wl_client.specs.Events.{Converting, Converted, Outcome, Whole, Wrong, after_delete, convert, convert_one, deleted, display_event, DisplayEvent, Fails, Deletes, Unreadable, going_on, is_destroyed, is_valid_new, made_object, object_argument, start, vacated, with_new_argument, with_new_at, with_object_argument}
+use Rattle.wl_client.specs.Events.{Converting, Converted, Outcome, Whole, Wrong, after_delete, convert, convert_one, display_event, DisplayEvent, Fails, Deletes, Unreadable, going_on, is_destroyed, is_valid_new, made_object, object_argument, start, vacated, with_new_argument, with_new_at, with_object_argument}
 use Rattle.wl_client.specs.Finish.{Closes, Finishes, FlushEnds, SessionFlushed, after_destructor, data_given, with_data_for, with_dead}
 use Rattle.wl_client.specs.Handed.{note_ids}
 use Rattle.wl_client.specs.IdentityLaws.{destroyable_held, named_held, none_some}
 use Rattle.wl_client.specs.Noted.{NotedOnce, notes_in, notes_of}
 use Rattle.wl_client.specs.Objects.{DataSet, DestroyedBy, destroyable}
-use Rattle.wl_client.specs.Reading.{Turn, Received, Handled, Ends, Faulted, Handles, HandlesConverted, HandlesDisplay, HandlesEvent, NextEvent, Reads, Stores, event_content, receives_allowed, row_of, with_link}
+use Rattle.wl_client.specs.Handling.{Swallows, HandsOut, event_of, handling, objects_after, of_converted, of_display, of_event, opened_of, row_in}
+use Rattle.wl_client.specs.Reading.{Core, NextEvent, event_content, objects_in as cored}
+use Rattle.wl_client.specs.ReadingLaws.{SeesObjects, next_event_respects}
 use Rattle.wl_client.specs.Requests.{Numbered, Requested, Sent, SentAs, SentWithChild, SessionMessage, Spec, Written, checked_opcode, checked_sender, ended_by, error_after, lacked_memory, new_child, number_of_new, request_check, session_content, wire_message, with_born, with_ended}
-use Rattle.wl_client.specs.Session.{SessionState, IsConnected, alive, display_object, id_at, id_of, last_possible_serial, named, noted, objects_of, with_flags, with_objects, with_user_data}
+use Rattle.wl_client.specs.Session.{SessionState, IsConnected, alive, display_object, id_at, id_of, last_possible_serial, named, noted, objects_of, with_flags, with_user_data}
 use Rattle.wl_client.specs.Steps.{Entry, Leads, StepOf}
 
 -- a value, which the result is, or an error, with what is known of it
@@ -287,6 +288,48 @@ module _ {U : Type 0} where
       go true rest e = absurd (true≢false (sym (ap is_ok e)))
       go false rest e = refl
 
+-- ---- a reading
+
+module _ {U : Type 0} where
+  -- the objects keep this, and the notes stay
+  abbrev CoreKeeps : Core U → List (Given SessionMessage) → Core U → Type 0
+  CoreKeeps c gave d = Keeps (cored c) (cored d) × (d.notes ≡ c.notes)
+
+  display_keeps : (table : List InterfaceRow) (o : Objects (Kept U)) (e : DisplayEvent) → Keeps o (objects_after (of_display table o e))
+  display_keeps table o (Fails code n text) = still o
+  display_keeps table o (Deletes n) = deletes o n (held o.store n) refl
+  display_keeps table o Unreadable = still o
+
+  converted_keeps : (table : List InterfaceRow) (o : Objects (Kept U)) (m : WireMessage) (receiver : Object (Kept U)) (row : MessageRow) (outcome : Outcome U)
+      → Came receiver.version receiver.value.client_destroyed o outcome → Keeps o (objects_after (of_converted table o m receiver row outcome))
+  converted_keeps table o m receiver row (Wrong w objects) came = came
+  converted_keeps table o m receiver row (Whole c args) came = go receiver.value.client_destroyed
+    where
+      go : (b : Bool) → Keeps o (objects_after (cond b (Swallows c.objects) (HandsOut (event_of m receiver args) (opened_of m receiver row c.created) c.objects)))
+      go true = came
+      go false = came
+
+  event_keeps : (table : List InterfaceRow) (o : Objects (Kept U)) (m : WireMessage) (receiver : Option (Object (Kept U))) (row : Option MessageRow)
+      → Keeps o (objects_after (of_event table o m receiver row))
+  event_keeps table o m (Some receiver) (Some row) =
+      converted_keeps table o m receiver row _ (converts receiver.version receiver.value.client_destroyed o (start o row) [] m.args (still o))
+  event_keeps table o m (Some receiver) None = still o
+  event_keeps table o m None row = still o
+
+  handling_keeps : (table : List InterfaceRow) (o : Objects (Kept U)) (m : WireMessage) → Keeps o (objects_after (handling table o m))
+  handling_keeps table o m = go (eqb m.sender 1)
+    where
+      go : (b : Bool) → Keeps o (objects_after (cond b (of_display table o (display_event m.opcode m.args)) (of_event table o m (held o.store m.sender) (row_in table (held o.store m.sender) m.opcode))))
+      go true = display_keeps table o (display_event m.opcode m.args)
+      go false = event_keeps table o m (held o.store m.sender) (row_in table (held o.store m.sender) m.opcode)
+
+  sees : SeesObjects CoreKeeps
+  sees = record {
+    joins = λ c d e g h first second. (joined (cored c) (cored d) (cored e) first.0 second.0, second.1 ∙ first.1);
+    handles = λ c m d objects notes. (subst (λ o. Keeps (cored c) o) (sym objects) (handling_keeps c.table (cored c) m), notes);
+    fails = λ c d objects notes. (subst (λ o. Keeps (cored c) o) (sym objects) (still (cored c)), notes);
+  }
+
 -- ---- what lasts over the steps of a session
 
 module _ {T U : Type 0} where
@@ -363,87 +406,11 @@ module _ {T U : Type 0} where
 
   -- ---- a reading
 
-  stores : (s : SessionState T U) (e : ProtocolError) (answer : Result SessionMessage EventError) (refused : Bool) (after : SessionState T U)
-      → Stores s e answer refused after → Goes s after
-  stores s e answer refused after (is, inl (unasked, same)) = lands s _ after same (quiet s _ refl refl)
-  stores s e answer refused after (is, inr (unasked, same)) = lands s _ after same (quiet s _ refl refl)
-
-  faulted : (s : SessionState T U) (f : IoFault) (answer : Result SessionMessage EventError) (refused : Bool) (after : SessionState T U)
-      → Faulted s f answer refused after → Goes s after
-  faulted s fault.WouldBlock answer refused after h = lands s _ after h.2 (quiet s _ refl refl)
-  faulted s fault.OutOfMemory answer refused after h = lands s _ after h.2 (quiet s _ refl refl)
-  faulted s other answer refused after h = lands s _ after h.2 (quiet s _ refl refl)
-
-  ends : (left : ℕ) (s : SessionState T U) (answer : Result SessionMessage EventError) (refused : Bool) (after : SessionState T U)
-      → Ends left s answer refused after → Goes s after
-  ends left s answer refused after (inl (lacks, none, is, unasked, same)) = lands s _ after same (quiet s _ refl refl)
-  ends left s answer refused after (inr (inl (read, kept))) = stores s _ answer refused after kept
-  ends left s answer refused after (inr (inr (is, refused_now, same, asks))) = lands s _ after same (quiet s _ refl refl)
-
-  module _ (s : SessionState T U) (answer : Result SessionMessage EventError) (refused : Bool) (after : SessionState T U) (on : SessionState T U → Type 0)
-      (goes : (between : SessionState T U) → on between → Goes between after) where
-    handles_display : (e : DisplayEvent) (last : Type 0) → HandlesDisplay s e last answer refused after on → Goes s after
-    handles_display (Fails code n text) last (_, kept) = stores s _ answer refused after kept
-    handles_display (Deletes n) last h =
-        let between : SessionState T U = record s { store = deleted s.store n } in
-        then s between after (keeps s between (deletes (objects_of s) n (held s.store n) refl) refl) (goes between h)
-    handles_display Unreadable last (_, kept) = stores s _ answer refused after kept
-
-    handles_converted : (m : WireMessage) (receiver : Object (Kept U)) (row : MessageRow) (outcome : Outcome U) (last : Type 0)
-        → Came receiver.version receiver.value.client_destroyed (objects_of s) outcome
-        → HandlesConverted s m receiver row outcome last answer refused after on → Goes s after
-    handles_converted m receiver row (Wrong w objects) last came (_, kept) =
-        then s (with_objects s objects) after (keeps s (with_objects s objects) came refl) (stores (with_objects s objects) _ answer refused after kept)
-    handles_converted m receiver row (Whole c args) last came h =
-        elim (either_bool receiver.value.client_destroyed h) [
-          | inl more ↦ then s (with_objects s c.objects) after (keeps s (with_objects s c.objects) came refl) (goes (with_objects s c.objects) more)
-          | inr (_, is, unasked, same) ↦ lands s _ after same (keeps s _ came refl)
-        ]
-
-    handles_event : (m : WireMessage) (receiver : Option (Object (Kept U))) (row : Option MessageRow) (last : Type 0)
-        → HandlesEvent s m receiver row last answer refused after on → Goes s after
-    handles_event m (Some receiver) (Some row) last h =
-        handles_converted m receiver row _ last
-        (converts receiver.version receiver.value.client_destroyed (objects_of s) (start (objects_of s) row) [] m.args (still (objects_of s)))
-        h
-    handles_event m (Some receiver) None last h = absurd h
-    handles_event m None row last h = absurd h
-
-    handles : (m : WireMessage) (last : Type 0) → Handles s m last answer refused after on → Goes s after
-    handles m last h =
-        elim (either_bool (eqb m.sender 1) h) [
-          | inl d ↦ handles_display (display_event m.opcode m.args) last d
-          | inr e ↦ handles_event m (held s.store m.sender) (row_of s m.sender m.opcode) last e
-        ]
-
-  module _ (receives : T → ℕ → Result Queue IoFault → T → Type 0) (answer : Result SessionMessage EventError) (refused : Bool) (after : SessionState T U) where
-    -- a change of the link alone
-    over_link : (s : SessionState T U) (link : _) → Goes (with_link s link) after → Goes s after
-    over_link s link goes = then s (with_link s link) after (quiet s (with_link s link) refl refl) goes
-
-    reads : (left : ℕ) (s : SessionState T U) (turns : List Turn) → Reads receives left s turns answer refused after → Goes s after
-    reads left s [] h = ends left s answer refused after h
-    reads left s (Received r ∷ rest) (lacks, (n, is, (link, filled, h))) =
-        over_link s link
-        (elim (either_result (counted_answer (count_of r)) h) [
-          | inl (x, more) ↦ reads n (with_link s link) rest more
-          | inr (f, (none, ended)) ↦ faulted (with_link s link) f answer refused after ended
-        ])
-    reads left s (Handled m ∷ rest) (link, read, h) =
-        over_link s link
-        (handles (with_link s link) answer refused after (λ mid. Reads receives left mid rest answer refused after)
-        (λ mid more. reads left mid rest more) m (rest ≡ []) h)
-
-    next_event : (s : SessionState T U) → NextEvent receives s answer refused after → Goes s after
-    next_event s h =
-        elim (either_option s.error h) [
-          | inl (none, g) ↦
-              elim (either_option s.open_event g) [
-                | inl (unopened, (turns, made)) ↦ reads receives_allowed s turns made
-                | inr (event, some, (is, unasked, same)) ↦ lands s s after same (quiet s s refl refl)
-              ]
-          | inr (e, some, (is, unasked, same)) ↦ lands s s after same (quiet s s refl refl)
-        ]
+  next_event : (sends : T → Queue → Result ℕ IoFault → T → Type 0) (receives : T → ℕ → Result Queue IoFault → T → Type 0) (s : SessionState T U)
+      (answer : Result SessionMessage EventError) (refused : Bool) (after : SessionState T U) → NextEvent sends receives s answer refused after → Goes s after
+  next_event sends receives s answer refused after h =
+      let (kept, notes) = next_event_respects CoreKeeps sees sends receives s answer refused after h in
+      keeps s after kept notes
 
   -- ---- data and destruction
 
@@ -651,7 +618,7 @@ module _ {U : Type 0} where
         by_goes reply after (ap notes_in is) (requested ScriptSends s (session_content m) r after u spec h)
     step_lasts step.Flush reply refused after (r, is, no_memory, h) = by_goes reply after (ap notes_in is) (flushes ScriptSends s r after h)
     step_lasts step.NextEvent reply refused after (r, is, h) =
-        by_goes reply after (ap notes_in is) (next_event ScriptReceives (event_content r) refused after s h)
+        by_goes reply after (ap notes_in is) (next_event ScriptSends ScriptReceives s (event_content r) refused after h)
     step_lasts (step.FinishEvent u) reply refused after (r, is, no_memory, h) = by_goes reply after (ap notes_in is) (finishes s u r after h)
     step_lasts step.DispatchInnerQueue reply refused after (is, no_memory, same) = by_quiet reply after _ (ap notes_in is) same (quiet s s refl refl)
     step_lasts (step.SetMaxBufferSize limit) reply refused after (is, no_memory, (link, set, same)) = by_quiet reply after _ (ap notes_in is) same (quiet s _ refl refl)

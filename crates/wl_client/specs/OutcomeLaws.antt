@@ -254,7 +254,7 @@ module _ {U : Type 0} where
       let one = flushes_one ScriptSends script_sends_function s a b x y unasked unasked' h g in
       (same_reply p q _ _ is is' (ap reply.Flush one.answer), one.after)
   step_one s x y step.NextEvent p q (a, is, h) (b, is', g) =
-      let one = next_event_one ScriptReceives script_receives_function (event_content a) (event_content b) x y s h g in
+      let one = next_event_one ScriptSends ScriptReceives script_sends_function script_receives_function (event_content a) (event_content b) x y s h g in
       (same_reply p q (reply.NextEvent a) (reply.NextEvent b) is is' one.answer, one.after)
   step_one s x y (step.FinishEvent u) p q (a, is, unasked, h) (b, is', unasked', g) =
       let one = finishes_one s u a b x y unasked unasked' h g in

@@ -1,29 +1,39 @@
--- That a reading has one outcome, where the receives of its transport have one and memory is not refused.
---
--- At each value of the session either a message waits whole, or what waits lacks data or tokens, or it is malformed;
--- so two readings make the same turns.
-use Rattle.std.proofs.Common.{◌≡◌, ◌≢◌, ℕ, suc, false, eqb, List, [], ◌∷◌, Option, None, Some, Result, Ok, Err, is_ok, MatchResult, sym, ap, subst, ◌∙◌, true≢false, arith}
+-- What follows for a client from the laws of a reader: that its reading has one outcome, and that it does not matter to
+-- it how bytes and tokens are cut.
+use Rattle.std.proofs.Common.{◌≡◌, ◌⊎◌, ℕ, suc, Bool, true, false, cond, List, [], ◌∷◌, ◌++◌, Option, None, Some, is_none, is_ok, Result, Ok, Err, ◌&&◌, map, MatchOption, MatchResult, MatchBool, refl, sym, ap, ap₂, subst, ◌∙◌, true≢false, arith}
 use mathlib.Core.Logic.{inl, inr}
+use Rattle.std.proofs.lemmas.Option.{same_Some}
 use Rattle.wl_wire.specs.declared.error.IoFault.{IoFault}
 use Rattle.wl_wire.specs.declared.error.IoFault.TheVariants as fault
-use Rattle.wl_wire.specs.declared.error.MessageParseError.{MessageParseError}
-use Rattle.wl_wire.specs.declared.error.MessageParseError.TheVariants as parse
-use Rattle.wl_wire.specs.declared.error.ProtocolError.{ProtocolError}
 use Rattle.wl_wire.specs.Message.{WireMessage}
-use Rattle.wl_wire.specs.Table.{MessageRow}
 use Rattle.wl_link.specs.declared.object.Object.{Object}
-use Rattle.wl_link.specs.Exchange.{Queue}
+use Rattle.wl_link.specs.Exchange.{Queue, Sending}
 use Rattle.wl_link.specs.Link.{LinkState, counted_answer, count_of}
-use Rattle.wl_link.specs.OneLaws.{IsReceiveFunction, one_fill_lem}
-use Rattle.wl_link.specs.ReadLaws.{SameRead, one_read_lem}
-use Rattle.wl_link.specs.Store.{held}
-use Rattle.wl_link.specs.Branches.{both_bool, both_option, both_result}
+use Rattle.wl_link.specs.OneLaws.{IsFunction, IsReceiveFunction}
+use Rattle.wl_link.specs.Puts.{FlushesOut, PutsOut, lacked_memory}
+use Rattle.wl_link.specs.Reader.{AllFed, CarriesOut, Ends, Given, Gives, HandedOut, Handled, Part, Reads, Received, Turn, Unread, Verdict, came_in, came_to as comes_to, put_and_gave, sends_in, stops, with_link}
+use Rattle.wl_link.specs.ReaderLaws.{reads_one}
+use Rattle.wl_link.specs.RespectLaws.{Keeps, RespectsReading, reads_respect}
+use Rattle.wl_link.specs.Served.{GoesOnAs, part_as}
+use Rattle.wl_link.specs.ServedLaws.{served_one}
+use Rattle.wl_link.specs.TotalLaws.{GoesOn as AlwaysGoesOn, always_served, carried_at_once}
+use Rattle.wl_link.specs.CuttingLaws.{finish_law, reading_law}
 use Rattle.wl_client.specs.declared.error.EventError.{EventError}
+use Rattle.wl_client.specs.declared.error.EventError.TheVariants as no_event
+use Rattle.wl_client.specs.declared.error.FinishError.{FinishError}
+use Rattle.wl_client.specs.declared.error.FinishRefused.{FinishRefused}
+use Rattle.wl_client.specs.declared.error.WaylandError.{WaylandError}
+use Rattle.wl_client.specs.declared.event_fault.EventFault.TheVariants as wrong
 use Rattle.wl_client.specs.declared.kept.Kept.{Kept}
-use Rattle.wl_client.specs.Events.{Outcome, Whole, Wrong, DisplayEvent, Fails, Deletes, Unreadable, display_event}
-use Rattle.wl_client.specs.Reading.{Turn, Received, Handled, Ends, Faulted, Handles, HandlesConverted, HandlesDisplay, HandlesEvent, Lacks, NextEvent, Reads, ReadsAs, Stores, receives_allowed, row_of, signature_at, with_link}
+use Rattle.wl_client.specs.declared.open_event.OpenEvent.{OpenEvent}
+use Rattle.wl_client.specs.ObjectId.{IdParts}
+use Rattle.wl_client.specs.Cutting.{CutsFinish, CutsReading, GoesOn, IsServed, no_sends}
+use Rattle.wl_client.specs.Events.{error_of}
+use Rattle.wl_client.specs.Handling.{Handling, Swallows, HandsOut, Breaks, handed, handling, objects_after}
+use Rattle.wl_client.specs.Finish.{Closes, Finishes, refusal, closed as session_closed, with_data_for as session_data_for, with_dead as session_dead}
+use Rattle.wl_client.specs.Reading.{Core, NextEvent, answered, client, closed, core_of, faulted, finish, finished, handed_by, objects_in, part_of, receives_allowed, session_of, verdict, with_data_for, with_dead}
 use Rattle.wl_client.specs.Requests.{SessionMessage}
-use Rattle.wl_client.specs.Session.{SessionState, with_objects}
+use Rattle.wl_client.specs.Session.{SessionState, named}
 
 -- ---- one look at what two outcomes share
 
@@ -38,170 +48,267 @@ pub record SameEnd {A T U : Type 0} (a b : A) (x y : SessionState T U) : Type 0 
 pub same_end : {A T U : Type 0} {a b c : A} {x y z : SessionState T U} → a ≡ c → b ≡ c → x ≡ z → y ≡ z → SameEnd a b x y
 same_end is is' same same' = record { answer = is ∙ sym is'; after = same ∙ sym same' }
 
--- ---- the message at the front
-
--- what a read of the message at the front answers
-abbrev Answer : Type 0
-Answer = Result WireMessage MessageParseError
-
-not_read : (m : WireMessage) (e : MessageParseError) → ◌≡◌ {A = Answer} (Ok m) (Err e) → ⊥
-not_read m e same = true≢false (ap is_ok same)
-
-same_message : (m n : WireMessage) → ◌≡◌ {A = Answer} (Ok m) (Ok n) → m ≡ n
-same_message m n same = cc
-
-data_not_memory : ◌≡◌ {A = Answer} (Err parse.MissingData) (Err parse.OutOfMemory) → ⊥
-data_not_memory same = cc
-
-tokens_not_memory : ◌≡◌ {A = Answer} (Err parse.MissingFD) (Err parse.OutOfMemory) → ⊥
-tokens_not_memory same = cc
-
-malformed_not_memory : ◌≡◌ {A = Answer} (Err parse.Malformed) (Err parse.OutOfMemory) → ⊥
-malformed_not_memory same = cc
-
-data_not_malformed : ◌≡◌ {A = Answer} (Err parse.MissingData) (Err parse.Malformed) → ⊥
-data_not_malformed same = cc
-
-tokens_not_malformed : ◌≡◌ {A = Answer} (Err parse.MissingFD) (Err parse.Malformed) → ⊥
-tokens_not_malformed same = cc
-
-module _ {T U : Type 0} (s : SessionState T U) where
-  same_read : (a b : Answer) (l k : LinkState T) → ReadsAs s a l → ReadsAs s b k → a ≢ Err parse.OutOfMemory → b ≢ Err parse.OutOfMemory → SameRead a b l k
-  same_read a b l k = one_read_lem s.link l k (λ sender opcode found. found ≡ signature_at s sender opcode) (λ sender opcode f g p q. p ∙ sym q) a b
-
-  whole_not_lacking : (m : WireMessage) (l : LinkState T) → ReadsAs s (Ok m) l → Lacks s → ⊥
-  whole_not_lacking m l read (inl lacks) = not_read m _ (same_read _ _ l s.link read lacks (not_read m _) data_not_memory).answer
-  whole_not_lacking m l read (inr lacks) = not_read m _ (same_read _ _ l s.link read lacks (not_read m _) tokens_not_memory).answer
-
-  whole_not_malformed : (m : WireMessage) (l : LinkState T) → ReadsAs s (Ok m) l → ReadsAs s (Err parse.Malformed) s.link → ⊥
-  whole_not_malformed m l read malformed = not_read m _ (same_read _ _ l s.link read malformed (not_read m _) malformed_not_memory).answer
-
-  lacking_not_malformed : Lacks s → ReadsAs s (Err parse.Malformed) s.link → ⊥
-  lacking_not_malformed (inl lacks) malformed =
-      data_not_malformed (same_read _ _ s.link s.link lacks malformed data_not_memory malformed_not_memory).answer
-  lacking_not_malformed (inr lacks) malformed =
-      tokens_not_malformed (same_read _ _ s.link s.link lacks malformed tokens_not_memory malformed_not_memory).answer
-
--- ---- the ends of a reading
-
-module _ {T U : Type 0} where
-  -- two outcomes of a reading in which memory was not refused
-  module _ (a b : Result SessionMessage EventError) (x y : SessionState T U) where
-    stores_one : (s : SessionState T U) (e : ProtocolError) → Stores s e a false x → Stores s e b false y → SameEnd a b x y
-    stores_one s e (is, inl (unasked, same)) (is', inl (unasked', same')) = same_end is is' same same'
-    stores_one s e (is, inr (asked, same)) other = absurd (true≢false (sym asked))
-    stores_one s e (is, inl h) (is', inr (asked, same)) = absurd (true≢false (sym asked))
-
-    faulted_one : (s : SessionState T U) (f : IoFault) → Faulted s f a false x → Faulted s f b false y → SameEnd a b x y
-    faulted_one s fault.WouldBlock h g = same_end h.0 g.0 h.2 g.2
-    faulted_one s fault.OutOfMemory h g = absurd (true≢false (sym h.1))
-    faulted_one s other h g = same_end h.0 g.0 h.2 g.2
-
-    ends_one : (left : ℕ) (s : SessionState T U) → Ends left s a false x → Ends left s b false y → SameEnd a b x y
-    ends_one left s (inr (inr (is, refused, same, asks))) other = absurd (true≢false (sym refused))
-    ends_one left s other (inr (inr (is, refused, same, asks))) = absurd (true≢false (sym refused))
-    ends_one left s (inl (lacks, none, is, unasked, same)) (inl (lacks', none', is', unasked', same')) = same_end is is' same same'
-    ends_one left s (inl (lacks, none, is, unasked, same)) (inr (inl (malformed, kept))) = absurd (lacking_not_malformed s lacks malformed)
-    ends_one left s (inr (inl (malformed, kept))) (inl (lacks, none, is, unasked, same)) = absurd (lacking_not_malformed s lacks malformed)
-    ends_one left s (inr (inl (malformed, kept))) (inr (inl (malformed', kept'))) = stores_one s _ kept kept'
-
-  module _ (a : Result SessionMessage EventError) (x : SessionState T U) where
-    -- a reading that has a receive left does not end where what waits lacks something
-    receives_more : (left n : ℕ) (s : SessionState T U) → Ends left s a false x → Lacks s → left ≡ suc n → ⊥
-    receives_more left n s (inl (lacks, none, is, unasked, same)) lacking some = omega (arith, none, some)
-    receives_more left n s (inr (inl (malformed, kept))) lacking some = lacking_not_malformed s lacking malformed
-    receives_more left n s (inr (inr (is, refused, same, asks))) lacking some = true≢false (sym refused)
-
-    -- nor where a message waits whole
-    reads_more : (left : ℕ) (s : SessionState T U) (m : WireMessage) (l : LinkState T) → Ends left s a false x → ReadsAs s (Ok m) l → ⊥
-    reads_more left s m l (inl (lacks, none, is, unasked, same)) read = whole_not_lacking s m l read lacks
-    reads_more left s m l (inr (inl (malformed, kept))) read = whole_not_malformed s m l read malformed
-    reads_more left s m l (inr (inr (is, refused, same, asks))) read = true≢false (sym refused)
-
-    -- a receive after which memory is not refused was not refused it
-    received_allowed : (s : SessionState T U) (c : Result (Unit {0}) IoFault) (P : Unit {0} → Type 0) (last : Type 0)
-        → MatchResult c P (λ f. last × Faulted s f a false x) → c ≢ Err fault.OutOfMemory
-    received_allowed s c P last h is =
-        let g = subst (λ (r : Result (Unit {0}) IoFault). MatchResult r P (λ f. last × Faulted s f a false x)) is h in
-        true≢false (sym g.1.1)
-
--- ---- a message that is handled
-
-module _ {T U : Type 0} (s : SessionState T U) (a b : Result SessionMessage EventError) (x y : SessionState T U) (on on' : SessionState T U → Type 0)
-    (goes : (between : SessionState T U) → on between → on' between → SameEnd a b x y) (last last' : Type 0) where
-  display_one : (e : DisplayEvent) → HandlesDisplay s e last a false x on → HandlesDisplay s e last' b false y on' → SameEnd a b x y
-  display_one (Fails code n text) h g = stores_one a b x y s _ h.1 g.1
-  display_one (Deletes n) h g = goes _ h g
-  display_one Unreadable h g = stores_one a b x y s _ h.1 g.1
-
-  converted_one : (m : WireMessage) (receiver : Object (Kept U)) (row : MessageRow) (outcome : Outcome U)
-      → HandlesConverted s m receiver row outcome last a false x on → HandlesConverted s m receiver row outcome last' b false y on' → SameEnd a b x y
-  converted_one m receiver row (Wrong w objects) h g = stores_one a b x y (with_objects s objects) _ h.1 g.1
-  converted_one m receiver row (Whole c args) h g =
-      elim (both_bool receiver.value.client_destroyed h g) [
-        | inl (more, more') ↦ goes _ more more'
-        | inr ((_, is, unasked, same), (_, is', unasked', same')) ↦ same_end is is' same same'
-      ]
-
-  event_one : (m : WireMessage) (receiver : Option (Object (Kept U))) (row : Option MessageRow)
-      → HandlesEvent s m receiver row last a false x on → HandlesEvent s m receiver row last' b false y on' → SameEnd a b x y
-  event_one m (Some receiver) (Some row) h g = converted_one m receiver row _ h g
-  event_one m (Some receiver) None h g = absurd h
-  event_one m None row h g = absurd h
-
-  handles_one : (m : WireMessage) → Handles s m last a false x on → Handles s m last' b false y on' → SameEnd a b x y
-  handles_one m h g =
-      elim (both_bool (eqb m.sender 1) h g) [
-        | inl (d, d') ↦ display_one (display_event m.opcode m.args) d d'
-        | inr (e, e') ↦ event_one m (held s.store m.sender) (row_of s m.sender m.opcode) e e'
-      ]
-
 -- ---- a reading
 
-module _ {T U : Type 0} (receives : T → ℕ → Result Queue IoFault → T → Type 0) (function : IsReceiveFunction receives)
-    (a b : Result SessionMessage EventError) (x y : SessionState T U) where
-  -- what a reading does once it has received
-  abbrev GoesOn : Result SessionMessage EventError → SessionState T U → ℕ → SessionState T U → List Turn → LinkState T → Result (Unit {0}) IoFault → Type 0
-  GoesOn answer end n s rest link counted =
-      MatchResult counted (λ _. Reads receives n (with_link s link) rest answer false end)
-      (λ f. (rest ≡ []) × Faulted (with_link s link) f answer false end)
+none_sent : {S : Type 0} → IsFunction (no_sends {S = S})
+none_sent before offer one two after after' sent sent' ok ok' = absurd sent
 
-  reads_one : (left : ℕ) (s : SessionState T U) (turns turns' : List Turn) → Reads receives left s turns a false x → Reads receives left s turns' b false y
-      → SameEnd a b x y
-  reads_one left s [] [] h g = ends_one a b x y left s h g
-  reads_one left s [] (Received r ∷ rest) h (lacks, (n, is, more)) = absurd (receives_more a x left n s h lacks is)
-  reads_one left s [] (Handled m ∷ rest) h (link, read, more) = absurd (reads_more a x left s m link h read)
-  reads_one left s (Received r ∷ rest) [] (lacks, (n, is, more)) g = absurd (receives_more b y left n s g lacks is)
-  reads_one left s (Handled m ∷ rest) [] (link, read, more) g = absurd (reads_more b y left s m link g read)
-  reads_one left s (Received r ∷ rest) (Handled m ∷ rest') (lacks, more) (link, read, more') = absurd (whole_not_lacking s m link read lacks)
-  reads_one left s (Handled m ∷ rest) (Received r ∷ rest') (link, read, more) (lacks, more') = absurd (whole_not_lacking s m link read lacks)
-  reads_one left s (Received r ∷ rest) (Received r' ∷ rest') (lacks, (n, is, (link, filled, h))) (lacks', (n', is', (link', filled', g))) =
-      let allowed = received_allowed a x (with_link s link) (counted_answer (count_of r)) _ _ h in
-      let allowed' = received_allowed b y (with_link s link') (counted_answer (count_of r')) _ _ g in
-      let same = one_fill_lem receives function s.link link link' r r' _ _ filled filled' allowed allowed' in
-      let counted = subst (λ c. GoesOn b y n' s rest' link' c) (sym same.answer) g in
-      let linked = subst (λ l. GoesOn b y n' s rest' l (counted_answer (count_of r))) (sym same.after) counted in
-      let left_same : n' ≡ n = suc_same n' n (sym is' ∙ is) in
-      let begun = subst (λ k. GoesOn b y k s rest' link (counted_answer (count_of r))) left_same linked in
-      elim (both_result (counted_answer (count_of r)) h begun) [
-        | inl (u, more, more') ↦ reads_one n (with_link s link) rest rest' more more'
-        | inr (f, (none, end), (none', end')) ↦ faulted_one a b x y (with_link s link) f end end'
-      ]
-  reads_one left s (Handled m ∷ rest) (Handled m' ∷ rest') (link, read, h) (link', read', g) =
-      let same = same_read s (Ok m) (Ok m') link link' read read' (not_read m _) (not_read m' _) in
-      let on = λ (mid : SessionState T U). Reads receives left mid rest a false x in
-      let on' = λ (mid : SessionState T U). Reads receives left mid rest' b false y in
-      let linked = subst (λ l. Handles (with_link s l) m' (rest' ≡ []) b false y on') (sym same.after) g in
-      let read_same = subst (λ k. Handles (with_link s link) k (rest' ≡ []) b false y on') (sym (same_message m m' same.answer)) linked in
-      handles_one (with_link s link) a b x y on on' (λ mid more more'. reads_one left mid rest rest' more more') (rest ≡ []) (rest' ≡ []) m h read_same
-
-  pub next_event_one : (s : SessionState T U) → NextEvent receives s a false x → NextEvent receives s b false y → SameEnd a b x y
-  next_event_one s h g =
+module _ {T U : Type 0} (sends : T → Queue → Result ℕ IoFault → T → Type 0) (receives : T → ℕ → Result Queue IoFault → T → Type 0) where
+  pub next_event_one : IsFunction sends → IsReceiveFunction receives → (a b : Result SessionMessage EventError) (x y s : SessionState T U)
+      → NextEvent sends receives s a false x → NextEvent sends receives s b false y → SameEnd a b x y
+  next_event_one sent function a b x y s h g =
       elim (both_option s.error h g) [
-        | inl (none, h', g') ↦
-            elim (both_option s.open_event h' g') [
-              | inl (unopened, (turns, made), (turns', made')) ↦ reads_one receives_allowed s turns turns' made made'
-              | inr (event, some, (is, unasked, same), (is', unasked', same')) ↦ same_end is is' same same'
-            ]
         | inr (e, some, (is, unasked, same), (is', unasked', same')) ↦ same_end is is' same same'
+        | inl (none, p, q) ↦
+            elim (both_option s.open_event p q) [
+              | inr (event, some, (is, unasked, same), (is', unasked', same')) ↦ same_end is is' same same'
+              | inl (unopened, (turns, out, reads, is, gave, calm), (turns', out', reads', is', gave', calm')) ↦
+                  let one = reads_one sends sent receives function client receives_allowed (part_of s) (part_of x) (part_of y) turns turns' out out' (sym calm) (sym calm') reads reads' in
+                  record { answer = is ∙ ap (λ (o : Gives SessionMessage). answered o.stopped o.gave) one.out ∙ sym is'; after = ap session_of one.after }
+            ]
       ]
+
+  silent : (v : Verdict (Core U) SessionMessage) (before : LinkState T) (es : List Sending) (gave : List (Given SessionMessage)) (refused : Bool) (after : Part T (Core U))
+      → v.puts ≡ [] → v.flushes ≡ false → CarriesOut sends client v before es gave refused after → es ≡ []
+  silent v before es gave refused after none off (inr (asks, was, nothing', is, same)) = nothing'
+  silent v before es gave refused after none off (inl (first, others, put, wrote, mid, lacked, puts, flushes, split, end, is, was)) =
+      let puts' = subst (λ ms. PutsOut sends before ms first put wrote mid) none puts in
+      let flushes' = subst (λ b. FlushesOut sends b mid others lacked after.link) off flushes in
+      split ∙ ap₂ (λ (x y : List Sending). x ++ y) puts'.0 flushes'.0
+
+  -- a client sends nothing while it reads
+  sends_nothing : (left : ℕ) (p after : Part T (Core U)) (turns : List Turn) (out : Gives SessionMessage) → Reads sends client receives left p turns out after → sends_in turns ≡ []
+  sends_nothing left p after [] out (same, ends) = refl
+  sends_nothing left p after (Received r ∷ turns) out (on, lacks, (n, is, (link, filled, h))) =
+      go (counted_answer (count_of r)) h (λ more. sends_nothing n (with_link p link) after turns out more)
+    where
+      go : (c : Result (Unit {0}) IoFault)
+          → MatchResult c (λ _. Reads sends client receives n (with_link p link) turns out after)
+          (λ f. (turns ≡ []) × (out ≡ stops (Some f) (lacked_memory (Err f)) n) × (after ≡ record { core = client.faulted p.core f; link = link }))
+          → (Reads sends client receives n (with_link p link) turns out after → sends_in turns ≡ []) → sends_in turns ≡ []
+      go (Ok u) more goes = goes more
+      go (Err f) (none, ends, same) goes = ap sends_in none
+  sends_nothing left p after (Handled es ∷ turns) out (on, (v, link, first, lacked, mid, rest, (m, read, is), carried, split, more)) =
+      ap₂ (λ (x y : List Sending). x ++ y)
+      (silent v link es first lacked mid (ap (λ (w : Verdict (Core U) SessionMessage). w.puts) is) (ap (λ (w : Verdict (Core U) SessionMessage). w.flushes) is) carried)
+      (sends_nothing left mid after turns rest more)
+  sends_nothing left p after (Unread es ∷ turns) out (on, (v, link, first, lacked, mid, rest, (read, same, is), carried, split, more)) =
+      ap₂ (λ (x y : List Sending). x ++ y)
+      (silent v link es first lacked mid (ap (λ (w : Verdict (Core U) SessionMessage). w.puts) is) (ap (λ (w : Verdict (Core U) SessionMessage). w.flushes) is) carried)
+      (sends_nothing left mid after turns rest more)
+
+  -- a reading that was fed goes on as what came does
+  pub reading_cuts : (left : ℕ) (p after : Part T (Core U)) (turns : List Turn) (out : Gives SessionMessage) → Reads sends client receives left p turns out after
+      → AllFed turns → out.refused ≡ false → (finishes : List (Option U)) → GoesOn p (came_in turns) finishes out.gave after finishes
+  reading_cuts left p after turns out reads fed ample finishes =
+      subst (λ es. GoesOnAs (no_sends {S = Unit {0}}) client p (came_in turns) es finishes out.gave after finishes)
+      (sends_nothing left p after turns out reads)
+      (reading_law sends receives no_sends client none_sent (λ c. refl) left p after turns out reads fed ample finishes)
+
+  pub next_event_cuts : (s : SessionState T U) (answer : Result SessionMessage EventError) (refused : Bool) (after : SessionState T U)
+      → NextEvent sends receives s answer refused after → CutsReading sends receives s answer refused after
+  next_event_cuts s answer refused after h live unopened ample =
+      elim (both_option s.error h h) [
+        | inr (e, some, p, q) ↦ absurd (true≢false (ap is_none (sym live ∙ some)))
+        | inl (none, p, q) ↦
+            elim (both_option s.open_event p q) [
+              | inr (event, some, p', q') ↦ absurd (true≢false (ap is_none (sym unopened ∙ some)))
+              | inl (shut, (turns, out, reads, is, gave, calm), again) ↦ (
+                turns,
+                out,
+                reads,
+                is,
+                λ fed finishes. subst (λ (g : List (Given SessionMessage)). GoesOn (part_of s) (came_in turns) finishes g (part_of after) finishes) gave
+                    (reading_cuts receives_allowed (part_of s) (part_of after) turns out reads fed (sym calm ∙ ample) finishes),
+              )
+            ]
+      ]
+
+-- ---- what a reading respects
+
+abbrev is_nil : List WireMessage → Bool
+is_nil [] = true
+is_nil (m ∷ ms) = false
+
+none_some : {A : Type 0} (x : A) → None ≡ Some x → ⊥
+none_some x same = true≢false (ap is_none same)
+
+none_put : (put others : List WireMessage) → [] ≡ put ++ others → put ≡ []
+none_put [] others same = refl
+none_put (m ∷ put) others same = absurd (true≢false (ap is_nil same))
+
+module _ {U : Type 0} (R : Core U → List (Given SessionMessage) → Core U → Type 0) where
+  -- a relation of cores and of what was handed out between them: of the cores only the objects and the notes count
+  pub record SeesObjects : Type 0 where
+    pub joins : (c d e : Core U) (g h : List (Given SessionMessage)) → R c g d → R d h e → R c (g ++ h) e
+    pub handles : (c : Core U) (m : WireMessage) (d : Core U) → objects_in d ≡ objects_after (handling c.table (objects_in c) m) → d.notes ≡ c.notes
+        → R c (map HandedOut (handed (handling c.table (objects_in c) m))) d
+    pub fails : (c d : Core U) → objects_in d ≡ objects_in c → d.notes ≡ c.notes → R c [] d
+
+  -- wherever a message leads, with or without memory, the objects are as it says
+  comes_so : (P : Core U → Type 0) (c : Core U) (h : Handling U) → ((d : Core U) → objects_in d ≡ objects_after h → d.notes ≡ c.notes → P d)
+      → (wrote : Result (Unit {0}) IoFault) → P (comes_to client (verdict c h) wrote)
+  comes_so P c (Swallows o) so (Ok u) = so _ refl refl
+  comes_so P c (Swallows o) so (Err fault.OutOfMemory) = so _ refl refl
+  comes_so P c (Swallows o) so (Err f) = so _ refl refl
+  comes_so P c (HandsOut m event o) so (Ok u) = so _ refl refl
+  comes_so P c (HandsOut m event o) so (Err fault.OutOfMemory) = so _ refl refl
+  comes_so P c (HandsOut m event o) so (Err f) = so _ refl refl
+  comes_so P c (Breaks e o) so (Ok u) = so _ refl refl
+  comes_so P c (Breaks e o) so (Err fault.OutOfMemory) = so _ refl refl
+  comes_so P c (Breaks e o) so (Err f) = so _ refl refl
+
+  keeps : (c : Core U) (h : Handling U) → ((d : Core U) → objects_in d ≡ objects_after h → d.notes ≡ c.notes → R c (map HandedOut (handed h)) d) → Keeps client R c (verdict c h)
+  keeps c h so =
+      let P : Core U → Type 0 = λ d. R c (map HandedOut (handed h)) d in
+      record {
+        carried = λ put others wrote is. subst (λ (ms : List WireMessage). R c (put_and_gave ms (handed h)) (comes_to client (verdict c h) wrote)) (sym (none_put put others is)) (comes_so P c h so wrote);
+        starved = λ asks. comes_so P c h so (Err fault.OutOfMemory);
+      }
+
+  module _ (sees : SeesObjects) where
+    faults : (c : Core U) (f : IoFault) → R c [] (faulted c f)
+    faults c fault.WouldBlock = sees.fails c _ refl refl
+    faults c fault.OutOfMemory = sees.fails c _ refl refl
+    faults c f = sees.fails c _ refl refl
+
+    respects : RespectsReading client R
+    respects = record {
+      same = λ c. sees.fails c c refl refl;
+      joins = sees.joins;
+      handles = λ c m. keeps c (handling c.table (objects_in c) m) (sees.handles c m);
+      malformed = λ c. keeps c (Breaks (error_of c.table wrong.Malformed) (objects_in c)) (sees.fails c);
+      faulted = faults;
+    }
+
+    -- it holds over a reading; other answers change nothing
+    pub next_event_respects : {T : Type 0} (sends : T → Queue → Result ℕ IoFault → T → Type 0) (receives : T → ℕ → Result Queue IoFault → T → Type 0) (s : SessionState T U)
+        (answer : Result SessionMessage EventError) (refused : Bool) (after : SessionState T U) → NextEvent sends receives s answer refused after
+        → R (core_of s) (handed_by answer) (core_of after)
+    next_event_respects sends receives s answer refused after h =
+        elim (both_option s.error h h) [
+          | inr (e, some, (is, unasked, same), again) ↦ stays no_event.Failed is same
+          | inl (none, p, q) ↦
+              elim (both_option s.open_event p q) [
+                | inr (event, some, (is, unasked, same), again) ↦ stays no_event.EventOpen is same
+                | inl (unopened, (turns, out, reads, is, gave, calm), again) ↦
+                    subst (λ (g : List (Given SessionMessage)). R (core_of s) g (core_of after)) gave
+                    (reads_respect sends receives client R respects receives_allowed (part_of s) (part_of after) turns out reads)
+              ]
+        ]
+      where
+        stays : (e : EventError) → answer ≡ Err e → after ≡ s → R (core_of s) (handed_by answer) (core_of after)
+        stays e is same =
+            subst (λ (a : Result SessionMessage EventError). R (core_of s) (handed_by a) (core_of after)) (sym is)
+            (sees.fails (core_of s) (core_of after) (ap (λ (x : SessionState _ U). objects_in (core_of x)) same) (ap (λ (x : SessionState _ U). x.notes) same))
+
+-- ---- a finish
+
+refused_not : {U : Type 0} (e : FinishRefused U) → ◌≡◌ {A = Result (Unit {0}) (FinishRefused U)} (Ok tt) (Err e) → ⊥
+refused_not e same = true≢false (ap is_ok same)
+
+module _ {T U : Type 0} where
+  -- an accepted finish closes the event
+  abbrev Shuts : SessionState T U → Option U → SessionState T U → Type 0
+  Shuts s u after = (event : OpenEvent) × (s.open_event ≡ Some event) × (refusal event.created u ≡ None) × (after ≡ session_closed s event u)
+
+  closes_as : (s after : SessionState T U) (event : OpenEvent) (u : Option U) → Closes s event u (Ok tt) after → after ≡ session_closed s event u
+  closes_as s after event u (inl (is, same)) = same
+  closes_as s after event u (inr (notes, (is, same))) = absurd (refused_not _ is)
+
+  finish_as : (s after : SessionState T U) (u : Option U) → Finishes s u (Ok tt) after → Shuts s u after
+  finish_as s after u h =
+      elim (both_option s.open_event h h) [
+        | inl (none, (is, same), again) ↦ absurd (refused_not _ is)
+        | inr (event, some, g, again) ↦
+            elim (both_option event.created g g) [
+              | inl (none, f, _) ↦
+                  elim (both_option u f f) [
+                    | inl (empty, end, _) ↦ (event, some, ap (λ c. refusal c u) none ∙ ap (λ (d : Option U). refusal None d) empty, closes_as s after event u end)
+                    | inr (d, given, (is, same), _) ↦ absurd (refused_not _ is)
+                  ]
+              | inr (id, made, f, _) ↦
+                  elim (both_option u f f) [
+                    | inl (empty, (is, same), _) ↦ absurd (refused_not _ is)
+                    | inr (d, given, end, _) ↦ (event, some, ap (λ c. refusal c u) made ∙ ap (λ (d : Option U). refusal (Some id) d) given, closes_as s after event u end)
+                  ]
+            ]
+      ]
+
+  -- a session that was closed, as a part
+  part_closed : (s : SessionState T U) (event : OpenEvent) (u : Option U)
+      → part_of (session_closed s event u) ≡ (let p : Part T (Core U) = record { core = closed (core_of s) event u; link = s.link } in p)
+  part_closed s event u = with_destructor event.is_destructor (named s.store event.sender) event.created u
+    where
+      given_to : (t : SessionState T U) (created : Option IdParts) (u : Option U)
+          → part_of (session_data_for t created u) ≡ (let p : Part T (Core U) = record { core = with_data_for (core_of t) created u; link = t.link } in p)
+      given_to t None u = refl
+      given_to t (Some id) None = refl
+      given_to t (Some id) (Some v) = refl
+
+      shut : SessionState T U
+      shut = record s { open_event = None }
+
+      with_destructor : (b : Bool) (x : Option (Object (Kept U))) (created : Option IdParts) (u : Option U)
+          → part_of (session_data_for (cond b (session_dead shut event.sender.number x) shut) created u)
+          ≡ (let p : Part T (Core U) = record { core = with_data_for (cond b (with_dead (core_of shut) event.sender.number x) (core_of shut)) created u; link = s.link } in p)
+      with_destructor true None created u = given_to shut created u
+      with_destructor true (Some x) created u = given_to (session_dead shut event.sender.number (Some x)) created u
+      with_destructor false x created u = given_to shut created u
+
+  -- so it is what the reader comes to where it takes these data
+  pub finish_ends : (sends : T → Queue → Result ℕ IoFault → T → Type 0) (s after : SessionState T U) (u : Option U) → s.error ≡ None → Finishes s u (Ok tt) after
+      → (client.reads_on (core_of s) ≡ false) × Ends sends client (part_of s) u [] [] false (part_of after)
+  finish_ends sends s after u live h =
+      let (event, some, fits, same) = finish_as s after u h in
+      let is = ap part_of same ∙ part_closed s event u in
+      let v : Verdict (Core U) SessionMessage = finished (core_of s) event u in
+      let takes : finish (core_of s) s.error s.open_event u ≡ Some v
+      = ap₂ (λ (e : Option WaylandError) (o : Option OpenEvent). finish (core_of s) e o u) live some
+      ∙ ap (λ (r : Option FinishError). let o : Option (Verdict (Core U) SessionMessage) = cond (is_none r) (Some v) None in o) fits in (
+        ap₂ (λ (e : Option WaylandError) (o : Option OpenEvent). is_none e && is_none o) live some,
+        (v, takes, inl ([], [], [], Ok tt, s.link, false, (refl, refl, refl, refl), (refl, ap (λ (p : Part T (Core U)). p.link) is, refl), refl, ap (λ (p : Part T (Core U)). p.core) is, refl, refl)),
+      )
+
+  -- an accepted finish of a live session is the next of the finishes
+  pub finish_cuts : (s : SessionState T U) (u : Option U) (answer : Result (Unit {0}) (FinishRefused U)) (after : SessionState T U) → Finishes s u answer after → CutsFinish s u answer after
+  finish_cuts s u answer after h live accepted finishes =
+      let ended = finish_ends no_sends s after u live (subst (λ (a : Result (Unit {0}) (FinishRefused U)). Finishes s u a after) accepted h) in
+      finish_law no_sends no_receives no_sends client none_sent (part_of s) (part_of after) u [] [] ended.0 ended.1 finishes
+    where
+      no_receives : T → ℕ → Result Queue IoFault → T → Type 0
+      no_receives before room received after = ⊥
+
+-- ---- something is served of whatever waits, and it is determined
+
+module _ {U : Type 0} where
+  shut_verdict : (c : Core U) (error : Option WaylandError) (event : Option OpenEvent) (u : Option U) (v : Verdict (Core U) SessionMessage) → finish c error event u ≡ Some v
+      → (v.puts ≡ []) × (v.flushes ≡ false)
+  shut_verdict c (Some e) event u v is = absurd (none_some v is)
+  shut_verdict c None None u v is = absurd (none_some v is)
+  shut_verdict c None (Some event) u v is = go (is_none (refusal event.created u)) is
+    where
+      go : (b : Bool) → cond b (Some (finished c event u)) None ≡ Some v → (v.puts ≡ []) × (v.flushes ≡ false)
+      go true same =
+          let w : finished c event u ≡ v = same_Some (finished c event u) v same in
+          (ap (λ (x : Verdict (Core U) SessionMessage). x.puts) (sym w), ap (λ (x : Verdict (Core U) SessionMessage). x.flushes) (sym w))
+      go false same = absurd (none_some v same)
+
+  goes_on : {S : Type 0} (sends : S → Queue → Result ℕ IoFault → S → Type 0) → AlwaysGoesOn sends (client {U = U})
+  goes_on sends = record {
+    handles = λ c m link. carried_at_once sends client (client.handles c m) link refl refl;
+    malformed = λ c link. carried_at_once sends client (client.malformed c) link refl refl;
+    over = λ c link. (refl, λ u. refl);
+    takes = λ c u v link is. (
+        let shut = shut_verdict c c.error c.open_event u v is in
+        carried_at_once sends client v link shut.0 shut.1
+        );
+  }
+
+  pub one_served : {T : Type 0} (p : Part T (Core U)) (more : Queue) (finishes : List (Option U)) (events others : List (Given SessionMessage)) (x y : Part (Unit {0}) (Core U))
+      → IsServed p more finishes events x → IsServed p more finishes others y → (events ≡ others) × (x ≡ y)
+  one_served p more finishes events others x y = served_one no_sends none_sent client (part_as p more tt) x y finishes events others
+
+  pub some_served : {T : Type 0} (p : Part T (Core U)) (more : Queue) (finishes : List (Option U))
+      → (events : List (Given SessionMessage)) × (after : Part (Unit {0}) (Core U)) × IsServed p more finishes events after
+  some_served p more finishes = always_served no_sends client (goes_on no_sends) (part_as p more tt) finishes

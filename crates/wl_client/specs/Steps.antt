@@ -86,7 +86,7 @@ module _ {U : Type 0} where
   StepOf before step.Flush answer refused after =
       (r : _) × (answer ≡ reply.Flush r) × (refused ≡ refused_flush r) × SessionFlushed ScriptSends before r after
   StepOf before step.NextEvent answer refused after =
-      (r : _) × (answer ≡ reply.NextEvent r) × NextEvent ScriptReceives before (event_content r) refused after
+      (r : _) × (answer ≡ reply.NextEvent r) × NextEvent ScriptSends ScriptReceives before (event_content r) refused after
   StepOf before (step.FinishEvent u) answer refused after =
       (r : _) × (answer ≡ reply.FinishEvent r) × (refused ≡ refused_finish r) × Finishes before u r after
   StepOf before step.DispatchInnerQueue answer refused after =

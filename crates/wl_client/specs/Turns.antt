@@ -1,34 +1,45 @@
 -- What the functions of a reading say to each other.
-use Rattle.std.specs.Prelude.{◌≡◌, ℕ, ◌⊎◌, List, [], Bool, true, false, Option, None, Some, Result, Ok, Err}
+use Rattle.std.specs.Prelude.{◌≡◌, ◌≢◌, ◌⊎◌, ◌||◌, ◌<◌, ℕ, length, List, [], Bool, true, false, Option, None, Some, Result, Ok, Err}
 use Rattle.std.specs.Borrow.{Bor}
 use Rattle.wl_wire.specs.declared.argument.Token.{Token}
+use Rattle.wl_wire.specs.declared.error.IoFault.{IoFault}
+use Rattle.wl_wire.specs.declared.error.IoFault.TheVariants as fault
 use Rattle.wl_wire.specs.declared.error.MessageParseError.{MessageParseError}
 use Rattle.wl_wire.specs.declared.error.MessageParseError.TheVariants as parse
+use Rattle.wl_wire.specs.declared.interface.MessageDesc.{MessageDesc}
 use Rattle.wl_wire.specs.declared.message.Message.{Message}
 use Rattle.wl_wire.specs.Message.{WireMessage, content}
-use Rattle.wl_wire.specs.declared.interface.MessageDesc.{MessageDesc}
 use Rattle.wl_wire.specs.Table.{InterfaceRow, MessageRow, message_row}
 use Rattle.wl_link.specs.declared.object.Object.{Object}
 use Rattle.wl_link.specs.Exchange.{Queue}
 use Rattle.wl_link.specs.Identity.{Objects}
-use Rattle.wl_link.specs.Link.{LinkState, ReadOne, FilledBy, counted_answer, count_of}
+use Rattle.wl_link.specs.Link.{LinkState, ReadOne}
+use Rattle.wl_link.specs.Puts.{lacked_memory}
+use Rattle.wl_link.specs.ReaderLoops.{EndsSo, LeadsOn, ReceivedTo as PartReceived}
 use Rattle.wl_link.specs.Store.{Store, held}
-use Rattle.wl_wire.specs.declared.error.IoFault.{IoFault}
-use Rattle.wl_client.specs.declared.error.EventError.{EventError}
-use Rattle.wl_client.specs.declared.error.EventError.TheVariants as no_event
-use Rattle.wl_client.specs.declared.turn.NoEvent.{NoEvent}
-use Rattle.wl_client.specs.declared.kept.Kept.{Kept}
 use Rattle.wl_client.specs.declared.display.DisplayEvent.{DisplayEvent as ToldEvent}
 use Rattle.wl_client.specs.declared.display.DisplayEvent.TheVariants as told
+use Rattle.wl_client.specs.declared.error.EventError.{EventError}
+use Rattle.wl_client.specs.declared.error.EventError.TheVariants as no_event
+use Rattle.wl_client.specs.declared.error.WaylandError.TheVariants.{Io, Protocol}
+use Rattle.wl_client.specs.declared.event_fault.EventFault.TheVariants as wrong
+use Rattle.wl_client.specs.declared.kept.Kept.{Kept}
 use Rattle.wl_client.specs.declared.receive.Handled.{Handled}
 use Rattle.wl_client.specs.declared.receive.Handled.TheVariants as handled
+use Rattle.wl_client.specs.declared.turn.NoEvent.{NoEvent}
 use Rattle.wl_client.specs.declared.turn.Turn.{Turn as Turned}
 use Rattle.wl_client.specs.declared.turn.Turn.TheVariants as turned
 use Rattle.wl_client.specs.ObjectId.{IdParts}
-use Rattle.wl_client.specs.Events.{Outcome, Whole, Wrong, DisplayEvent, Fails, Deletes, Unreadable}
-use Rattle.wl_client.specs.Reading.{Turn, Ends, Faulted, Handles, Lacks, Reads, ReadsAs, RowAsks, front_row, row_in, signature_in, with_link}
+use Rattle.wl_client.specs.Events.{Outcome, Whole, Wrong, DisplayEvent, Fails, Deletes, Unreadable, error_of}
+use Rattle.wl_client.specs.Handling.{Handling, Swallows, HandsOut, Breaks, front_row, handling, row_in, signature_in}
+use Rattle.wl_client.specs.Reading.{Lacks, ReadsAs, answered, by_fault, client, handed_by, part_of, with_error, with_link}
 use Rattle.wl_client.specs.Requests.{SessionMessage, session_content}
-use Rattle.wl_client.specs.Session.{SessionState, id_at}
+use Rattle.wl_client.specs.Session.{SessionState, id_at, objects_of, with_objects}
+
+-- an event asks for memory before it is read: for the object that it makes, or for arguments beyond four
+abbrev pub RowAsks : Option MessageRow → Type 0
+RowAsks None = ⊥
+RowAsks (Some row) = (row.child_interface ≢ None) ⊎ (4 < length row.signature)
 
 -- what an event of the display tells, which the code keeps by reference
 abbrev pub told_by : ToldEvent → DisplayEvent
@@ -73,71 +84,65 @@ abbrev pub event_refused : Result (Message IdParts Token) NoEvent → Bool
 event_refused (Ok m) = false
 event_refused (Err end) = end.refused
 
-abbrev pub no_turns : List Turn
-no_turns = []
-
 module _ {T U : Type 0} where
-  -- the message was handled, and the reading goes on
-  abbrev pub HandledOn : (T → ℕ → Result Queue IoFault → T → Type 0) → SessionState T U → WireMessage → SessionState T U → Type 0
-  HandledOn receives before m after =
-      (left : ℕ) (rest : List Turn) (answer : Result SessionMessage EventError) (refused : Bool) (end : SessionState T U) →
-      Reads receives left after rest answer refused end →
-      Handles before m (rest ≡ []) answer refused end (λ mid. Reads receives left mid rest answer refused end)
+  -- what a message came to was carried out
+  abbrev pub HandledTo : SessionState T U → Handling U → Turned → SessionState T U → Type 0
+  HandledTo before (Swallows o) turned.GoesOn after = after ≡ with_objects before o
+  HandledTo before (HandsOut m event o) (turned.Event e) after =
+      (session_content e ≡ m) × (after ≡ record (with_objects before o) { open_event = Some event })
+  HandledTo before (Breaks e o) (turned.Ends end) after =
+      (end.error ≡ no_event.Failed)
+      × (((end.refused ≡ false) × (after ≡ with_error (with_objects before o) (Protocol e)))
+      ⊎ ((end.refused ≡ true) × (after ≡ with_error (with_objects before o) (Io fault.OutOfMemory))))
+  HandledTo before _ _ after = ⊥
 
-  -- the message was handled, and the reading ends with it
-  abbrev pub HandledLast : (T → ℕ → Result Queue IoFault → T → Type 0) → SessionState T U → WireMessage
-      → Result SessionMessage EventError → Bool → SessionState T U → Type 0
-  HandledLast receives before m answer refused after =
-      (left : ℕ) → Handles before m (no_turns ≡ []) answer refused after (λ mid. Reads receives left mid [] answer refused after)
+  abbrev pub malformed : SessionState T U → Handling U
+  malformed s = Breaks (error_of s.table wrong.Malformed) (objects_of s)
 
   -- no message was taken, for this reason
   abbrev pub NotTaken : SessionState T U → MessageParseError → Type 0
-  NotTaken s e =
-      ReadsAs s (Err e) s.link ⊎ ((e ≡ parse.OutOfMemory) × RowAsks (front_row s.table s.store s.link.incoming.bytes))
-
-  -- the message was handled, and that comes to this
-  abbrev pub HandledTo : (T → ℕ → Result Queue IoFault → T → Type 0) → SessionState T U → WireMessage → Turned → SessionState T U → Type 0
-  HandledTo receives before m turned.Lacks after = ⊥
-  HandledTo receives before m turned.GoesOn after = (after.link ≡ before.link) × HandledOn receives before m after
-  HandledTo receives before m (turned.Event e) after = HandledLast receives before m (Ok (session_content e)) false after
-  HandledTo receives before m (turned.Ends end) after = HandledLast receives before m (Err end.error) end.refused after
+  NotTaken s e = ReadsAs s (Err e) s.link ⊎ ((e ≡ parse.OutOfMemory) × RowAsks (front_row s.table s.store s.link.incoming.bytes))
 
   -- no message was taken, and that comes to this
   abbrev pub NotTakenTo : SessionState T U → Turned → SessionState T U → Type 0
   NotTakenTo before turned.Lacks after = Lacks before × (after ≡ before)
-  NotTakenTo before turned.GoesOn after = ⊥
-  NotTakenTo before (turned.Event e) after = ⊥
-  NotTakenTo before (turned.Ends end) after = (left : ℕ) → Ends left before (Err end.error) end.refused after
+  NotTakenTo before (turned.Ends end) after =
+      (ReadsAs before (Err parse.Malformed) before.link × HandledTo before (malformed before) (turned.Ends end) after)
+      ⊎ ((end ≡ record { error = no_event.OutOfMemory; refused = true }) × NotTaken before parse.OutOfMemory × (after ≡ before))
+  NotTakenTo before _ after = ⊥
 
   -- a turn of a reading
-  abbrev pub Turns : (T → ℕ → Result Queue IoFault → T → Type 0) → SessionState T U → Turned → SessionState T U → Type 0
-  Turns receives before turned after =
+  abbrev pub Turns : SessionState T U → Turned → SessionState T U → Type 0
+  Turns before turned after =
       NotTakenTo before turned after
-      ⊎ ((m : WireMessage) × (link : LinkState T) × ReadsAs before (Ok m) link × HandledTo receives (with_link before link) m turned after)
+      ⊎ ((m : WireMessage) × (link : LinkState T) × ReadsAs before (Ok m) link
+      × HandledTo (with_link before link) (handling before.table (objects_of before) m) turned after)
 
-  -- where what is left of a reading may lead, the whole may
-  abbrev pub LeadsOn : (T → ℕ → Result Queue IoFault → T → Type 0) → SessionState T U → SessionState T U → Type 0
-  LeadsOn receives before after =
-      (left : ℕ) (rest : List Turn) (answer : Result SessionMessage EventError) (refused : Bool) (end : SessionState T U) →
-      Reads receives left after rest answer refused end → (turns : List Turn) × Reads receives left before turns answer refused end
+  abbrev pub Live : SessionState T U → Type 0
+  Live s = (s.error ≡ None) × (s.open_event ≡ None)
 
-  -- a reading ends so, however many receives are left
-  abbrev pub EndsSo : (T → ℕ → Result Queue IoFault → T → Type 0) → SessionState T U → Result SessionMessage EventError → Bool
-      → SessionState T U → Type 0
-  EndsSo receives before answer refused after = (left : ℕ) → (turns : List Turn) × Reads receives left before turns answer refused after
+  module _ (sends : T → Queue → Result ℕ IoFault → T → Type 0) (receives : T → ℕ → Result Queue IoFault → T → Type 0) where
+    -- a reading ends so, however many receives are left
+    pub record EndsAs (before : SessionState T U) (answer : Result (Message IdParts Token) NoEvent) (after : SessionState T U) : Type 0 where
+      pub lacked : Bool
+      pub stopped : Option IoFault
+      pub short : Bool
+      pub ends : EndsSo sends receives client (part_of before) (handed_by (event_answer answer)) lacked stopped short (part_of after)
+      pub answer_is : event_answer answer ≡ answered stopped (handed_by (event_answer answer))
+      pub refused_is : event_refused answer ≡ lacked || short
 
-  -- all that waits whole was handled, and that comes to this
-  abbrev pub Waited : (T → ℕ → Result Queue IoFault → T → Type 0) → SessionState T U → Option (Result (Message IdParts Token) NoEvent)
-      → SessionState T U → Type 0
-  Waited receives before None after = Lacks after × LeadsOn receives before after
-  Waited receives before (Some r) after = EndsSo receives before (event_answer r) (event_refused r) after
+    -- where what is left of a reading may lead, the whole may
+    abbrev pub Leads : SessionState T U → SessionState T U → Type 0
+    Leads before now = LeadsOn sends receives client (part_of before) [] false (part_of now)
 
-  -- a receive was made, or there was no memory for it
-  abbrev pub ReceivedTo : (T → ℕ → Result Queue IoFault → T → Type 0) → SessionState T U → Option NoEvent → SessionState T U → Type 0
-  ReceivedTo receives before None after =
-      (r : Result Queue IoFault) × FilledBy receives before.link r (counted_answer (count_of r)) after.link
-      × (counted_answer (count_of r) ≡ Ok tt) × (after ≡ with_link before after.link)
-  ReceivedTo receives before (Some end) after =
-      ((r : Result Queue IoFault) × (link : LinkState T) × FilledBy receives before.link r (counted_answer (count_of r)) link
-      × ((f : IoFault) × (counted_answer (count_of r) ≡ Err f) × Faulted (with_link before link) f (Err end.error) end.refused after))
-      ⊎ ((end.error ≡ no_event.OutOfMemory) × (end.refused ≡ true) × (after ≡ before))
+    -- all that waits whole was handled, and that comes to this
+    abbrev pub Waited : SessionState T U → Option (Result (Message IdParts Token) NoEvent) → SessionState T U → Type 0
+    Waited before None after = Live after × Lacks after × Leads before after
+    Waited before (Some r) after = EndsAs before r after
+
+    -- a receive was made, or there was no memory for it
+    abbrev pub ReceivedTo : SessionState T U → Option NoEvent → SessionState T U → Type 0
+    ReceivedTo before None after = PartReceived sends receives client (part_of before) None (part_of after) × Live after
+    ReceivedTo before (Some end) after =
+        (f : IoFault) × PartReceived sends receives client (part_of before) (Some f) (part_of after)
+        × (end ≡ record { error = by_fault f; refused = lacked_memory (Err f) })

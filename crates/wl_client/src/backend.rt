@@ -8,6 +8,7 @@ ghost use Rattle.wl_client.specs.Session.{IsConnected};
 ghost use Rattle.wl_client.specs.Objects.{info_of, user_data_of, DataSet, DestroyedBy};
 ghost use Rattle.wl_client.specs.Requests.{Requested, session_content};
 ghost use Rattle.wl_client.specs.Reading.{NextEvent, event_content};
+ghost use Rattle.wl_client.specs.Cutting.{CutsFinish, CutsReading};
 ghost use Rattle.wl_client.specs.Finish.{Finishes, SessionFlushed};
 ghost use Rattle.wl_client.specs.Steps.{refused_destroy, refused_finish, refused_flush, refused_request};
 
@@ -195,6 +196,7 @@ impl<T: Drop, U: Drop> Backend<T, U> {
     /// object and no data are given; `UnexpectedData` where it made none and data are given; `OutOfMemory` where
     /// there is none for a note. Each gives the data back, and leaves the event open.
     pub fn finish_event(&mut self, user_data: Option<U>) -> Result<(), FinishRefused<U>>
+        ensures cutting { CutsFinish self.old.session user_data result self.new.session }
         ensures finished { Finishes self.old.session user_data result self.new.session }
         ensures refused { self.new.refused ≡ refused_finish result }
     {
@@ -255,8 +257,12 @@ impl<T: Transport + Drop, U: Drop> Backend<T, U> {
     /// the reading comes to: `Failed` where it stores an error, `WouldBlock` where the transport would block or
     /// no whole message waits after 64 receives, `OutOfMemory`. After the last two what was handled stays handled, and
     /// what waits is read by the next call.
+    ///
+    /// However bytes and tokens are cut into receives, the session before it goes on over all that comes as the session
+    /// after it does over the rest, behind the event that was handed out.
     pub fn next_event(&mut self) -> Result<Message<ObjectId, Token>, EventError>
-        ensures read { NextEvent T.receives self.old.session (event_content result) self.new.refused self.new.session }
+        ensures cutting { CutsReading T.sends T.receives self.old.session (event_content result) self.new.refused self.new.session }
+        ensures read { NextEvent T.sends T.receives self.old.session (event_content result) self.new.refused self.new.session }
     {
         match self.session.next_event() {
             Ok(event) => {

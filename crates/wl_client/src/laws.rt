@@ -1,9 +1,14 @@
-//! What follows from the definitions of a session alone, over every run of it over the transport by script. Each
-//! function has a law as its contract, and does nothing.
+//! What follows from the definitions of a session alone. Each function has a law as its contract, and does nothing.
 
-ghost use Rattle.std.specs.Prelude.{◌≡◌, List, IsSome, false, length};
+ghost use Rattle.std.specs.Prelude.{◌≡◌, ◌∷◌, [], List, Option, None, Ok, IsSome, false, length, ℕ};
 ghost use Rattle.wl_wire.specs.Table.{InterfaceRow};
+ghost use Rattle.wl_link.specs.Exchange.{Queue, nothing};
+ghost use Rattle.wl_link.specs.Reader.{AllFed, Given, Gives, Part, Reads, Turn, came_in};
 ghost use Rattle.wl_link.specs.Script.{Script};
+ghost use Rattle.wl_client.specs.Cutting.{GoesOn, IsServed};
+ghost use Rattle.wl_client.specs.Finish.{Finishes};
+ghost use Rattle.wl_client.specs.Reading.{Core, client, part_of};
+ghost use Rattle.wl_client.specs.Requests.{SessionMessage};
 ghost use Rattle.wl_client.specs.declared.step.Reply.{Reply};
 ghost use Rattle.wl_client.specs.declared.step.Step.{Step};
 ghost use Rattle.wl_client.specs.Failed.{StaysFailed};
@@ -12,6 +17,8 @@ ghost use Rattle.wl_client.specs.Noted.{NotedOnce};
 ghost use Rattle.wl_client.specs.Replies.{SameReply, SameReplies};
 ghost use Rattle.wl_client.specs.Session.{SessionState, IsConnected};
 ghost use Rattle.wl_client.specs.Steps.{Entry, Leads, StepOf, entries};
+
+use wl_link::Transport;
 
 /// The identity law of a session.
 ///
@@ -51,4 +58,22 @@ pub fn each_run_has_one_outcome<U>()
         length replies ≡ length steps → length replies' ≡ length steps →
         Leads before (entries steps replies) after → Leads before (entries steps replies') after' →
         SameReplies replies replies' × (after ≡ after') }
+{}
+
+/// The law of cutting, for every transport.
+///
+/// In a reading in which memory is not refused, let each receive bring a byte, or say that the transport would block.
+/// Whatever comes later: what is served of the session before it, over what was received and then the rest, is what the
+/// reading handed out, followed by what is served of the session after it over the rest. An accepted finish of a session
+/// without an error is the next of the finishes. Something is served of whatever waits, and it is determined.
+pub fn cutting_does_not_matter_to_a_client<T: Transport, U>()
+    ensures reading { (left : ℕ) (before after : Part T (Core U)) (turns : List Turn) (out : Gives SessionMessage) →
+        Reads T.sends client T.receives left before turns out after → AllFed turns → out.refused ≡ false →
+        (finishes : List (Option U)) → GoesOn before (came_in turns) finishes out.gave after finishes }
+    ensures finish { (before after : SessionState T U) (u : Option U) → before.error ≡ None → Finishes before u (Ok tt) after →
+        (finishes : List (Option U)) → GoesOn (part_of before) nothing (u ∷ finishes) [] (part_of after) finishes }
+    ensures one { (before : Part T (Core U)) (more : Queue) (finishes : List (Option U)) (events others : List (Given SessionMessage)) (x y : _) →
+        IsServed before more finishes events x → IsServed before more finishes others y → (events ≡ others) × (x ≡ y) }
+    ensures some { (before : Part T (Core U)) (more : Queue) (finishes : List (Option U)) →
+        (events : List (Given SessionMessage)) × (after : _) × IsServed before more finishes events after }
 {}

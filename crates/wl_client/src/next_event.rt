@@ -1,8 +1,7 @@
 //! A reading: messages are handled, and more is received where none waits whole.
 
-ghost use Rattle.std.specs.Prelude.{List};
-ghost use Rattle.wl_client.specs.Reading.{NextEvent, Reads, Turn as ReadingTurn, receives_allowed};
-ghost use Rattle.wl_client.specs.Turns.{ReceivedTo, Waited, event_answer, event_refused};
+ghost use Rattle.wl_client.specs.Reading.{NextEvent, ReadsTo};
+ghost use Rattle.wl_client.specs.Turns.{Live, ReceivedTo, Waited, event_answer, event_refused};
 
 use crate::error::{EventError, WaylandError};
 use crate::object_id::ObjectId;
@@ -17,7 +16,8 @@ pub const READ_TURNS: u32 = 64;
 impl<T: Transport + Drop, U: Drop> Session<T, U> {
     /// Handles messages until the reading ends, or no message waits whole.
     fn handle_waiting(&mut self) -> Option<Result<Message<ObjectId, Token>, NoEvent>>
-        ensures { Waited T.receives self.old result self.new }
+        requires { Live self.old }
+        ensures { Waited T.sends T.receives self.old result self.new }
     {
         loop {
             match self.turn() {
@@ -31,7 +31,8 @@ impl<T: Transport + Drop, U: Drop> Session<T, U> {
 
     /// Receives once; the answer is why the reading ends, if it does.
     fn receive(&mut self) -> Option<NoEvent>
-        ensures { ReceivedTo T.receives self.old result self.new }
+        requires { Live self.old }
+        ensures { ReceivedTo T.sends T.receives self.old result self.new }
     {
         let Err(fault) = self.socket.fill_incoming_buffers() else {
             return None;
@@ -57,7 +58,7 @@ impl<T: Transport + Drop, U: Drop> Session<T, U> {
 
     /// The next event; or why there is none.
     pub fn next_event(&mut self) -> Result<Message<ObjectId, Token>, NoEvent>
-        ensures { NextEvent T.receives self.old (event_answer result) (event_refused result) self.new }
+        ensures { NextEvent T.sends T.receives self.old (event_answer result) (event_refused result) self.new }
     {
         if self.error.is_some() {
             return Err(NoEvent {
@@ -76,8 +77,8 @@ impl<T: Transport + Drop, U: Drop> Session<T, U> {
 
     /// Handles messages and receives, until there is an event or no receive is left.
     fn read_event(&mut self) -> Result<Message<ObjectId, Token>, NoEvent>
-        ensures { (turns : List ReadingTurn)
-            × Reads T.receives receives_allowed self.old turns (event_answer result) (event_refused result) self.new }
+        requires { Live self.old }
+        ensures { ReadsTo T.sends T.receives self.old (event_answer result) (event_refused result) self.new }
     {
         for used in 0..READ_TURNS {
             if let Some(end) = self.handle_waiting() {

@@ -6,7 +6,7 @@ ghost use Rattle.wl_link.specs.Link.{ReadOne, read_content};
 ghost use Rattle.wl_link.specs.Store.{held};
 ghost use Rattle.std.specs.String.{string_bytes};
 ghost use Rattle.wl_client.specs.Events.{deleted, error_of, fault_text as text_of_fault, told_error as error_told};
-ghost use Rattle.wl_client.specs.Reading.{row_in};
+ghost use Rattle.wl_client.specs.Handling.{row_in};
 
 use crate::event_fault::EventFault;
 use crate::kept::Kept;

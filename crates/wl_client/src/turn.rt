@@ -7,7 +7,10 @@ ghost use Rattle.wl_wire.specs.declared.error.IoFault.TheVariants as io;
 ghost use Rattle.wl_client.specs.declared.error.EventError.TheVariants as no_event;
 ghost use Rattle.wl_client.specs.declared.error.WaylandError.TheVariants.{Io, Protocol as ProtocolFault};
 ghost use Rattle.wl_client.specs.Events.{error_of};
-ghost use Rattle.wl_client.specs.Reading.{Stores, with_error};
+ghost use Rattle.wl_client.specs.Handling.{Breaks, handling};
+ghost use Rattle.wl_client.specs.Reading.{with_error};
+ghost use Rattle.wl_client.specs.Session.{objects_of};
+ghost use Rattle.wl_client.specs.declared.turn.Turn.TheVariants as turned;
 ghost use Rattle.wl_client.specs.Turns.{HandledTo, NotTaken, NotTakenTo, TookWith, Turns};
 
 use crate::display::{DisplayEvent, display_event};
@@ -114,7 +117,7 @@ impl<T: Transport + Drop, U: Drop> Session<T, U> {
     #[cold]
     #[inline(never)]
     fn fail_by(&mut self, fault: EventFault) -> NoEvent
-        ensures { Stores self.old (error_of self.old.table fault) (Err result.error) result.refused self.new }
+        ensures { HandledTo self.old (Breaks (error_of self.old.table fault) (objects_of self.old)) (turned.Ends result) self.new }
     {
         let error = fault_error(*self.notes.allocator(), &self.protocol, fault);
         self.fail(error)
@@ -123,7 +126,7 @@ impl<T: Transport + Drop, U: Drop> Session<T, U> {
     /// Handles an event of the display.
     fn handle_display(&mut self, message: &Message<u32, Token>) -> Turn
         requires { message.now.sender_id ≡ 1 }
-        ensures { HandledTo T.receives self.old (content message.now) result self.new }
+        ensures { HandledTo self.old (handling self.old.table (objects_of self.old) (content message.now)) result self.new }
     {
         match display_event(message) {
             DisplayEvent::Deletes(number) => {
@@ -141,7 +144,7 @@ impl<T: Transport + Drop, U: Drop> Session<T, U> {
 
     /// Takes the message at the front off the link and handles it.
     pub fn turn(&mut self) -> Turn
-        ensures { Turns T.receives self.old result self.new }
+        ensures { Turns self.old result self.new }
     {
         if self.socket.next_header().is_none() {
             return self.not_taken(MessageParseError::MissingData);
@@ -152,7 +155,7 @@ impl<T: Transport + Drop, U: Drop> Session<T, U> {
     /// The same where a header waits. It is apart, so that a reading that waits does not pay for what it keeps.
     #[inline(never)]
     fn turn_at_header(&mut self) -> Turn
-        ensures { Turns T.receives self.old result self.new }
+        ensures { Turns self.old result self.new }
     {
         let mut converted = SmallVec::new(*self.notes.allocator());
         let (message, desc) = match take(

@@ -17,17 +17,21 @@ pub record Keeps {Core Event Finish : Type 0} (reader : Reader Core Event Finish
       → R c (put_and_gave put (v.events (came_to reader v wrote))) (came_to reader v wrote)
   pub starved : v.asks ≡ true → R c (map HandedOut (v.events v.starved)) v.starved
 
--- such as that what is handed out was made between them, or that objects move by changes
-pub record Respects {Core Event Finish : Type 0} (reader : Reader Core Event Finish) (R : Core → List (Given Event) → Core → Type 0) : Type 0 where
+-- such as that what is handed out was made between them, or that objects move by changes: as far as a reading goes
+pub record RespectsReading {Core Event Finish : Type 0} (reader : Reader Core Event Finish) (R : Core → List (Given Event) → Core → Type 0) : Type 0 where
   pub same : (c : Core) → R c [] c
   pub joins : (c d e : Core) (g h : List (Given Event)) → R c g d → R d h e → R c (g ++ h) e
   pub handles : (c : Core) (m : WireMessage) → Keeps reader R c (reader.handles c m)
   pub malformed : (c : Core) → Keeps reader R c (reader.malformed c)
-  pub takes : (c : Core) (u : Finish) (v : Verdict Core Event) → reader.takes c u ≡ Some v → Keeps reader R c v
   pub faulted : (c : Core) (f : IoFault) → R c [] (reader.faulted c f)
 
+-- and the end of what is open
+pub record Respects {Core Event Finish : Type 0} (reader : Reader Core Event Finish) (R : Core → List (Given Event) → Core → Type 0) : Type 0 where
+  pub reading : RespectsReading reader R
+  pub takes : (c : Core) (u : Finish) (v : Verdict Core Event) → reader.takes c u ≡ Some v → Keeps reader R c v
+
 module _ {T Core Event Finish : Type 0} (sends : T → Queue → Result ℕ IoFault → T → Type 0) (receives : T → ℕ → Result Queue IoFault → T → Type 0)
-    (reader : Reader Core Event Finish) (R : Core → List (Given Event) → Core → Type 0) (respects : Respects reader R) where
+    (reader : Reader Core Event Finish) (R : Core → List (Given Event) → Core → Type 0) where
   pub carries_respect : (c : Core) (v : Verdict Core Event) (before : LinkState T) (after : Part T Core) (es : List Sending) (gave : List (Given Event)) (refused : Bool)
       → Keeps reader R c v → CarriesOut sends reader v before es gave refused after → R c gave after.core
   carries_respect c v before after es gave refused keeps (inl (first, others, put, wrote, mid, lacked, puts, flushes, split, end, is, was)) =
@@ -36,6 +40,12 @@ module _ {T Core Event Finish : Type 0} (sends : T → Queue → Result ℕ IoFa
   carries_respect c v before after es gave refused keeps (inr (asks, was, none, is, same)) =
       subst (λ (x : Part T Core). R c gave x.core) (sym same) (subst (λ (g : List (Given Event)). R c g v.starved) (sym is) (keeps.starved asks))
 
+  pub ends_respect : Respects reader R → (p after : Part T Core) (u : Finish) (es : List Sending) (gave : List (Given Event)) (refused : Bool) → Ends sends reader p u es gave refused after
+      → R p.core gave after.core
+  ends_respect respects p after u es gave refused (v, is, carried) = carries_respect p.core v p.link after es gave refused (respects.takes p.core u v is) carried
+
+module _ {T Core Event Finish : Type 0} (sends : T → Queue → Result ℕ IoFault → T → Type 0) (receives : T → ℕ → Result Queue IoFault → T → Type 0)
+    (reader : Reader Core Event Finish) (R : Core → List (Given Event) → Core → Type 0) (respects : RespectsReading reader R) where
   abbrev given_in : Gives Event → List (Given Event)
   given_in o = o.gave
 
@@ -65,15 +75,11 @@ module _ {T Core Event Finish : Type 0} (sends : T → Queue → Result ℕ IoFa
   reads_respect left p after (Handled es ∷ turns) out (on, (v, link, first, lacked, mid, rest, (m, read, is), carried, split, more)) =
       let keeps = subst (λ (w : Verdict Core Event). Keeps reader R p.core w) (sym is) (respects.handles p.core m) in
       subst (λ (g : List (Given Event)). R p.core g after.core) (sym (ap given_in split))
-      (respects.joins p.core mid.core after.core first rest.gave (carries_respect p.core v link mid es first lacked keeps carried) (reads_respect left mid after turns rest more))
+      (respects.joins p.core mid.core after.core first rest.gave (carries_respect sends receives reader R p.core v link mid es first lacked keeps carried) (reads_respect left mid after turns rest more))
   reads_respect left p after (Unread es ∷ turns) out (on, (v, link, first, lacked, mid, rest, (malformed, same, is), carried, split, more)) =
       let keeps = subst (λ (w : Verdict Core Event). Keeps reader R p.core w) (sym is) (respects.malformed p.core) in
       subst (λ (g : List (Given Event)). R p.core g after.core) (sym (ap given_in split))
-      (respects.joins p.core mid.core after.core first rest.gave (carries_respect p.core v link mid es first lacked keeps carried) (reads_respect left mid after turns rest more))
-
-  pub ends_respect : (p after : Part T Core) (u : Finish) (es : List Sending) (gave : List (Given Event)) (refused : Bool) → Ends sends reader p u es gave refused after
-      → R p.core gave after.core
-  ends_respect p after u es gave refused (v, is, carried) = carries_respect p.core v p.link after es gave refused (respects.takes p.core u v is) carried
+      (respects.joins p.core mid.core after.core first rest.gave (carries_respect sends receives reader R p.core v link mid es first lacked keeps carried) (reads_respect left mid after turns rest more))
 
 -- ---- relations of cores alone
 
@@ -109,10 +115,12 @@ module _ {Core Event Finish : Type 0} (reader : Reader Core Event Finish) (R : C
 
   pub respects_all : Respects reader (λ c g d. R c d)
   respects_all = record {
-    same = respects.same;
-    joins = λ c d e g h. respects.joins c d e;
-    handles = λ c m. keeps_all c (reader.handles c m) (respects.handles c m);
-    malformed = λ c. keeps_all c (reader.malformed c) (respects.malformed c);
+    reading = record {
+      same = respects.same;
+      joins = λ c d e g h. respects.joins c d e;
+      handles = λ c m. keeps_all c (reader.handles c m) (respects.handles c m);
+      malformed = λ c. keeps_all c (reader.malformed c) (respects.malformed c);
+      faulted = respects.faulted;
+    };
     takes = λ c u v is. keeps_all c v (respects.takes c u v is);
-    faulted = respects.faulted;
   }

@@ -23,7 +23,7 @@ module _ {T Core Event Finish : Type 0} (sends : T → Queue → Result ℕ IoFa
     pub waits : after.link.incoming ≡ link.incoming
 
   -- where nothing is put, over every transport
-  pub carried_at_once : (v : Verdict Core Event) (link : LinkState T) → v.puts ≡ [] → v.flushes ≡ false → Carried v link
+  abbrev pub carried_at_once : (v : Verdict Core Event) (link : LinkState T) → v.puts ≡ [] → v.flushes ≡ false → Carried v link
   carried_at_once v link none still = record {
     sent = [];
     gave = put_and_gave [] (v.events (v.last v.core));

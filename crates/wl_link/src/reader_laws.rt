@@ -12,7 +12,7 @@ ghost use Rattle.wl_link.specs.Puts.{PutsOut, Said, messages_of};
 ghost use Rattle.wl_link.specs.PutsLaws.{SamePut};
 ghost use Rattle.wl_link.specs.Reader.{AllFed, Ends, Given, Gives, Part, Reader, Reads, Turn, came_in, queued_in, sends_in};
 ghost use Rattle.wl_link.specs.ReaderLaws.{SameReading};
-ghost use Rattle.wl_link.specs.RespectLaws.{Respects, RespectsCores};
+ghost use Rattle.wl_link.specs.RespectLaws.{Respects, RespectsCores, RespectsReading};
 ghost use Rattle.wl_link.specs.Script.{Script};
 ghost use Rattle.wl_link.specs.Served.{GoesOnAs, ServedFrom, Told, part_as};
 ghost use Rattle.wl_link.specs.TotalLaws.{GoesOn, IsServedTo};
@@ -59,7 +59,7 @@ pub fn a_reading_has_one_outcome<T: Transport, Core, Event, Finish>()
 /// `specs/RespectLaws`, which the proofs of the crates above cite, are of every relation.
 pub fn readings_respect_what_verdicts_do<T: Transport, Core, Event, Finish>()
     ensures reading { (reader : Reader Core Event Finish) (holds : Core → List (Given Event) → Core → Bool) →
-        Respects reader (λ c gave d. IsTrue (holds c gave d)) →
+        RespectsReading reader (λ c gave d. IsTrue (holds c gave d)) →
         (left : ℕ) (before after : Part T Core) (turns : List Turn) (out : Gives Event) →
         Reads T.sends reader T.receives left before turns out after → IsTrue (holds before.core out.gave after.core) }
     ensures finish { (reader : Reader Core Event Finish) (holds : Core → List (Given Event) → Core → Bool) →

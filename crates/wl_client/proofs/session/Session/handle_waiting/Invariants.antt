@@ -1,11 +1,12 @@
 use Rattle.std.proofs.Common.{length}
-use Rattle.wl_client.specs.Turns.{LeadsOn}
+use Rattle.wl_client.specs.Turns.{Leads, Live}
 use Rattle.wl_client.proofs.session.Session.handle_waiting.Given as goal
 
 -- where what is left may lead, the whole may
 abbrev pub invariant-loop-event : goal.invariant-loop-event
 invariant-loop-event g l = record {
-  leads : LeadsOn g.T.Transport.receives l.fn.self l.self;
+  live : Live l.self;
+  leads : Leads g.T.Transport.sends g.T.Transport.receives l.fn.self l.self;
 }
 
 abbrev pub decreases-loop-event : goal.decreases-loop-event
