@@ -9,8 +9,9 @@ use Rattle.wl_wire.specs.Message.{WireMessage}
 use Rattle.wl_link.specs.declared.object.Object.{Object}
 use Rattle.wl_link.specs.Exchange.{Queue, Sending}
 use Rattle.wl_link.specs.Link.{LinkState, counted_answer, count_of}
+use Rattle.wl_link.specs.Branches.{both_bool, both_option, both_result}
 use Rattle.wl_link.specs.OneLaws.{IsFunction, IsReceiveFunction}
-use Rattle.wl_link.specs.Puts.{FlushesOut, PutsOut, lacked_memory}
+use Rattle.wl_link.specs.Puts.{FlushesOut, PutsOut, Said, lacked_memory}
 use Rattle.wl_link.specs.Reader.{AllFed, CarriesOut, Ends, Given, Gives, HandedOut, Handled, Part, Reads, Received, Turn, Unread, Verdict, came_in, came_to as comes_to, put_and_gave, sends_in, stops, with_link}
 use Rattle.wl_link.specs.ReaderLaws.{reads_one}
 use Rattle.wl_link.specs.RespectLaws.{Keeps, RespectsReading, reads_respect}
@@ -126,14 +127,14 @@ module _ {T U : Type 0} (sends : T → Queue → Result ℕ IoFault → T → Ty
 
 -- ---- what a reading respects
 
-abbrev is_nil : List WireMessage → Bool
+abbrev is_nil : List Said → Bool
 is_nil [] = true
 is_nil (m ∷ ms) = false
 
 none_some : {A : Type 0} (x : A) → None ≡ Some x → ⊥
 none_some x same = true≢false (ap is_none same)
 
-none_put : (put others : List WireMessage) → [] ≡ put ++ others → put ≡ []
+none_put : (put others : List Said) → [] ≡ put ++ others → put ≡ []
 none_put [] others same = refl
 none_put (m ∷ put) others same = absurd (true≢false (ap is_nil same))
 
@@ -162,7 +163,7 @@ module _ {U : Type 0} (R : Core U → List (Given SessionMessage) → Core U →
   keeps c h so =
       let P : Core U → Type 0 = λ d. R c (map HandedOut (handed h)) d in
       record {
-        carried = λ put others wrote is. subst (λ (ms : List WireMessage). R c (put_and_gave ms (handed h)) (comes_to client (verdict c h) wrote)) (sym (none_put put others is)) (comes_so P c h so wrote);
+        carried = λ put others wrote is. subst (λ (ms : List Said). R c (put_and_gave ms (handed h)) (comes_to client (verdict c h) wrote)) (sym (none_put put others is)) (comes_so P c h so wrote);
         starved = λ asks. comes_so P c h so (Err fault.OutOfMemory);
       }
 
