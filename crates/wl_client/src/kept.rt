@@ -9,6 +9,7 @@ pub struct Kept<U> {
     pub user_data: Option<U>,
     /// Whether the client destroyed it, or an event did.
     pub client_destroyed: bool,
-    /// Whether the server gave up its number, or an event destroyed it.
+    /// Whether the server gave up its number, or an event destroyed it. It is part of what a session knows of an object;
+    /// no call decides by it.
     pub server_destroyed: bool,
 }

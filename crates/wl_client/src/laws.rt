@@ -18,6 +18,7 @@ ghost use Rattle.wl_client.specs.Replies.{SameReply, SameReplies};
 ghost use Rattle.wl_client.specs.Session.{SessionState, IsConnected};
 ghost use Rattle.wl_client.specs.Steps.{Entry, Leads, StepOf, entries};
 
+use crate::next_event::READ_TURNS;
 use wl_link::Transport;
 
 /// The identity law of a session.
@@ -76,4 +77,9 @@ pub fn cutting_does_not_matter_to_a_client<T: Transport, U>()
         IsServed before more finishes events x → IsServed before more finishes others y → (events ≡ others) × (x ≡ y) }
     ensures some { (before : Part T (Core U)) (more : Queue) (finishes : List (Option U)) →
         (events : List (Given SessionMessage)) × (after : _) × IsServed before more finishes events after }
+{}
+
+/// The constant of this crate: a reading makes at most so many receives.
+pub fn a_reading_receives_64_times()
+    ensures { READ_TURNS ≡ 64 }
 {}

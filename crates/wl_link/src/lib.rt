@@ -22,8 +22,8 @@ pub use all_objects::AllObjects;
 pub use buffered_socket::BufferedSocket;
 pub use identity::{each_id_names_its_own_object, no_object_ends_twice};
 pub use laws::{
-    cutting_does_not_matter, flush_loses_nothing, messages_come_back, one_outcome,
-    read_takes_first_message, script_has_one_outcome, write_loses_nothing,
+    cutting_does_not_matter, each_size_has_its_value, flush_loses_nothing, messages_come_back,
+    one_outcome, read_takes_first_message, script_has_one_outcome, write_loses_nothing,
 };
 pub use limit::DEFAULT_MAX_BUFFER_SIZE;
 pub use memory::{ArriveError, Memory};

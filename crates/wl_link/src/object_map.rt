@@ -224,7 +224,7 @@ impl<Data: Drop> ObjectMap<Data> {
         }
     }
 
-    /// How many words of 64 free numbers the last call of `client_insert_new`, `server_insert_new` or `next_client` read
+    /// How many words of the tree of free numbers the last call of `client_insert_new`, `server_insert_new` or `next_client` read
     /// to find its number; 0 before the first.
     pub fn words_read(&self) -> u32
         ensures { result ≡ self.now.words_read }

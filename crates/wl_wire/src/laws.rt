@@ -11,6 +11,8 @@ ghost use Rattle.wl_wire.specs.Message.{WireMessage, IsMessage, spelling, tokens
 ghost use Rattle.wl_wire.specs.Parse.{ReadsMessage, RefusesMessage};
 ghost use Rattle.wl_wire.specs.Stream.{Stream};
 
+use crate::message::INLINE_ARGS;
+
 /// What was written is read: a message's spelling, with anything behind it, reads as the message under each
 /// signature that it matches, and so do its tokens.
 pub fn written_is_read()
@@ -37,4 +39,9 @@ pub fn one_stream()
 pub fn fronts_stay()
     ensures message { (raw more : List ℕ) (signature : List ArgumentType) (fds others : List Token) (m : WireMessage) → ReadsMessage raw signature fds m → ReadsMessage (raw ++ more) signature (fds ++ others) m }
     ensures malformed { (raw more : List ℕ) (signature : List ArgumentType) (fds others : List Token) → RefusesMessage raw signature fds errors.Malformed → RefusesMessage (raw ++ more) signature (fds ++ others) errors.Malformed }
+{}
+
+/// The constant of this crate: so many arguments stand in a message without memory.
+pub fn four_arguments_stand_inline()
+    ensures { INLINE_ARGS ≡ 4 }
 {}

@@ -106,8 +106,13 @@ fn part_of_a_header_is_missing_data(rt: HostRuntime) -> Result<(), Fail> {
 fn receive_has_room_for_its_tokens(rt: HostRuntime) -> Result<(), Fail> {
     tells(
         &rt,
-        link_log(rt.alloc(), WantsRoom, None, &[Act::Fill]),
-        "receive: would block\n0 sends recorded\n",
+        link_log(
+            rt.alloc(),
+            WantsRoom,
+            None,
+            &[Act::Fill, Act::Fill, Act::Tell(Fact::Waiting)],
+        ),
+        "receive: done\nreceive: done\nwaiting: 2, 56, 0, 0\n0 sends recorded\n",
     )
 }
 

@@ -108,18 +108,19 @@ impl Record for OneByte {
     }
 }
 
-/// Takes nothing, and gives nothing: a receive would block where the queue has room for the most tokens that one gives, and
-/// is refused where it has not.
+/// Takes nothing. A receive gives one byte and as many tokens as one may, where the queue has room for these, and is refused
+/// where it has not.
 #[derive(Drop)]
 pub struct WantsRoom;
 
 impl Transport for WantsRoom {
-    ghost use Rattle.std.specs.Prelude.{IsErr};
+    ghost use Rattle.std.specs.Prelude.{◌≤◌, length, IfOk, IsErr};
     ghost use Rattle.std.proofs.Common.{rules};
 
     ghost sends = { λ before offer answer after. IsErr answer };
 
-    ghost receives = { λ before room answer after. IsErr answer };
+    ghost receives = { λ before room answer after.
+        IfOk answer (λ came. (length came.bytes ≤ room) × (length came.tokens ≤ 28)) };
 
     fn send_msg(&mut self, _bytes: &[u8], _tokens: &[Token]) -> Result<usize, IoFault> {
         Err(IoFault::WouldBlock)
@@ -127,21 +128,23 @@ impl Transport for WantsRoom {
 
     fn rcv_msg(
         &mut self,
-        _buffer: &mut [u8],
+        buffer: &mut [u8],
         tokens: &mut VecDeque<Token>,
     ) -> Result<usize, IoFault> {
-        if tokens.capacity() - tokens.len() < 28 {
-            Err(IoFault::InvalidInput)
-        } else {
-            Err(IoFault::WouldBlock)
+        if buffer.is_empty() || tokens.capacity() - tokens.len() < 28 {
+            return Err(IoFault::InvalidInput);
         }
+        for _ in 0..28 {
+            tokens.push_back_reserved(Token(1));
+        }
+        Ok(1)
     }
 
     ghost within_offer = { λ before after offer n sent. Prim.search rules };
 
-    ghost within_room = { λ before after room came received. Prim.search rules };
+    ghost within_room = { λ before after room came received. received.0 };
 
-    ghost few_tokens = { λ before after room came received. Prim.search rules };
+    ghost few_tokens = { λ before after room came received. received.1 };
 }
 
 impl Record for WantsRoom {

@@ -59,3 +59,19 @@ fn descriptors_of_five_arguments_are_mapped(rt: HostRuntime) -> Result<(), Fail>
     assert!(rt; maps(rt.alloc(), &args, &expected)?);
     Ok(())
 }
+
+/// Each number of arguments that lie in the message itself.
+#[test]
+fn up_to_four_arguments_are_mapped(rt: HostRuntime) -> Result<(), Fail> {
+    let args = [Arg::Fd(5), Arg::Int(1), Arg::Fd(6), Arg::Uint(2)];
+    let expected = [
+        Argument::Fd(0),
+        Argument::Int(1),
+        Argument::Fd(1),
+        Argument::Uint(2),
+    ];
+    for count in 0..5 {
+        assert!(rt; maps(rt.alloc(), &args[..count], &expected[..count])?);
+    }
+    Ok(())
+}

@@ -69,6 +69,12 @@ fn unknown_numbers_are_kept(rt: HostRuntime) {
 }
 
 #[test]
+fn unknown_number_is_no_value(rt: HostRuntime) {
+    let unknown: WEnum<Mode> = WEnum::Unknown(7);
+    assert_eq!(rt; unknown.into_result(), Err(seven_is_no_mode()));
+}
+
+#[test]
 fn unknown_numbers_are_told(rt: HostRuntime) -> Result<(), Fail> {
     tells(
         &rt,
