@@ -21,4 +21,6 @@ pub mod Replies
 pub mod Cutting
 pub mod ReadingLaws
 pub mod OutcomeLaws
+pub mod Stretches
+pub mod StretchLaws
 pub mod Lending

@@ -210,14 +210,14 @@ refused_not e same = true≢false (ap is_ok same)
 
 module _ {T U : Type 0} where
   -- an accepted finish closes the event
-  abbrev Shuts : SessionState T U → Option U → SessionState T U → Type 0
+  abbrev pub Shuts : SessionState T U → Option U → SessionState T U → Type 0
   Shuts s u after = (event : OpenEvent) × (s.open_event ≡ Some event) × (refusal event.created u ≡ None) × (after ≡ session_closed s event u)
 
   closes_as : (s after : SessionState T U) (event : OpenEvent) (u : Option U) → Closes s event u (Ok tt) after → after ≡ session_closed s event u
   closes_as s after event u (inl (is, same)) = same
   closes_as s after event u (inr (notes, (is, same))) = absurd (refused_not _ is)
 
-  finish_as : (s after : SessionState T U) (u : Option U) → Finishes s u (Ok tt) after → Shuts s u after
+  pub finish_as : (s after : SessionState T U) (u : Option U) → Finishes s u (Ok tt) after → Shuts s u after
   finish_as s after u h =
       elim (both_option s.open_event h h) [
         | inl (none, (is, same), again) ↦ absurd (refused_not _ is)

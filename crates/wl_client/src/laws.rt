@@ -17,6 +17,7 @@ ghost use Rattle.wl_client.specs.Noted.{NotedOnce};
 ghost use Rattle.wl_client.specs.Replies.{SameReply, SameReplies};
 ghost use Rattle.wl_client.specs.Session.{SessionState, IsConnected};
 ghost use Rattle.wl_client.specs.Steps.{Entry, Leads, StepOf, entries};
+ghost use Rattle.wl_client.specs.Stretches.{IsServed as IsRunServed, IsStretch, SameLeft, arrived, events_of, finished};
 
 use crate::next_event::READ_TURNS;
 use wl_link::Transport;
@@ -77,6 +78,20 @@ pub fn cutting_does_not_matter_to_a_client<T: Transport, U>()
         IsServed before more finishes events x → IsServed before more finishes others y → (events ≡ others) × (x ≡ y) }
     ensures some { (before : Part T (Core U)) (more : Queue) (finishes : List (Option U)) →
         (events : List (Given SessionMessage)) × (after : _) × IsServed before more finishes events after }
+{}
+
+/// The same over a stretch of a run: what it hands out, and what it leads to, is what is served of all that arrived,
+/// joined, with the finishes that were accepted. So two stretches over which the same bytes and tokens arrive, however they
+/// are cut, and the same finishes are accepted, hand out the same and lead to the same.
+///
+/// Each arrival brings a byte or says that the transport would block, memory is not refused, and no receive found the
+/// storage full.
+pub fn cutting_does_not_matter_to_a_run<U>()
+    ensures served { (before after : SessionState Script U) (run : List (Entry U)) →
+        Leads before run after → IsStretch before run after → IsRunServed before run after }
+    ensures same { (before after other : SessionState Script U) (run others : List (Entry U)) →
+        Leads before run after → Leads before others other → IsStretch before run after → IsStretch before others other →
+        arrived run ≡ arrived others → finished run ≡ finished others → (events_of run ≡ events_of others) × SameLeft after other }
 {}
 
 /// The constant of this crate: a reading makes at most so many receives.

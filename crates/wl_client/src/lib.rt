@@ -38,8 +38,8 @@ pub use error::{
 };
 pub use laws::{
     a_failed_session_stays_failed, a_reading_receives_64_times,
-    cutting_does_not_matter_to_a_client, each_id_names_its_own_object, each_run_has_one_outcome,
-    no_object_is_noted_twice,
+    cutting_does_not_matter_to_a_client, cutting_does_not_matter_to_a_run,
+    each_id_names_its_own_object, each_run_has_one_outcome, no_object_is_noted_twice,
 };
 pub use next_event::READ_TURNS;
 pub use note::Note;

@@ -3,6 +3,7 @@ use Rattle.std.proofs.lemmas.Bool.{false≢true}
 use Rattle.wl_client.specs.Steps.{StepOf, StopsAt, entries}
 use Rattle.wl_client.specs.IdentityLaws.{own_ids}
 use Rattle.wl_client.specs.OutcomeLaws.{run_one}
+use Rattle.wl_client.specs.StretchLaws.{stretch_served}
 use Rattle.wl_link.specs.RunLaws.{begins, empty_of, ends, joins, more, stops}
 use Rattle.wl_client.proofs.replay.Backend+Memory+U.replay.Goals as goal
 
@@ -47,6 +48,10 @@ pub returns-clause-identity : goal.returns-clause-identity
 returns-clause-identity g c table transport begun run connected before =
     own_ids table transport begun c.loop-step.self.session (run ++ entries c.args.steps.items c.loop-step.replies.items) connected
     (returns-clause-joined g c begun run before)
+
+pub returns-clause-cutting : goal.returns-clause-cutting
+returns-clause-cutting g c begun run before =
+    stretch_served begun c.loop-step.self.session (run ++ entries c.args.steps.items c.loop-step.replies.items) (returns-clause-joined g c begun run before)
 
 pub returns-clause-outcome : goal.returns-clause-outcome
 returns-clause-outcome g c others other as_many leads =

@@ -1,0 +1,372 @@
+-- That what a stretch of a run hands out is what is served of all that arrived.
+--
+-- Its entries are acts of the client as a reader: those that are refused change nothing, and are none.
+use Rattle.std.proofs.Common.{◌≡◌, ◌⊎◌, ℕ, Bool, true, false, List, [], ◌∷◌, ◌++◌, append_assoc, append-nil, cond, ◌&&◌, Option, None, Some, is_none, Result, Ok, Err, is_ok, MatchResult, refl, sym, ap, ap₂, subst, ◌∙◌, true≢false}
+use mathlib.Core.Logic.{inl, inr}
+use Rattle.wl_wire.specs.declared.argument.Token.{Token}
+use Rattle.wl_wire.specs.declared.error.IoFault.{IoFault}
+use Rattle.wl_wire.specs.declared.error.IoFault.TheVariants as fault
+use Rattle.wl_wire.specs.declared.message.Message.{Message}
+use Rattle.wl_link.specs.declared.memory.ArriveError.{ArriveError}
+use Rattle.wl_link.specs.declared.object.Object.{Object}
+use Rattle.wl_link.specs.Exchange.{Queue, Sending, joined, nothing}
+use Rattle.wl_link.specs.Link.{LinkState, counted_answer, count_of}
+use Rattle.wl_link.specs.Puts.{lacked_memory}
+use Rattle.wl_link.specs.QueueLaws.{joined_nothing}
+use Rattle.wl_link.specs.Reader.{CarriesOut, Gives, Given, Handled, HandedOut, IsFed, Part, Queued, Reads, Received, Turn, Unread, Verdict, came_by, came_to as comes_to, stops, with_link}
+use Rattle.wl_link.specs.Script.{Script, ScriptReceives, ScriptSends}
+use Rattle.wl_link.specs.Served.{Served, part_as}
+use Rattle.wl_link.specs.Stretch.{Act, Arrived, DoesAll, EndsByPipe, EndsWaiting as ActsEndWaiting, HasEnded, HasRead, IsStretch as IsActStretch, arrivals_of, arrived as act_arrived, ended as act_ended, given_in, sending_side, with_arrival}
+use Rattle.wl_link.specs.StretchLaws.{arrived-append, cut_otherwise as acts_cut_otherwise, does_joins, ended-append, ends_waiting-append, given_in-append, stretch_served as acts_served}
+use Rattle.wl_client.specs.declared.error.EventError.{EventError}
+use Rattle.wl_client.specs.declared.error.EventError.TheVariants as no_event
+use Rattle.wl_client.specs.declared.error.FinishRefused.{FinishRefused}
+use Rattle.wl_client.specs.declared.event_fault.EventFault.TheVariants as wrong
+use Rattle.wl_client.specs.declared.kept.Kept.{Kept}
+use Rattle.wl_client.specs.declared.open_event.OpenEvent.{OpenEvent}
+use Rattle.wl_client.specs.declared.step.Reply.{Reply}
+use Rattle.wl_client.specs.declared.step.Reply.TheVariants as reply
+use Rattle.wl_client.specs.declared.step.Step.{Step}
+use Rattle.wl_client.specs.declared.step.Step.TheVariants as step
+use Rattle.wl_client.specs.ObjectId.{IdParts}
+use Rattle.wl_client.specs.Events.{error_of}
+use Rattle.wl_client.specs.Finish.{Closes, Finishes, closed, with_data_for, with_dead}
+use Rattle.wl_client.specs.Handling.{Handling, Swallows, HandsOut, Breaks, handling}
+use Rattle.wl_client.specs.Reading.{Core, NextEvent, answered, client, core_of, event_content, faulted, handed_by, objects_in, part_of, reads_on, receives_allowed, verdict}
+use Rattle.wl_client.specs.ReadingLaws.{both_option, finish_as, finish_ends}
+use Rattle.wl_client.specs.Requests.{SessionMessage}
+use Rattle.wl_client.specs.Session.{SessionState, named}
+use Rattle.wl_client.specs.Steps.{Entry, Leads, StepOf}
+use Rattle.wl_client.specs.Stretches.{AllHeard, EndsWaiting, IsHeard, IsServed, IsStretch, SameLeft, arrived, arrived_by, events_by, events_of, finished, finished_by, if_accepted, left_in}
+
+-- ---- answers
+
+failed_not_blocks : ◌≡◌ {A = Result SessionMessage EventError} (Err no_event.Failed) (Err no_event.WouldBlock) → ⊥
+failed_not_blocks same = cc
+
+open_not_blocks : ◌≡◌ {A = Result SessionMessage EventError} (Err no_event.EventOpen) (Err no_event.WouldBlock) → ⊥
+open_not_blocks same = cc
+
+event_not_blocks : (m : SessionMessage) → ◌≡◌ {A = Result SessionMessage EventError} (Ok m) (Err no_event.WouldBlock) → ⊥
+event_not_blocks m same = true≢false (ap is_ok same)
+
+memory_not_blocks : ◌≡◌ {A = Result SessionMessage EventError} (Err no_event.OutOfMemory) (Err no_event.WouldBlock) → ⊥
+memory_not_blocks same = cc
+
+-- a reading answers so only where it was stopped so
+stopped_blocks : (stopped : Option IoFault) (gave : List (Given SessionMessage)) → answered stopped gave ≡ Err no_event.WouldBlock → stopped ≡ Some fault.WouldBlock
+stopped_blocks None [] is = absurd (failed_not_blocks is)
+stopped_blocks None (HandedOut m ∷ gave) is = absurd (event_not_blocks m is)
+stopped_blocks None (Queued m ∷ gave) is = absurd (none_blocks (stopped_blocks None gave is))
+  where
+    none_blocks : ◌≡◌ {A = Option IoFault} None (Some fault.WouldBlock) → ⊥
+    none_blocks same = true≢false (ap is_none same)
+stopped_blocks (Some fault.WouldBlock) gave is = refl
+stopped_blocks (Some fault.OutOfMemory) gave is = absurd (memory_not_blocks is)
+stopped_blocks (Some fault.Pipe) gave is = absurd (failed_not_blocks is)
+stopped_blocks (Some fault.TooBig) gave is = absurd (failed_not_blocks is)
+stopped_blocks (Some fault.Proto) gave is = absurd (failed_not_blocks is)
+stopped_blocks (Some fault.InvalidInput) gave is = absurd (failed_not_blocks is)
+stopped_blocks (Some (fault.Other n)) gave is = absurd (failed_not_blocks is)
+
+both_none : {A B : Type 0} (o : Option A) (p : Option B) → is_none o && is_none p ≡ true → (o ≡ None) × (p ≡ None)
+both_none None None both = (refl, refl)
+both_none None (Some y) both = absurd (true≢false (sym both))
+both_none (Some x) p both = absurd (true≢false (sym both))
+
+module _ {U : Type 0} where
+  -- ---- a client that has an event open has no error, as far as its readings and finishes go
+
+  abbrev Tidy : Core U → Type 0
+  Tidy c = (c.error ≡ None) ⊎ (c.open_event ≡ None)
+
+  module _ {T : Type 0} (sends : T → Queue → Result ℕ IoFault → T → Type 0) (receives : T → ℕ → Result Queue IoFault → T → Type 0) where
+    -- nothing was put, so the verdict's core is what it came to
+    came : (c : Core U) (h : Handling U) (d : Core U) (wrote : Result (Unit {0}) IoFault) → wrote ≡ Ok tt → d ≡ comes_to client (verdict c h) wrote → d ≡ (verdict c h).core
+    came c h d wrote is end = end ∙ ap (comes_to client (verdict c h)) is
+
+    handled_tidy : (c : Core U) (h : Handling U) (before : LinkState T) (es : List Sending) (gave : List (Given SessionMessage)) (lacked : Bool) (mid : Part T (Core U))
+        → (c.error ≡ None) × (c.open_event ≡ None) → CarriesOut sends client (verdict c h) before es gave lacked mid → Tidy mid.core
+    handled_tidy c (Swallows o) before es gave lacked mid none (inr (asks, was, sent, gives, same)) = absurd (true≢false (sym asks))
+    handled_tidy c (HandsOut m event o) before es gave lacked mid none (inr (asks, was, sent, gives, same)) = absurd (true≢false (sym asks))
+    handled_tidy c (Breaks e o) before es gave lacked mid none (inr (asks, was, sent, gives, same)) =
+        inr (ap (λ (p : Part T (Core U)). p.core.open_event) same ∙ none.1)
+    handled_tidy c (Swallows o) before es gave lacked mid none (inl (first, others, put, wrote, link, short, puts, flushes, split, end, is, was)) =
+        inl (ap (λ (d : Core U). d.error) (came c (Swallows o) mid.core wrote puts.2 end) ∙ none.0)
+    handled_tidy c (HandsOut m event o) before es gave lacked mid none (inl (first, others, put, wrote, link, short, puts, flushes, split, end, is, was)) =
+        inl (ap (λ (d : Core U). d.error) (came c (HandsOut m event o) mid.core wrote puts.2 end) ∙ none.0)
+    handled_tidy c (Breaks e o) before es gave lacked mid none (inl (first, others, put, wrote, link, short, puts, flushes, split, end, is, was)) =
+        inr (ap (λ (d : Core U). d.open_event) (came c (Breaks e o) mid.core wrote puts.2 end) ∙ none.1)
+
+    faulted_open : (c : Core U) (f : IoFault) → (faulted c f).open_event ≡ c.open_event
+    faulted_open c fault.WouldBlock = refl
+    faulted_open c fault.OutOfMemory = refl
+    faulted_open c f = refl
+
+    reads_tidy : (left : ℕ) (p after : Part T (Core U)) (turns : List Turn) (out : Gives SessionMessage) → Reads sends client receives left p turns out after → Tidy p.core → Tidy after.core
+    reads_tidy left p after [] out (same, ends) tidy = subst (λ (x : Part T (Core U)). Tidy x.core) (sym same) tidy
+    reads_tidy left p after (Received r ∷ turns) out (on, lacks, (n, is, (link, filled, h))) tidy =
+        go (counted_answer (count_of r)) h (λ more. reads_tidy n (with_link p link) after turns out more tidy)
+      where
+        go : (c : Result (Unit {0}) IoFault)
+            → MatchResult c (λ _. Reads sends client receives n (with_link p link) turns out after)
+            (λ f. (turns ≡ []) × (out ≡ stops (Some f) (lacked_memory (Err f)) n) × (after ≡ record { core = client.faulted p.core f; link = link }))
+            → (Reads sends client receives n (with_link p link) turns out after → Tidy after.core) → Tidy after.core
+        go (Ok u) more goes = goes more
+        go (Err f) (none, ends, same) goes =
+            inr (ap (λ (x : Part T (Core U)). x.core.open_event) same ∙ faulted_open p.core f ∙ (both_none p.core.error p.core.open_event on).1)
+    reads_tidy left p after (Handled es ∷ turns) out (on, (v, link, first, lacked, mid, rest, (m, read, is), carried, split, more)) tidy =
+        reads_tidy left mid after turns rest more
+        (handled_tidy p.core (handling p.core.table (objects_in p.core) m) link es first lacked mid (both_none p.core.error p.core.open_event on)
+        (subst (λ (w : Verdict (Core U) SessionMessage). CarriesOut sends client w link es first lacked mid) is carried))
+    reads_tidy left p after (Unread es ∷ turns) out (on, (v, link, first, lacked, mid, rest, (read, same, is), carried, split, more)) tidy =
+        reads_tidy left mid after turns rest more
+        (handled_tidy p.core (Breaks (error_of p.core.table wrong.Malformed) (objects_in p.core)) link es first lacked mid (both_none p.core.error p.core.open_event on)
+        (subst (λ (w : Verdict (Core U) SessionMessage). CarriesOut sends client w link es first lacked mid) is carried))
+
+  -- ---- what an entry does
+
+  -- it is these acts, none or one; where it finds that the transport would block, that is the last of them
+  record Acts (s : SessionState Script U) (call : Step U) (answer : Reply U) (mid : SessionState Script U) : Type 0 where
+    acts : List (Act SessionMessage (Option U))
+    does : DoesAll client (part_of s) acts (part_of mid)
+    came_in : act_arrived acts ≡ arrived_by call
+    ended_with : act_ended acts ≡ finished_by call answer
+    handed_out : given_in acts ≡ events_by answer
+    waits : answer ≡ reply.NextEvent (Err no_event.WouldBlock) → (before : List (Act SessionMessage (Option U))) → ActsEndWaiting (before ++ acts)
+    tidy : Tidy (core_of mid)
+
+  content_blocks : (r : Result (Message IdParts Token) EventError) → ◌≡◌ {A = Reply U} (reply.NextEvent r) (reply.NextEvent (Err no_event.WouldBlock)) → event_content r ≡ Err no_event.WouldBlock
+  content_blocks r same = ap event_content (let e : r ≡ Err no_event.WouldBlock = cc in e)
+
+  module _ (s mid : SessionState Script U) (call : Step U) (answer : Reply U) where
+    -- nothing changed
+    acts_none : mid ≡ s → Tidy (core_of s) → arrived_by call ≡ nothing → finished_by call answer ≡ [] → events_by answer ≡ []
+        → (answer ≡ reply.NextEvent (Err no_event.WouldBlock) → ⊥) → Acts s call answer mid
+    acts_none same tidy came' ended' handed not = record {
+      acts = [];
+      does = ap part_of same;
+      came_in = sym came';
+      ended_with = sym ended';
+      handed_out = sym handed;
+      waits = λ is before. absurd (not is);
+      tidy = subst (λ (x : SessionState Script U). Tidy (core_of x)) (sym same) tidy;
+    }
+
+    -- something arrived
+    acts_arrived : (r : Result Queue IoFault) → IsFed r → part_of mid ≡ with_arrival (part_of s) r → Tidy (core_of s) → came_by r ≡ arrived_by call → finished_by call answer ≡ []
+        → events_by answer ≡ [] → (answer ≡ reply.NextEvent (Err no_event.WouldBlock) → ⊥) → Acts s call answer mid
+    acts_arrived r fed same tidy came' ended' handed not = record {
+      acts = Arrived r ∷ [];
+      does = (part_of mid, (fed, same), refl);
+      came_in = joined_nothing (came_by r) ∙ came';
+      ended_with = sym ended';
+      handed_out = sym handed;
+      waits = λ is before. absurd (not is);
+      tidy = subst (λ (p : Part Script (Core U)). Tidy p.core) (sym same) tidy;
+    }
+
+    -- a reading
+    acts_read : (out : Gives SessionMessage) → out.refused ≡ false
+        → ((left : ℕ) × (turns : List Turn) × Reads ScriptSends client ScriptReceives left (part_of s) turns out (part_of mid)) → Tidy (core_of s)
+        → arrived_by call ≡ nothing → finished_by call answer ≡ [] → out.gave ≡ events_by answer
+        → (answer ≡ reply.NextEvent (Err no_event.WouldBlock) → out.stopped ≡ Some fault.WouldBlock) → Acts s call answer mid
+    acts_read out calm (left, turns, reads) tidy came' ended' handed blocks = record {
+      acts = HasRead out ∷ [];
+      does = (part_of mid, (calm, (left, turns, reads)), refl);
+      came_in = joined_nothing nothing ∙ sym came';
+      ended_with = sym ended';
+      handed_out = append-nil out.gave ∙ handed;
+      waits = λ is before. ends_waiting-append before (HasRead out) (blocks is);
+      tidy = reads_tidy ScriptSends ScriptReceives left (part_of s) (part_of mid) turns out reads tidy;
+    }
+
+    -- an accepted finish
+    acts_ended : (u : Option U) → s.error ≡ None → Finishes s u (Ok tt) mid → Tidy (core_of mid) → arrived_by call ≡ nothing → finished_by call answer ≡ u ∷ [] → events_by answer ≡ []
+        → (answer ≡ reply.NextEvent (Err no_event.WouldBlock) → ⊥) → Acts s call answer mid
+    acts_ended u live h tidy came' ended' handed not =
+        let (off, ended_so) = finish_ends ScriptSends s mid u live h in
+        record {
+          acts = HasEnded u [] ∷ [];
+          does = (part_of mid, (off, ([], ended_so)), refl);
+          came_in = joined_nothing nothing ∙ sym came';
+          ended_with = sym ended';
+          handed_out = sym handed;
+          waits = λ is before. absurd (not is);
+          tidy = tidy;
+        }
+
+  reading_acts : (s mid : SessionState Script U) (r : Result (Message IdParts Token) EventError) (answer : Reply U) → answer ≡ reply.NextEvent r
+      → NextEvent ScriptSends ScriptReceives s (event_content r) false mid → Tidy (core_of s) → Acts s step.NextEvent answer mid
+  reading_acts s mid r answer is h tidy =
+      elim (both_option s.error h h) [
+        | inr (e, some, (failed, unasked, same), again) ↦
+            acts_none s mid step.NextEvent answer same tidy refl refl (ap events_by is ∙ ap handed_by failed)
+            (λ w. failed_not_blocks (sym failed ∙ content_blocks r (sym is ∙ w)))
+        | inl (none, p, q) ↦
+            elim (both_option s.open_event p q) [
+              | inr (event, some, (failed, unasked, same), again) ↦
+                  acts_none s mid step.NextEvent answer same tidy refl refl (ap events_by is ∙ ap handed_by failed)
+                  (λ w. open_not_blocks (sym failed ∙ content_blocks r (sym is ∙ w)))
+              | inl (unopened, (turns, out, reads, told, gave, calm), again) ↦
+                  acts_read s mid step.NextEvent answer out (sym calm) (receives_allowed, turns, reads) tidy refl refl (gave ∙ sym (ap events_by is))
+                  (λ w. stopped_blocks out.stopped out.gave (sym told ∙ content_blocks r (sym is ∙ w)))
+            ]
+      ]
+
+  -- an accepted finish closes the event, and keeps the error
+  closed_core : (s : SessionState Script U) (event : OpenEvent) (u : Option U) → ((closed s event u).error ≡ s.error) × ((closed s event u).open_event ≡ None)
+  closed_core s event u = at event.is_destructor (named s.store event.sender) event.created u
+    where
+      shut : SessionState Script U
+      shut = record s { open_event = None }
+
+      given_to : (t : SessionState Script U) (created : Option IdParts) (u : Option U) → ((with_data_for t created u).error ≡ t.error) × ((with_data_for t created u).open_event ≡ t.open_event)
+      given_to t None u = (refl, refl)
+      given_to t (Some id) None = (refl, refl)
+      given_to t (Some id) (Some v) = (refl, refl)
+
+      at : (b : Bool) (x : Option (Object (Kept U))) (created : Option IdParts) (u : Option U)
+          → ((with_data_for (cond b (with_dead shut event.sender.number x) shut) created u).error ≡ s.error)
+          × ((with_data_for (cond b (with_dead shut event.sender.number x) shut) created u).open_event ≡ None)
+      at true None created u = given_to shut created u
+      at true (Some x) created u = given_to (with_dead shut event.sender.number (Some x)) created u
+      at false x created u = given_to shut created u
+
+  none_open : (s mid : SessionState Script U) (u : Option U) → Finishes s u (Ok tt) mid → s.open_event ≡ None → ⊥
+  none_open s mid u h unopened =
+      let shuts = finish_as s mid u h in
+      true≢false (ap is_none (sym unopened ∙ shuts.1))
+
+  finish_acts : (s mid : SessionState Script U) (u : Option U) (answer : Reply U) → answer ≡ reply.FinishEvent (Ok tt) → Finishes s u (Ok tt) mid → Tidy (core_of s)
+      → Acts s (step.FinishEvent u) answer mid
+  finish_acts s mid u answer is h (inr unopened) = absurd (none_open s mid u h unopened)
+  finish_acts s mid u answer is h (inl live) =
+      let (event, some, fits, same) = finish_as s mid u h in
+      acts_ended s mid (step.FinishEvent u) answer u live h
+      (inr (ap (λ (x : SessionState Script U). x.open_event) same ∙ (closed_core s event u).1))
+      refl (ap (λ (a : Reply U). if_accepted u a) is) (ap events_by is)
+      (λ w. let e : ◌≡◌ {A = Reply U} (reply.FinishEvent (Ok tt)) (reply.NextEvent (Err no_event.WouldBlock)) = sym is ∙ w in cc)
+
+  closes_refused : (s mid : SessionState Script U) (event : OpenEvent) (u : Option U) (e : FinishRefused U) → Closes s event u (Err e) mid → mid ≡ s
+  closes_refused s mid event u e (inl (is, same)) = absurd (true≢false (sym (ap is_ok is)))
+  closes_refused s mid event u e (inr (notes, (is, same))) = same
+
+  refused_same : (s mid : SessionState Script U) (u : Option U) (e : FinishRefused U) → Finishes s u (Err e) mid → mid ≡ s
+  refused_same s mid u e h =
+      elim (both_option s.open_event h h) [
+        | inl (none, (is, same), again) ↦ same
+        | inr (event, some, g, again) ↦
+            elim (both_option event.created g g) [
+              | inl (none, f, _) ↦
+                  elim (both_option u f f) [
+                    | inl (empty, end, _) ↦ closes_refused s mid event u e end
+                    | inr (d, given, (is, same), _) ↦ same
+                  ]
+              | inr (id, made, f, _) ↦
+                  elim (both_option u f f) [
+                    | inl (empty, (is, same), _) ↦ same
+                    | inr (d, given, end, _) ↦ closes_refused s mid event u e end
+                  ]
+            ]
+      ]
+
+  arrive_not_refused : (e : ArriveError) → ◌≡◌ {A = Reply U} (reply.Arrive (Err e)) (reply.Arrive (Ok tt)) → ⊥
+  arrive_not_refused e same = cc
+
+  step_acts : (s mid : SessionState Script U) (call : Step U) (answer : Reply U) → StepOf s call answer false mid → IsHeard call answer → Tidy (core_of s) → Acts s call answer mid
+  step_acts s mid (step.Arrive bytes tokens) answer (Ok u, is, unasked, h) (some, is') tidy =
+      acts_arrived s mid (step.Arrive bytes tokens) answer (Ok (record { bytes = bytes.items; tokens = tokens.items })) some (ap part_of h.1) tidy refl refl (ap events_by is)
+      (λ w. let e : ◌≡◌ {A = Reply U} (reply.Arrive (Ok u)) (reply.NextEvent (Err no_event.WouldBlock)) = sym is ∙ w in cc)
+  step_acts s mid (step.Arrive bytes tokens) answer (Err e, is, unasked, h) (some, is') tidy = absurd (arrive_not_refused e (sym is ∙ is'))
+  step_acts s mid (step.ArriveFault f) answer (Ok u, is, unasked, h) blocked tidy =
+      acts_arrived s mid (step.ArriveFault f) answer (Err f) blocked (ap part_of h) tidy refl refl (ap events_by is)
+      (λ w. let e : ◌≡◌ {A = Reply U} (reply.ArriveFault (Ok u)) (reply.NextEvent (Err no_event.WouldBlock)) = sym is ∙ w in cc)
+  step_acts s mid (step.ArriveFault f) answer (Err e, is, unasked, h) blocked tidy = absurd (true≢false (sym unasked))
+  step_acts s mid step.NextEvent answer (r, is, h) heard tidy = reading_acts s mid r answer is h tidy
+  step_acts s mid (step.FinishEvent u) answer (Ok tt, is, unasked, h) heard tidy = finish_acts s mid u answer is h tidy
+  step_acts s mid (step.FinishEvent u) answer (Err e, is, unasked, h) heard tidy =
+      acts_none s mid (step.FinishEvent u) answer (refused_same s mid u e h) tidy refl (ap (λ (a : Reply U). if_accepted u a) is) (ap events_by is)
+      (λ w. let e' : ◌≡◌ {A = Reply U} (reply.FinishEvent (Err e)) (reply.NextEvent (Err no_event.WouldBlock)) = sym is ∙ w in cc)
+  step_acts s mid _ answer h heard tidy = absurd heard
+
+  -- ---- a run
+
+  record RunActs (s : SessionState Script U) (run : List (Entry U)) (after : SessionState Script U) : Type 0 where
+    acts : List (Act SessionMessage (Option U))
+    does : DoesAll client (part_of s) acts (part_of after)
+    came_in : act_arrived acts ≡ arrived run
+    ended_with : act_ended acts ≡ finished run
+    handed_out : given_in acts ≡ events_of run
+    waits : EndsWaiting run → (before : List (Act SessionMessage (Option U))) → ActsEndWaiting (before ++ acts)
+
+  run_joins : (s mid after : SessionState Script U) (x : Entry U) (run : List (Entry U)) (first : Acts s x.step x.answer mid) (others : RunActs mid run after)
+      → (EndsWaiting (x ∷ run) → (before : List (Act SessionMessage (Option U))) → ActsEndWaiting (before ++ (first.acts ++ others.acts))) → RunActs s (x ∷ run) after
+  run_joins s mid after x run first others waits = record {
+    acts = first.acts ++ others.acts;
+    does = does_joins client (part_of s) (part_of mid) (part_of after) first.acts others.acts first.does others.does;
+    came_in = arrived-append first.acts others.acts ∙ ap₂ joined first.came_in others.came_in;
+    ended_with = ended-append first.acts others.acts ∙ ap₂ (λ (a b : List (Option U)). a ++ b) first.ended_with others.ended_with;
+    handed_out = given_in-append first.acts others.acts ∙ ap₂ (λ (a b : List (Given SessionMessage)). a ++ b) first.handed_out others.handed_out;
+    waits = waits;
+  }
+
+  run_acts : (s after : SessionState Script U) (run : List (Entry U)) → Leads s run after → AllHeard run → Tidy (core_of s) → RunActs s run after
+  run_acts s after [] same heard tidy = record {
+    acts = [];
+    does = ap part_of same;
+    came_in = refl;
+    ended_with = refl;
+    handed_out = refl;
+    waits = λ none. absurd none;
+  }
+  run_acts s after (x ∷ []) (mid, by, leads) (unasked, heard, others) tidy =
+      let first = step_acts s mid x.step x.answer (subst (λ (b : Bool). StepOf s x.step x.answer b mid) unasked by) heard tidy in
+      let last : RunActs mid [] after = record { acts = []; does = ap part_of leads; came_in = refl; ended_with = refl; handed_out = refl; waits = λ none. absurd none } in
+      run_joins s mid after x [] first last
+      (λ w before. subst (λ (list : List (Act SessionMessage (Option U))). ActsEndWaiting (before ++ list)) (sym (append-nil first.acts)) (first.waits w before))
+  run_acts s after (x ∷ (y ∷ run)) (mid, by, leads) (unasked, heard, others) tidy =
+      let first = step_acts s mid x.step x.answer (subst (λ (b : Bool). StepOf s x.step x.answer b mid) unasked by) heard tidy in
+      let rest = run_acts mid after (y ∷ run) leads others first.tidy in
+      run_joins s mid after x (y ∷ run) first rest
+      (λ w before. subst ActsEndWaiting (append_assoc before first.acts rest.acts) (rest.waits w (before ++ first.acts)))
+
+  -- ---- the law
+
+  ends_by_pipe : EndsByPipe (client {U = U})
+  ends_by_pipe = record { blocks = λ c. refl; over = λ c. (refl, λ u. refl) }
+
+  act_stretch : (before after : SessionState Script U) (run : List (Entry U)) → IsStretch before run after → (r : RunActs before run after)
+      → IsActStretch client (part_of before) r.acts (part_of after)
+  act_stretch before after run stretch r = record {
+    does = r.does;
+    pieces = stretch.pieces;
+    ends = ends stretch.ends;
+    roomy = λ p lacks room incoming storage is. stretch.roomy (ap (λ (c : Core U). c.error) is);
+  }
+    where
+      ends : (reads_on (core_of after) ≡ false) ⊎ (EndsWaiting run × (arrivals_of (part_of after) ≡ []))
+          → (reads_on (core_of after) ≡ false) ⊎ (ActsEndWaiting r.acts × (arrivals_of (part_of after) ≡ []))
+      ends (inl off) = inl off
+      ends (inr (waiting, none)) = inr (r.waits waiting [], none)
+
+  pub stretch_served : (before after : SessionState Script U) (run : List (Entry U)) → Leads before run after → IsStretch before run after → IsServed before run after
+  stretch_served before after run leads stretch =
+      let r = run_acts before after run leads stretch.heard (inl stretch.live) in
+      let served = acts_served client ends_by_pipe (part_of before) (part_of after) r.acts (act_stretch before after run stretch r) in
+      let side = sending_side before.link.transport in
+      let end = part_as (part_of after) (left_in after) (sending_side after.link.transport) in
+      let a = subst (λ (q : Queue). Served ScriptSends client (part_of before) (joined (left_in before) q) side (act_ended r.acts) (given_in r.acts) end) r.came_in served in
+      let b = subst (λ (us : List (Option U)). Served ScriptSends client (part_of before) (joined (left_in before) (arrived run)) side us (given_in r.acts) end) r.ended_with a in
+      subst (λ (g : List (Given SessionMessage)). Served ScriptSends client (part_of before) (joined (left_in before) (arrived run)) side (finished run) g end) r.handed_out b
+
+  -- so two runs over which the same arrives and is finished hand out the same, and lead to the same, however it was cut
+  pub cut_otherwise : (before after other : SessionState Script U) (run others : List (Entry U)) → Leads before run after → Leads before others other
+      → IsStretch before run after → IsStretch before others other → arrived run ≡ arrived others → finished run ≡ finished others
+      → (events_of run ≡ events_of others) × SameLeft after other
+  cut_otherwise before after other run others leads leads' stretch stretch' came ended =
+      let r = run_acts before after run leads stretch.heard (inl stretch.live) in
+      let q = run_acts before other others leads' stretch'.heard (inl stretch'.live) in
+      let same = acts_cut_otherwise client ends_by_pipe (part_of before) (part_of after) (part_of other) r.acts q.acts (act_stretch before after run stretch r)
+      (act_stretch before other others stretch' q) (r.came_in ∙ came ∙ sym q.came_in) (r.ended_with ∙ ended ∙ sym q.ended_with) in
+      (sym r.handed_out ∙ same.0 ∙ q.handed_out, same.1)

@@ -1,0 +1,98 @@
+-- A stretch of a run in which bytes arrive, and events are read and finished.
+use Rattle.std.specs.Prelude.{◌≡◌, ◌≢◌, ◌⊎◌, List, [], ◌∷◌, ◌++◌, false, Option, None, Some, Ok, Err}
+use Rattle.wl_wire.specs.declared.error.IoFault.TheVariants as fault
+use Rattle.wl_link.specs.Exchange.{Queue, joined, nothing}
+use Rattle.wl_link.specs.Reader.{Given}
+use Rattle.wl_link.specs.Script.{Script, ScriptSends}
+use Rattle.wl_link.specs.Served.{Served, part_as}
+use Rattle.wl_link.specs.Stretch.{AllPieces, arrivals_of, left_over, sending_side}
+use Rattle.wl_client.specs.declared.error.EventError.TheVariants as no_event
+use Rattle.wl_client.specs.declared.error.WaylandError.TheVariants.{Io}
+use Rattle.wl_client.specs.declared.step.Reply.{Reply}
+use Rattle.wl_client.specs.declared.step.Reply.TheVariants as reply
+use Rattle.wl_client.specs.declared.step.Step.{Step}
+use Rattle.wl_client.specs.declared.step.Step.TheVariants as step
+use Rattle.wl_client.specs.Reading.{client, core_of, event_content, handed_by, part_of, reads_on}
+use Rattle.wl_client.specs.Requests.{SessionMessage}
+use Rattle.wl_client.specs.Session.{SessionState}
+use Rattle.wl_client.specs.Steps.{Entry}
+
+module _ {U : Type 0} where
+  -- ---- its entries
+
+  -- an arrival of a byte at least, which was taken, or of the fault by which the transport would block; a reading; or a finish
+  abbrev pub IsHeard : Step U → Reply U → Type 0
+  IsHeard (step.Arrive bytes tokens) answer = (bytes.items ≢ []) × (answer ≡ reply.Arrive (Ok tt))
+  IsHeard (step.ArriveFault f) answer = f ≡ fault.WouldBlock
+  IsHeard step.NextEvent answer = Unit {0}
+  IsHeard (step.FinishEvent u) answer = Unit {0}
+  IsHeard _ answer = ⊥
+
+  -- so is each of them, and memory was not refused
+  abbrev pub AllHeard : List (Entry U) → Type 0
+  AllHeard [] = Unit {0}
+  AllHeard (e ∷ run) = (e.refused ≡ false) × IsHeard e.step e.answer × AllHeard run
+
+  abbrev pub arrived_by : Step U → Queue
+  arrived_by (step.Arrive bytes tokens) = record { bytes = bytes.items; tokens = tokens.items }
+  arrived_by _ = nothing
+
+  -- what arrived in all
+  abbrev pub arrived : List (Entry U) → Queue
+  arrived [] = nothing
+  arrived (e ∷ run) = joined (arrived_by e.step) (arrived run)
+
+  abbrev pub if_accepted : Option U → Reply U → List (Option U)
+  if_accepted u (reply.FinishEvent (Ok _)) = u ∷ []
+  if_accepted u _ = []
+
+  abbrev pub finished_by : Step U → Reply U → List (Option U)
+  finished_by (step.FinishEvent u) answer = if_accepted u answer
+  finished_by _ answer = []
+
+  -- the data of the finishes that were accepted
+  abbrev pub finished : List (Entry U) → List (Option U)
+  finished [] = []
+  finished (e ∷ run) = finished_by e.step e.answer ++ finished run
+
+  abbrev pub events_by : Reply U → List (Given SessionMessage)
+  events_by (reply.NextEvent r) = handed_by (event_content r)
+  events_by _ = []
+
+  -- the events that were handed out
+  abbrev pub events_of : List (Entry U) → List (Given SessionMessage)
+  events_of [] = []
+  events_of (e ∷ run) = events_by e.answer ++ events_of run
+
+  -- the last entry is a reading that finds that the transport would block
+  abbrev pub EndsWaiting : List (Entry U) → Type 0
+  EndsWaiting [] = ⊥
+  EndsWaiting (e ∷ []) = e.answer ≡ reply.NextEvent (Err no_event.WouldBlock)
+  EndsWaiting (e ∷ run) = EndsWaiting run
+
+  -- ---- the law
+
+  -- A stretch begins where no error is stored, and ends with a stored error, with an open event, or with a reading that
+  -- would block where no arrival is left. The transport answers by no byte only into a full buffer, which ends the session
+  -- with `Pipe`.
+  pub record IsStretch (before : SessionState Script U) (run : List (Entry U)) (after : SessionState Script U) : Type 0 where
+    pub heard : AllHeard run
+    pub live : before.error ≡ None
+    pub pieces : AllPieces (arrivals_of (part_of before))
+    pub ends : (reads_on (core_of after) ≡ false) ⊎ (EndsWaiting run × (arrivals_of (part_of after) ≡ []))
+    pub roomy : after.error ≢ Some (Io fault.Pipe)
+
+  -- what is left over of the arrivals, behind what waits
+  abbrev pub left_in : SessionState Script U → Queue
+  left_in s = left_over (arrivals_of (part_of s))
+
+  -- What it handed out, and what it came to, is what is served of all that arrived, with the finishes that were accepted.
+  abbrev pub IsServed : SessionState Script U → List (Entry U) → SessionState Script U → Type 0
+  IsServed before run after =
+      Served ScriptSends client (part_of before) (joined (left_in before) (arrived run)) (sending_side before.link.transport) (finished run) (events_of run)
+      (part_as (part_of after) (left_in after) (sending_side after.link.transport))
+
+  -- the whole of a session as it is over what waits and what is left over of the arrivals, joined
+  abbrev pub SameLeft : SessionState Script U → SessionState Script U → Type 0
+  SameLeft s t =
+      part_as (part_of s) (left_in s) (sending_side s.link.transport) ≡ part_as (part_of t) (left_in t) (sending_side t.link.transport)
