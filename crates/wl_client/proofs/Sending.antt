@@ -1,9 +1,15 @@
 -- What a request that is sent changes, from the steps of its sending.
-use Rattle.std.proofs.Common.{◌≡◌, ℕ, ◌++◌, ◌∷◌, [], List, Bool, true, false, eqb, cond, Option, Some, None, IfSome, is_some, option_map, Result, Ok, Err, MatchBool, MatchResult, refl, sym, ap, ◌∙◌, subst, inr}
+use Rattle.std.proofs.Common.{◌≡◌, ℕ, ◌++◌, ◌∷◌, [], List, Bool, true, false, eqb, cond, Option, Some, None, IfSome, is_some, map, option_map, Result, Ok, Err, MatchBool, MatchResult, refl, sym, ap, ◌∙◌, subst, inr}
 use Rattle.std.specs.Result.{is_err}
 use Rattle.std.proofs.lemmas.Bool.{false≢true, true≢false}
 use Rattle.wl_wire.specs.declared.error.IoFault.{IoFault}
 use Rattle.wl_wire.specs.declared.error.OutOfMemory.{OutOfMemory}
+use Rattle.wl_wire.specs.declared.argument.Argument.{Argument}
+use Rattle.wl_wire.specs.declared.argument.Argument.TheVariants as arg
+use Rattle.wl_wire.specs.declared.argument.Token.{Token}
+use Rattle.wl_wire.specs.declared.message.Message.{Message}
+use Rattle.wl_wire.specs.Argument.{WireArgument}
+use Rattle.wl_wire.specs.MapIds.{numbered, with_ids}
 use Rattle.wl_wire.specs.Message.{WireMessage}
 use Rattle.wl_link.specs.declared.object.Object.{Object}
 use Rattle.wl_link.specs.Exchange.{Queue}
@@ -19,7 +25,7 @@ use Rattle.wl_client.specs.declared.note.Note.{Note}
 use Rattle.wl_client.specs.declared.note.Note.TheVariants.{Destroyed}
 use Rattle.wl_client.specs.declared.request.Granted.{Granted}
 use Rattle.wl_client.specs.ObjectId.{IdParts}
-use Rattle.wl_client.specs.Requests.{SessionMessage, Spec, Numbered, wire_message, number_of_new, id_of_new, ended_by, error_after, lacked_memory, with_born, with_ended, Sent, SentAs, SentWithChild, Requested, new_child, request_check}
+use Rattle.wl_client.specs.Requests.{SessionMessage, Spec, Numbered, session_content, wire_argument, wire_message, number_of_new, id_of_new, ended_by, error_after, lacked_memory, with_born, with_ended, Sent, SentAs, SentWithChild, Requested, new_child, request_check}
 use Rattle.wl_client.specs.Sending.{IsNext, IsNextObject, WrittenTo, store_with, serial_with, ending, given_up_at, store_ending, notes_ending}
 use Rattle.wl_client.specs.Session.{SessionState, serial_of, named, noted, id_at}
 
@@ -66,6 +72,27 @@ module _ {U : Type 0} where
   noted_is : (notes : List Note) (u : Option U) (id : IdParts) → cond (is_some u) (notes ++ Destroyed id ∷ []) notes ≡ noted notes u id
   noted_is notes None id = refl
   noted_is notes (Some u) id = refl
+
+-- ---- the message that is written
+
+request_argument : (n : ℕ) (a : Argument IdParts Token) → with_ids (λ id. id.number) (λ _. n) a ≡ wire_argument n a
+request_argument n (arg.Int z) = refl
+request_argument n (arg.Uint u) = refl
+request_argument n (arg.Fixed z) = refl
+request_argument n (arg.Str text) = refl
+request_argument n (arg.Object id) = refl
+request_argument n (arg.NewId id) = refl
+request_argument n (arg.Array bytes) = refl
+request_argument n (arg.Fd token) = refl
+
+request_arguments : (n : ℕ) (args : List (Argument IdParts Token)) → map (with_ids (λ id. id.number) (λ _. n)) args ≡ map (wire_argument n) args
+request_arguments n [] = refl
+request_arguments n (a ∷ args) = rw (request_argument n a, request_arguments n args) refl
+
+-- where each id has its own number, but the new object this one
+pub request_numbered : (n : ℕ) (m : Message IdParts Token) → numbered (λ id. id.number) (λ _. n) m ≡ wire_message n (session_content m)
+request_numbered n m =
+    ap (λ (args : List WireArgument). record { sender = m.sender_id.number; opcode = m.opcode; args = args }) (request_arguments n m.args.items)
 
 -- ---- the session after it
 

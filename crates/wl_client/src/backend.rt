@@ -231,7 +231,7 @@ impl<T: Transport + Drop, U: Drop> Backend<T, U> {
         ensures requested { Requested T.sends self.old.session (session_content message) user_data child_spec result self.new.session }
         ensures refused { self.new.refused ≡ refused_request result }
     {
-        let answer = self.session.send_request(message, user_data, child_spec);
+        let answer = self.session.send_request(&message, user_data, child_spec);
         self.refused = matches!(answer, Err(RequestError::OutOfMemory));
         answer
     }

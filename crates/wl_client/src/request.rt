@@ -1,21 +1,19 @@
-//! Which requests are refused, and what of a request goes on the wire.
+//! Which requests are refused, and the numbers of those that are sent.
 
-ghost use Rattle.std.specs.Prelude.{◌≡◌, ◌≤◌, length, IfOk, IsOk, option_copied, option_map};
-ghost use Rattle.wl_wire.specs.Message.{content};
+ghost use Rattle.std.specs.Prelude.{◌≡◌, option_copied, option_map};
 ghost use Rattle.std.specs.List.{list_all};
 ghost use Rattle.wl_wire.specs.Table.{message_row};
 ghost use Rattle.wl_wire.specs.Asked.{creates, left_after, matches, next_interface, request_row};
-ghost use Rattle.wl_client.specs.Requests.{child_of, named_child, is_placeholder, object_fault, argument_fault, first_fault, checked_child, checked_row, request_check, session_content, wire_argument, wire_message};
+ghost use Rattle.wl_client.specs.Requests.{child_of, named_child, is_placeholder, object_fault, argument_fault, first_fault, checked_child, checked_row, request_check, session_content};
 
 use crate::error::RequestError;
 use crate::kept::Kept;
 use crate::object_id::ObjectId;
 use crate::objects::{live_in, named_in};
-use smallvec::SmallVec;
 use wl_link::{Object, ObjectMap};
 use wl_wire::{
-    ANONYMOUS_INTERFACE, AllowNull, Argument, ArgumentType, INLINE_ARGS, InterfaceId, Message,
-    MessageDesc, OutOfMemory, Protocol, Token, check_for_signature, same_interface_or_anonymous,
+    ANONYMOUS_INTERFACE, AllowNull, Argument, ArgumentType, InterfaceId, Message, MessageDesc,
+    Numbering, Protocol, Token, check_for_signature, same_interface_or_anonymous,
 };
 
 /// What a request that is not refused creates, and whether it ends its sender.
@@ -249,44 +247,23 @@ pub(crate) fn check_request<U: Drop>(
     }
 }
 
-/// The argument as it goes on the wire, where the new object gets this number.
-fn wire_argument(number: u32, arg: Argument<ObjectId, Token>) -> Argument<u32, Token>
-    ensures { result ≡ wire_argument number arg }
-{
-    match arg {
-        Argument::Int(value) => Argument::Int(value),
-        Argument::Uint(value) => Argument::Uint(value),
-        Argument::Fixed(value) => Argument::Fixed(value),
-        Argument::Str(text) => Argument::Str(text),
-        Argument::Object(id) => Argument::Object(id.protocol_id()),
-        Argument::NewId(_) => Argument::NewId(number),
-        Argument::Array(bytes) => Argument::Array(bytes),
-        Argument::Fd(token) => Argument::Fd(token),
-    }
+/// The numbers that a request's ids have on the wire: each its own, and this one for the object that it creates.
+#[derive(Clone, Copy)]
+pub(crate) struct RequestNumbers {
+    /// The number of the new object.
+    pub new_object: u32,
 }
 
-/// The message as it goes on the wire, where the new object gets this number. Up to four arguments take no memory.
-pub(crate) fn to_wire(
-    message: Message<ObjectId, Token>,
-    number: u32,
-) -> Result<Message<u32, Token>, OutOfMemory>
-    ensures content { IfOk result (λ wire. content wire ≡ wire_message number (session_content message)) }
-    ensures inline { length message.args.items ≤ INLINE_ARGS → IsOk result }
-{
-    let mut args = SmallVec::with_capacity(*message.args.allocator(), message.args.len())?;
-    let Message {
-        sender_id,
-        opcode,
-        args: mut old,
-    } = message;
-    // The first argument is then the last, which `pop` takes out without moving the others.
-    old.reverse();
-    while let Some(arg) = old.pop() {
-        args.push_reserved(wire_argument(number, arg));
+impl Numbering<ObjectId> for RequestNumbers {
+    ghost object_number = { λ _ id. id.number };
+
+    ghost new_number = { λ numbers _. numbers.new_object };
+
+    fn number_object(&self, id: &ObjectId) -> u32 {
+        id.protocol_id()
     }
-    Ok(Message {
-        sender_id: sender_id.protocol_id(),
-        opcode,
-        args,
-    })
+
+    fn number_new(&self, _id: &ObjectId) -> u32 {
+        self.new_object
+    }
 }

@@ -1,7 +1,7 @@
 //! The sending of a request.
 
 ghost use Rattle.std.specs.Prelude.{◌≡◌, ◌<◌, ◌⊎◌, true, IfSome, IsSome, IsTrue, OnErr, OnOk, MatchResult, is_some, vec_len, vec_capacity};
-ghost use Rattle.wl_wire.specs.Message.{content};
+ghost use Rattle.wl_wire.specs.MapIds.{numbered};
 ghost use Rattle.wl_link.specs.Store.{held};
 ghost use Rattle.wl_client.specs.Requests.{Requested, Sent, ended_by, id_of_new, number_of_new, session_content};
 ghost use Rattle.wl_client.specs.Sending.{IsNext, IsNextObject, LacksNext, WrittenTo, ending, given_up_at, is_noted, notes_ending, serial_with, store_ending, store_with};
@@ -11,7 +11,7 @@ use crate::kept::Kept;
 use crate::note::Note;
 use crate::object_id::ObjectId;
 use crate::objects::{fresh_object, named_in};
-use crate::request::{check_request, to_wire};
+use crate::request::{RequestNumbers, check_request};
 use crate::session::Session;
 use wl_link::{BufferedSocket, Object, ObjectMap, Transport};
 use wl_wire::{InterfaceId, IoFault, Message, OutOfMemory, Token};
@@ -79,15 +79,17 @@ fn make_room<U: Drop>(
     Ok(())
 }
 
-/// Writes the message. A fault is kept in place of the last error, but for a want of memory, which is answered.
+/// Writes the message, where the new object gets this number. A fault is kept in place of the last error, but for a want
+/// of memory, which is answered.
 fn write<T: Transport>(
     socket: &mut BufferedSocket<T>,
     error: &mut Option<WaylandError>,
-    message: &Message<u32, Token>,
+    message: &Message<ObjectId, Token>,
+    new_object: u32,
 ) -> Result<(), OutOfMemory>
-    ensures { WrittenTo T.sends socket.old error.old (content message.now) result socket.new error.new }
+    ensures { WrittenTo T.sends socket.old error.old (numbered (λ id. id.number) (λ _. new_object) message.now) result socket.new error.new }
 {
-    match socket.write_message(message) {
+    match socket.write_numbered(message, &RequestNumbers { new_object }) {
         Ok(()) => Ok(()),
         Err(IoFault::OutOfMemory) => Err(OutOfMemory),
         Err(fault) => {
@@ -177,15 +179,15 @@ impl<T: Transport, U: Drop> Session<T, U> {
     /// memory, neither is done.
     fn send(
         &mut self,
-        message: Message<ObjectId, Token>,
+        message: &Message<ObjectId, Token>,
         new: Option<(u32, Object<Kept<U>>)>,
         is_destructor: bool,
     ) -> Result<ObjectId, RequestError>
         requires { IfSome new (IsNext self.old.store self.old.last_serial) }
-        ensures { Sent T.sends self.old (session_content message) new
-            (ended_by self.old.store (session_content message) is_destructor) result self.new }
+        ensures { Sent T.sends self.old (session_content message.now) new
+            (ended_by self.old.store (session_content message.now) is_destructor) result self.new }
     {
-        let ended = ended_sender(&self.objects, &message, is_destructor);
+        let ended = ended_sender(&self.objects, message, is_destructor);
         let number = number_of(&new);
         let creates = new.is_some();
         let room = make_room(
@@ -197,10 +199,7 @@ impl<T: Transport, U: Drop> Session<T, U> {
         if room.is_err() {
             return Err(RequestError::OutOfMemory);
         }
-        let Ok(message) = to_wire(message, number) else {
-            return Err(RequestError::OutOfMemory);
-        };
-        if write(&mut self.socket, &mut self.error, &message).is_err() {
+        if write(&mut self.socket, &mut self.error, message, number).is_err() {
             return Err(RequestError::OutOfMemory);
         }
         let id = put_new(&mut self.objects, &mut self.last_serial, new);
@@ -215,14 +214,14 @@ impl<T: Transport, U: Drop> Session<T, U> {
     /// session's error, and the request counts as sent.
     pub fn send_request(
         &mut self,
-        message: Message<ObjectId, Token>,
+        message: &Message<ObjectId, Token>,
         user_data: Option<U>,
         spec: Option<(InterfaceId, u32)>,
     ) -> Result<ObjectId, RequestError>
-        ensures { Requested T.sends self.old (session_content message) user_data spec result self.new }
+        ensures { Requested T.sends self.old (session_content message.now) user_data spec result self.new }
     {
         let has_data = user_data.is_some();
-        let granted = check_request(&self.protocol, &self.objects, &message, has_data, spec)?;
+        let granted = check_request(&self.protocol, &self.objects, message, has_data, spec)?;
         match (granted.child, user_data) {
             (None, _) => self.send(message, None, granted.is_destructor),
             (Some(_), None) => unreachable!(),

@@ -11,6 +11,12 @@ use Rattle.wl_wire.specs.Laws.{length-spelling}
 use Rattle.wl_link.specs.Storage.{Appended, waits, arrived}
 use Rattle.wl_link.proofs.Receiving.{front_and_part}
 
+-- what is put behind all is put behind those that are left
+pub queued_behind : {X E : Type 0} (r : Result ℕ E) (start : ℕ) (old new more : List X) → start ≤ length old → OnOk r (new ≡ old ++ more)
+    → OnOk r (drop start new ≡ drop start old ++ more)
+queued_behind (Ok n) start old new more within is = ap (drop start) is ∙ drop-append-le start old more within
+queued_behind (Err e) start old new more within is = tt
+
 -- where more follows the front of a list, more follows a part that ends there
 range_longer : (old new piece : List ℕ) (start end n : ℕ) → start ≤ end → end ≤ length old → take (end + n) new ≡ take end old ++ piece
     → slice_range new start (end + n) ≡ slice_range old start end ++ piece

@@ -1,7 +1,8 @@
 //! Bytes that wait, in a storage that is used again.
 
 ghost use Rattle.std.specs.Prelude.{◌≡◌, ◌≢◌, ◌+◌, ◌-◌, ◌<◌, ◌≤◌, ◌^◌, [], length, take, drop, slice_range, Err, IfOk, OnOk, OnErr};
-ghost use Rattle.wl_wire.specs.Message.{IsMessage, content, size, tokens};
+ghost use Rattle.wl_wire.specs.MapIds.{numbered};
+ghost use Rattle.wl_wire.specs.Message.{IsMessage, size, tokens};
 ghost use Rattle.wl_link.specs.Storage.{waits, beside, arrived, Received, Appended};
 
 use crate::token_queue::TokenQueue;
@@ -9,7 +10,7 @@ use crate::transport::Transport;
 use std::alloc::Global;
 use std::collections::VecDeque;
 use std::marker::Model;
-use wl_wire::{IoFault, Message, MessageWriteError, OutOfMemory, Token};
+use wl_wire::{IoFault, Message, MessageWriteError, Numbering, OutOfMemory, Token};
 
 /// Bytes that wait in their order, in a storage of a given size.
 ///
@@ -98,16 +99,17 @@ impl Buffer {
     /// Writes the message behind the bytes that wait, and puts its tokens behind those in the queue.
     ///
     /// The bytes that wait are not moved, so there may be too little room behind them where the storage has enough.
-    pub fn write(
+    pub fn write<Id, N: Numbering<Id>>(
         &mut self,
-        message: &Message<u32, Token>,
+        message: &Message<Id, Token>,
+        numbers: &N,
         fds: &mut TokenQueue,
     ) -> Result<(), MessageWriteError>
-        ensures appended { Appended self.old fds.old (content message.now) result self.new fds.new }
-        ensures message { OnOk result (IsMessage (content message.now)) }
+        ensures appended { Appended self.old fds.old (numbered (N.object_number numbers.now) (N.new_number numbers.now) message.now) result self.new fds.new }
+        ensures message { OnOk result (IsMessage (numbered (N.object_number numbers.now) (N.new_number numbers.now) message.now)) }
     {
         let end = self.end;
-        match write_behind(message, &mut self.storage, self.start, end, fds) {
+        match write_behind(message, numbers, &mut self.storage, self.start, end, fds) {
             Ok(count) => {
                 self.end = end + count;
                 Ok(())
@@ -118,20 +120,21 @@ impl Buffer {
 
     /// Writes the message behind the bytes that wait, which are moved to the front, and puts its tokens behind those
     /// in the queue. Where there is no memory for these, nothing is changed.
-    pub fn put(
+    pub fn put<Id, N: Numbering<Id>>(
         &mut self,
-        message: &Message<u32, Token>,
+        message: &Message<Id, Token>,
+        numbers: &N,
         fds: &mut TokenQueue,
     ) -> Result<(), MessageWriteError>
-        requires small { size (content message.now) ≤ 65535 }
-        requires room { length self.old.bytes + size (content message.now) ≤ self.old.size }
-        ensures appended { Appended self.old fds.old (content message.now) result self.new fds.new }
+        requires small { size (numbered (N.object_number numbers.now) (N.new_number numbers.now) message.now) ≤ 65535 }
+        requires room { length self.old.bytes + size (numbered (N.object_number numbers.now) (N.new_number numbers.now) message.now) ≤ self.old.size }
+        ensures appended { Appended self.old fds.old (numbered (N.object_number numbers.now) (N.new_number numbers.now) message.now) result self.new fds.new }
         ensures fits { result ≢ Err MessageWriteError.BufferTooSmall }
-        ensures message { OnOk result (IsMessage (content message.now)) }
+        ensures message { OnOk result (IsMessage (numbered (N.object_number numbers.now) (N.new_number numbers.now) message.now)) }
     {
         let (start, end) = (self.start, self.end);
         self.start = 0;
-        match write_at_front(message, &mut self.storage, start, end, fds) {
+        match write_at_front(message, numbers, &mut self.storage, start, end, fds) {
             Ok(count) => {
                 self.end = end - start + count;
                 Ok(())
@@ -200,8 +203,9 @@ fn copy_to_front(storage: &mut [u8], start: usize, count: usize)
 
 /// Writes the message behind the bytes from `start` to `end`, and puts its tokens behind those in the queue. Answers
 /// how many bytes were written.
-fn write_behind(
-    message: &Message<u32, Token>,
+fn write_behind<Id, N: Numbering<Id>>(
+    message: &Message<Id, Token>,
+    numbers: &N,
     storage: &mut [u8],
     start: usize,
     end: usize,
@@ -209,18 +213,19 @@ fn write_behind(
 ) -> Result<usize, MessageWriteError>
     requires ordered { start ≤ end }
     requires within { end ≤ length storage.old }
-    ensures appended { Appended (waits (slice_range storage.old start end) (length storage.old)) fds.old (content message.now) result
+    ensures appended { Appended (waits (slice_range storage.old start end) (length storage.old)) fds.old (numbered (N.object_number numbers.now) (N.new_number numbers.now) message.now) result
         (waits (slice_range storage.new start (end + arrived result)) (length storage.old)) fds.new }
     ensures room { end + arrived result ≤ length storage.old }
-    ensures message { OnOk result (IsMessage (content message.now)) }
-    ensures too_small { result ≡ Err MessageWriteError.BufferTooSmall → length storage.old < end + size (content message.now) }
+    ensures message { OnOk result (IsMessage (numbered (N.object_number numbers.now) (N.new_number numbers.now) message.now)) }
+    ensures too_small { result ≡ Err MessageWriteError.BufferTooSmall → length storage.old < end + size (numbered (N.object_number numbers.now) (N.new_number numbers.now) message.now) }
 {
-    fds.write(message, &mut storage[end..])
+    fds.write(message, numbers, &mut storage[end..])
 }
 
 /// Moves the bytes from `start` to `end` to the front, and writes the message behind them.
-fn write_at_front(
-    message: &Message<u32, Token>,
+fn write_at_front<Id, N: Numbering<Id>>(
+    message: &Message<Id, Token>,
+    numbers: &N,
     storage: &mut [u8],
     start: usize,
     end: usize,
@@ -228,14 +233,14 @@ fn write_at_front(
 ) -> Result<usize, MessageWriteError>
     requires ordered { start ≤ end }
     requires within { end ≤ length storage.old }
-    ensures appended { Appended (waits (slice_range storage.old start end) (length storage.old)) fds.old (content message.now) result
+    ensures appended { Appended (waits (slice_range storage.old start end) (length storage.old)) fds.old (numbered (N.object_number numbers.now) (N.new_number numbers.now) message.now) result
         (waits (slice_range storage.new 0 (end - start + arrived result)) (length storage.old)) fds.new }
-    ensures message { OnOk result (IsMessage (content message.now)) }
+    ensures message { OnOk result (IsMessage (numbered (N.object_number numbers.now) (N.new_number numbers.now) message.now)) }
     ensures room { end - start + arrived result ≤ length storage.old }
-    ensures too_small { result ≡ Err MessageWriteError.BufferTooSmall → length storage.old < end - start + size (content message.now) }
+    ensures too_small { result ≡ Err MessageWriteError.BufferTooSmall → length storage.old < end - start + size (numbered (N.object_number numbers.now) (N.new_number numbers.now) message.now) }
 {
     move_to_front(storage, start, end);
-    write_behind(message, storage, 0, end - start, fds)
+    write_behind(message, numbers, storage, 0, end - start, fds)
 }
 
 /// Moves the bytes from `start` to `end` to the front, and receives behind them.

@@ -3,6 +3,7 @@
 ghost use Rattle.std.specs.Prelude.{◌≡◌, ◌≢◌, ◌+◌, ◌<◌, ◌≤◌, ◌∷◌, [], length, take, nat_le, if◌then◌else◌, IsTrue, Some, Ok, Err, IfOk, OnOk, MatchOption, MatchResult};
 ghost use Rattle.std.specs.Borrow.{sem};
 ghost use Rattle.wl_wire.specs.Argument.{Matches};
+ghost use Rattle.wl_wire.specs.MapIds.{numbered};
 ghost use Rattle.wl_wire.specs.Message.{IsMessage, content, size};
 ghost use Rattle.wl_wire.specs.Parse.{sender_of, opcode_of};
 ghost use Rattle.wl_link.specs.Link.{IsFresh, LimitSet, Flushed, Filled, Grown, Wants, Put, Placed, Wrote, ReadOne, looked_up, read_content, needed, has_room, ignoring, counted_answer};
@@ -18,8 +19,8 @@ use std::alloc::Global;
 use std::collections::VecDeque;
 use std::marker::Model;
 use wl_wire::{
-    ArgumentType, IoFault, Message, MessageParseError, MessageWriteError, OutOfMemory, Token,
-    message_header, message_size, parse_message,
+    ArgumentType, IoFault, Message, MessageParseError, MessageWriteError, Numbering, OutOfMemory,
+    OwnNumbers, Token, message_header, numbered_size, parse_message,
 };
 
 /// A transport, and what waits on both sides of it: bytes and tokens that were received and not read yet, and those
@@ -200,13 +201,17 @@ impl<T> BufferedSocket<T> {
     }
 
     /// Puts the message behind what waits.
-    fn put(&mut self, message: &Message<u32, Token>) -> Result<(), IoFault>
-        requires small { size (content message.now) ≤ 65535 }
-        requires room { IsTrue (has_room self.old (size (content message.now))) }
-        ensures put { Put self.old (content message.now) result self.new }
-        ensures message { OnOk result (IsMessage (content message.now)) }
+    fn put<Id, N: Numbering<Id>>(
+        &mut self,
+        message: &Message<Id, Token>,
+        numbers: &N,
+    ) -> Result<(), IoFault>
+        requires small { size (numbered (N.object_number numbers.now) (N.new_number numbers.now) message.now) ≤ 65535 }
+        requires room { IsTrue (has_room self.old (size (numbered (N.object_number numbers.now) (N.new_number numbers.now) message.now))) }
+        ensures put { Put self.old (numbered (N.object_number numbers.now) (N.new_number numbers.now) message.now) result self.new }
+        ensures message { OnOk result (IsMessage (numbered (N.object_number numbers.now) (N.new_number numbers.now) message.now)) }
     {
-        let written = self.outgoing.put(message, &mut self.fds_out);
+        let written = self.outgoing.put(message, numbers, &mut self.fds_out);
         write_answer(written).unwrap_or(Err(IoFault::TooBig))
     }
 
@@ -267,41 +272,63 @@ impl<T: Transport> BufferedSocket<T> {
         ensures kept { WriteKeeps T.sends self.old (content message.now) result self.new }
         ensures message { OnOk result (IsMessage (content message.now)) }
     {
-        match write_answer(self.outgoing.write(message, &mut self.fds_out)) {
+        self.write_numbered(message, &OwnNumbers)
+    }
+
+    /// Writes the message behind what waits as `write_message` does, with these numbers for its ids.
+    pub fn write_numbered<Id, N: Numbering<Id>>(
+        &mut self,
+        message: &Message<Id, Token>,
+        numbers: &N,
+    ) -> Result<(), IoFault>
+        ensures wrote { Wrote T.sends self.old (numbered (N.object_number numbers.now) (N.new_number numbers.now) message.now) result self.new }
+        ensures kept { WriteKeeps T.sends self.old (numbered (N.object_number numbers.now) (N.new_number numbers.now) message.now) result self.new }
+        ensures message { OnOk result (IsMessage (numbered (N.object_number numbers.now) (N.new_number numbers.now) message.now)) }
+    {
+        match write_answer(self.outgoing.write(message, numbers, &mut self.fds_out)) {
             Some(answer) => answer,
-            None => self.make_room_and_write(message),
+            None => self.make_room_and_write(message, numbers),
         }
     }
 
     /// Writes the message where there may be too little room behind what waits.
     #[inline(never)]
-    fn make_room_and_write(&mut self, message: &Message<u32, Token>) -> Result<(), IoFault>
-        requires { size (content message.now) ≤ 65535 }
-        ensures wrote { Wrote T.sends self.old (content message.now) result self.new }
-        ensures message { OnOk result (IsMessage (content message.now)) }
+    fn make_room_and_write<Id, N: Numbering<Id>>(
+        &mut self,
+        message: &Message<Id, Token>,
+        numbers: &N,
+    ) -> Result<(), IoFault>
+        requires { size (numbered (N.object_number numbers.now) (N.new_number numbers.now) message.now) ≤ 65535 }
+        ensures wrote { Wrote T.sends self.old (numbered (N.object_number numbers.now) (N.new_number numbers.now) message.now) result self.new }
+        ensures message { OnOk result (IsMessage (numbered (N.object_number numbers.now) (N.new_number numbers.now) message.now)) }
     {
-        let Some(len) = message_size(message) else {
+        let Some(len) = numbered_size(message, numbers) else {
             return Err(IoFault::TooBig);
         };
         let Ok(()) = self.grow_for(len) else {
             return Err(IoFault::OutOfMemory);
         };
-        self.place(message, len)
+        self.place(message, numbers, len)
     }
 
     /// Writes the message of that size where there is room, and else where there is room after a flush.
-    fn place(&mut self, message: &Message<u32, Token>, len: usize) -> Result<(), IoFault>
-        requires len { len ≡ size (content message.now) }
+    fn place<Id, N: Numbering<Id>>(
+        &mut self,
+        message: &Message<Id, Token>,
+        numbers: &N,
+        len: usize,
+    ) -> Result<(), IoFault>
+        requires len { len ≡ size (numbered (N.object_number numbers.now) (N.new_number numbers.now) message.now) }
         requires small { len ≤ 65535 }
-        ensures placed { Placed T.sends self.old (content message.now) result self.new }
-        ensures message { OnOk result (IsMessage (content message.now)) }
+        ensures placed { Placed T.sends self.old (numbered (N.object_number numbers.now) (N.new_number numbers.now) message.now) result self.new }
+        ensures message { OnOk result (IsMessage (numbered (N.object_number numbers.now) (N.new_number numbers.now) message.now)) }
     {
         if self.has_room(len) {
-            return self.put(message);
+            return self.put(message, numbers);
         }
         self.flush_for_room()?;
         if self.has_room(len) {
-            return self.put(message);
+            return self.put(message, numbers);
         }
         Err(IoFault::TooBig)
     }

@@ -1,11 +1,12 @@
 //! Tokens that wait to be sent.
 
 ghost use Rattle.std.specs.Prelude.{◌≡◌, ◌≢◌, ◌↔◌, ◌<◌, ◌≤◌, ◌++◌, [], Err, length, take, drop, IfOk, OnOk, OnErr};
-ghost use Rattle.wl_wire.specs.Message.{IsMessage, content, size, spelling, tokens};
+ghost use Rattle.wl_wire.specs.MapIds.{numbered};
+ghost use Rattle.wl_wire.specs.Message.{IsMessage, size, spelling, tokens};
 
 use std::alloc::Global;
 use std::marker::Model;
-use wl_wire::{Message, MessageWriteError, Token, write_to_buffers};
+use wl_wire::{Message, MessageWriteError, Numbering, Token, write_numbered};
 
 /// Tokens that wait in their order. Taking some off the front moves the others only where those taken off before
 /// are as many as are left.
@@ -66,24 +67,25 @@ impl TokenQueue {
         }
     }
 
-    /// Writes the message at the front of the slice, and puts its tokens behind those that wait. Answers how many
-    /// bytes were written. A refusal changes nothing.
-    pub fn write(
+    /// Writes the message at the front of the slice, with these numbers for its ids, and puts its tokens behind those
+    /// that wait. Answers how many bytes were written. A refusal changes nothing.
+    pub fn write<Id, N: Numbering<Id>>(
         &mut self,
-        message: &Message<u32, Token>,
+        message: &Message<Id, Token>,
+        numbers: &N,
         payload: &mut [u8],
     ) -> Result<usize, MessageWriteError>
-        ensures written { IfOk result (λ n. (n ≡ size (content message.now))
-            × (payload.new ≡ spelling (content message.now) ++ drop n payload.old)) }
-        ensures tokens { OnOk result (self.new ≡ self.old ++ tokens message.now.args.items) }
-        ensures too_long { (result ≡ Err MessageWriteError.TooLong) ↔ (65535 < size (content message.now)) }
+        ensures written { IfOk result (λ n. (n ≡ size (numbered (N.object_number numbers.now) (N.new_number numbers.now) message.now))
+            × (payload.new ≡ spelling (numbered (N.object_number numbers.now) (N.new_number numbers.now) message.now) ++ drop n payload.old)) }
+        ensures tokens { OnOk result (self.new ≡ self.old ++ tokens (numbered (N.object_number numbers.now) (N.new_number numbers.now) message.now).args) }
+        ensures too_long { (result ≡ Err MessageWriteError.TooLong) ↔ (65535 < size (numbered (N.object_number numbers.now) (N.new_number numbers.now) message.now)) }
         ensures too_small { (result ≡ Err MessageWriteError.BufferTooSmall)
-            ↔ ((size (content message.now) ≤ 65535) × (length payload.old < size (content message.now))) }
-        ensures message { OnOk result (IsMessage (content message.now)) }
-        ensures no_tokens { tokens message.now.args.items ≡ [] → result ≢ Err MessageWriteError.OutOfMemory }
+            ↔ ((size (numbered (N.object_number numbers.now) (N.new_number numbers.now) message.now) ≤ 65535) × (length payload.old < size (numbered (N.object_number numbers.now) (N.new_number numbers.now) message.now))) }
+        ensures message { OnOk result (IsMessage (numbered (N.object_number numbers.now) (N.new_number numbers.now) message.now)) }
+        ensures no_tokens { tokens (numbered (N.object_number numbers.now) (N.new_number numbers.now) message.now).args ≡ [] → result ≢ Err MessageWriteError.OutOfMemory }
         ensures unchanged { OnErr result ((payload.new ≡ payload.old) × (self.new ≡ self.old)) }
     {
-        write_to_buffers(message, payload, &mut self.tokens)
+        write_numbered(message, numbers, payload, &mut self.tokens)
     }
 }
 

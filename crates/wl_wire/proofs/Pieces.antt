@@ -1,13 +1,17 @@
 -- How long the pieces of arguments are, and how one is written behind another.
-use Rattle.std.proofs.Common.{◌≡◌, ℕ, ◌+◌, ◌-◌, ◌≤◌, ◌<◌, List, [], ◌∷◌, ◌++◌, length, get_or, take, drop, replicate, Some, None, refl, sym, ap, subst, ◌∙◌, append_assoc, arith, length-append, add-zero, zero-add}
-use Rattle.std.proofs.lemmas.List.{append-nil, length-replicate, replicate-append-replicate, take_more, length-take-le, length-drop, take_at, drop_at, drop-drop, take-append-drop, take-append-le, take-take, drop-append-le, drop-replicate}
+use Rattle.std.proofs.Common.{◌≡◌, ℕ, ◌+◌, ◌-◌, ◌≤◌, ◌<◌, List, [], ◌∷◌, ◌++◌, length, get_or, map, take, drop, replicate, Some, None, refl, sym, ap, subst, ◌∙◌, append_assoc, arith, length-append, add-zero, zero-add}
+use Rattle.std.proofs.lemmas.List.{length-map, get_or-map, append-nil, length-replicate, replicate-append-replicate, take_more, length-take-le, length-drop, take_at, drop_at, drop-drop, take-append-drop, take-append-le, take-take, drop-append-le, drop-replicate}
 use Rattle.std.proofs.lemmas.Grind.{flat_map-append}
-use Rattle.std.specs.List.{AllByRecursion}
+use Rattle.std.proofs.lemmas.List.Sums.{sum_by-cons, sum_by_push}
+use Rattle.std.specs.List.{AllByRecursion, sum_by}
+use Rattle.wl_wire.specs.declared.argument.Argument.{Argument}
 use Rattle.wl_wire.specs.declared.argument.Argument.TheVariants as arg
 use Rattle.wl_wire.specs.declared.argument.Token.{Token}
+use Rattle.wl_wire.specs.declared.message.Message.{Message}
 use Rattle.wl_wire.specs.Argument.{WireArgument}
-use Rattle.wl_wire.specs.Message.{IsArgument, word, pad_len, counted, piece, pieces, token, tokens}
-use Rattle.wl_wire.specs.Buffer.{overwritten, counted_len, piece_len}
+use Rattle.wl_wire.specs.MapIds.{numbered, with_ids}
+use Rattle.wl_wire.specs.Message.{IsArgument, content, word, pad_len, counted, piece, pieces, token, tokens}
+use Rattle.wl_wire.specs.Buffer.{overwritten, counted_len, piece_len, token_count}
 
 pub length-word : (n : ℕ) → length (word n) ≡ 4
 unfolding word
@@ -32,6 +36,81 @@ length-piece (arg.Object n) = length-word n
 length-piece (arg.NewId n) = length-word n
 length-piece (arg.Array bytes) = length-counted bytes
 length-piece (arg.Fd t) = refl
+
+-- ---- whatever the numbers of the ids are
+
+pub piece_len-with_ids : {Id : Type 0} (object_number new_number : Id → ℕ) (a : Argument Id Token) → piece_len (with_ids object_number new_number a) ≡ piece_len a
+piece_len-with_ids f g (arg.Int z) = refl
+piece_len-with_ids f g (arg.Uint n) = refl
+piece_len-with_ids f g (arg.Fixed z) = refl
+piece_len-with_ids f g (arg.Str None) = refl
+piece_len-with_ids f g (arg.Str (Some text)) = refl
+piece_len-with_ids f g (arg.Object id) = refl
+piece_len-with_ids f g (arg.NewId id) = refl
+piece_len-with_ids f g (arg.Array bytes) = refl
+piece_len-with_ids f g (arg.Fd t) = refl
+
+pub length-token-with_ids : {Id : Type 0} (object_number new_number : Id → ℕ) (a : Argument Id Token) → length (token (with_ids object_number new_number a)) ≡ token_count a
+length-token-with_ids f g (arg.Int z) = refl
+length-token-with_ids f g (arg.Uint n) = refl
+length-token-with_ids f g (arg.Fixed z) = refl
+length-token-with_ids f g (arg.Str text) = refl
+length-token-with_ids f g (arg.Object id) = refl
+length-token-with_ids f g (arg.NewId id) = refl
+length-token-with_ids f g (arg.Array bytes) = refl
+length-token-with_ids f g (arg.Fd t) = refl
+
+-- an argument has one token at most
+pub token_count-few : {Id : Type 0} (a : Argument Id Token) → token_count a ≤ 1
+token_count-few (arg.Int z) = omega arith
+token_count-few (arg.Uint n) = omega arith
+token_count-few (arg.Fixed z) = omega arith
+token_count-few (arg.Str text) = omega arith
+token_count-few (arg.Object id) = omega arith
+token_count-few (arg.NewId id) = omega arith
+token_count-few (arg.Array bytes) = omega arith
+token_count-few (arg.Fd t) = omega arith
+
+pub length_pieces : {Id : Type 0} (object_number new_number : Id → ℕ) (args : List (Argument Id Token)) → length (pieces (map (with_ids object_number new_number) args)) ≡ sum_by piece_len args
+length_pieces f g [] = refl
+length_pieces f g (a ∷ args) =
+    omega (arith, length-append (piece (with_ids f g a)) (pieces (map (with_ids f g) args)), length-piece (with_ids f g a), piece_len-with_ids f g a, length_pieces f g args, sum_by-cons piece_len a args)
+
+pub length_tokens : {Id : Type 0} (object_number new_number : Id → ℕ) (args : List (Argument Id Token)) → length (tokens (map (with_ids object_number new_number) args)) ≡ sum_by token_count args
+length_tokens f g [] = refl
+length_tokens f g (a ∷ args) =
+    omega (arith, length-append (token (with_ids f g a)) (tokens (map (with_ids f g) args)), length-token-with_ids f g a, length_tokens f g args, sum_by-cons token_count a args)
+
+own_argument : (a : WireArgument) → with_ids (λ n. n) (λ n. n) a ≡ a
+own_argument (arg.Int z) = refl
+own_argument (arg.Uint n) = refl
+own_argument (arg.Fixed z) = refl
+own_argument (arg.Str text) = refl
+own_argument (arg.Object n) = refl
+own_argument (arg.NewId n) = refl
+own_argument (arg.Array bytes) = refl
+own_argument (arg.Fd t) = refl
+
+own_arguments : (args : List WireArgument) → map (with_ids (λ n. n) (λ n. n)) args ≡ args
+own_arguments [] = refl
+own_arguments (a ∷ args) = rw (own_argument a, own_arguments args) refl
+
+-- where each number is its own
+pub own_numbers : (m : Message ℕ Token) → numbered (λ n. n) (λ n. n) m ≡ content m
+own_numbers m = ap (λ args. record { sender = m.sender_id; opcode = m.opcode; args = args }) (own_arguments m.args.items)
+
+-- ---- one more of what is added up
+
+pub sum_by-more : {A : Type 0} (f : A → ℕ) (args : List A) (i : ℕ) (a : A) → i < length args → a ≡ get_or args i a → sum_by f (take (i + 1) args) ≡ sum_by f (take i args) + f a
+sum_by-more f args i a lt is =
+    ap (sum_by f) (take_more args i a lt ∙ ap (λ x. take i args ++ x ∷ []) (sym is)) ∙ sum_by_push f (take i args) a
+
+-- the argument that is looked at, with numbers for its ids
+pub got_with_ids : {Id : Type 0} (object_number new_number : Id → ℕ) (args : List (Argument Id Token)) (i : ℕ) (a : Argument Id Token) → i < length args → a ≡ get_or args i a
+    → (i < length (map (with_ids object_number new_number) args))
+    × (with_ids object_number new_number a ≡ get_or (map (with_ids object_number new_number) args) i (with_ids object_number new_number a))
+got_with_ids f g args i a lt is =
+    (rw (length-map args (with_ids f g)) lt, ap (with_ids f g) is ∙ sym (get_or-map (with_ids f g) args i a (with_ids f g a) lt))
 
 -- ---- the pieces of a message, one after another
 
@@ -152,17 +231,6 @@ overwritten-more old now new args i at a lt is room at-is now-is new-is =
     ∙ ap (λ (k : ℕ). overwritten (overwritten old 8 (pieces (take i args))) k (piece a)) at-is
     ∙ overwritten-append old 8 (pieces (take i args)) (piece a) (omega (arith, length-pieces-more args i a lt is))
     ∙ ap (overwritten old 8) (sym (pieces-more args i a lt is))
-
--- an argument has one token at most
-pub length-token : (a : WireArgument) → length (token a) ≤ 1
-length-token (arg.Int z) = omega arith
-length-token (arg.Uint n) = omega arith
-length-token (arg.Fixed z) = omega arith
-length-token (arg.Str text) = omega arith
-length-token (arg.Object n) = omega arith
-length-token (arg.NewId n) = omega arith
-length-token (arg.Array bytes) = omega arith
-length-token (arg.Fd t) = omega arith
 
 -- a header of two words, and what follows it
 pub overwritten-header : (old a b rest : List ℕ) → length a ≡ 4 → length b ≡ 4 → 8 + length rest ≤ length old

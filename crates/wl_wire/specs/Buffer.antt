@@ -1,7 +1,8 @@
 -- Writing into a slice, as the functions inside the writer say it.
 use Rattle.std.specs.Prelude.{ℕ, ◌+◌, List, ◌++◌, length, take, drop, Some}
 use Rattle.wl_wire.specs.declared.argument.Argument.TheVariants as arg
-use Rattle.wl_wire.specs.Argument.{WireArgument}
+use Rattle.wl_wire.specs.declared.argument.Argument.{Argument}
+use Rattle.wl_wire.specs.declared.argument.Token.{Token}
 use Rattle.wl_wire.specs.Message.{pad_len}
 
 -- the slice with these bytes from that place on
@@ -13,8 +14,13 @@ abbrev pub counted_len : ℕ → ℕ
 counted_len n = 4 + n + pad_len n
 
 -- how many bytes the argument takes
-abbrev pub piece_len : WireArgument → ℕ
+abbrev pub piece_len : {Id : Type 0} → Argument Id Token → ℕ
 piece_len (arg.Str (Some text)) = counted_len (length text + 1)
 piece_len (arg.Array bytes) = counted_len (length bytes)
 piece_len (arg.Fd _) = 0
 piece_len _ = 4
+
+-- how many tokens the argument has
+abbrev pub token_count : {Id : Type 0} → Argument Id Token → ℕ
+token_count (arg.Fd _) = 1
+token_count _ = 0

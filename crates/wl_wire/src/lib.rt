@@ -11,6 +11,7 @@ mod interface;
 pub mod laws;
 mod map_ids;
 mod message;
+mod numbering;
 mod parse;
 mod protocol;
 mod table_check;
@@ -27,9 +28,10 @@ pub use interface::{
     WL_DISPLAY_INTERFACE, WL_REGISTRY_INTERFACE,
 };
 pub use message::{INLINE_ARGS, Message};
+pub use numbering::{Numbering, OwnNumbers};
 pub use parse::{MessageHeader, message_header, parse_message};
 pub use protocol::{
     Protocol, TableError, check_for_signature, same_interface, same_interface_or_anonymous,
 };
 pub use text::Text;
-pub use write::{message_size, write_to_buffers};
+pub use write::{message_size, numbered_size, write_numbered, write_to_buffers};

@@ -1,10 +1,10 @@
 use Rattle.std.proofs.Common.{arith}
-use Rattle.wl_wire.specs.Message.{content}
+use Rattle.wl_wire.specs.MapIds.{numbered}
 use Rattle.wl_link.proofs.Writing.{appended_behind}
 use Rattle.wl_link.proofs.buffer.write_behind.Goals as goal
 
 pub returns-clause-appended : goal.returns-clause-appended
-returns-clause-appended c =
-    appended_behind (content c.args.message.now) c.args.storage.now c.write.new.payload c.args.start c.args.end c.args.fds.now c.write.new.self
+returns-clause-appended g c =
+    appended_behind (numbered (g.N.Numbering.object_number c.args.numbers.now) (g.N.Numbering.new_number c.args.numbers.now) c.args.message.now) c.args.storage.now c.write.new.payload c.args.start c.args.end c.args.fds.now c.write.new.self
     c.requires.ordered c.requires.within c.write.result _ (omega arith)
     c.write.ensures.written c.write.ensures.tokens c.write.ensures.too_long c.write.ensures.too_small c.write.ensures.no_tokens c.write.ensures.unchanged

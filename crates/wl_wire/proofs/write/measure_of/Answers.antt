@@ -1,19 +1,16 @@
-use Rattle.std.proofs.Common.{length, take, ap, arith, length-append}
-use Rattle.wl_wire.specs.Message.{piece, pieces, token, tokens}
-use Rattle.wl_wire.proofs.Pieces.{length-piece, length-token, length-pieces-more, pieces-more, tokens-more}
+use Rattle.std.proofs.Common.{◌≡◌, ℕ, ◌+◌, ◌<◌, ◌≤◌, length, map, MatchOption, subst, sym}
+use Rattle.std.specs.List.{sum_by}
+use Rattle.wl_wire.specs.Buffer.{piece_len}
+use Rattle.wl_wire.specs.MapIds.{with_ids}
+use Rattle.wl_wire.specs.Message.{tokens}
+use Rattle.wl_wire.proofs.Pieces.{length_pieces, length_tokens}
 use Rattle.wl_wire.proofs.write.measure_of.Goals as goal
 
-pub returns-then-measure-gt-MAX_MESSAGE_SIZE : goal.returns-then-measure-gt-MAX_MESSAGE_SIZE
-returns-then-measure-gt-MAX_MESSAGE_SIZE c =
-    omega (arith, c.loop-arg.invariant.0, c.add.ensures.bytes, length-piece c.arg-item.result, length-pieces-more c.args.args.now c.loop-arg.arg-index c.arg-item.result c.loop-arg-test.true c.arg-item.is)
-
-pub loop-arg-preserved : goal.loop-arg-preserved
-loop-arg-preserved c =
-    let a = c.arg-item.result in
-    let bytes-more = pieces-more c.args.args.now c.loop-arg.arg-index a c.loop-arg-test.true c.arg-item.is in
-    let more = tokens-more c.args.args.now c.loop-arg.arg-index a c.loop-arg-test.true c.arg-item.is in (
-      omega (arith, c.loop-arg.invariant.0, c.add.ensures.bytes, length-piece a, ap length bytes-more, length-append (pieces (take c.loop-arg.arg-index c.args.args.now)) (piece a)),
-      omega arith,
-      omega (arith, c.loop-arg.invariant.2, c.add.ensures.tokens, ap length more, length-append (tokens (take c.loop-arg.arg-index c.args.args.now)) (token a)),
-      omega (arith, c.loop-arg.invariant.3, c.add.ensures.tokens, length-token a),
-    )
+pub returns : goal.returns
+returns g c =
+    let f = g.N.Numbering.object_number c.args._numbers.now in
+    let n = g.N.Numbering.new_number c.args._numbers.now in
+    let args = c.args.message.now.args.items in
+    subst (λ (k : ℕ). MatchOption c.count_of.result (65535 < 8 + k) (λ m. (m.bytes ≡ 8 + k) × (m.bytes ≤ 65535) × (m.tokens ≡ length (tokens (map (with_ids f n) args))))) (sym (length_pieces f n args))
+    (subst (λ (k : ℕ). MatchOption c.count_of.result (65535 < 8 + sum_by piece_len args) (λ m. (m.bytes ≡ 8 + sum_by piece_len args) × (m.bytes ≤ 65535) × (m.tokens ≡ k))) (sym (length_tokens f n args))
+    (rw c.as_slice.ensures at c.count_of.ensures))
