@@ -9,6 +9,7 @@ use Rattle.wl_wire.specs.declared.error.IoFault.TheVariants as fault
 use Rattle.wl_wire.specs.declared.message.Message.{Message}
 use Rattle.wl_link.specs.declared.memory.ArriveError.{ArriveError}
 use Rattle.wl_link.specs.declared.object.Object.{Object}
+use Rattle.wl_link.specs.Branches.{both_option}
 use Rattle.wl_link.specs.Exchange.{Queue, Sending, joined, nothing}
 use Rattle.wl_link.specs.Link.{LinkState, counted_answer, count_of}
 use Rattle.wl_link.specs.Puts.{lacked_memory}
@@ -33,7 +34,7 @@ use Rattle.wl_client.specs.Events.{error_of}
 use Rattle.wl_client.specs.Finish.{Closes, Finishes, closed, with_data_for, with_dead}
 use Rattle.wl_client.specs.Handling.{Handling, Swallows, HandsOut, Breaks, handling}
 use Rattle.wl_client.specs.Reading.{Core, NextEvent, answered, client, core_of, event_content, faulted, handed_by, objects_in, part_of, reads_on, receives_allowed, verdict}
-use Rattle.wl_client.specs.ReadingLaws.{both_option, finish_as, finish_ends}
+use Rattle.wl_client.specs.ReadingLaws.{finish_as, finish_ends}
 use Rattle.wl_client.specs.Requests.{SessionMessage}
 use Rattle.wl_client.specs.Session.{SessionState, named}
 use Rattle.wl_client.specs.Steps.{Entry, Leads, StepOf}
