@@ -1,7 +1,8 @@
 //! Messages that are read from what arrived.
 
-use super::run::{Act, Fact, run_log};
+use super::run::{Act, Fact, link_log, run_log};
 use super::script::Cue;
+use super::transports::WantsRoom;
 use crate::tests::tells;
 use std::test::Fail;
 use wl_wire::Token;
@@ -98,6 +99,24 @@ fn part_of_a_header_is_missing_data(rt: HostRuntime) -> Result<(), Fail> {
         &rt,
         run_log(rt.alloc(), &cues, None, &acts),
         "receive: done\nread: More data is needed to deserialize the message\nread: More data is needed to deserialize the message\nwaiting: 7, 1, 0, 0\n0 sends recorded\n",
+    )
+}
+
+#[test]
+fn receive_has_room_for_its_tokens(rt: HostRuntime) -> Result<(), Fail> {
+    let acts = [
+        Act::Fill,
+        Act::Fill,
+        Act::Fill,
+        Act::Fill,
+        Act::Fill,
+        Act::Fill,
+        Act::Tell(Fact::Waiting),
+    ];
+    tells(
+        &rt,
+        link_log(rt.alloc(), WantsRoom, None, &acts),
+        "receive: done\nreceive: done\nreceive: done\nreceive: done\nreceive: done\nreceive: done\nwaiting: 6, 6, 0, 0\n0 sends recorded\n",
     )
 }
 

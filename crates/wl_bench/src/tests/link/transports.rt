@@ -107,3 +107,50 @@ impl Record for OneByte {
         Vec::new(alloc)
     }
 }
+
+/// Takes nothing. A receive gives one byte and one token, where the queue has room for all the tokens that a receive may
+/// give, and is refused where it has not.
+#[derive(Drop)]
+pub struct WantsRoom;
+
+impl Transport for WantsRoom {
+    ghost use Rattle.std.specs.Prelude.{◌≤◌, length, IfOk, IsErr};
+    ghost use Rattle.std.proofs.Common.{rules};
+
+    ghost sends = { λ before offer answer after. IsErr answer };
+
+    ghost receives = { λ before room answer after.
+        IfOk answer (λ came. (length came.bytes ≤ room) × (length came.tokens ≤ 28)) };
+
+    fn send_msg(&mut self, _bytes: &[u8], _tokens: &[Token]) -> Result<usize, IoFault> {
+        Err(IoFault::WouldBlock)
+    }
+
+    fn rcv_msg(
+        &mut self,
+        buffer: &mut [u8],
+        tokens: &mut VecDeque<Token>,
+    ) -> Result<usize, IoFault> {
+        if buffer.is_empty() || tokens.capacity() - tokens.len() < 28 {
+            return Err(IoFault::InvalidInput);
+        }
+        tokens.push_back_reserved(Token(1));
+        Ok(1)
+    }
+
+    ghost within_offer = { λ before after offer n sent. Prim.search rules };
+
+    ghost within_room = { λ before after room came received. received.0 };
+
+    ghost few_tokens = { λ before after room came received. received.1 };
+}
+
+impl Record for WantsRoom {
+    fn sends(&self) -> &[(Vec<u8>, Vec<Token>)] {
+        &[]
+    }
+
+    fn take_sends(&mut self, alloc: Global) -> Vec<(Vec<u8>, Vec<Token>)> {
+        Vec::new(alloc)
+    }
+}
