@@ -1,13 +1,13 @@
 -- The ids that a session hands out, and what they name.
 --
--- A session's changes are told step by step: an object is put at a number, leaves its number, is written to, or an id
--- is made of it, which then names it. Each id that a reply hands out is one of these; and what an id names follows from
+-- A session's changes are told step by step: an object is put at a number, leaves its number, is written to, ends, or an
+-- id is made of it, which then names it. Each id that a reply hands out is one of these; and what an id names follows from
 -- the changes alone. No program stores them.
-use Rattle.std.specs.Prelude.{◌≡◌, ◌≢◌, List, [], ◌∷◌, ◌++◌, All, Result, Ok, Err}
+use Rattle.std.specs.Prelude.{◌≡◌, ◌≢◌, List, [], ◌∷◌, ◌++◌, map, All, Bool, Result, Ok, Err}
 use Rattle.wl_wire.specs.declared.argument.Argument.{Argument}
 use Rattle.wl_wire.specs.declared.argument.Argument.TheVariants as arg
 use Rattle.wl_wire.specs.declared.argument.Token.{Token}
-use Rattle.wl_link.specs.Identity.{Change, IsMadeIn, IsMadeInStep, StepLeads, RunLeads, HasIdentity, begun}
+use Rattle.wl_link.specs.Identity.{Change, Ended, IsBornInStep, IsMadeInStep, HasIdentity, RunOwns, StepOwns, begun}
 use Rattle.wl_link.specs.Script.{Script}
 use Rattle.wl_client.specs.declared.error.EventError.{EventError}
 use Rattle.wl_client.specs.declared.error.RequestError.{RequestError}
@@ -19,78 +19,93 @@ use Rattle.wl_client.specs.declared.step.Reply.TheVariants as reply
 use Rattle.wl_client.specs.ObjectId.{IdParts}
 use Rattle.wl_client.specs.Reading.{event_content}
 use Rattle.wl_client.specs.Requests.{SessionMessage}
-use Rattle.wl_client.specs.Session.{SessionState, id_of, serial_of, display_object, objects_of}
+use Rattle.wl_client.specs.Session.{SessionState, id_at, id_of, serial_of, display_object, noted, objects_of}
 use Rattle.wl_client.specs.Steps.{Entry, StepOf}
 
 -- ---- the ids of a reply
 
+-- an id that is handed out: of an object that is there, or of one that the step puts there
+pub data HandedId : Type 0 where
+  Found : IdParts → HandedId
+  New : IdParts → HandedId
+
 -- the ids among the arguments of an event
-abbrev pub argument_ids : List (Argument IdParts Token) → List IdParts
+abbrev pub argument_ids : List (Argument IdParts Token) → List HandedId
 argument_ids [] = []
 argument_ids (arg.Int _ ∷ args) = argument_ids args
 argument_ids (arg.Uint _ ∷ args) = argument_ids args
 argument_ids (arg.Fixed _ ∷ args) = argument_ids args
 argument_ids (arg.Str _ ∷ args) = argument_ids args
-argument_ids (arg.Object id ∷ args) = id ∷ argument_ids args
-argument_ids (arg.NewId id ∷ args) = id ∷ argument_ids args
+argument_ids (arg.Object id ∷ args) = Found id ∷ argument_ids args
+argument_ids (arg.NewId id ∷ args) = New id ∷ argument_ids args
 argument_ids (arg.Array _ ∷ args) = argument_ids args
 argument_ids (arg.Fd _ ∷ args) = argument_ids args
 
 -- the id of the object that a request made
-abbrev pub request_ids : Result IdParts RequestError → List IdParts
-request_ids (Ok id) = id ∷ []
+abbrev pub request_ids : Result IdParts RequestError → List HandedId
+request_ids (Ok id) = New id ∷ []
 request_ids (Err e) = []
 
 -- the ids of an event: its sender's, and those among its arguments
-abbrev pub event_ids : Result SessionMessage EventError → List IdParts
-event_ids (Ok m) = m.sender ∷ argument_ids m.args
+abbrev pub event_ids : Result SessionMessage EventError → List HandedId
+event_ids (Ok m) = Found m.sender ∷ argument_ids m.args
 event_ids (Err e) = []
+
+-- the ids that a reply hands out, but for those of notes
+abbrev pub ids_in : {U : Type 0} → Reply U → List HandedId
+ids_in (reply.SendRequest r) = request_ids r
+ids_in (reply.NextEvent r) = event_ids (event_content r)
+ids_in _ = []
+
+-- the notes that a reply hands out
+abbrev pub notes_in : {U : Type 0} → Reply U → List Note
+notes_in (reply.TakeNotes notes) = notes.items
+notes_in _ = []
 
 abbrev pub note_ids : List Note → List IdParts
 note_ids [] = []
 note_ids (Destroyed id ∷ notes) = id ∷ note_ids notes
 
--- the ids that a reply makes, of objects that are there then
-abbrev pub made_by : {U : Type 0} → Reply U → List IdParts
-made_by (reply.SendRequest r) = request_ids r
-made_by (reply.NextEvent r) = event_ids (event_content r)
-made_by _ = []
-
--- the ids of the notes that a reply gives, which were made with the notes
-abbrev pub noted_by : {U : Type 0} → Reply U → List IdParts
-noted_by (reply.TakeNotes notes) = note_ids notes.items
-noted_by _ = []
-
 -- ---- what they name
 
-module _ {U : Type 0} where
-  -- each of the ids was made in this step; an id of the number 0 names none
-  abbrev pub AreMadeInStep : List (Change (Kept U)) → List IdParts → Type 0
-  AreMadeInStep changes ids = All (λ id. id.number ≢ 0 → IsMadeInStep changes (id_of id)) ids
+-- an object is the program's no more, where the client destroyed it or an event did
+abbrev pub is_over : {U : Type 0} → Kept U → Bool
+is_over k = k.client_destroyed
 
-  -- each of the ids was made in one of these steps
-  abbrev pub AreMade : List (List (Change (Kept U))) → List IdParts → Type 0
-  AreMade steps ids = All (λ id. id.number ≢ 0 → IsMadeIn steps (id_of id)) ids
+module _ {U : Type 0} where
+  -- the notes of the objects that end in a step, in order: of each that has user data
+  abbrev pub ended_notes : List (Change (Kept U)) → List Note
+  ended_notes [] = []
+  ended_notes (Ended n x _ ∷ rest) = noted [] x.value.user_data (id_at n x) ++ ended_notes rest
+  ended_notes (_ ∷ rest) = ended_notes rest
+
+  -- The id is made in this step, of an object that it then names; a new one of an object that the step puts there. An id
+  -- of the number 0 names none.
+  abbrev pub IsHandedIn : List (Change (Kept U)) → HandedId → Type 0
+  IsHandedIn changes (Found id) = id.number ≢ 0 → IsMadeInStep changes (id_of id)
+  IsHandedIn changes (New id) = id.number ≢ 0 → IsMadeInStep changes (id_of id) × IsBornInStep serial_of changes (id_of id)
 
   -- The entries of a run lead from one value of the session to another, and the objects by these changes, a list of them
-  -- for each entry, behind those of the steps before. The ids of a request's or an event's reply are made in that step,
-  -- and those of notes were made before.
-  abbrev pub Follows : List (List (Change (Kept U))) → SessionState Script U → List (Entry U) → List (List (Change (Kept U)))
-      → SessionState Script U → Type 0
-  Follows before s [] [] after = after ≡ s
-  Follows before s [] (changes ∷ rest) after = ⊥
-  Follows before s (e ∷ run) [] after = ⊥
-  Follows before s (e ∷ run) (changes ∷ rest) after =
+  -- for each entry. In each step the ids of its reply are made. The notes that waited, and behind them those of the objects
+  -- that end in the step, are those that its reply hands out, and behind them those that wait after it; the ids of the
+  -- notes that are new are made in that step.
+  abbrev pub Follows : SessionState Script U → List (Entry U) → List (List (Change (Kept U))) → SessionState Script U → Type 0
+  Follows s [] [] after = after ≡ s
+  Follows s [] (changes ∷ rest) after = ⊥
+  Follows s (e ∷ run) [] after = ⊥
+  Follows s (e ∷ run) (changes ∷ rest) after =
       (mid : SessionState Script U) × StepOf s e.step e.answer e.refused mid
-      × StepLeads serial_of (objects_of s) changes (objects_of mid)
-      × AreMadeInStep changes (made_by e.answer) × AreMade before (noted_by e.answer)
-      × Follows (before ++ changes ∷ []) mid run rest after
+      × StepOwns serial_of is_over (objects_of s) changes (objects_of mid)
+      × All (IsHandedIn changes) (ids_in e.answer)
+      × (s.notes ++ ended_notes changes ≡ notes_in e.answer ++ mid.notes)
+      × All (IsHandedIn changes) (map Found (note_ids (ended_notes changes)))
+      × Follows mid run rest after
 
   -- A run from the connecting on has changes, a list of them for each entry, by which its objects come to what they are.
   -- Each kept serial is one object's, and each id that was handed out names the object that it was made of exactly
   -- while that is kept, and afterwards none.
   pub record HasOwnIds (begins : SessionState Script U) (run : List (Entry U)) (ends : SessionState Script U) : Type 0 where
     pub changes : List (List (Change (Kept U)))
-    pub handed : Follows [] begins run changes ends
-    pub leads : RunLeads serial_of (begun display_object) changes (objects_of ends)
+    pub follows : Follows begins run changes ends
+    pub owns : RunOwns serial_of is_over (begun display_object) changes (objects_of ends)
     pub identity : HasIdentity serial_of changes (objects_of ends)

@@ -12,9 +12,9 @@ pub mod Turns
 pub mod Steps
 pub mod Client
 pub mod Handed
+pub mod ChangeLaws
 pub mod IdentityLaws
 pub mod Noted
-pub mod NotedLaws
 pub mod Failed
 pub mod FailedLaws
 pub mod Replies

@@ -1,24 +1,39 @@
--- The notes of a run: that no object is noted twice.
-use Rattle.std.specs.Prelude.{◌≢◌, List, [], ◌∷◌, ◌++◌, AllPairs}
+-- The notes of a run: of each object that ended with user data there is one, and of no other.
+use Rattle.std.specs.Prelude.{◌≡◌, ◌≢◌, List, [], ◌∷◌, ◌++◌, map, AllPairs}
+use Rattle.wl_link.specs.Identity.{Change, RunOwns, begun}
+use Rattle.wl_link.specs.Runs.{AtMostOneRefused}
 use Rattle.wl_link.specs.Script.{Script}
+use Rattle.wl_client.specs.declared.kept.Kept.{Kept}
 use Rattle.wl_client.specs.declared.note.Note.{Note}
 use Rattle.wl_client.specs.declared.step.Reply.{Reply}
-use Rattle.wl_client.specs.declared.step.Reply.TheVariants as reply
-use Rattle.wl_client.specs.Handed.{note_ids}
-use Rattle.wl_client.specs.Session.{SessionState, id_of}
-use Rattle.wl_client.specs.Steps.{Entry}
+use Rattle.wl_client.specs.declared.step.Step.{Step}
+use Rattle.wl_client.specs.Handed.{Follows, HasOwnIds, ended_notes, is_over, note_ids, notes_in}
+use Rattle.wl_client.specs.Session.{SessionState, display_object, id_of, objects_of, serial_of}
+use Rattle.wl_client.specs.Steps.{Entry, entries}
 
 module _ {U : Type 0} where
-  -- the notes that a reply hands out
-  abbrev pub notes_in : Reply U → List Note
-  notes_in (reply.TakeNotes notes) = notes.items
-  notes_in _ = []
-
   -- the notes that the replies of a run hand out, in order
   abbrev pub notes_of : List (Entry U) → List Note
   notes_of [] = []
   notes_of (e ∷ run) = notes_in e.answer ++ notes_of run
 
-  -- The ids of the notes that a run handed out, and then of those that still wait, differ pairwise in number or serial.
-  abbrev pub NotedOnce : List (Entry U) → SessionState Script U → Type 0
-  NotedOnce run s = AllPairs (λ a b. id_of a ≢ id_of b) (note_ids (notes_of run ++ s.notes))
+  -- the notes of the objects that end over the steps of a run, in order
+  abbrev pub all_ended_notes : List (List (Change (Kept U))) → List Note
+  all_ended_notes [] = []
+  all_ended_notes (changes ∷ rest) = ended_notes changes ++ all_ended_notes rest
+
+  -- The notes that a run handed out, and then those that still wait, are those of the objects that ended with user data,
+  -- in order. Their ids differ pairwise in number or serial.
+  pub record NotesWhatEnded (begins : SessionState Script U) (run : List (Entry U)) (ends : SessionState Script U) : Type 0 where
+    pub changes : List (List (Change (Kept U)))
+    pub follows : Follows begins run changes ends
+    pub owns : RunOwns serial_of is_over (begun display_object) changes (objects_of ends)
+    pub exact : notes_of run ++ ends.notes ≡ all_ended_notes changes
+    pub once : AllPairs (λ a b. a ≢ b) (map id_of (note_ids (notes_of run ++ ends.notes)))
+
+  -- A run, and then steps of which those before a want of memory have these replies: with the step that met it, if one was
+  -- begun, its ids and its notes are as those of every run.
+  abbrev pub AccountsForStopped : SessionState Script U → List (Entry U) → List (Step U) → List (Reply U) → SessionState Script U → Type 0
+  AccountsForStopped begins run steps replies ends =
+      (last : List (Entry U)) × AtMostOneRefused last
+      × HasOwnIds begins (run ++ (entries steps replies ++ last)) ends × NotesWhatEnded begins (run ++ (entries steps replies ++ last)) ends

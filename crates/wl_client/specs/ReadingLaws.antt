@@ -1,6 +1,6 @@
 -- What follows for a client from the laws of a reader: that its reading has one outcome, and that it does not matter to
 -- it how bytes and tokens are cut.
-use Rattle.std.proofs.Common.{◌≡◌, ◌⊎◌, ℕ, suc, Bool, true, false, cond, List, [], ◌∷◌, ◌++◌, Option, None, Some, is_none, is_ok, Result, Ok, Err, ◌&&◌, map, MatchOption, MatchResult, MatchBool, refl, sym, ap, ap₂, subst, ◌∙◌, true≢false, arith}
+use Rattle.std.proofs.Common.{◌≡◌, ℕ, suc, Bool, true, false, cond, List, [], ◌∷◌, ◌++◌, Option, None, Some, is_none, is_ok, Result, Ok, Err, ◌&&◌, map, MatchResult, refl, sym, ap, ap₂, subst, ◌∙◌, true≢false, arith}
 use mathlib.Core.Logic.{inl, inr}
 use Rattle.std.proofs.lemmas.Option.{same_Some}
 use Rattle.wl_wire.specs.declared.error.IoFault.{IoFault}
@@ -9,7 +9,7 @@ use Rattle.wl_wire.specs.Message.{WireMessage}
 use Rattle.wl_link.specs.declared.object.Object.{Object}
 use Rattle.wl_link.specs.Exchange.{Queue, Sending}
 use Rattle.wl_link.specs.Link.{LinkState, counted_answer, count_of}
-use Rattle.wl_link.specs.Branches.{both_bool, both_option, both_result}
+use Rattle.wl_link.specs.Branches.{both_option}
 use Rattle.wl_link.specs.OneLaws.{IsFunction, IsReceiveFunction}
 use Rattle.wl_link.specs.Puts.{FlushesOut, PutsOut, Said, lacked_memory}
 use Rattle.wl_link.specs.Reader.{AllFed, CarriesOut, Ends, Given, Gives, HandedOut, Handled, Part, Reads, Received, Turn, Unread, Verdict, came_in, came_to as comes_to, put_and_gave, sends_in, stops, with_link}

@@ -13,7 +13,7 @@ ghost use Rattle.wl_client.specs.declared.step.Reply.{Reply};
 ghost use Rattle.wl_client.specs.declared.step.Step.{Step};
 ghost use Rattle.wl_client.specs.Failed.{StaysFailed};
 ghost use Rattle.wl_client.specs.Handed.{HasOwnIds};
-ghost use Rattle.wl_client.specs.Noted.{NotedOnce};
+ghost use Rattle.wl_client.specs.Noted.{NotesWhatEnded};
 ghost use Rattle.wl_client.specs.Replies.{SameReply, SameReplies};
 ghost use Rattle.wl_client.specs.Session.{SessionState, IsConnected};
 ghost use Rattle.wl_client.specs.Steps.{Entry, Leads, StepOf, entries};
@@ -24,8 +24,10 @@ use wl_link::Transport;
 
 /// The identity law of a session.
 ///
-/// Over every run of calls from the connecting on, each id that a reply hands out names the object that it was made
-/// of exactly while that is kept, and afterwards none.
+/// Over every run of calls from the connecting on there are changes, a list of them for each step, by which the objects
+/// come to what they are. Each id that a reply hands out is made in its step of the object that it then names, that of a
+/// request's new object and that of an event's of an object that the step puts there. It names that object exactly while
+/// that is kept, and afterwards none. A run that met a want of memory has that too: its last entry is the step that did.
 pub fn each_id_names_its_own_object<U>()
     ensures { (table : List InterfaceRow) (transport : Script) (before after : SessionState Script U) (run : List (Entry U)) →
         IsConnected table transport before → Leads before run after → HasOwnIds before run after }
@@ -33,11 +35,11 @@ pub fn each_id_names_its_own_object<U>()
 
 /// The law of a session's notes.
 ///
-/// Over every run of calls from the connecting on, no object is noted twice: the ids of the notes that were taken,
-/// and of those that still wait, differ pairwise in number or serial.
-pub fn no_object_is_noted_twice<U>()
+/// Over every run of calls from the connecting on, the notes that were taken, and then those that still wait, are those of
+/// the objects that ended with user data, in order: of each one note, made in the step in which it ended, and no other.
+pub fn each_object_that_ends_is_noted_once<U>()
     ensures { (table : List InterfaceRow) (transport : Script) (before after : SessionState Script U) (run : List (Entry U)) →
-        IsConnected table transport before → Leads before run after → NotedOnce run after }
+        IsConnected table transport before → Leads before run after → NotesWhatEnded before run after }
 {}
 
 /// The law of a session's error.

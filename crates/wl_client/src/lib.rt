@@ -39,7 +39,7 @@ pub use error::{
 pub use laws::{
     a_failed_session_stays_failed, a_reading_receives_64_times,
     cutting_does_not_matter_to_a_client, cutting_does_not_matter_to_a_run,
-    each_id_names_its_own_object, each_run_has_one_outcome, no_object_is_noted_twice,
+    each_id_names_its_own_object, each_object_that_ends_is_noted_once, each_run_has_one_outcome,
 };
 pub use next_event::READ_TURNS;
 pub use note::Note;

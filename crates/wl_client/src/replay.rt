@@ -4,6 +4,7 @@ ghost use Rattle.std.specs.Prelude.{◌≡◌, ◌++◌, List, [], IfOk, IfErr, 
 ghost use Rattle.wl_wire.specs.Table.{InterfaceRow};
 ghost use Rattle.wl_link.specs.Script.{Script};
 ghost use Rattle.wl_client.specs.Handed.{HasOwnIds};
+ghost use Rattle.wl_client.specs.Noted.{AccountsForStopped, NotesWhatEnded};
 ghost use Rattle.wl_client.specs.Replies.{SameReplies};
 ghost use Rattle.wl_client.specs.Session.{IsConnected, SessionState};
 ghost use Rattle.wl_client.specs.Steps.{Entry, Leads, StepOf, StopsAt, entries};
@@ -48,8 +49,8 @@ impl<U: Drop> Backend<Memory, U> {
     /// where there was no room for the replies; nothing was done then. A run of no steps needs none.
     ///
     /// The run joins the runs before it. So each id that was handed out since the connecting, by a reply, an event or
-    /// a note, names the object that it was made of exactly while that is kept, and afterwards none. A stretch in which bytes
-    /// arrive, and events are read and finished, hands out what is served of all that arrived, however it was cut. The
+    /// a note, names the object that it was made of exactly while that is kept, and afterwards none; and the notes are those
+    /// of the objects that ended with user data, in order. A run that stopped has both too. A stretch in which bytes arrive, and events are read and finished, hands out what is served of all that arrived, however it was cut. The
     /// replies and the session after it are the only ones that the steps may lead to.
     pub fn replay(&mut self, steps: Vec<Step<U>>) -> Result<Vec<Reply<U>>, Stopped<U>>
         ensures none { steps.items ≡ [] → IsOk result }
@@ -61,12 +62,20 @@ impl<U: Drop> Backend<Memory, U> {
             (table : List InterfaceRow) (transport : Script) (begun : SessionState Script U) (run : List (Entry U)) →
             IsConnected table transport begun → Leads begun run self.old.session →
             HasOwnIds begun (run ++ entries steps.items replies.items) self.new.session) }
+        ensures notes { IfOk result (λ replies.
+            (table : List InterfaceRow) (transport : Script) (begun : SessionState Script U) (run : List (Entry U)) →
+            IsConnected table transport begun → Leads begun run self.old.session →
+            NotesWhatEnded begun (run ++ entries steps.items replies.items) self.new.session) }
         ensures cutting { IfOk result (λ replies. (begun : SessionState Script U) (run : List (Entry U)) →
             Leads begun run self.old.session → IsStretch begun (run ++ entries steps.items replies.items) self.new.session →
             IsServed begun (run ++ entries steps.items replies.items) self.new.session) }
         ensures outcome { IfOk result (λ replies. (others : List (Reply U)) (other : SessionState Script U) →
             length others ≡ length steps.items → Leads self.old.session (entries steps.items others) other →
             SameReplies replies.items others × (self.new.session ≡ other)) }
+        ensures stopped_accounts { IfErr result (λ stopped.
+            (table : List InterfaceRow) (transport : Script) (begun : SessionState Script U) (run : List (Entry U)) →
+            IsConnected table transport begun → Leads begun run self.old.session →
+            AccountsForStopped begun run steps.items stopped.replies.items self.new.session) }
         ensures stopped { IfErr result (λ stopped. StopsAt self.old.session steps.items stopped.step stopped.replies.items self.new.session) }
         ensures refused { self.new.refused ≡ is_err result }
     {

@@ -166,7 +166,7 @@ module _ {D : Type 0} (serial_of : D → ℕ) (is_over : D → Bool) where
   keeps : (before after : Objects D) (change : Change D) → Changes serial_of before change after → Owns serial_of is_over before change → KeepsDone before after
   keeps before after (Born n x) (free, serial, is) owns = subst (λ s. KeepsDone before s) (sym is) (keeps_born before n x serial)
   keeps before after (Gone n) is owns = subst (λ s. KeepsDone before s) (sym is) (keeps_gone before n)
-  keeps before after (Wrote n x) ((y, was, serial), is) owns = subst (λ s. KeepsDone before s) (sym is) (keeps_wrote before n x y was serial (owns y was))
+  keeps before after (Wrote n x) ((y, was, serial), is) owns = subst (λ s. KeepsDone before s) (sym is) (keeps_wrote before n x y was serial (λ over. owns y was ∙ over))
   keeps before after (Ended n x None) (was, is) owns = subst (λ s. KeepsDone before s) (sym is) (keeps_gone before n)
   keeps before after (Ended n x (Some y)) (was, serial, is) owns =
       subst (λ s. KeepsDone before s) (sym is) (keeps_wrote before n y x was serial (λ over. owns.1))

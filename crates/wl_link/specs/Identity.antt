@@ -2,7 +2,7 @@
 --
 -- Objects carry a serial, which `serial_of` reads. A session gives the serials out by one counter, so that an id,
 -- which has a number and a serial, never names an object that took the number of its own.
-use Rattle.std.specs.Prelude.{◌≡◌, ◌≢◌, ℕ, ◌+◌, ◌≤◌, ◌==◌, if◌then◌else◌, Bool, true, false, List, [], ◌∷◌, ◌++◌, Option, None, Some, IsSome, AllPairs, Contains, ◌↔◌, ◌⊎◌}
+use Rattle.std.specs.Prelude.{◌≡◌, ◌≢◌, ℕ, ◌+◌, ◌≤◌, ◌==◌, if◌then◌else◌, Bool, true, false, List, [], ◌∷◌, ◌++◌, length, Option, None, Some, IsSome, AllPairs, Contains, ◌↔◌, ◌⊎◌}
 use Rattle.wl_link.specs.declared.object.Object.{Object}
 use Rattle.wl_link.specs.Store.{Store, empty_store, held, stored, removed, rewritten}
 
@@ -64,6 +64,13 @@ abbrev pub IsMadeInStep : {D : Type 0} → List (Change D) → Id → Type 0
 IsMadeInStep [] id = ⊥
 IsMadeInStep (Made made ∷ rest) id = (made ≡ id) ⊎ IsMadeInStep rest id
 IsMadeInStep (_ ∷ rest) id = IsMadeInStep rest id
+
+-- the step puts an object with the id's serial at the id's number
+abbrev pub IsBornInStep : {D : Type 0} → (D → ℕ) → List (Change D) → Id → Type 0
+IsBornInStep serial_of [] id = ⊥
+IsBornInStep serial_of (Born n x ∷ rest) id =
+    ((n ≡ id.number) × (serial_of x.value ≡ id.serial)) ⊎ IsBornInStep serial_of rest id
+IsBornInStep serial_of (_ ∷ rest) id = IsBornInStep serial_of rest id
 
 abbrev pub IsMadeIn : {D : Type 0} → List (List (Change D)) → Id → Type 0
 IsMadeIn [] id = ⊥
@@ -134,6 +141,10 @@ module _ {D : Type 0} (serial_of : D → ℕ) where
     pub kept : (n : ℕ) → IsSome ((births_of run).of_number n) ↔ IsSome (held after.store n)
     -- each id that was made has the birth of the object that it was made of
     pub made : (id : Id) → IsMadeIn run id → (birth : Birth) × Contains (births_of run).made (id, birth)
+    -- which was born in that step, where the step puts it in
+    pub fresh : (done later : List (List (Change D))) (step : List (Change D)) → run ≡ done ++ step ∷ later → (id : Id)
+        → IsMadeInStep step id → IsBornInStep serial_of step id
+        → (birth : Birth) × (birth.step ≡ length done + 1) × Contains (births_of run).made (id, birth)
     -- and names that object exactly while that is kept, and afterwards none
     pub own : (id : Id) (birth : Birth) → Contains (births_of run).made (id, birth)
         → NamesOwn (births_of run).of_number after.store id birth
@@ -162,13 +173,15 @@ module _ {D : Type 0} (serial_of : D → ℕ) (counts : Object D → Bool) where
   ended_over (step ∷ rest) = ended_in step ++ ended_over rest
 
 module _ {D : Type 0} (serial_of : D → ℕ) (is_over : D → Bool) where
-  -- An object ends that is not over, and is over where it stays; it is not written to so that it would be the program's
-  -- again.
+  -- An object ends exactly where it turns over, or leaves its number and was not over: one that leaves otherwise is over,
+  -- and a write to an object leaves that as it was.
   abbrev pub Owns : Objects D → Change D → Type 0
   Owns before (Ended n x None) = is_over x.value ≡ false
   Owns before (Ended n x (Some y)) = (is_over x.value ≡ false) × (is_over y.value ≡ true)
-  Owns before (Wrote n x) = (y : Object D) → held before.store n ≡ Some y → is_over y.value ≡ true → is_over x.value ≡ true
-  Owns before _ = Unit {0}
+  Owns before (Gone n) = (y : Object D) → held before.store n ≡ Some y → is_over y.value ≡ true
+  Owns before (Wrote n x) = (y : Object D) → held before.store n ≡ Some y → is_over x.value ≡ is_over y.value
+  Owns before (Born n x) = Unit {0}
+  Owns before (Made id) = Unit {0}
 
   -- the changes of a step, one after the other, each of which keeps to that
   abbrev pub StepOwns : Objects D → List (Change D) → Objects D → Type 0

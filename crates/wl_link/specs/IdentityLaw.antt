@@ -1,12 +1,12 @@
 -- The identity law: what lasts over each change, and so over every run.
-use Rattle.std.proofs.Common.{◌≡◌, ◌≢◌, ◌⊎◌, ℕ, zero, suc, ◌+◌, ◌<◌, ◌≤◌, Bool, true, false, cond, eqb, List, [], ◌∷◌, ◌++◌, Option, None, Some, is_some, IsSome, unwrap_or, refl, sym, ap, subst, ◌∙◌, true≢false, suc-le-suc, arith}
+use Rattle.std.proofs.Common.{◌≡◌, ◌≢◌, ◌⊎◌, ℕ, zero, suc, ◌+◌, ◌<◌, ◌≤◌, Bool, true, false, cond, eqb, List, [], ◌∷◌, ◌++◌, length, Option, None, Some, is_some, IsSome, unwrap_or, refl, sym, ap, subst, ◌∙◌, true≢false, suc-le-suc, arith}
 use mathlib.Core.Logic.{inl, inr}
 use Rattle.std.specs.Prelude.{Contains}
 use Rattle.std.proofs.lemmas.Bool.{eq-eqb, ne_eqb, eqb-true, cases_eq}
 use Rattle.wl_link.specs.declared.object.Object.{Object}
 use Rattle.wl_link.specs.Store.{Store, empty_store, held, stored, removed, rewritten}
 use Rattle.wl_link.specs.StoreLaws.{stored_here, stored_other, removed_here, removed_other, rewritten_here, rewritten_other, held_empty}
-use Rattle.wl_link.specs.Identity.{Id, Birth, Objects, Change, Born, Gone, Wrote, Ended, Made, Births, at_number, with_made, births_in, births_over, display_born, begun, named_in, names, StepLeads, RunLeads, IsMadeInStep, IsMadeIn, HasSerials, NamesOwn, IdentityLaw}
+use Rattle.wl_link.specs.Identity.{Id, Birth, Objects, Change, Born, Gone, Wrote, Ended, Made, Births, at_number, with_made, births_in, births_over, display_born, begun, named_in, names, StepLeads, RunLeads, IsMadeInStep, IsMadeIn, IsBornInStep, HasSerials, NamesOwn, IdentityLaw}
 
 -- ---- options
 
@@ -72,6 +72,24 @@ made_later (Gone n ∷ changes) others id made = made_later changes others id ma
 made_later (Wrote n x ∷ changes) others id made = made_later changes others id made
 made_later (Ended n x left ∷ changes) others id made = made_later changes others id made
 made_later (Made other ∷ changes) others id made = inr (made_later changes others id made)
+
+-- and what is put in in a part of a step is put in in it
+module _ {D : Type 0} (serial_of : D → ℕ) where
+  pub born_first : (changes others : List (Change D)) (id : Id) → IsBornInStep serial_of changes id → IsBornInStep serial_of (changes ++ others) id
+  born_first [] others id born = absurd born
+  born_first (Born n x ∷ changes) others id born = elim born [ inl here ↦ inl here | inr later ↦ inr (born_first changes others id later) ]
+  born_first (Gone n ∷ changes) others id born = born_first changes others id born
+  born_first (Wrote n x ∷ changes) others id born = born_first changes others id born
+  born_first (Ended n x left ∷ changes) others id born = born_first changes others id born
+  born_first (Made other ∷ changes) others id born = born_first changes others id born
+
+  pub born_later : (changes others : List (Change D)) (id : Id) → IsBornInStep serial_of others id → IsBornInStep serial_of (changes ++ others) id
+  born_later [] others id born = born
+  born_later (Born n x ∷ changes) others id born = inr (born_later changes others id born)
+  born_later (Gone n ∷ changes) others id born = born_later changes others id born
+  born_later (Wrote n x ∷ changes) others id born = born_later changes others id born
+  born_later (Ended n x left ∷ changes) others id born = born_later changes others id born
+  born_later (Made other ∷ changes) others id born = born_later changes others id born
 
 module _ {D : Type 0} (serial_of : D → ℕ) where
   -- what is known of an id that was made, with the birth of its object
@@ -505,6 +523,148 @@ module _ {D : Type 0} (serial_of : D → ℕ) where
             );
       }
 
+  -- ---- the births of the objects that a step puts in
+
+  -- an object that the step puts in has a serial that none had before it
+  born_serial : (s after : Objects D) (changes : List (Change D)) (id : Id) → StepLeads serial_of s changes after
+      → IsBornInStep serial_of changes id → s.last_serial < id.serial
+  born_serial s after [] id leads born = absurd born
+  born_serial s after (Born n x ∷ rest) id (between, (free, serial, is), leads) born =
+      let last : between.last_serial ≡ s.last_serial + 1 = ap (λ (o : Objects D). o.last_serial) is in
+      elim born [
+        | inl here ↦ (let same : serial_of x.value ≡ id.serial = here.1 in omega (arith, serial, same))
+        | inr later ↦ (let most = born_serial between after rest id leads later in omega (arith, most, last))
+      ]
+  born_serial s after (Gone n ∷ rest) id (between, is, leads) born =
+      subst (λ (k : ℕ). k < id.serial) (ap (λ (o : Objects D). o.last_serial) is) (born_serial between after rest id leads born)
+  born_serial s after (Wrote n x ∷ rest) id (between, (was, is), leads) born =
+      subst (λ (k : ℕ). k < id.serial) (ap (λ (o : Objects D). o.last_serial) is) (born_serial between after rest id leads born)
+  born_serial s after (Ended n x None ∷ rest) id (between, (was, is), leads) born =
+      subst (λ (k : ℕ). k < id.serial) (ap (λ (o : Objects D). o.last_serial) is) (born_serial between after rest id leads born)
+  born_serial s after (Ended n x (Some y) ∷ rest) id (between, (was, serial, is), leads) born =
+      subst (λ (k : ℕ). k < id.serial) (ap (λ (o : Objects D). o.last_serial) is) (born_serial between after rest id leads born)
+  born_serial s after (Made made ∷ rest) id (between, (named, is), leads) born =
+      subst (λ (k : ℕ). k < id.serial) (ap (λ (o : Objects D). o.last_serial) is) (born_serial between after rest id leads born)
+
+  -- each kept object was born in this step, or has one of the serials before it
+  abbrev IsOld : ℕ → ℕ → (ℕ → Option Birth) → Store D → Type 0
+  IsOld step last births store =
+      (n : ℕ) (x : Object D) (b : Birth) → held store n ≡ Some x → births n ≡ Some b → (b.step ≡ step) ⊎ (serial_of x.value ≤ last)
+
+  old_born : (next : Birth) (last : ℕ) (births : ℕ → Option Birth) (store : Store D) (n : ℕ) (x : Object D) → IsOld next.step last births store
+      → IsOld next.step last (at_number births n (Some next)) (stored store n x)
+  old_born next last births store n x old m y b holds is =
+      elim (cases_eq m n) [
+        | inl same ↦ inl (ap (λ (c : Birth). c.step) (same_some (sym is ∙ births_here births n (Some next) m same)))
+        | inr other ↦ old m y b (sym (stored_other store n x m other) ∙ holds) (sym (births_other births n (Some next) m other) ∙ is)
+      ]
+
+  old_gone : (step last : ℕ) (births : ℕ → Option Birth) (store : Store D) (n : ℕ) → IsOld step last births store
+      → IsOld step last (at_number births n None) (removed store n)
+  old_gone step last births store n old m y b holds is =
+      elim (cases_eq m n) [
+        | inl same ↦ absurd (none_some (sym (births_here births n None m same) ∙ is))
+        | inr other ↦ old m y b (sym (removed_other store n m other) ∙ holds) (sym (births_other births n None m other) ∙ is)
+      ]
+
+  old_wrote : (step last : ℕ) (births : ℕ → Option Birth) (store : Store D) (n : ℕ) (x y : Object D) → held store n ≡ Some y
+      → serial_of x.value ≡ serial_of y.value → IsOld step last births store → IsOld step last births (rewritten store n x)
+  old_wrote step last births store n x y was serial old m z b holds is =
+      elim (cases_eq m n) [
+        | inl same ↦
+            subst (λ (k : ℕ). (b.step ≡ step) ⊎ (k ≤ last))
+            (sym serial ∙ ap (λ (o : Object D). serial_of o.value) (same_some (sym (rewritten_here store n x m same) ∙ holds)))
+            (old n y b was (ap births (sym same) ∙ is))
+        | inr other ↦ old m z b (sym (rewritten_other store n x m other) ∙ holds) is
+      ]
+
+  numbers_stay : (births : Births) (id : Id) (o : Option Birth) → (with_made births id o).of_number ≡ births.of_number
+  numbers_stay births id None = refl
+  numbers_stay births id (Some b) = refl
+
+  -- an id of a later serial that the step makes is of an object that it puts in
+  fresh_in : (last : ℕ) (next : Birth) (births : Births) (s after : Objects D) (changes : List (Change D)) → Lasts next births s
+      → IsOld next.step last births.of_number s.store → StepLeads serial_of s changes after → (id : Id) → last < id.serial
+      → IsMadeInStep changes id → (b : Birth) × (b.step ≡ next.step) × Contains (births_in next births changes).made (id, b)
+  fresh_in last next births s after [] lasts old leads id later made = absurd made
+  fresh_in last next births s after (Born n x ∷ rest) lasts old (between, (free, serial, is), leads) id later made =
+      let births' : Births = record births { of_number = at_number births.of_number n (Some next) } in
+      fresh_in last (place_after next) births' between after rest
+      (subst (λ a. Lasts (place_after next) births' a) (sym is) (lasts_born next births s lasts n x free serial))
+      (subst (λ (a : Objects D). IsOld next.step last births'.of_number a.store) (sym is) (old_born next last births.of_number s.store n x old))
+      leads id later made
+  fresh_in last next births s after (Gone n ∷ rest) lasts old (between, is, leads) id later made =
+      let births' : Births = record births { of_number = at_number births.of_number n None } in
+      fresh_in last next births' between after rest
+      (subst (λ a. Lasts next births' a) (sym is) (lasts_gone next births s lasts n))
+      (subst (λ (a : Objects D). IsOld next.step last births'.of_number a.store) (sym is) (old_gone next.step last births.of_number s.store n old))
+      leads id later made
+  fresh_in last next births s after (Wrote n x ∷ rest) lasts old (between, ((y, was, serial), is), leads) id later made =
+      fresh_in last next births between after rest
+      (subst (λ a. Lasts next births a) (sym is) (lasts_wrote next births s lasts n x y was serial))
+      (subst (λ (a : Objects D). IsOld next.step last births.of_number a.store) (sym is) (old_wrote next.step last births.of_number s.store n x y was serial old))
+      leads id later made
+  fresh_in last next births s after (Ended n x None ∷ rest) lasts old (between, (was, is), leads) id later made =
+      let births' : Births = record births { of_number = at_number births.of_number n None } in
+      fresh_in last next births' between after rest
+      (subst (λ a. Lasts next births' a) (sym is) (lasts_gone next births s lasts n))
+      (subst (λ (a : Objects D). IsOld next.step last births'.of_number a.store) (sym is) (old_gone next.step last births.of_number s.store n old))
+      leads id later made
+  fresh_in last next births s after (Ended n x (Some y) ∷ rest) lasts old (between, (was, serial, is), leads) id later made =
+      fresh_in last next births between after rest
+      (subst (λ a. Lasts next births a) (sym is) (lasts_wrote next births s lasts n y x was serial))
+      (subst (λ (a : Objects D). IsOld next.step last births.of_number a.store) (sym is) (old_wrote next.step last births.of_number s.store n y x was serial old))
+      leads id later made
+  fresh_in last next births s after (Made other ∷ rest) lasts old (between, (named, is), leads) id later made =
+      elim made [ inl same ↦ here same (births.of_number other.number) refl | inr more ↦ fresh_in last next births' between after rest now old' leads id later more ]
+    where
+      births' : Births
+      births' = with_made births other (births.of_number other.number)
+
+      now : Lasts next births' between
+      now = subst (λ a. Lasts next births' a) (sym is) (lasts_made next births s other (births.of_number other.number) lasts named refl)
+
+      old' : IsOld next.step last births'.of_number between.store
+      old' = subst (λ (a : Objects D). IsOld next.step last births'.of_number a.store) (sym is)
+          (subst (λ (f : ℕ → Option Birth). IsOld next.step last f s.store) (sym (numbers_stay births other (births.of_number other.number))) old)
+
+      here : other ≡ id → (o : Option Birth) → births.of_number other.number ≡ o
+          → (b : Birth) × (b.step ≡ next.step) × Contains (births_in next births' rest).made (id, b)
+      here same None e = absurd (true≢false (sym (has_birth next births s other lasts named) ∙ ap is_some e))
+      here same (Some b) e =
+          let (numbered, holds) = named_parts other s.store named in
+          let (x, at, serial) = named_serial other (held s.store other.number) holds in
+          let in-made : Contains births'.made (id, b) =
+          subst (λ (i : Id). Contains births'.made (i, b)) same
+          (subst (λ (o : Option Birth). Contains (with_made births other o).made (other, b)) (sym e) (0, omega arith, refl)) in (
+            b,
+            elim (old other.number x b at e) [
+              | inl step ↦ step
+              | inr most ↦ absurd (omega (arith, most, serial, later, ap (λ (i : Id). i.serial) same))
+            ],
+            (lasts_in next births' between after rest now leads).still (id, b) in-made,
+          )
+
+  fresh_over : (step : ℕ) (births : Births) (s after : Objects D) (done later : List (List (Change D))) (changes : List (Change D))
+      → Lasts (record { step = step; place = 0 }) births s → RunLeads serial_of s (done ++ changes ∷ later) after → (id : Id)
+      → IsMadeInStep changes id → IsBornInStep serial_of changes id
+      → (b : Birth) × (b.step ≡ step + length done) × Contains (births_over step births (done ++ changes ∷ later)).made (id, b)
+  fresh_over step births s after [] later changes lasts (between, leads, others) id made born =
+      let next : Birth = record { step = step; place = 0 } in
+      let births' = births_in next births changes in
+      let (b, same, in-made) = fresh_in s.last_serial next births s between changes lasts (λ n x b holds is. inr (lasts.serials.at_most_last n x holds)) leads id
+      (born_serial s between changes id leads born) made in
+      let first = lasts_in next births s between changes lasts leads in
+      let now = later_step first.last births' between (step + 1) (ap (λ k. k + 1) first.same) first.lasts in
+      (b, omega (arith, same), (lasts_over (step + 1) births' between after later now others).still (id, b) in-made)
+  fresh_over step births s after (first ∷ done) later changes lasts (between, leads, others) id made born =
+      let next : Birth = record { step = step; place = 0 } in
+      let births' = births_in next births first in
+      let one = lasts_in next births s between first lasts leads in
+      let now = later_step one.last births' between (step + 1) (ap (λ k. k + 1) one.same) one.lasts in
+      let (b, same, in-made) = fresh_over (step + 1) births' between after done later changes now others id made born in
+      (b, omega (arith, same), in-made)
+
   -- ---- the display alone
 
   abbrev display_birth : Option Birth
@@ -548,5 +708,13 @@ module _ {D : Type 0} (serial_of : D → ℕ) where
         serials = whole.lasts.serials;
         kept = λ n. (λ h. sym (whole.lasts.kept n) ∙ h, λ h. whole.lasts.kept n ∙ h);
         made = whole.makes;
+        fresh = λ done later step split id made born. (
+            let (b, same, in-made) = fresh_over 1 display_born (begun display) after done later step (lasts_begun display serial)
+            (subst (λ (r : List (List (Change D))). RunLeads serial_of (begun display) r after) split leads) id made born in (
+              b,
+              omega (arith, same),
+              subst (λ (r : List (List (Change D))). Contains (births_over 1 display_born r).made (id, b)) (sym split) in-made,
+            )
+            );
         own = λ id b in-made. (whole.lasts.made id b in-made).own;
       }

@@ -1,8 +1,8 @@
 -- Runs of calls: how they join, what lasts over them, and that they have one outcome where each step has.
 use Rattle.std.proofs.Common.{◌≡◌, ℕ, ◌<◌, Bool, true, false, List, [], ◌∷◌, ◌++◌, append_assoc, append-nil, refl, sym, ap, subst, ◌∙◌, arith, length, length-append, reverse}
 use Rattle.std.proofs.lemmas.List.{reverse-reverse, reverse-append}
-use mathlib.Core.Logic.{inr}
-use Rattle.wl_link.specs.Runs.{AllSame, Entry, HasOneOutcome, Leads, MadeSoFar, StopsAt, entries}
+use mathlib.Core.Logic.{inl, inr}
+use Rattle.wl_link.specs.Runs.{AllSame, AtMostOneRefused, Entry, HasOneOutcome, Leads, MadeSoFar, StopsAt, entries}
 
 pub empty_of : {A : Type 0} (n : ℕ) (xs : List A) → n ≡ length xs → ¬ (0 < n) → xs ≡ []
 empty_of n [] counted none = refl
@@ -21,6 +21,19 @@ module _ {Step Reply : Type 0} where
   entries_more (d ∷ done) (s ∷ replies) x r same =
       ap (λ (run : List (Entry Step Reply)). record { step = d; answer = s; refused = false } ∷ run)
       (entries_more done replies x r (omega (arith, same)))
+
+  -- only the steps that have replies count
+  entries_none : (steps : List Step) → entries {Reply = Reply} steps [] ≡ []
+  entries_none [] = refl
+  entries_none (s ∷ steps) = refl
+
+  entries_done : (done left : List Step) (replies : List Reply) → length done ≡ length replies → entries (done ++ left) replies ≡ entries done replies
+  entries_done [] left [] same = entries_none left
+  entries_done [] left (r ∷ replies) same = absurd (omega (arith, same))
+  entries_done (d ∷ done) left [] same = absurd (omega (arith, same))
+  entries_done (d ∷ done) left (r ∷ replies) same =
+      ap (λ (run : List (Entry Step Reply)). record { step = d; answer = r; refused = false } ∷ run)
+      (entries_done done left replies (omega (arith, same)))
 
 module _ {State Step Reply : Type 0} (makes : State → Step → Reply → Bool → State → Type 0) where
   -- ---- runs behind one another
@@ -77,6 +90,24 @@ module _ {State Step Reply : Type 0} (makes : State → Step → Reply → Bool 
       → StopsAt makes start steps (length replies) replies after
   stops start now after steps replies rest rest' x r split (done, whole, same, leads) made =
       inr (done, x, reverse rest', r, now, whole ∙ ap (λ l. done ++ l) (turned_rest rest rest' x split), sym same, refl, leads, made)
+
+  -- a run that stopped is one of the steps that have replies, and perhaps of one that met a want of memory
+  pub stopped_leads : (start after : State) (steps : List Step) (n : ℕ) (replies : List Reply) → StopsAt makes start steps n replies after
+      → (last : List (Entry Step Reply)) × AtMostOneRefused last × Leads makes start (entries steps replies ++ last) after
+  stopped_leads start after steps n replies (inl (zeroth, none, same)) = (
+    [],
+    tt,
+    subst (λ (run : List (Entry Step Reply)). Leads makes start (run ++ []) after)
+        (sym (ap (λ (rs : List Reply). entries steps rs) none ∙ entries_none steps)) same,
+  )
+  stopped_leads start after steps n replies (inr (done, next, left, answer, mid, whole, counted, as_many, leads, made)) =
+      let e : Entry Step Reply = record { step = next; answer = answer; refused = true } in (
+        e ∷ [],
+        refl,
+        subst (λ (run : List (Entry Step Reply)). Leads makes start (run ++ e ∷ []) after)
+            (sym (ap (λ (l : List Step). entries l replies) whole ∙ entries_done done (next ∷ left) replies (sym counted ∙ as_many)))
+            (leads_more start mid after (entries done replies) e leads made),
+      )
 
   -- ---- one outcome
 

@@ -18,6 +18,12 @@ module _ {Step Reply : Type 0} where
   entries (s ∷ steps) [] = []
   entries (s ∷ steps) (r ∷ replies) = record { step = s; answer = r; refused = false } ∷ entries steps replies
 
+  -- no step, or one that met a want of memory
+  abbrev pub AtMostOneRefused : List (Entry Step Reply) → Type 0
+  AtMostOneRefused [] = Unit {0}
+  AtMostOneRefused (e ∷ []) = e.refused ≡ true
+  AtMostOneRefused (e ∷ f ∷ run) = ⊥
+
 -- as many replies, and each the same as the other's at its place
 abbrev pub AllSame : {Reply : Type 0} → (Reply → Reply → Type 0) → List Reply → List Reply → Type 0
 AllSame same [] [] = Unit {0}

@@ -1,7 +1,8 @@
-use Rattle.std.proofs.Common.{◌≡◌, ◌++◌, [], arith, ap, refl, sym, subst, ◌∙◌, ℕ}
+use Rattle.std.proofs.Common.{rules, ◌≡◌, ◌++◌, [], arith, ap, refl, sym, subst, ◌∙◌, ℕ}
+use mathlib.Core.Logic.{inl}
 use Rattle.std.proofs.lemmas.Bool.{false≢true}
 use Rattle.wl_client.specs.Steps.{StepOf, StopsAt, entries}
-use Rattle.wl_client.specs.IdentityLaws.{own_ids}
+use Rattle.wl_client.specs.IdentityLaws.{notes_ended, own_ids, stopped_accounts}
 use Rattle.wl_client.specs.OutcomeLaws.{run_one}
 use Rattle.wl_client.specs.StretchLaws.{stretch_served}
 use Rattle.wl_link.specs.RunLaws.{begins, empty_of, ends, joins, more, stops}
@@ -48,6 +49,19 @@ pub returns-clause-identity : goal.returns-clause-identity
 returns-clause-identity g c table transport begun run connected before =
     own_ids table transport begun c.loop-step.self.session (run ++ entries c.args.steps.items c.loop-step.replies.items) connected
     (returns-clause-joined g c begun run before)
+
+pub returns-clause-notes : goal.returns-clause-notes
+returns-clause-notes g c table transport begun run connected before =
+    notes_ended table transport begun c.loop-step.self.session (run ++ entries c.args.steps.items c.loop-step.replies.items) connected
+    (returns-clause-joined g c begun run before)
+
+pub returns-in_default-clause-stopped_accounts : goal.returns-in_default-clause-stopped_accounts
+returns-in_default-clause-stopped_accounts g c =
+    stopped_accounts c.args.self.now.session _ c.args.steps.items 0 c.new.result.items (inl (refl, c.new.ensures.items, search rules))
+
+pub returns-then-self-clause-stopped_accounts : goal.returns-then-self-clause-stopped_accounts
+returns-then-self-clause-stopped_accounts g c =
+    stopped_accounts _ _ _ _ _ (returns-then-self-clause-stopped g c)
 
 pub returns-clause-cutting : goal.returns-clause-cutting
 returns-clause-cutting g c begun run before =
