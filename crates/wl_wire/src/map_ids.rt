@@ -1,11 +1,11 @@
 //! Numbers in place of a message's ids.
 
-ghost use Rattle.std.specs.Prelude.{◌≡◌, ℕ, ◌≤◌, length, IfOk, IfErr, IsOk};
+ghost use Rattle.std.specs.Prelude.{◌≡◌, ℕ, ◌≤◌, [], length, IfOk, IfErr, IsOk};
 ghost use Rattle.wl_wire.specs.MapIds.{AnswersAs, MapsId, MapsIds, numbered};
 ghost use Rattle.wl_wire.specs.Message.{content};
 
 use crate::argument::{Argument, Token};
-use crate::message::Message;
+use crate::message::{INLINE_ARGS, Message, room_for};
 use smallvec::SmallVec;
 
 /// The number that the closure gives for the id, and the closure again.
@@ -49,6 +49,30 @@ fn number_argument<Id, F: FnMut(Id) -> u32, G: FnMut(Id) -> u32>(
     }
 }
 
+/// Moves the arguments to `args`, each numbered by `number_argument`, from left to right.
+fn number_arguments<Id: Drop, F: FnMut(Id) -> u32 + Drop, G: FnMut(Id) -> u32 + Drop>(
+    object_id: F,
+    new_id: G,
+    old: &mut SmallVec<Argument<Id, Token>, INLINE_ARGS>,
+    args: &mut SmallVec<Argument<u32, Token>, INLINE_ARGS>,
+)
+    requires object_ids { F.IsAlwaysCallable object_id }
+    requires new_ids { G.IsAlwaysCallable new_id }
+    requires empty { args.old.items ≡ [] }
+    requires room { length old.old.items ≤ args.old.capacity }
+    ensures { (f : F) × (g : G) × MapsIds F.step G.step object_id new_id old.old.items args.new.items f g }
+{
+    // The first argument is then the last, which `pop` takes out without moving the others.
+    old.reverse();
+    let (mut object_id, mut new_id) = (object_id, new_id);
+    while let Some(arg) = old.pop() {
+        let (object_ids, new_ids, numbered) = number_argument(object_id, new_id, arg);
+        object_id = object_ids;
+        new_id = new_ids;
+        args.push_reserved(numbered);
+    }
+}
+
 impl<Id: Drop> Message<Id, Token> {
     /// The message as it goes on the wire: with a number in place of each id.
     ///
@@ -70,7 +94,7 @@ impl<Id: Drop> Message<Id, Token> {
         ensures refused { IfErr result (λ m. m ≡ self) }
         ensures inline { length self.args.items ≤ 4 → IsOk result }
     {
-        let Ok(mut args) = SmallVec::with_capacity(*self.args.allocator(), self.args.len()) else {
+        let Ok(mut args) = room_for(&self.args) else {
             return Err(self);
         };
         let Message {
@@ -79,15 +103,7 @@ impl<Id: Drop> Message<Id, Token> {
             args: mut old,
         } = self;
         let (object_id, sender_id) = number_id(object_id, sender_id);
-        let (mut object_id, mut new_id) = (object_id, new_id);
-        // The first argument is then the last, which `pop` takes out without moving the others.
-        old.reverse();
-        while let Some(arg) = old.pop() {
-            let (object_ids, new_ids, numbered) = number_argument(object_id, new_id, arg);
-            object_id = object_ids;
-            new_id = new_ids;
-            args.push_reserved(numbered);
-        }
+        number_arguments(object_id, new_id, &mut old, &mut args);
         Ok(Message {
             sender_id,
             opcode,

@@ -1,17 +1,14 @@
 //! A message: a request or an event.
 
-ghost use Rattle.std.specs.Prelude.{◌≡◌, IfOk, IfErr};
+ghost use Rattle.std.specs.Prelude.{◌≡◌, ◌≤◌, [], length, IfOk, IfErr, IsOk};
 ghost use Rattle.wl_wire.specs.MapFd.{MapsFd, MapsFds};
 
 use crate::argument::Argument;
 use smallvec::SmallVec;
-use std::mem;
+use std::alloc::AllocError;
 
 /// How many arguments a message holds without an allocation.
 pub const INLINE_ARGS: usize = 4;
-
-/// No value takes more bytes of memory.
-const LARGEST_SIZE: usize = isize::MAX as usize;
 
 /// A request or an event, over the type `Id` of object ids and `Fd` of descriptors.
 #[derive(Debug, PartialEq, Eq, Drop)]
@@ -48,38 +45,60 @@ fn map_argument<Id, Fd, T, F: FnMut(Fd) -> T>(
     }
 }
 
+/// An empty list with room for as many arguments, of types of their own.
+pub(crate) fn room_for<Id, Fd, NewId: Drop, NewFd: Drop>(
+    args: &SmallVec<Argument<Id, Fd>, INLINE_ARGS>,
+) -> Result<SmallVec<Argument<NewId, NewFd>, INLINE_ARGS>, AllocError>
+    ensures empty { IfOk result (λ new. new.items ≡ []) }
+    ensures room { IfOk result (λ new. length args.now.items ≤ new.capacity) }
+    ensures inline { length args.now.items ≤ 4 → IsOk result }
+{
+    SmallVec::with_capacity(*args.allocator(), args.len())
+}
+
+/// Moves the arguments to `args`, each mapped by `map_argument`, from left to right.
+fn map_arguments<Id: Drop, Fd: Drop, T: Drop, F: FnMut(Fd) -> T + Drop>(
+    f: F,
+    old: &mut SmallVec<Argument<Id, Fd>, INLINE_ARGS>,
+    args: &mut SmallVec<Argument<Id, T>, INLINE_ARGS>,
+)
+    requires callable { F.IsAlwaysCallable f }
+    requires empty { args.old.items ≡ [] }
+    requires room { length old.old.items ≤ args.old.capacity }
+    ensures mapped { (g : F) × MapsFds F.step f old.old.items args.new.items g }
+{
+    // The first argument is then the last, which `pop` takes out without moving the others.
+    old.reverse();
+    let mut f = f;
+    while let Some(arg) = old.pop() {
+        let (next, mapped) = map_argument(f, arg);
+        f = next;
+        args.push_reserved(mapped);
+    }
+}
+
 impl<Id: Drop, Fd: Drop> Message<Id, Fd> {
     /// The message with each descriptor replaced by what the closure gives for it.
     ///
     /// The closure is called once for each descriptor, from left to right. Where there is no memory for the arguments,
-    /// it is not called, and the message comes back.
+    /// it is not called, and the message comes back. Up to four arguments take no memory.
     pub fn map_fd<T: Drop, F: FnMut(Fd) -> T + Drop>(self, f: F) -> Result<Message<Id, T>, Self>
         requires callable { F.IsAlwaysCallable f }
         ensures sender { IfOk result (λ m. m.sender_id ≡ self.sender_id) }
         ensures opcode { IfOk result (λ m. m.opcode ≡ self.opcode) }
         ensures mapped { IfOk result (λ m. (g : F) × MapsFds F.step f self.args.items m.args.items g) }
         ensures refused { IfErr result (λ m. m ≡ self) }
+        ensures inline { length self.args.items ≤ 4 → IsOk result }
     {
-        let Ok(mut args) = SmallVec::with_capacity(*self.args.allocator(), self.args.len()) else {
+        let Ok(mut args) = room_for(&self.args) else {
             return Err(self);
         };
-        // Never so, as is known at compile time. It tells the proof that lists of such arguments fit in memory.
-        if mem::size_of_val(&self.args) > LARGEST_SIZE || mem::size_of_val(&args) > LARGEST_SIZE {
-            return Err(self);
-        }
         let Message {
             sender_id,
             opcode,
             args: mut old,
         } = self;
-        // The first argument is then the last, which `pop` takes out without moving the others.
-        old.reverse();
-        let mut f = f;
-        while let Some(arg) = old.pop() {
-            let (next, mapped) = map_argument(f, arg);
-            f = next;
-            args.push_reserved(mapped);
-        }
+        map_arguments(f, &mut old, &mut args);
         Ok(Message {
             sender_id,
             opcode,
