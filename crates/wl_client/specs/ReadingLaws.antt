@@ -80,7 +80,7 @@ module _ {T U : Type 0} (sends : T → Queue → Result ℕ IoFault → T → Ty
   -- a client sends nothing while it reads
   sends_nothing : (left : ℕ) (p after : Part T (Core U)) (turns : List Turn) (out : Gives SessionMessage) → Reads sends client receives left p turns out after → sends_in turns ≡ []
   sends_nothing left p after [] out (same, ends) = refl
-  sends_nothing left p after (Received r ∷ turns) out (on, lacks, (n, is, (link, filled, h))) =
+  sends_nothing left p after (Received r ∷ turns) out (on, lacks, (n, is, (link, filled, finds, h))) =
       go (counted_answer (count_of r)) h (λ more. sends_nothing n (with_link p link) after turns out more)
     where
       go : (c : Result (Unit {0}) IoFault)

@@ -106,7 +106,7 @@ module _ {U : Type 0} where
 
     reads_tidy : (left : ℕ) (p after : Part T (Core U)) (turns : List Turn) (out : Gives SessionMessage) → Reads sends client receives left p turns out after → Tidy p.core → Tidy after.core
     reads_tidy left p after [] out (same, ends) tidy = subst (λ (x : Part T (Core U)). Tidy x.core) (sym same) tidy
-    reads_tidy left p after (Received r ∷ turns) out (on, lacks, (n, is, (link, filled, h))) tidy =
+    reads_tidy left p after (Received r ∷ turns) out (on, lacks, (n, is, (link, filled, finds, h))) tidy =
         go (counted_answer (count_of r)) h (λ more. reads_tidy n (with_link p link) after turns out more tidy)
       where
         go : (c : Result (Unit {0}) IoFault)

@@ -21,7 +21,7 @@ use Rattle.wl_link.specs.Exchange.{Queue, Sending, nothing}
 use Rattle.wl_link.specs.FlushLaws.{some_bytes}
 use Rattle.wl_link.specs.FreeTree.{IsHeight, lowest_bit, reads_of}
 use Rattle.wl_link.specs.Identity.{named_in, names}
-use Rattle.wl_link.specs.Link.{AreLimits, FilledBy, Flushes, Grows, IsLimit, LinkState, ReadOne, Wants, WroteBy, ignoring, left_of, offer_of, offer_size, spelled}
+use Rattle.wl_link.specs.Link.{AreLimits, FilledBy, Flushes, Grows, IsLimit, LinkState, ReadOne, Wants, WroteBy, grown_room, ignoring, incoming_limit, left_of, offer_of, offer_size, spelled, with_room}
 use Rattle.wl_link.specs.ObjectMap.{InsertsAt, InsertsNew, NextNew, WordsRead}
 use Rattle.wl_link.specs.Script.{Script, ScriptReceives, ScriptSends, script_after_receive, script_after_send, script_gives, send_answer}
 use Rattle.wl_link.specs.Store.{Store, client_range, empty_store, first_unused, held, is_free, removed, server_range, stored}
@@ -271,8 +271,15 @@ ignored_faults = (refl, refl)
 
 -- ---- a fill
 
+-- how far the incoming storage may grow
+incoming_limits : (incoming_limit None ≡ 65536) × (incoming_limit (Some 8192) ≡ 8192) × (incoming_limit (Some (2 ^ 64 - 1)) ≡ 65536)
+incoming_limits = (refl, refl, refl)
+
 abbrev receiving_link : List (Result Queue IoFault) → Queue → LinkState Script
 receiving_link arrivals incoming = link_over (scripted arrivals []) incoming nothing 4096 None
+
+abbrev limited_link : List (Result Queue IoFault) → Queue → LinkState Script
+limited_link arrivals incoming = link_over (scripted arrivals []) incoming nothing 4096 (Some 4096)
 
 -- what came stands behind what waits
 chunk_is_appended : FilledBy ScriptReceives (receiving_link (Ok chunk ∷ []) (queue (7 ∷ []) (token 6 ∷ []))) (Ok chunk) (Ok tt)
@@ -284,10 +291,23 @@ tokens_without_bytes : FilledBy ScriptReceives (receiving_link (Ok (queue [] (to
     (receiving_link [] (queue [] (token 8 ∷ [])))
 tokens_without_bytes = (inl (lit≤ tt, refl, refl), refl, refl)
 
--- so it is where the storage is full, whatever would come
-full_storage : FilledBy ScriptReceives (receiving_link (Ok chunk ∷ []) (queue (replicate 4096 1) [])) (Ok nothing) (Err fault.Pipe)
-    (receiving_link (Ok chunk ∷ []) (queue (replicate 4096 1) []))
+-- so it is where the storage is full and may not grow, whatever would come
+full_storage : FilledBy ScriptReceives (limited_link (Ok chunk ∷ []) (queue (replicate 4096 1) [])) (Ok nothing) (Err fault.Pipe)
+    (limited_link (Ok chunk ∷ []) (queue (replicate 4096 1) []))
 full_storage = (inl (lit≤ tt, refl, refl), refl, refl)
+
+-- where it may, it is doubled, and the chunk comes
+grown_storage : FilledBy ScriptReceives (receiving_link (Ok chunk ∷ []) (queue (replicate 4096 1) [])) (Ok chunk) (Ok tt)
+    (with_room (receiving_link [] (queue (replicate 4096 1 ++ 1 ∷ 2 ∷ 3 ∷ []) chunk.tokens)) 8192)
+grown_storage = (inl (lit≤ tt, refl, refl), refl, refl)
+
+-- a storage of 65536 bytes is not doubled
+greatest_storage : grown_room (with_room (receiving_link [] (queue (replicate 65536 1) [])) 65536) ≡ 65536
+greatest_storage = refl
+
+-- a storage that is larger than a limit that was lowered stays
+lowered_limit : grown_room (with_room (limited_link [] (queue (replicate 8192 1) [])) 8192) ≡ 8192
+lowered_limit = refl
 
 -- a fault is answered, and changes nothing that waits
 fault_of_a_fill : FilledBy ScriptReceives (receiving_link [] (queue (7 ∷ []) [])) (Err fault.WouldBlock) (Err fault.WouldBlock) (receiving_link [] (queue (7 ∷ []) []))

@@ -122,7 +122,7 @@ module _ {T Core Event Finish : Type 0} (sends : T → Queue → Result ℕ IoFa
       go true on (inr (inl (asks, is))) = absurd (memory_blocks (sym (ap stopped_of is) ∙ waits))
       go true on (inr (inr (lacks, (n, one, is)))) = absurd (memory_blocks (sym (ap stopped_of is) ∙ waits))
       go false off is = absurd (none_is_some (sym (ap stopped_of is) ∙ waits))
-  reading_waits left p (Received r ∷ turns) out (on, lacks, (n, is, (link, filled, h))) waits =
+  reading_waits left p (Received r ∷ turns) out (on, lacks, (n, is, (link, filled, finds, h))) waits =
       go (counted_answer (count_of r)) refl h (λ more. reading_waits n (with_link p link) turns out more waits)
     where
       go : (c : Result (Unit {0}) IoFault) → counted_answer (count_of r) ≡ c

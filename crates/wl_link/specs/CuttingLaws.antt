@@ -7,7 +7,7 @@ use Rattle.wl_wire.specs.declared.argument.ArgumentType.{ArgumentType}
 use Rattle.wl_wire.specs.declared.error.IoFault.{IoFault}
 use Rattle.wl_wire.specs.declared.error.IoFault.TheVariants as fault
 use Rattle.wl_link.specs.Exchange.{Chain, Queue, Sending, joined, nothing}
-use Rattle.wl_link.specs.Link.{LinkState, count_of, counted_answer, with_incoming}
+use Rattle.wl_link.specs.Link.{LinkState, count_of, counted_answer, grown_room, with_incoming, with_room}
 use Rattle.wl_link.specs.Puts.{lacked_memory}
 use Rattle.wl_link.specs.Reader.{AllFed, CarriesOut, Ends, Given, Gives, Halts, Handled, Leaves, Part, Reader, Reads, ReadsAs, Received, Stops, Takes, Then, Turn, Unread, Verdict, came_in, sends_in, stops, with_link}
 use Rattle.wl_link.specs.Served.{Finds, GoesOnAs, Handles, Serves, ServesOne, TakesNext, link_as, part_as}
@@ -76,7 +76,7 @@ module _ {T S Core Event Finish : Type 0} (sends : T → Queue → Result ℕ Io
     abbrev pub Comes : Part T Core → Queue → S → List (Given Event) → Type 0
     Comes p came first gave = (n : ℕ) × Serves others' reader n (part_as p (joined came rest) first) finishes gave (part_as after rest last) finishes
 
-    moved : (p : Part T Core) (link : LinkState T) (came came' : Queue) (t : S) → link ≡ with_incoming p.link link.transport (joined p.link.incoming came)
+    moved : (p : Part T Core) (link : LinkState T) (came came' : Queue) (t : S) → link ≡ with_incoming (with_room p.link (grown_room p.link)) link.transport (joined p.link.incoming came)
         → part_as (with_link p link) (joined came' rest) t ≡ part_as p (joined (joined came came') rest) t
     moved p link came came' t is =
         let holding : Queue → Part S Core = λ q. record { core = p.core; link = with_incoming (link_as p.link nothing t) t q } in
@@ -120,12 +120,12 @@ module _ {T S Core Event Finish : Type 0} (sends : T → Queue → Result ℕ Io
         → Reads sends reader receives left p turns out after → Comes p (came_in turns) first out.gave
     comes left p [] out first fed ample chain (same, stops') =
         (zero, (stopped_nothing left p out stops', ap (λ (x : Part T Core). part_as x rest last) same ∙ ap (λ (t : S). part_as p rest t) chain, refl))
-    comes left p (Received (Ok came) ∷ turns) out first (fed, others) ample chain (on, lacks, (n, is, (link, filled, h))) =
+    comes left p (Received (Ok came) ∷ turns) out first (fed, others) ample chain (on, lacks, (n, is, (link, filled, finds, h))) =
         let more = subst (λ (c : Result (Unit {0}) IoFault). MatchResult c (λ _. Reads sends reader receives n (with_link p link) turns out after)
         (λ f. (turns ≡ []) × (out ≡ stops (Some f) (lacked_memory (Err f)) n) × (after ≡ record { core = reader.faulted p.core f; link = link }))) (byte_came came fed) h in
         let r = comes n (with_link p link) turns out first others ample chain more in
         (r.0, subst (λ (x : Part S Core). Serves others' reader r.0 x finishes out.gave (part_as after rest last) finishes) (moved p link came (came_in turns) first filled.2) r.1)
-    comes left p (Received (Err f) ∷ turns) out first (blocked, others) ample chain (on, lacks, (n, is, (link, filled, (none, ends, same)))) =
+    comes left p (Received (Err f) ∷ turns) out first (blocked, others) ample chain (on, lacks, (n, is, (link, filled, finds, (none, ends, same)))) =
         let core : reader.faulted p.core f ≡ p.core = ap (reader.faulted p.core) blocked ∙ blocks p.core in
         let still' : last ≡ first = subst (λ (ts : List Turn). Chain others' first (sends_in ts) last) none chain in
         let end : part_as after rest last ≡ part_as p (joined (came_in turns) rest) first

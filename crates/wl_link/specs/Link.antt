@@ -3,7 +3,7 @@
 -- The sends of a call are a list, which the transport's relation chains from its value before the call to its value
 -- after. Each relation comes with its sends as an argument (`FlushedBy`, `WroteBy`) and with them hidden (`Flushed`,
 -- `Wrote`).
-use Rattle.std.specs.Prelude.{◌≡◌, ◌≢◌, ℕ, ◌+◌, ◌-◌, ◌*◌, ◌^◌, ◌<◌, ◌≤◌, ◌⊎◌, List, [], ◌∷◌, length, take, drop, Bool, nat_le, ◌==◌, Option, Some, None, Result, Ok, Err, MatchBool, MatchResult, if◌then◌else◌}
+use Rattle.std.specs.Prelude.{◌≡◌, ◌≢◌, ℕ, ◌+◌, ◌-◌, ◌*◌, ◌^◌, ◌<◌, ◌≤◌, ◌⊎◌, List, [], ◌∷◌, length, take, drop, min, Bool, ◌&&◌, nat_le, nat_lt, ◌==◌, Option, Some, None, Result, Ok, Err, MatchBool, MatchResult, if◌then◌else◌}
 use Rattle.std.specs.Int.{IsPowerOfTwo}
 use Rattle.std.specs.Option.{option_copied}
 use Rattle.std.specs.Borrow.{Bor}
@@ -63,6 +63,16 @@ with_incoming l transport incoming = record {
   transport = transport;
   incoming = incoming;
   room = l.room;
+  outgoing = l.outgoing;
+  storage = l.storage;
+  limit = l.limit;
+}
+
+abbrev pub with_room : {T : Type 0} → LinkState T → ℕ → LinkState T
+with_room l room = record {
+  transport = l.transport;
+  incoming = l.incoming;
+  room = room;
   outgoing = l.outgoing;
   storage = l.storage;
   limit = l.limit;
@@ -226,20 +236,45 @@ abbrev pub with_came : Queue → Result Queue IoFault → Queue
 with_came q (Ok came) = joined q came
 with_came q (Err fault) = q
 
--- One receive was offered the free part of the storage, and gave this.
+-- how far the incoming storage may grow under a limit
+abbrev pub incoming_limit : Option ℕ → ℕ
+incoming_limit None = 65536
+incoming_limit (Some limit) = min limit 65536
+
+-- the storage that a receive finds: one of which no byte is free is doubled, where it is smaller than it may become
+abbrev pub grown_room : {T : Type 0} → LinkState T → ℕ
+grown_room l = if nat_le l.room (length l.incoming.bytes) && nat_lt l.room (incoming_limit l.limit) then l.room * 2 else l.room
+
+-- how many bytes of it are free
+abbrev pub free_room : {T : Type 0} → LinkState T → ℕ
+free_room l = grown_room l - length l.incoming.bytes
+
+-- The storage grows, and one receive is offered its free part, and gives this.
 abbrev pub FilledBy : {T : Type 0} → (T → ℕ → Result Queue IoFault → T → Type 0)
     → LinkState T → Result Queue IoFault → Result (Unit {0}) IoFault → LinkState T → Type 0
 FilledBy receives before received answer after =
-    receives before.transport (before.room - length before.incoming.bytes) received after.transport
+    receives before.transport (free_room before) received after.transport
     × (answer ≡ counted_answer (count_of received))
-    × (after ≡ with_incoming before after.transport (with_came before.incoming received))
+    × (after ≡ with_incoming (with_room before (grown_room before)) after.transport (with_came before.incoming received))
 
--- or there was no memory for the tokens that a receive may give, and nothing was received
+-- or there was no memory for that growth or for the tokens that a receive may give, and nothing was received
 abbrev pub Filled : {T : Type 0} → (T → ℕ → Result Queue IoFault → T → Type 0)
     → LinkState T → Result (Unit {0}) IoFault → LinkState T → Type 0
 Filled receives before answer after =
     ((received : Result Queue IoFault) × FilledBy receives before received answer after)
     ⊎ ((answer ≡ Err fault.OutOfMemory) × (after ≡ before))
+
+-- what waits does not hold the message at its front to its last byte
+abbrev pub LacksBytes : List ℕ → Type 0
+LacksBytes bytes = (length bytes < 8) ⊎ (length bytes < length_of bytes)
+
+-- the message at the front is no longer than the incoming storage may become
+abbrev pub FrontFits : {T : Type 0} → LinkState T → Type 0
+FrontFits l = 8 ≤ length l.incoming.bytes → length_of l.incoming.bytes ≤ incoming_limit l.limit
+
+-- a storage of that size has a byte free for what such a message lacks
+abbrev pub FindsRoom : {T : Type 0} → LinkState T → ℕ → Type 0
+FindsRoom l room = LacksBytes l.incoming.bytes → FrontFits l → length l.incoming.bytes < room
 
 -- ---- a read
 

@@ -159,7 +159,7 @@ module _ {T Core Event Finish : Type 0} (sends : T → Queue → Result ℕ IoFa
     pub reads_kept : (left : ℕ) (p : Part T Core) (turns : List Turn) (out : Gives Event) → Reads sends reader receives left p turns out after
         → KeptLog p.link (sends_in turns) out.gave after.link
     reads_kept left p [] out (same, ends) = kept_nothing p.link after.link [] out.gave refl (nothing_put left p out ends) (ap (λ (x : Part T Core). x.link.outgoing) same)
-    reads_kept left p (Received r ∷ turns) out (on, lacks, (n, is, (link, filled, h))) =
+    reads_kept left p (Received r ∷ turns) out (on, lacks, (n, is, (link, filled, finds, h))) =
         subst (λ (q : Queue). Kept (sends_in turns) q (spelled_all (messages_of (queued_in out.gave))) after.link.outgoing) (ap (λ (l : LinkState T). l.outgoing) filled.2)
         (go (counted_answer (count_of r)) h (λ more. reads_kept n (with_link p link) turns out more))
       where

@@ -8,7 +8,7 @@ use Rattle.wl_wire.specs.declared.error.IoFault.{IoFault}
 use Rattle.wl_wire.specs.declared.error.IoFault.TheVariants as fault
 use Rattle.wl_wire.specs.Message.{WireMessage, size}
 use Rattle.wl_link.specs.Exchange.{Queue, Sending, Chain}
-use Rattle.wl_link.specs.Link.{LinkState, with_outgoing, with_storage, with_incoming, left_of, Goes, Flushes, FlushedBy, Wants, Grows, Grown, Put, PlacedBy, WroteBy, FilledBy, counted_answer, count_of, with_came, has_room, ignoring, needed}
+use Rattle.wl_link.specs.Link.{LinkState, with_outgoing, with_storage, with_incoming, left_of, Goes, Flushes, FlushedBy, Wants, Grows, Grown, Put, PlacedBy, WroteBy, FilledBy, counted_answer, count_of, grown_room, with_came, with_room, has_room, ignoring, needed}
 
 -- two sends of one offer, neither refused for want of memory, have one answer and leave one value
 abbrev pub IsFunction : {T : Type 0} → (T → Queue → Result ℕ IoFault → T → Type 0) → Type 0
@@ -228,9 +228,10 @@ pub one_fill_lem : {T : Type 0} (receives : T → ℕ → Result Queue IoFault �
     → FilledBy receives before r a x → FilledBy receives before s b y → a ≢ Err fault.OutOfMemory → b ≢ Err fault.OutOfMemory
     → SameFill r s a b x y
 one_fill_lem {T = T} receives function before x y r s a b f g ok ok' =
-    let same = function before.transport _ r s x.transport y.transport f.0 g.0 (receive_allowed r a f.1 ok) (receive_allowed s b g.1 ok') in record {
+    let same = function before.transport _ r s x.transport y.transport f.0 g.0 (receive_allowed r a f.1 ok) (receive_allowed s b g.1 ok') in
+    let grown : LinkState T = with_room before (grown_room before) in record {
       received = same.0;
       answer = f.1 ∙ ap (λ (z : Result Queue IoFault). counted_answer (count_of z)) same.0 ∙ sym g.1;
-      after = f.2 ∙ ap (λ (t : T). with_incoming before t (with_came before.incoming r)) same.1
-          ∙ ap (λ (z : Result Queue IoFault). with_incoming before y.transport (with_came before.incoming z)) same.0 ∙ sym g.2;
+      after = f.2 ∙ ap (λ (t : T). with_incoming grown t (with_came before.incoming r)) same.1
+          ∙ ap (λ (z : Result Queue IoFault). with_incoming grown y.transport (with_came before.incoming z)) same.0 ∙ sym g.2;
     }

@@ -4,12 +4,12 @@ use mathlib.Core.Logic.{inl, inr}
 use Rattle.wl_wire.specs.declared.error.IoFault.{IoFault}
 use Rattle.wl_wire.specs.declared.error.IoFault.TheVariants as fault
 use Rattle.wl_link.specs.Exchange.{Chain, Queue, Sending, joined, nothing}
-use Rattle.wl_link.specs.Link.{FilledBy, LinkState, count_of, counted_answer, with_came}
+use Rattle.wl_link.specs.Link.{FilledBy, LinkState, count_of, counted_answer, free_room, grown_room, with_came}
 use Rattle.wl_link.specs.Puts.{lacked_memory}
 use Rattle.wl_link.specs.Reader.{AllFed, Gives, Handled, Lacks, Leaves, Part, Reader, Reads, Received, Takes, Then, Turn, Unread, Verdict, came_by, came_in, sends_in, stops, with_link}
 use Rattle.wl_link.specs.Served.{Finds}
 use Rattle.wl_link.specs.Script.{Script, ScriptReceives, ScriptSends}
-use Rattle.wl_link.specs.Stretch.{AllPieces, NotFull, left_over, room_of, sending_side}
+use Rattle.wl_link.specs.Stretch.{AllPieces, NotFull, left_over, sending_side}
 use Rattle.wl_link.specs.PutsLaws.{not_lacked}
 use Rattle.wl_link.specs.ServedLaws.{both_false}
 use Rattle.wl_link.specs.CuttingLaws.{byte_came}
@@ -64,7 +64,7 @@ module _ {Core Event Finish : Type 0} (reader : Reader Core Event Finish) where
 
     not_full : (n : ℕ) (p : Part Script Core) (turns : List Turn) (out : Gives Event) (link : LinkState Script) (r : Result Queue IoFault) → out.refused ≡ false
         → Lacks ScriptSends reader p → FilledBy ScriptReceives p.link r (counted_answer (count_of r)) link → ReceivedThen n p turns out link (counted_answer (count_of r))
-        → room_of p ≡ 0 → ⊥
+        → free_room p.link ≡ 0 → ⊥
     not_full n p turns out link r ample lacks filled h full = at (subst (λ (room : ℕ). ScriptReceives p.link.transport room r link.transport) full filled.0)
       where
         at : ScriptReceives p.link.transport 0 r link.transport → ⊥
@@ -74,7 +74,7 @@ module _ {Core Event Finish : Type 0} (reader : Reader Core Event Finish) where
             let g = subst (λ (z : Result Queue IoFault). ReceivedThen n p turns out link (counted_answer (count_of z))) is h in
             let waits : link.incoming ≡ p.link.incoming
             = ap (λ (l : LinkState Script). l.incoming) filled.2 ∙ ap (λ (z : Result Queue IoFault). with_came p.link.incoming z) is ∙ joined_nothing p.link.incoming in
-            let room : link.room ≡ p.link.room = ap (λ (l : LinkState Script). l.room) filled.2 in
+            let room : link.room ≡ grown_room p.link = ap (λ (l : LinkState Script). l.room) filled.2 in
             roomy p lacks full (ap (λ (x : Part Script Core). x.link.incoming) g.2 ∙ waits) (ap (λ (x : Part Script Core). x.link.room) g.2 ∙ room)
             (ap (λ (x : Part Script Core). x.core) g.2)
 
@@ -111,14 +111,14 @@ module _ {Core Event Finish : Type 0} (reader : Reader Core Event Finish) where
     pub ran : (left : ℕ) (p : Part Script Core) (turns : List Turn) (out : Gives Event) → out.refused ≡ false → Reads ScriptSends reader ScriptReceives left p turns out after
         → AllPieces p.link.transport.arrivals → Ran p.link turns after.link
     ran left p [] out ample (same, ends) all = ran_nothing p.link after.link [] refl (ap (λ (x : Part Script Core). x.link.transport) same) all
-    ran left p (Received (Ok came) ∷ turns) out ample (on, lacks, (n, is, (link, filled, h))) all =
+    ran left p (Received (Ok came) ∷ turns) out ample (on, lacks, (n, is, (link, filled, finds, h))) all =
         let c : Result (Unit {0}) IoFault = counted_answer (count_of (Ok came)) in
-        let gives = script_gives_roomy p.link.transport link.transport (room_of p) (Ok came) filled.0 all (not_memory n p turns out link c ample h)
+        let gives = script_gives_roomy p.link.transport link.transport (free_room p.link) (Ok came) filled.0 all (not_memory n p turns out link c ample h)
         (not_full n p turns out link (Ok came) ample lacks filled h) in
         let more = subst (λ z. ReceivedThen n p turns out link z) (byte_came came gives.fed) h in
         ran_received p.link link after.link (Ok came) turns gives (receive_keeps p.link.transport link.transport _ (Ok came) filled.0) (ran n (with_link p link) turns out ample more gives.pieces)
-    ran left p (Received (Err f) ∷ turns) out ample (on, lacks, (n, is, (link, filled, h))) all =
-        let gives = script_gives_roomy p.link.transport link.transport (room_of p) (Err f) filled.0 all (not_memory n p turns out link (Err f) ample h)
+    ran left p (Received (Err f) ∷ turns) out ample (on, lacks, (n, is, (link, filled, finds, h))) all =
+        let gives = script_gives_roomy p.link.transport link.transport (free_room p.link) (Err f) filled.0 all (not_memory n p turns out link (Err f) ample h)
         (not_full n p turns out link (Err f) ample lacks filled h) in
         ran_received p.link link after.link (Err f) turns gives (receive_keeps p.link.transport link.transport _ (Err f) filled.0)
         (ran_nothing link after.link turns h.0 (ap (λ (x : Part Script Core). x.link.transport) h.2) gives.pieces)

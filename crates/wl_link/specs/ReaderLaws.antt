@@ -125,7 +125,7 @@ module _ {T Core Event Finish : Type 0} (sends : T → Queue → Result ℕ IoFa
   reads_one left p x y (Handled es ∷ turns) (Received r ∷ turns') o o' ample ample' h (on, lacks, more) = absurd (then_not_lacks taken p (is_taken p) es o _ h lacks)
   reads_one left p x y (Received r ∷ turns) (Unread es ∷ turns') o o' ample ample' (on, lacks, more) h = absurd (then_not_lacks left_there p (is_left p) es o' _ h lacks)
   reads_one left p x y (Unread es ∷ turns) (Received r ∷ turns') o o' ample ample' h (on, lacks, more) = absurd (then_not_lacks left_there p (is_left p) es o _ h lacks)
-  reads_one left p x y (Received r ∷ turns) (Received r' ∷ turns') o o' ample ample' (on, lacks, (n, is, (link, filled, a))) (on', lacks', (n', is', (link', filled', b))) =
+  reads_one left p x y (Received r ∷ turns) (Received r' ∷ turns') o o' ample ample' (on, lacks, (n, is, (link, filled, finds, a))) (on', lacks', (n', is', (link', filled', finds', b))) =
       let c : Result (Unit {0}) IoFault = counted_answer (count_of r) in
       let allowed = received_allowed n p turns o x link c ample a in
       let allowed' = received_allowed n' p turns' o' y link' (counted_answer (count_of r')) ample' b in

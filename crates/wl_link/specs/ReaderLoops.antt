@@ -1,10 +1,10 @@
 -- How turns and receives join to a reading, for the loops of whatever reads.
-use Rattle.std.proofs.Common.{◌≡◌, ◌⊎◌, ℕ, suc, ◌+◌, ◌-◌, ◌<◌, ◌≤◌, Bool, true, false, ◌||◌, List, [], ◌∷◌, ◌++◌, append_assoc, Option, None, Some, Result, Ok, Err, MatchResult, refl, sym, ap, subst, ◌∙◌, arith}
+use Rattle.std.proofs.Common.{◌≡◌, ◌≢◌, ◌⊎◌, ℕ, suc, ◌+◌, ◌-◌, ◌<◌, ◌≤◌, Bool, true, false, ◌||◌, List, [], ◌∷◌, ◌++◌, append_assoc, Option, None, Some, Result, Ok, Err, MatchResult, refl, sym, ap, subst, ◌∙◌, arith}
 use mathlib.Core.Logic.{inl, inr}
 use Rattle.wl_wire.specs.declared.error.IoFault.{IoFault}
 use Rattle.wl_wire.specs.declared.error.IoFault.TheVariants as fault
 use Rattle.wl_link.specs.Exchange.{Queue}
-use Rattle.wl_link.specs.Link.{Filled, FilledBy, LinkState, count_of, counted_answer}
+use Rattle.wl_link.specs.Link.{Filled, FilledBy, FindsRoom, LinkState, count_of, counted_answer}
 use Rattle.wl_link.specs.Puts.{lacked_memory}
 use Rattle.wl_link.specs.Reader.{AsksForMemory, Given, Gives, Halts, Handled, Lacks, Part, Reader, Reads, Received, Turn, Unread, behind, stops, with_link}
 use Rattle.wl_link.specs.Served.{Handles}
@@ -33,9 +33,11 @@ module _ {T Core Event Finish : Type 0} (sends : T → Queue → Result ℕ IoFa
   -- a receive was made, or there was no memory for it
   abbrev pub ReceivedTo : Part T Core → Option IoFault → Part T Core → Type 0
   ReceivedTo before None after =
-      (r : Result Queue IoFault) × FilledBy receives before.link r (counted_answer (count_of r)) after.link × (counted_answer (count_of r) ≡ Ok tt) × (after ≡ with_link before after.link)
+      (r : Result Queue IoFault) × FilledBy receives before.link r (counted_answer (count_of r)) after.link × FindsRoom before.link after.link.room
+      × (counted_answer (count_of r) ≡ Ok tt) × (after ≡ with_link before after.link)
   ReceivedTo before (Some f) after =
       ((r : Result Queue IoFault) × (link : LinkState T) × FilledBy receives before.link r (counted_answer (count_of r)) link
+      × (f ≢ fault.OutOfMemory → FindsRoom before.link link.room)
       × (counted_answer (count_of r) ≡ Err f) × (after ≡ record { core = reader.faulted before.core f; link = link }))
       ⊎ ((f ≡ fault.OutOfMemory) × (after ≡ before))
 
@@ -97,9 +99,10 @@ module _ {T Core Event Finish : Type 0} (sends : T → Queue → Result ℕ IoFa
 
   -- what a fill that failed comes to
   pub received_fault : ((c : Core) → reader.faulted c fault.OutOfMemory ≡ c) → (before : Part T Core) (link : LinkState T) (f : IoFault) → Filled receives before.link (Err f) link
+      → (f ≢ fault.OutOfMemory → FindsRoom before.link link.room)
       → ReceivedTo before (Some f) (record { core = reader.faulted before.core f; link = link })
-  received_fault starves before link f (inl (r, made)) = inl (r, link, (made.0, refl, made.2), sym made.1, refl)
-  received_fault starves before link f (inr (is, same)) =
+  received_fault starves before link f (inl (r, made)) finds = inl (r, link, (made.0, refl, made.2), finds, sym made.1, refl)
+  received_fault starves before link f (inr (is, same)) finds =
       let memory = failed_is f fault.OutOfMemory is in
       let with_core : Core → Part T Core = λ c. record { core = c; link = link } in
       inr (memory, ap with_core (ap (reader.faulted before.core) memory ∙ starves before.core) ∙ ap (with_link before) same)
@@ -132,7 +135,7 @@ module _ {T Core Event Finish : Type 0} (sends : T → Queue → Result ℕ IoFa
             (n, so_far (suc n) (omega (arith, within)) (behind more lacked end) after (leads (suc n) end after (ended n made)))
           where
             ended : (n : ℕ) → ReceivedTo mid (Some f) after → Reading (suc n) mid (stopped_by f n) after
-            ended n (inl (r, link, filled, is, same)) = (
+            ended n (inl (r, link, filled, finds, is, same)) = (
               Received r ∷ [],
               (
                 on,
@@ -143,6 +146,7 @@ module _ {T Core Event Finish : Type 0} (sends : T → Queue → Result ℕ IoFa
                   (
                     link,
                     filled,
+                    λ memory. finds (λ is'. memory (is ∙ ap (λ (g : IoFault). let r : Result (Unit {0}) IoFault = Err g in r) is')),
                     subst (λ (c : Result (Unit {0}) IoFault). MatchResult c (λ _. Reads sends reader receives n (with_link mid link) [] (stopped_by f n) after)
                         (λ g. (no_turns ≡ []) × (stopped_by f n ≡ stopped_by g n)
                         × (after ≡ record { core = reader.faulted mid.core g; link = link }))) (sym is) (refl, refl, same),
@@ -157,7 +161,7 @@ module _ {T Core Event Finish : Type 0} (sends : T → Queue → Result ℕ IoFa
 
         -- a receive after which it goes on
         pub receive_goes_on : (after : Part T Core) → ReceivedTo mid None after → SoFar allowed start (gave ++ more) (refused || lacked) (used + 1) after
-        receive_goes_on after (r, filled, came, same) left all rest end (turns, reads) =
+        receive_goes_on after (r, filled, finds, came, same) left all rest end (turns, reads) =
             let received : Reading (suc left) mid rest end
             = (
               Received r ∷ turns,
@@ -170,6 +174,7 @@ module _ {T Core Event Finish : Type 0} (sends : T → Queue → Result ℕ IoFa
                   (
                     after.link,
                     filled,
+                    λ memory. finds,
                     subst (λ (c : Result (Unit {0}) IoFault). MatchResult c (λ _. Reads sends reader receives left (with_link mid after.link) turns rest end)
                         (λ g. (turns ≡ []) × (rest ≡ stops (Some g) (lacked_memory (Err g)) left)
                         × (end ≡ record { core = reader.faulted mid.core g; link = after.link }))) (sym came)

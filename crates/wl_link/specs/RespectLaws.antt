@@ -62,7 +62,7 @@ module _ {T Core Event Finish : Type 0} (sends : T → Queue → Result ℕ IoFa
 
   pub reads_respect : (left : ℕ) (p after : Part T Core) (turns : List Turn) (out : Gives Event) → Reads sends reader receives left p turns out after → R p.core out.gave after.core
   reads_respect left p after [] out (same, ends) = stays_as left p after out same ends
-  reads_respect left p after (Received r ∷ turns) out (on, lacks, (n, is, (link, filled, h))) =
+  reads_respect left p after (Received r ∷ turns) out (on, lacks, (n, is, (link, filled, finds, h))) =
       go (counted_answer (count_of r)) h (λ more. reads_respect n (with_link p link) after turns out more)
     where
       go : (c : Result (Unit {0}) IoFault)

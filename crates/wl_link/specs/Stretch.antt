@@ -1,11 +1,11 @@
 -- A stretch over the transport by script in which bytes arrive, and a reader reads and ends what is open.
 --
 -- What a session does in a run of its calls is a list of such acts, where its other calls change nothing.
-use Rattle.std.specs.Prelude.{◌≡◌, ◌⊎◌, ℕ, ◌-◌, false, List, [], ◌∷◌, ◌++◌, None, Some, Result, length}
+use Rattle.std.specs.Prelude.{◌≡◌, ◌⊎◌, ℕ, false, List, [], ◌∷◌, ◌++◌, None, Some, Result}
 use Rattle.wl_wire.specs.declared.error.IoFault.{IoFault}
 use Rattle.wl_wire.specs.declared.error.IoFault.TheVariants as fault
 use Rattle.wl_link.specs.Exchange.{Queue, Sending, joined, nothing}
-use Rattle.wl_link.specs.Link.{with_transport}
+use Rattle.wl_link.specs.Link.{free_room, grown_room, with_transport}
 use Rattle.wl_link.specs.Reader.{Ends, Given, Gives, IsFed, Lacks, Part, Reader, Reads, Turn, came_by, with_link}
 use Rattle.wl_link.specs.Served.{Served, part_as}
 use Rattle.wl_link.specs.Script.{Script, ScriptReceives, ScriptSends}
@@ -80,10 +80,6 @@ module _ {Core : Type 0} where
   abbrev pub with_arrival : Part Script Core → Result Queue IoFault → Part Script Core
   with_arrival p r = with_link p (with_transport p.link (record p.link.transport { arrivals = arrivals_of p ++ r ∷ [] }))
 
-  -- how much room is offered to a receive
-  abbrev pub room_of : {T : Type 0} → Part T Core → ℕ
-  room_of p = p.link.room - length p.link.incoming.bytes
-
 module _ {Core Event Finish : Type 0} (reader : Reader Core Event Finish) where
   -- memory is not refused in it
   abbrev pub Does : Part Script Core → Act Event Finish → Part Script Core → Type 0
@@ -102,7 +98,7 @@ module _ {Core Event Finish : Type 0} (reader : Reader Core Event Finish) where
   -- waits.
   abbrev pub NotFull : Part Script Core → Type 0
   NotFull after =
-      (p : Part Script Core) → Lacks ScriptSends reader p → room_of p ≡ 0 → after.link.incoming ≡ p.link.incoming → after.link.room ≡ p.link.room
+      (p : Part Script Core) → Lacks ScriptSends reader p → free_room p.link ≡ 0 → after.link.incoming ≡ p.link.incoming → after.link.room ≡ grown_room p.link
       → after.core ≡ reader.faulted p.core fault.Pipe → ⊥
 
   -- it reads on no more, and ends nothing

@@ -32,13 +32,13 @@ impl Model for Buffer {
 
     ghost view = { λ b. record { bytes = slice_range b.storage.items b.start b.end; size = vec_len b.storage } };
 
-    ghost invariant = { λ b. (b.start ≤ b.end) × (b.end ≤ vec_len b.storage) × (0 < vec_len b.storage) };
+    ghost invariant = { λ b. (b.start ≤ b.end) × (b.end ≤ vec_len b.storage) × (8 ≤ vec_len b.storage) };
 }
 
 impl Buffer {
-    /// An empty storage of that size.
+    /// An empty storage of that size, which holds a message's header at least.
     pub fn new(alloc: Global, size: usize) -> Result<Self, OutOfMemory>
-        requires { 0 < size }
+        requires { 8 ≤ size }
         ensures { IfOk result (λ b. b ≡ waits [] size) }
     {
         let storage = vec![in alloc; 0; size]?;
@@ -67,7 +67,7 @@ impl Buffer {
     /// How many bytes the storage holds.
     pub fn size(&self) -> usize
         ensures size { result ≡ self.now.size }
-        ensures positive { 0 < result }
+        ensures header { 8 ≤ result }
         ensures small { result < 2 ^ 63 }
     {
         self.storage.len()

@@ -1,18 +1,18 @@
 //! The buffered link over a transport.
 
-ghost use Rattle.std.specs.Prelude.{◌≡◌, ◌≢◌, ◌+◌, ◌<◌, ◌≤◌, ◌∷◌, [], length, take, nat_le, if◌then◌else◌, IsTrue, Some, Ok, Err, IfOk, OnOk, MatchOption, MatchResult};
+ghost use Rattle.std.specs.Prelude.{◌≡◌, ◌≢◌, ◌+◌, ◌<◌, ◌≤◌, ◌∷◌, [], length, take, nat_le, if◌then◌else◌, IsTrue, Some, Ok, Err, IfOk, OnOk, OnErr, MatchOption, MatchResult};
 ghost use Rattle.std.specs.Borrow.{sem};
 ghost use Rattle.wl_wire.specs.Argument.{Matches};
 ghost use Rattle.wl_wire.specs.MapIds.{numbered};
 ghost use Rattle.wl_wire.specs.Message.{IsMessage, content, size};
 ghost use Rattle.wl_wire.specs.Parse.{sender_of, opcode_of};
-ghost use Rattle.wl_link.specs.Link.{IsFresh, LimitSet, Flushed, Filled, Grown, Wants, Put, Placed, Wrote, ReadOne, looked_up, read_content, needed, has_room, ignoring, counted_answer};
+ghost use Rattle.wl_link.specs.Link.{IsFresh, LimitSet, Flushed, Filled, Grown, Wants, Put, Placed, Wrote, ReadOne, looked_up, read_content, needed, has_room, ignoring, counted_answer, grown_room, with_room, FindsRoom};
 ghost use Rattle.wl_link.specs.Kept.{FlushKeeps, FlushDrains, WriteKeeps};
 ghost use Rattle.wl_link.specs.Sides.{ReadTakes};
 ghost use Rattle.wl_link.specs.Storage.{write_answer_of};
 
 use crate::buffer::Buffer;
-use crate::limit::{DEFAULT_MAX_BUFFER_SIZE, grown_size, rounded};
+use crate::limit::{DEFAULT_MAX_BUFFER_SIZE, grown_size, incoming_limit, rounded};
 use crate::token_queue::TokenQueue;
 use crate::transport::{MAX_BYTES_OUT, MAX_FDS_OUT, Transport};
 use std::alloc::Global;
@@ -200,6 +200,21 @@ impl<T> BufferedSocket<T> {
         self.outgoing.grow(grown)
     }
 
+    /// Makes room for the most tokens that a receive may give, and for a byte, where the limit allows it. Where there is
+    /// no memory, both sides stay as they were.
+    fn grow_incoming(&mut self) -> Result<(), OutOfMemory>
+        ensures ok { OnOk result (self.new ≡ with_room self.old (grown_room self.old)) }
+        ensures err { OnErr result (self.new ≡ self.old) }
+        ensures room { OnOk result (FindsRoom self.old self.new.room) }
+    {
+        self.fds_in.reserve(MAX_FDS_OUT)?;
+        let size = self.incoming.size();
+        if self.incoming.len() < size || size >= incoming_limit(self.limit) {
+            return Ok(());
+        }
+        self.incoming.grow(size * 2)
+    }
+
     /// Puts the message behind what waits.
     fn put<Id, N: Numbering<Id>>(
         &mut self,
@@ -346,13 +361,16 @@ impl<T: Transport> BufferedSocket<T> {
 
     /// Receives once, into all of the incoming storage that is free.
     ///
-    /// Where no bytes came the answer is `Pipe`, also where none are free; tokens that came with none still wait. A
-    /// fault of the transport is answered. Room for the most tokens that a receive may give is made before it;
-    /// without memory for that the answer is `OutOfMemory`, and nothing was received.
+    /// Where no byte of it is free, it is doubled first, up to 65536 bytes or the limit, if that is less. So what lacks
+    /// bytes finds one free, unless its message is longer than that. Where no bytes came the answer is `Pipe`, also
+    /// where none are free; tokens that came with none still wait. A fault of the transport is answered. Room for the
+    /// most tokens that a receive may give is made before it; without memory for that or for the doubling the answer
+    /// is `OutOfMemory`, and nothing was received.
     pub fn fill_incoming_buffers(&mut self) -> Result<(), IoFault>
-        ensures { Filled T.receives self.old result self.new }
+        ensures filled { Filled T.receives self.old result self.new }
+        ensures room { result ≢ Err IoFault.OutOfMemory → FindsRoom self.old self.new.room }
     {
-        let Ok(()) = self.fds_in.reserve(MAX_FDS_OUT) else {
+        let Ok(()) = self.grow_incoming() else {
             return Err(IoFault::OutOfMemory);
         };
         let received = self.incoming.receive(&mut self.transport, &mut self.fds_in);

@@ -15,7 +15,7 @@ ghost use Rattle.wl_link.specs.OneLaws.{IsFunction, IsReceiveFunction, SameOutco
 ghost use Rattle.wl_link.specs.ReadLaws.{SameRead};
 ghost use Rattle.wl_link.specs.Sides.{StreamLaw, AllReadLaw, CuttingLaw, ReadTakes};
 
-use crate::limit::DEFAULT_MAX_BUFFER_SIZE;
+use crate::limit::{DEFAULT_MAX_BUFFER_SIZE, INCOMING_LIMIT};
 use crate::transport::{MAX_BYTES_OUT, MAX_FDS_OUT, Transport};
 
 /// A flush loses nothing but the tokens that a send which answered 0 was offered. Where it ends with `Ok` and no send
@@ -76,10 +76,11 @@ pub fn cutting_does_not_matter<T: Transport>()
     ensures { CuttingLaw T.receives }
 {}
 
-/// The constants of this crate: a send is offered at most 4096 bytes and 28 tokens, and a connection has a storage of 4096
-/// bytes where nothing else is asked for.
+/// The constants of this crate: a send is offered at most 4096 bytes and 28 tokens, a connection has a storage of 4096
+/// bytes where nothing else is asked for, and its incoming storage grows up to 65536 bytes.
 pub fn each_size_has_its_value()
     ensures bytes { MAX_BYTES_OUT ≡ 4096 }
     ensures tokens { MAX_FDS_OUT ≡ 28 }
     ensures storage { DEFAULT_MAX_BUFFER_SIZE ≡ 4096 }
+    ensures incoming { INCOMING_LIMIT ≡ 65536 }
 {}

@@ -25,7 +25,7 @@ pub use laws::{
     cutting_does_not_matter, each_size_has_its_value, flush_loses_nothing, messages_come_back,
     one_outcome, read_takes_first_message, script_has_one_outcome, write_loses_nothing,
 };
-pub use limit::DEFAULT_MAX_BUFFER_SIZE;
+pub use limit::{DEFAULT_MAX_BUFFER_SIZE, INCOMING_LIMIT};
 pub use memory::{ArriveError, Memory};
 pub use object::Object;
 pub use object_map::{InsertError, NewError, ObjectMap, SERVER_ID_LIMIT};

@@ -1,11 +1,14 @@
-//! How far the outgoing storage may grow.
+//! How far the storages may grow.
 
-ghost use Rattle.std.specs.Prelude.{◌≢◌, ◌↔◌, ◌<◌, ◌≤◌, IsTrue, IfSome, MatchOption};
-ghost use Rattle.wl_link.specs.Link.{AreLimits, IsLimit, Grows, Wants};
+ghost use Rattle.std.specs.Prelude.{◌≡◌, ◌≢◌, ◌↔◌, ◌<◌, ◌≤◌, IsTrue, IfSome, MatchOption};
+ghost use Rattle.wl_link.specs.Link.{AreLimits, IsLimit, Grows, Wants, incoming_limit};
 
 /// The limit of the outgoing storage that a connection has where nothing else is asked for. It is the least limit, and
 /// the size that the storages of a new link have.
 pub const DEFAULT_MAX_BUFFER_SIZE: usize = 4096;
+
+/// The greatest size of the incoming storage, where no limit asks for a smaller one.
+pub const INCOMING_LIMIT: usize = 65536;
 
 /// The greatest power of two of 64 bits.
 const GREATEST_POWER_OF_TWO: usize = 1 << 63;
@@ -29,6 +32,16 @@ fn rounded_up(asked: usize) -> usize
         return usize::MAX;
     }
     asked.max(DEFAULT_MAX_BUFFER_SIZE).next_power_of_two()
+}
+
+/// How far the incoming storage may grow under that limit.
+pub(crate) fn incoming_limit(limit: Option<usize>) -> usize
+    ensures { result ≡ incoming_limit limit }
+{
+    match limit {
+        None => INCOMING_LIMIT,
+        Some(limit) => limit.min(INCOMING_LIMIT),
+    }
 }
 
 /// Whether a storage of that size has too little room, and may be doubled.

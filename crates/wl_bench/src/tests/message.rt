@@ -148,3 +148,12 @@ pub fn tell_bytes(log: &mut String, bytes: &[u8], tokens: &[Token]) -> Result<()
     }
     Ok(())
 }
+
+/// The bytes, and zeros behind them, of that length in all.
+pub fn padded(alloc: Global, bytes: &[u8], len: usize) -> Result<Vec<u8>, Fail> {
+    let mut padded = Vec::from_slice(alloc, bytes)?;
+    for _ in bytes.len()..len {
+        padded.push(0)?;
+    }
+    Ok(padded)
+}

@@ -2,7 +2,8 @@
 
 use super::steps::{Call, replay};
 use super::told::*;
-use super::values::{Child, Object, Request, message, padded};
+use super::values::{Child, Object, Request, message};
+use crate::tests::message::padded;
 use crate::tests::quad::quad_table;
 use std::alloc::{AllocError, Global};
 use std::fmt::Write;
@@ -17,7 +18,7 @@ type Client = Backend<Memory, u32>;
 /// A call of a client, a look at it, or what its script is given.
 #[derive(Clone, Copy)]
 pub enum Act {
-    /// Sets the limit of the storage of what waits to be sent.
+    /// Sets the limit of the storages.
     Limit(usize),
     /// Sends a request.
     Send(Request),
@@ -73,8 +74,8 @@ pub enum Cue {
     Arrive(&'static [u8]),
     /// Bytes that are to arrive with a descriptor.
     ArriveWith(&'static [u8], i32),
-    /// Bytes that are to arrive, and zeros behind them, of that length in all.
-    ArrivePadded(&'static [u8], usize),
+    /// Bytes that are to arrive, and zeros behind them, of that length in all, in chunks of 4096.
+    ArriveInChunks(&'static [u8], usize),
     /// The same, each byte by itself.
     ArriveBytewise(&'static [u8], usize),
     /// A fault behind what is to arrive.
@@ -96,7 +97,7 @@ fn told(client: &Client, written: Result<(), AllocError>) -> Result<(), Fail> {
     }
 }
 
-/// Sets the limit of the storage of what waits to be sent.
+/// Sets the limit of the storages.
 fn limit(client: &mut Client, bytes: usize) -> Result<(), Fail> {
     client.set_max_buffer_size(Some(bytes));
     told(client, Ok(()))
@@ -226,9 +227,9 @@ fn last_error(client: &Client, log: &mut String) -> Result<(), Fail> {
     told(client, written)
 }
 
-/// Puts the bytes and zeros behind them, of that length in all, behind what is to arrive.
-fn arrive(alloc: Global, client: &mut Client, bytes: &[u8], len: usize) -> Result<(), Fail> {
-    let bytes = padded(alloc, bytes, len)?;
+/// Puts the bytes behind what is to arrive.
+fn arrive(alloc: Global, client: &mut Client, bytes: &[u8]) -> Result<(), Fail> {
+    let bytes = Vec::from_slice(alloc, bytes)?;
     client.transport_mut().arrive(bytes, Vec::new(alloc))?;
     Ok(())
 }
@@ -246,15 +247,18 @@ fn arrive_with(
     Ok(())
 }
 
-/// Puts the bytes and zeros behind them, of that length in all, behind what is to arrive, each by itself.
-fn arrive_bytewise(
+/// Puts the bytes and zeros behind them, of that length in all, behind what is to arrive, in chunks of that size.
+fn arrive_in_chunks(
     alloc: Global,
     client: &mut Client,
     bytes: &[u8],
     len: usize,
-) -> Result<(), Fail> {
-    for byte in padded(alloc, bytes, len)?.as_slice() {
-        arrive(alloc, client, &[*byte], 1)?;
+    size: usize,
+) -> Result<(), Fail>
+    requires { 0 < size }
+{
+    for chunk in padded(alloc, bytes, len)?.chunks(size) {
+        arrive(alloc, client, chunk)?;
     }
     Ok(())
 }
@@ -312,10 +316,10 @@ fn look_at(alloc: Global, client: &Client, log: &mut String, look: Look) -> Resu
 /// Gives the script what it is given.
 fn play(alloc: Global, client: &mut Client, cue: Cue) -> Result<(), Fail> {
     match cue {
-        Cue::Arrive(bytes) => arrive(alloc, client, bytes, bytes.len()),
+        Cue::Arrive(bytes) => arrive(alloc, client, bytes),
         Cue::ArriveWith(bytes, descriptor) => arrive_with(alloc, client, bytes, descriptor),
-        Cue::ArrivePadded(bytes, len) => arrive(alloc, client, bytes, len),
-        Cue::ArriveBytewise(bytes, len) => arrive_bytewise(alloc, client, bytes, len),
+        Cue::ArriveInChunks(bytes, len) => arrive_in_chunks(alloc, client, bytes, len, 4096),
+        Cue::ArriveBytewise(bytes, len) => arrive_in_chunks(alloc, client, bytes, len, 1),
         Cue::ArriveFault(fault) => arrive_fault(client, fault),
         Cue::AcceptFault(fault) => accept_fault(client, fault),
         Cue::TakeSent => take_sent(client),

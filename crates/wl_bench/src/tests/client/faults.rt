@@ -120,13 +120,49 @@ fn receives_of_a_reading(rt: HostRuntime) -> Result<(), Fail> {
     )
 }
 
-/// A message of 5000 bytes, which is longer than the storage of what was received.
+/// The arrivals of a message of 5000 bytes, which is longer than the storage of what was received is at first.
+const ARRIVE_5000: Act = Act::Script(Cue::ArriveInChunks(&[2, 0, 0, 0, 0, 0, 0x88, 0x13], 5000));
+
 #[test]
-fn message_longer_than_the_storage(rt: HostRuntime) -> Result<(), Fail> {
+fn message_longer_than_the_first_storage(rt: HostRuntime) -> Result<(), Fail> {
     let acts = [
         Act::Send(Request::Sync),
-        Act::Script(Cue::ArrivePadded(&[2, 0, 0, 0, 0, 0, 0x88, 0x13], 4096)),
-        Act::Script(Cue::ArrivePadded(&[], 904)),
+        ARRIVE_5000,
+        Act::Next,
+        Act::Look(Look::Arrivals),
+        Act::Look(Look::LastError),
+    ];
+    tells(
+        &rt,
+        log_of(rt.alloc(), &acts),
+        "sent: 2, 1\nevent 0 of 2: 0\n0 arrivals\nno error\n",
+    )
+}
+
+/// The storage of what was received grows to 65536 bytes, and a reading receives 16 times.
+#[test]
+fn message_of_65532_bytes(rt: HostRuntime) -> Result<(), Fail> {
+    let acts = [
+        Act::Send(Request::Sync),
+        Act::Script(Cue::ArriveInChunks(&[2, 0, 0, 0, 0, 0, 0xfc, 0xff], 65532)),
+        Act::Next,
+        Act::Look(Look::Arrivals),
+        Act::Look(Look::LastError),
+    ];
+    tells(
+        &rt,
+        log_of(rt.alloc(), &acts),
+        "sent: 2, 1\nevent 0 of 2: 0\n0 arrivals\nno error\n",
+    )
+}
+
+/// A message that is longer than the storage of what was received may become.
+#[test]
+fn message_longer_than_the_limit(rt: HostRuntime) -> Result<(), Fail> {
+    let acts = [
+        Act::Limit(4096),
+        Act::Send(Request::Sync),
+        ARRIVE_5000,
         Act::Next,
         Act::Look(Look::LastError),
     ];

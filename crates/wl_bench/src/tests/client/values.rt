@@ -225,12 +225,3 @@ pub fn message(alloc: Global, request: Request) -> Result<Message<ObjectId, Toke
         args,
     })
 }
-
-/// The bytes, and zeros behind them, of that length in all.
-pub fn padded(alloc: Global, bytes: &[u8], len: usize) -> Result<Vec<u8>, Fail> {
-    let mut padded = Vec::from_slice(alloc, bytes)?;
-    for _ in bytes.len()..len {
-        padded.push(0)?;
-    }
-    Ok(padded)
-}

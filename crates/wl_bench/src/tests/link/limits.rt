@@ -1,6 +1,7 @@
-//! How far the outgoing storage grows for a message.
+//! How far the storages grow for a message.
 
 use super::run::{Act, Fact, link_log, run_log};
+use super::script::Cue;
 use super::transports::Refusing;
 use crate::tests::message::Arg;
 use crate::tests::tells;
@@ -102,5 +103,81 @@ fn limits_are_rounded_up(rt: HostRuntime) -> Result<(), Fail> {
         &rt,
         link_log(rt.alloc(), Refusing, Some(0), &acts),
         "limit: 4096\nlimit: 4096\nlimit: 8192\nlimit: 9223372036854775808\nlimit: 18446744073709551615\nno limit\n0 sends recorded\n",
+    )
+}
+
+/// The arrivals of a message of 5000 bytes.
+const ARRIVE_5000: Cue = Cue::ArriveInChunks(&[2, 0, 0, 0, 0, 0, 0x88, 0x13], 5000);
+
+#[test]
+fn incoming_storage_grows_for_a_message(rt: HostRuntime) -> Result<(), Fail> {
+    let acts = [
+        Act::FillAndRead(2),
+        Act::Tell(Fact::Storage),
+        Act::Tell(Fact::Waiting),
+    ];
+    tells(
+        &rt,
+        run_log(rt.alloc(), &[ARRIVE_5000], None, &acts),
+        "2 read: 2, 0: uint 0\nstorage: 8192, 4096\nwaiting: 0, 0, 0, 0\n0 sends recorded\n",
+    )
+}
+
+#[test]
+fn incoming_storage_grows_up_to_65536_bytes(rt: HostRuntime) -> Result<(), Fail> {
+    let cues = [Cue::ArriveInChunks(&[2, 0, 0, 0, 0, 0, 0xfc, 0xff], 65532)];
+    let acts = [Act::FillAndRead(16), Act::Tell(Fact::Storage)];
+    tells(
+        &rt,
+        run_log(rt.alloc(), &cues, None, &acts),
+        "16 read: 2, 0: uint 0\nstorage: 65536, 4096\n0 sends recorded\n",
+    )
+}
+
+/// A storage of 65536 bytes of which none is read is full for good.
+#[test]
+fn incoming_storage_grows_no_further(rt: HostRuntime) -> Result<(), Fail> {
+    let cues = [Cue::ArriveInChunks(&[9, 0, 0, 0, 1, 0, 8, 0], 65540)];
+    let acts = [
+        Act::FillEach(16),
+        Act::Tell(Fact::Storage),
+        Act::Fill,
+        Act::Tell(Fact::Storage),
+        Act::Tell(Fact::Waiting),
+    ];
+    tells(
+        &rt,
+        run_log(rt.alloc(), &cues, None, &acts),
+        "storage: 65536, 4096\nreceive: broken pipe\nstorage: 65536, 4096\nwaiting: 65536, 0, 0, 0\n0 sends recorded\n",
+    )
+}
+
+#[test]
+fn incoming_storage_stops_at_the_limit(rt: HostRuntime) -> Result<(), Fail> {
+    let acts = [
+        Act::FillAndRead(1),
+        Act::Fill,
+        Act::Tell(Fact::Storage),
+        Act::Tell(Fact::Waiting),
+    ];
+    tells(
+        &rt,
+        run_log(rt.alloc(), &[ARRIVE_5000], Some(4096), &acts),
+        "receive: broken pipe\nstorage: 4096, 4096\nwaiting: 4096, 0, 0, 0\n0 sends recorded\n",
+    )
+}
+
+#[test]
+fn lowered_limit_makes_no_storage_smaller(rt: HostRuntime) -> Result<(), Fail> {
+    let acts = [
+        Act::FillAndRead(2),
+        Act::SetLimit(Some(4096)),
+        Act::Fill,
+        Act::Tell(Fact::Storage),
+    ];
+    tells(
+        &rt,
+        run_log(rt.alloc(), &[ARRIVE_5000], None, &acts),
+        "2 read: 2, 0: uint 0\nreceive: would block\nstorage: 8192, 4096\n0 sends recorded\n",
     )
 }

@@ -23,9 +23,11 @@ pub enum Act {
     Read,
     /// Reads where no message has a signature.
     ReadUnknown,
+    /// Receives so many times.
+    FillEach(usize),
     /// Receives and reads so many times, and tells the messages that were there to their end.
     FillAndRead(usize),
-    /// Sets the limit of the outgoing storage, and tells nothing.
+    /// Sets the limit of the storages, and tells nothing.
     SetLimit(Option<usize>),
     /// Takes the record of what each send took, and tells it.
     TakeSent,
@@ -40,7 +42,7 @@ pub enum Fact {
     Waiting,
     /// The sizes of the incoming and the outgoing storage.
     Storage,
-    /// The limit of the outgoing storage.
+    /// The limit of the storages.
     Limit,
     /// The bytes and tokens of each send that is recorded.
     Sent,
@@ -72,14 +74,18 @@ static FIVE_NUMBERS: [ArgumentType; 5] = [
     ArgumentType::Uint,
 ];
 
+/// A number.
+static NUMBER: [ArgumentType; 1] = [ArgumentType::Uint];
+
 /// The signatures of the messages that are read.
-fn signature(_sender: u32, opcode: u16) -> Option<&'static [ArgumentType]> {
-    match opcode {
-        0 => Some(&TRAINS),
-        1 => Some(&TWO_FDS),
-        2 => Some(&NUMBER_AND_FD),
-        3 => Some(&BYTES),
-        4 => Some(&FIVE_NUMBERS),
+fn signature(sender: u32, opcode: u16) -> Option<&'static [ArgumentType]> {
+    match (sender, opcode) {
+        (2, 0) => Some(&NUMBER),
+        (_, 0) => Some(&TRAINS),
+        (_, 1) => Some(&TWO_FDS),
+        (_, 2) => Some(&NUMBER_AND_FD),
+        (_, 3) => Some(&BYTES),
+        (_, 4) => Some(&FIVE_NUMBERS),
         _ => None,
     }
 }
@@ -131,6 +137,14 @@ fn flush<T: Transport>(log: &mut String, link: &mut BufferedSocket<T>) -> Result
 /// Receives once.
 fn fill<T: Transport>(log: &mut String, link: &mut BufferedSocket<T>) -> Result<(), Fail> {
     tell_answer(log, "receive", link.fill_incoming_buffers())
+}
+
+/// Receives so many times.
+fn fill_each<T: Transport>(link: &mut BufferedSocket<T>, count: usize) -> Result<(), Fail> {
+    for _ in 0..count {
+        link.fill_incoming_buffers()?;
+    }
+    Ok(())
 }
 
 /// Tells the message, or why none was read.
@@ -211,7 +225,7 @@ fn storage<T>(log: &mut String, link: &BufferedSocket<T>) -> Result<(), Fail> {
     Ok(())
 }
 
-/// Tells the limit of the outgoing storage.
+/// Tells the limit of the storages.
 fn limit<T>(log: &mut String, link: &BufferedSocket<T>) -> Result<(), Fail> {
     let written = match link.max_buffer_size() {
         Some(limit) => writeln!(log, "limit: {limit}"),
@@ -274,6 +288,7 @@ fn perform<T: Transport + Record>(
         Act::Fill => fill(log, link),
         Act::Read => read(log, link),
         Act::ReadUnknown => read_unknown(log, link),
+        Act::FillEach(count) => fill_each(link, count),
         Act::FillAndRead(count) => fill_and_read_each(log, link, count),
         Act::SetLimit(bytes) => {
             link.set_max_buffer_size(bytes);

@@ -1,6 +1,6 @@
 //! The transport by script: what it is given and asked, as a list of calls.
 
-use crate::tests::message::tell_bytes;
+use crate::tests::message::{padded, tell_bytes};
 use crate::tests::tells;
 use std::alloc::Global;
 use std::collections::VecDeque;
@@ -17,6 +17,8 @@ pub enum Cue {
     ArriveTokens(usize),
     /// A chunk arrives for each byte, of which the first has all tokens.
     ArriveSingly(&'static [u8], &'static [Token]),
+    /// Bytes arrive, and zeros behind them, of that length in all, in chunks of 4096.
+    ArriveInChunks(&'static [u8], usize),
     /// A fault arrives.
     ArriveFault(IoFault),
     /// A send takes so many bytes.
@@ -71,6 +73,19 @@ fn arrive_singly(
     Ok(())
 }
 
+/// Puts the bytes and zeros behind them, of that length in all, behind the arrivals, in chunks of 4096.
+fn arrive_in_chunks(
+    log: &mut String,
+    memory: &mut Memory,
+    bytes: &[u8],
+    len: usize,
+) -> Result<(), Fail> {
+    for chunk in padded(*log.allocator(), bytes, len)?.chunks(4096) {
+        arrive(log, memory, chunk, &[])?;
+    }
+    Ok(())
+}
+
 /// Tells a receive of so many bytes.
 fn tell_count(log: &mut String, count: usize, buffer: &[u8], tokens: &[Token]) -> Result<(), Fail> {
     write!(log, "received {count} in ")?;
@@ -116,6 +131,7 @@ fn perform(log: &mut String, memory: &mut Memory, cue: Cue) -> Result<(), Fail> 
         Cue::Arrive(bytes, tokens) => arrive(log, memory, bytes, tokens),
         Cue::ArriveTokens(count) => arrive_tokens(log, memory, count),
         Cue::ArriveSingly(bytes, tokens) => arrive_singly(log, memory, bytes, tokens),
+        Cue::ArriveInChunks(bytes, len) => arrive_in_chunks(log, memory, bytes, len),
         Cue::ArriveFault(fault) => put(memory.arrive_fault(fault)),
         Cue::Accept(count) => put(memory.accept(count)),
         Cue::AcceptFault(fault) => put(memory.accept_fault(fault)),
