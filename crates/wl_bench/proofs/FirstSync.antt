@@ -205,13 +205,13 @@ module _ {U : Type 0} where
       (λ e. (◌≡◌ {A = Result IdParts RequestError} (Ok id) (Err e)) × (after ≡ fresh_session)) in
       child_sent u id after (subst P (sync_checked display_alone refl) requested)
 
-  -- what a fresh session sends for the request and the flush after it
   -- a session over this table and this script is one over the fixed interfaces and the empty script
   pub fresh_is : (table : List InterfaceRow) (script : Script) (s : SessionState Script U) → table ≡ fixed_rows → script ≡ fresh_script
       → IsConnected table script s → IsConnected fixed_rows fresh_script s
   fresh_is table script s table_is script_is connected =
       subst (λ (t : List InterfaceRow). IsConnected t fresh_script s) table_is (subst (λ (t : Script). IsConnected table t s) script_is connected)
 
+  -- what a fresh session sends for the request and the flush after it
   pub first_sync : (table : List InterfaceRow) (script : Script) (before mid after : SessionState Script U) (m : SessionMessage) (u : U) (id : IdParts)
       → table ≡ fixed_rows → script ≡ fresh_script → m ≡ sync_message → IsConnected table script before
       → Requested ScriptSends before m (Some u) None (Ok id) mid → SessionFlushed ScriptSends mid (Ok tt) after

@@ -24,20 +24,23 @@ enum Command {
     Other,
 }
 
-/// The command that the arguments name. Arguments that are no text name none.
-fn requested(rt: &(impl Env + Alloc)) -> Result<Command, Stop> {
-    let mut args = match env::args(rt) {
-        Ok(args) => args,
-        Err(error) if error.kind() == io::ErrorKind::InvalidData => return Ok(Command::Other),
-        Err(_) => return Err(Stop::Failed),
-    };
+/// The command that the arguments name, the first of which is the program's name.
+fn command_of(mut args: env::Args) -> Command {
     let _program = args.next();
-    let word = args.next();
-    let is_sync = word.as_ref().is_some_and(|word| word.as_str() == "sync");
+    let is_sync = args.next().is_some_and(|word| word.as_str() == "sync");
     if is_sync && args.next().is_none() {
-        Ok(Command::Sync)
+        Command::Sync
     } else {
-        Ok(Command::Other)
+        Command::Other
+    }
+}
+
+/// The command that the program was given. Arguments that are no text name none.
+fn requested(rt: &(impl Env + AllocGlobal)) -> Result<Command, Stop> {
+    match env::args(rt) {
+        Ok(args) => Ok(command_of(args)),
+        Err(error) if error.kind() == io::ErrorKind::InvalidData => Ok(Command::Other),
+        Err(_) => Err(Stop::Failed),
     }
 }
 

@@ -1,6 +1,7 @@
 //! The first exchange of a client and a server: `wl_display.sync`, and its answer.
 
 ghost use Rattle.std.specs.Prelude.{◌≡◌, ◌++◌, IfOk, OnOk};
+ghost use Rattle.wl_wire.specs.declared.argument.Argument.TheVariants.{Uint};
 ghost use Rattle.wl_wire.specs.Message.{content, spelling};
 ghost use Rattle.wl_bench.specs.Sync.{IsFresh, one_argument, all_bytes, request_bytes, answer_bytes};
 
@@ -47,6 +48,17 @@ fn one(
     })
 }
 
+/// The message's bytes.
+fn spelled(alloc: Global, message: &Message<u32, Token>) -> Result<Vec<u8>, Stop>
+    ensures { IfOk result (λ v. v.items ≡ spelling (content message.now)) }
+{
+    let size = message_size(message).ok_or(Stop::Failed)?;
+    let mut bytes = Vec::from_elem(alloc, 0, size)?;
+    let mut tokens = Vec::new(alloc);
+    write_to_buffers(message, &mut bytes, &mut tokens)?;
+    Ok(bytes)
+}
+
 /// Appends the message's bytes, where the table has a message of that signature.
 fn append(
     out: &mut Vec<u8>,
@@ -56,15 +68,26 @@ fn append(
     ensures { OnOk result (out.new.items ≡ out.old.items ++ spelling (content message.now)) }
 {
     let signature = signature.ok_or(Stop::Failed)?;
-    let size = message_size(message).ok_or(Stop::Failed)?;
     if !check_for_signature(signature, message.args.as_slice()) {
         return Err(Stop::Failed);
     }
-    let mut bytes = Vec::from_elem(*out.allocator(), 0, size)?;
-    let mut tokens = Vec::new(*out.allocator());
-    write_to_buffers(message, &mut bytes, &mut tokens)?;
+    let bytes = spelled(*out.allocator(), message)?;
     out.extend_from_slice(&bytes)?;
     Ok(())
+}
+
+/// Appends an event of one number, where the table has an event of that signature.
+fn append_event(
+    out: &mut Vec<u8>,
+    signature: Option<&[ArgumentType]>,
+    sender_id: u32,
+    opcode: u16,
+    number: u32,
+) -> Result<(), Stop>
+    ensures { OnOk result (out.new.items ≡ out.old.items ++ spelling (one_argument sender_id opcode (Uint number))) }
+{
+    let event = one(*out.allocator(), sender_id, opcode, Argument::Uint(number))?;
+    append(out, signature, &event)
 }
 
 /// The signature of an event that the table has.
@@ -108,14 +131,29 @@ fn send_sync(alloc: Global, client: &mut Client) -> Result<(), Stop>
     Ok(())
 }
 
+/// A session over an empty script in which nothing has happened.
+fn fresh_client(alloc: Global) -> Result<Client, Stop>
+    ensures { IfOk result (λ client. IsFresh client.session) }
+{
+    let table = Protocol::new(alloc, Vec::new(alloc))?;
+    let client = Backend::connect(alloc, table, Memory::new(alloc))?;
+    Ok(client)
+}
+
+/// All bytes that a session has sent once it sent a `wl_display.sync`, which is its first where it is fresh.
+fn sync_bytes(alloc: Global, client: &mut Client) -> Result<Vec<u8>, Stop>
+    ensures { IsFresh client.old.session → IfOk result (λ v. v.items ≡ request_bytes) }
+{
+    send_sync(alloc, client)?;
+    sent_bytes(alloc, client.transport())
+}
+
 /// The bytes that a fresh client sends for its first `wl_display.sync`.
 pub fn request(alloc: Global) -> Result<Vec<u8>, Stop>
     ensures { IfOk result (λ v. v.items ≡ request_bytes) }
 {
-    let table = Protocol::new(alloc, Vec::new(alloc))?;
-    let mut client = Backend::connect(alloc, table, Memory::new(alloc))?;
-    send_sync(alloc, &mut client)?;
-    sent_bytes(alloc, client.transport())
+    let mut client = fresh_client(alloc)?;
+    sync_bytes(alloc, &mut client)
 }
 
 /// The bytes of the server's answer: the callback is done, and its number is free again.
@@ -123,17 +161,9 @@ pub fn answer(alloc: Global, table: &Protocol) -> Result<Vec<u8>, Stop>
     ensures { IfOk result (λ v. v.items ≡ answer_bytes) }
 {
     let mut out = Vec::new(alloc);
-    let done = one(alloc, CALLBACK, DONE, Argument::Uint(0))?;
-    append(
-        &mut out,
-        event_signature(table, WL_CALLBACK_INTERFACE, DONE),
-        &done,
-    )?;
-    let delete_id = one(alloc, DISPLAY, DELETE_ID, Argument::Uint(CALLBACK))?;
-    append(
-        &mut out,
-        event_signature(table, WL_DISPLAY_INTERFACE, DELETE_ID),
-        &delete_id,
-    )?;
+    let done = event_signature(table, WL_CALLBACK_INTERFACE, DONE);
+    append_event(&mut out, done, CALLBACK, DONE, 0)?;
+    let delete_id = event_signature(table, WL_DISPLAY_INTERFACE, DELETE_ID);
+    append_event(&mut out, delete_id, DISPLAY, DELETE_ID, CALLBACK)?;
     Ok(out)
 }
