@@ -19,8 +19,8 @@ use Rattle.wl_link.specs.Store.{Store, held}
 use Rattle.wl_client.specs.declared.event_fault.EventFault.{EventFault}
 use Rattle.wl_client.specs.declared.kept.Kept.{Kept}
 use Rattle.wl_client.specs.declared.open_event.OpenEvent.{OpenEvent}
-use Rattle.wl_client.specs.declared.receive.Handled.{Handled}
-use Rattle.wl_client.specs.declared.receive.Handled.TheVariants as handled
+use Rattle.wl_client.specs.declared.event.Handled.{Handled}
+use Rattle.wl_client.specs.declared.event.Handled.TheVariants as handled
 use Rattle.wl_client.specs.declared.turn.NoEvent.{NoEvent}
 use Rattle.wl_client.specs.declared.turn.Turn.{Turn as Turned}
 use Rattle.wl_client.specs.declared.turn.Turn.TheVariants as turned

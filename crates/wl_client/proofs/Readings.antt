@@ -1,5 +1,5 @@
 -- How the functions of a client's reading say the reader's words.
-use Rattle.std.proofs.Common.{◌≡◌, ◌≢◌, ◌∙◌, ℕ, ◌+◌, ◌<◌, ◌≤◌, Bool, true, false, ◌||◌, ◌&&◌, List, [], ◌∷◌, append-nil, length, nat_lt, Option, None, Some, is_some, is_none, Result, Ok, Err, is_ok, MatchBool, refl, sym, ap, ap₂, subst, arith, true≢false}
+use Rattle.std.proofs.Common.{◌≡◌, ◌≢◌, ◌∙◌, ℕ, ◌+◌, ◌<◌, ◌≤◌, Bool, true, false, ◌||◌, ◌&&◌, List, [], ◌∷◌, append-nil, length, nat_lt, Option, None, Some, is_some, is_none, Result, Ok, Err, is_ok, MatchBool, MatchOption, refl, sym, ap, ap₂, subst, arith, true≢false}
 use mathlib.Core.Logic.{inl, inr}
 use Rattle.std.proofs.lemmas.Bool.{lt-ltb}
 use Rattle.std.proofs.lemmas.List.{length-drop}
@@ -23,12 +23,14 @@ use Rattle.wl_link.specs.Served.{Handles}
 use Rattle.wl_client.specs.declared.error.EventError.{EventError}
 use Rattle.wl_client.specs.declared.error.EventError.TheVariants as no_event
 use Rattle.wl_client.specs.declared.error.WaylandError.TheVariants.{Io}
+use Rattle.wl_client.specs.declared.error.WaylandError.{WaylandError}
+use Rattle.wl_client.specs.declared.open_event.OpenEvent.{OpenEvent}
 use Rattle.wl_client.specs.declared.turn.NoEvent.{NoEvent}
 use Rattle.wl_client.specs.declared.turn.Turn.{Turn as Turned}
 use Rattle.wl_client.specs.declared.turn.Turn.TheVariants as turned
 use Rattle.wl_client.specs.ObjectId.{IdParts}
 use Rattle.wl_client.specs.Handling.{Handling, Swallows, HandsOut, Breaks, front_row, handling}
-use Rattle.wl_client.specs.Reading.{Core, Lacks, ReadsAs, ReadsTo, answered, by_fault, client, core_of, faulted, handed_by, part_of, reads_on, receives_allowed, row_asks, verdict, with_link}
+use Rattle.wl_client.specs.Reading.{NextEvent, Core, Lacks, ReadsAs, ReadsTo, answered, by_fault, client, core_of, faulted, handed_by, part_of, reads_on, receives_allowed, row_asks, verdict, with_link}
 use Rattle.wl_client.specs.Requests.{SessionMessage, session_content}
 use Rattle.wl_client.specs.Session.{SessionState, objects_of}
 use Rattle.wl_client.specs.Turns.{EndsAs, HandledTo, Leads, Live, NotTaken, ReceivedTo, RowAsks, Turns, event_answer, event_refused, malformed}
@@ -303,3 +305,19 @@ module _ {T U : Type 0} where
       pub goes_on : (after : SessionState T U) → ReceivedTo sends receives mid None after → Live after × So start (used + 1) after
       goes_on after (made, alive) =
           (alive, receive_goes_on sends receives client receives_allowed (part_of start) [] false used (part_of before) so (part_of mid) [] false leads (live_reads mid live) lacks (part_of after) made)
+
+    -- a session that has no error and no open event reads
+    pub next_reads : (before after : SessionState T U) (answer : Result SessionMessage EventError) (refused : Bool)
+        → is_some before.error ≡ false → is_some before.open_event ≡ false
+        → ReadsTo sends receives before answer refused after → NextEvent sends receives before answer refused after
+    next_reads before after answer refused live closed reads =
+        subst (λ (e : Option WaylandError). MatchOption e
+        (MatchOption before.open_event (ReadsTo sends receives before answer refused after)
+        (λ _. (answer ≡ Err no_event.EventOpen) × (refused ≡ false) × (after ≡ before)))
+        (λ _. (answer ≡ Err no_event.Failed) × (refused ≡ false) × (after ≡ before))) (sym (none_of before.error live))
+        (subst (λ (o : Option OpenEvent). MatchOption o (ReadsTo sends receives before answer refused after)
+        (λ _. (answer ≡ Err no_event.EventOpen) × (refused ≡ false) × (after ≡ before))) (sym (none_of before.open_event closed)) reads)
+      where
+        none_of : {A : Type 0} (o : Option A) → is_some o ≡ false → o ≡ None
+        none_of None h = refl
+        none_of (Some x) h = absurd (true≢false h)

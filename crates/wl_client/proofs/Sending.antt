@@ -1,5 +1,5 @@
 -- What a request that is sent changes, from the steps of its sending.
-use Rattle.std.proofs.Common.{◌≡◌, ℕ, ◌++◌, ◌∷◌, [], List, Bool, true, false, eqb, cond, Option, Some, None, IfSome, is_some, map, option_map, Result, Ok, Err, MatchBool, MatchResult, refl, sym, ap, ◌∙◌, subst, inr}
+use Rattle.std.proofs.Common.{◌≡◌, ℕ, ◌++◌, ◌∷◌, [], List, Bool, true, false, eqb, cond, Option, Some, None, IfSome, is_some, map, option_map, Result, Ok, Err, MatchBool, refl, sym, ap, ◌∙◌, subst, inr}
 use Rattle.std.specs.Result.{is_err}
 use Rattle.std.proofs.lemmas.Bool.{false≢true, true≢false}
 use Rattle.wl_wire.specs.declared.error.IoFault.{IoFault}
@@ -23,9 +23,8 @@ use Rattle.wl_client.specs.declared.error.WaylandError.{WaylandError}
 use Rattle.wl_client.specs.declared.kept.Kept.{Kept}
 use Rattle.wl_client.specs.declared.note.Note.{Note}
 use Rattle.wl_client.specs.declared.note.Note.TheVariants.{Destroyed}
-use Rattle.wl_client.specs.declared.request.Granted.{Granted}
 use Rattle.wl_client.specs.ObjectId.{IdParts}
-use Rattle.wl_client.specs.Requests.{SessionMessage, Spec, Numbered, session_content, wire_argument, wire_message, number_of_new, id_of_new, ended_by, error_after, lacked_memory, with_born, with_ended, Sent, SentAs, SentWithChild, Requested, new_child, request_check}
+use Rattle.wl_client.specs.Requests.{SessionMessage, Spec, Numbered, session_content, wire_argument, wire_message, number_of_new, id_of_new, ended_by, error_after, lacked_memory, with_born, with_ended, Sent, SentWithChild, new_child}
 use Rattle.wl_client.specs.Sending.{IsNext, IsNextObject, WrittenTo, store_with, serial_with, ending, given_up_at, store_ending, notes_ending}
 use Rattle.wl_client.specs.Session.{SessionState, serial_of, named, noted, id_at}
 
@@ -175,21 +174,14 @@ module _ {T U : Type 0} where
         (wrote.0, link, subst (λ (w : WireMessage). Wrote sends before.link w wrote.0 link) wire-is wrote.1, done (lacked_memory wrote.0) ended (error_after before.error wrote.0) _ (changed_is after new ended here) wrote.2 went))
 
   -- a request that creates an object is sent with it
-  pub requested_with_child : (sends : T → Queue → Result ℕ IoFault → T → Type 0) (before mid after : SessionState T U) (m : SessionMessage)
-      (given : Option U) (u : U) (spec : Option Spec) (has : Bool) (checked : Result Granted RequestError) (g : Granted) (child : Spec)
-      (new : Numbered U) (answer : Result IdParts RequestError)
-      → has ≡ is_some given → checked ≡ request_check before.table before.store m has spec → checked ≡ Ok g → g.child ≡ Some child → given ≡ Some u
+  pub sent_with_child : (sends : T → Queue → Result ℕ IoFault → T → Type 0) (before mid after : SessionState T U) (m : SessionMessage) (child : Spec) (u : U)
+      (is_destructor : Bool) (new : Numbered U) (answer : Result IdParts RequestError)
       → IsNextObject before child u new → mid ≡ before
-      → Sent sends mid m (Some new) (ended_by mid.store m g.is_destructor) answer after → Requested sends before m given spec answer after
-  requested_with_child sends before mid after m given u spec has checked g child new answer has-is checked-is granted child-is given-is next mid-is sent =
-      let ended = ended_by before.store m g.is_destructor in
-      let check : request_check before.table before.store m (is_some given) spec ≡ Ok g =
-      ap (λ b. request_check before.table before.store m b spec) (sym has-is) ∙ sym checked-is ∙ granted
-      in
-      let one = subst (λ (s : SessionState T U). Sent sends s m (Some new) (ended_by s.store m g.is_destructor) answer after) mid-is sent in
+      → Sent sends mid m (Some new) (ended_by mid.store m is_destructor) answer after
+      → SentWithChild sends before m child u (ended_by before.store m is_destructor) answer after
+  sent_with_child sends before mid after m child u is_destructor new answer next mid-is sent =
+      let ended = ended_by before.store m is_destructor in
+      let one = subst (λ (s : SessionState T U). Sent sends s m (Some new) (ended_by s.store m is_destructor) answer after) mid-is sent in
       let two = subst (λ (x : Object (Kept U)). Sent sends before m (Some (new.0, x)) ended answer after) next.2 one in
       let three = subst (λ b. MatchBool b ((answer ≡ Err refused.SerialsExhausted) × (after ≡ before)) (Sent sends before m (Some (new.0, new_child before child u)) ended answer after)) (sym next.1) two in
-      let four : SentWithChild sends before m child u ended answer after = inr (new.0, next.0, three) in
-      let five = subst (λ (o : Option U). SentAs sends before m (Some child) o ended answer after) (sym given-is) four in
-      let six = subst (λ (c : Option Spec). SentAs sends before m c given ended answer after) (sym child-is) five in
-      subst (λ (r : Result Granted RequestError). MatchResult r (λ g. SentAs sends before m g.child given (ended_by before.store m g.is_destructor) answer after) (λ e. (answer ≡ Err e) × (after ≡ before))) (sym check) six
+      inr (new.0, next.0, three)

@@ -7,7 +7,7 @@ use Rattle.wl_wire.specs.Argument.{WireArgument}
 use Rattle.wl_link.specs.declared.object.Object.{Object}
 use Rattle.wl_link.specs.Identity.{Objects}
 use Rattle.wl_link.specs.ObjectMap.{MapState}
-use Rattle.wl_client.specs.declared.event.Progress.{Progress}
+use Rattle.wl_client.specs.declared.arguments.Progress.{Progress}
 use Rattle.wl_client.specs.declared.kept.Kept.{Kept}
 use Rattle.wl_client.specs.ObjectId.{IdParts}
 use Rattle.wl_client.specs.declared.event_fault.EventFault.{EventFault}

@@ -4,20 +4,16 @@ use denote.RattleType.{RattleType}
 use Rattle.wl_link.specs.Link.{with_transport}
 use Rattle.wl_client.specs.Session.{SessionState}
 use Rattle.wl_client.specs.Client.{ClientState}
-use Rattle.wl_client.specs.contracts.session.Session.{the_row}
-use Rattle.wl_client.specs.contracts.backend.Backend.{the_row as client_row}
+use Rattle.wl_client.specs.contracts.backend.Backend.{the_row}
 
 -- the session with another value of its transport
 abbrev pub over_transport : {T U : Type 0} → SessionState T U → T → SessionState T U
 over_transport s transport = record s { link = with_transport s.link transport }
 
--- the session ends with what was left in the transport, and with all else as it was
-abbrev pub LendsTransport : (T U : RattleType) → MutBor (SessionState T.Denot U.Denot) → MutBor T.Denot → Fml
-LendsTransport T U s transport = Lends (the_row T U) T s transport (λ t. over_transport s.now t)
-
--- the same of a client, whose session lends it
+-- the same of a client
 abbrev pub client_over : {T U : Type 0} → ClientState T U → T → ClientState T U
 client_over c transport = record c { session = over_transport c.session transport }
 
+-- the client ends with what was left in the transport, and with all else as it was
 abbrev pub LendsClientTransport : (T U : RattleType) → MutBor (ClientState T.Denot U.Denot) → MutBor T.Denot → Fml
-LendsClientTransport T U c transport = Lends (client_row T U) T c transport (λ t. client_over c.now t)
+LendsClientTransport T U c transport = Lends (the_row T U) T c transport (λ t. client_over c.now t)

@@ -17,15 +17,15 @@ use Rattle.wl_link.specs.Link.{LinkState, ReadOne}
 use Rattle.wl_link.specs.Puts.{lacked_memory}
 use Rattle.wl_link.specs.ReaderLoops.{EndsSo, LeadsOn, ReceivedTo as PartReceived}
 use Rattle.wl_link.specs.Store.{Store, held}
-use Rattle.wl_client.specs.declared.display.DisplayEvent.{DisplayEvent as ToldEvent}
-use Rattle.wl_client.specs.declared.display.DisplayEvent.TheVariants as told
+use Rattle.wl_client.specs.declared.display.DisplayMessage.{DisplayMessage}
+use Rattle.wl_client.specs.declared.display.DisplayMessage.TheVariants as told
 use Rattle.wl_client.specs.declared.error.EventError.{EventError}
 use Rattle.wl_client.specs.declared.error.EventError.TheVariants as no_event
 use Rattle.wl_client.specs.declared.error.WaylandError.TheVariants.{Io, Protocol}
 use Rattle.wl_client.specs.declared.event_fault.EventFault.TheVariants as wrong
 use Rattle.wl_client.specs.declared.kept.Kept.{Kept}
-use Rattle.wl_client.specs.declared.receive.Handled.{Handled}
-use Rattle.wl_client.specs.declared.receive.Handled.TheVariants as handled
+use Rattle.wl_client.specs.declared.event.Handled.{Handled}
+use Rattle.wl_client.specs.declared.event.Handled.TheVariants as handled
 use Rattle.wl_client.specs.declared.turn.NoEvent.{NoEvent}
 use Rattle.wl_client.specs.declared.turn.Turn.{Turn as Turned}
 use Rattle.wl_client.specs.declared.turn.Turn.TheVariants as turned
@@ -42,7 +42,7 @@ RowAsks None = ⊥
 RowAsks (Some row) = (row.child_interface ≢ None) ⊎ (4 < length row.signature)
 
 -- what an event of the display tells, which the code keeps by reference
-abbrev pub told_by : ToldEvent → DisplayEvent
+abbrev pub told_by : DisplayMessage → DisplayEvent
 told_by (told.Fails code number text) = Fails code number text.now
 told_by (told.Deletes number) = Deletes number
 told_by told.Unreadable = Unreadable

@@ -1,9 +1,11 @@
 //! The events of the display.
 
 ghost use Rattle.std.specs.Prelude.{◌≡◌};
-ghost use Rattle.wl_client.specs.Events.{display_event};
+ghost use Rattle.wl_client.specs.Events.{deleted, display_event};
 ghost use Rattle.wl_client.specs.Turns.{told_by};
 
+use crate::kept::Kept;
+use wl_link::ObjectMap;
 use wl_wire::{Argument, CString, Message, Token};
 
 /// The opcode of `wl_display.error`.
@@ -14,7 +16,7 @@ const DELETE_ID: u16 = 1;
 
 /// What an event of the display tells.
 #[derive(Clone, Copy)]
-pub enum DisplayEvent<'m> {
+pub enum DisplayMessage<'m> {
     /// The error that ends the session: its code, the number of its object, and its text.
     Fails(u32, u32, &'m CString),
     /// The server gave up the number.
@@ -24,7 +26,7 @@ pub enum DisplayEvent<'m> {
 }
 
 /// What the message tells as an event of the display.
-pub fn display_event(message: &Message<u32, Token>) -> DisplayEvent<'_>
+pub fn display_event(message: &Message<u32, Token>) -> DisplayMessage<'_>
     ensures { told_by result ≡ display_event message.now.opcode message.now.args.items }
 {
     match (message.opcode, message.args.as_slice()) {
@@ -35,8 +37,22 @@ pub fn display_event(message: &Message<u32, Token>) -> DisplayEvent<'_>
                 Argument::Uint(code),
                 Argument::Str(Some(text)),
             ],
-        ) => { DisplayEvent::Fails(*code, *number, text) }
-        (DELETE_ID, [Argument::Uint(number)]) => DisplayEvent::Deletes(*number),
-        _ => DisplayEvent::Unreadable,
+        ) => { DisplayMessage::Fails(*code, *number, text) }
+        (DELETE_ID, [Argument::Uint(number)]) => DisplayMessage::Deletes(*number),
+        _ => DisplayMessage::Unreadable,
     }
+}
+
+/// The server gave up the number: an object that the client destroyed leaves the map, another is flagged.
+pub fn delete_id<U: Drop>(objects: &mut ObjectMap<Kept<U>>, number: u32)
+    ensures { objects.new.store ≡ deleted objects.old.store number }
+{
+    let Some(object) = objects.find(number) else {
+        return;
+    };
+    if object.value.client_destroyed {
+        objects.remove(number);
+        return;
+    }
+    objects.with(number, |object| object.value.server_destroyed = true);
 }

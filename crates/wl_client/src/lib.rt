@@ -3,16 +3,16 @@
 //! A program makes a `Backend` of its table of interfaces and a transport. It sends requests with `send_request` and
 //! `flush`, reads events with `next_event`, ends each with `finish_event`, and takes notes of what was destroyed with
 //! `take_notes`. `backend` is the place to read first; `request` and `send_request` have the way of a request,
-//! `next_event`, `turn` and `receive` that of an event.
+//! `next_event`, `turn` and `event` that of an event.
 #![tactic(auto)]
 
+mod arguments;
 mod backend;
-mod destroy;
 mod display;
 mod error;
 mod event;
 mod event_fault;
-mod finish;
+mod finish_event;
 mod flush;
 mod kept;
 mod laws;
@@ -21,13 +21,11 @@ mod note;
 mod object_id;
 mod objects;
 mod open_event;
-mod reading;
-mod receive;
+mod protocol_error;
 mod replay;
 mod request;
 mod script;
 mod send_request;
-mod session;
 mod step;
 mod turn;
 

@@ -1,11 +1,12 @@
 //! A reading: messages are handled, and more is received where none waits whole.
 
-ghost use Rattle.wl_client.specs.Reading.{NextEvent, ReadsTo};
+ghost use Rattle.wl_client.specs.Cutting.{CutsReading};
+ghost use Rattle.wl_client.specs.Reading.{NextEvent, ReadsTo, event_content};
 ghost use Rattle.wl_client.specs.Turns.{Live, ReceivedTo, Waited, event_answer, event_refused};
 
+use crate::backend::Backend;
 use crate::error::{EventError, WaylandError};
 use crate::object_id::ObjectId;
-use crate::session::Session;
 use crate::turn::{NoEvent, Turn};
 use wl_link::Transport;
 use wl_wire::{IoFault, Message, Token};
@@ -13,11 +14,11 @@ use wl_wire::{IoFault, Message, Token};
 /// How many receives a reading makes at most.
 pub const READ_TURNS: u32 = 64;
 
-impl<T: Transport + Drop, U: Drop> Session<T, U> {
+impl<T: Transport + Drop, U: Drop> Backend<T, U> {
     /// Handles messages until the reading ends, or no message waits whole.
     fn handle_waiting(&mut self) -> Option<Result<Message<ObjectId, Token>, NoEvent>>
-        requires { Live self.old }
-        ensures { Waited T.sends T.receives self.old result self.new }
+        requires { Live self.old.session }
+        ensures { Waited T.sends T.receives self.old.session result self.new.session }
     {
         loop {
             match self.turn() {
@@ -31,8 +32,8 @@ impl<T: Transport + Drop, U: Drop> Session<T, U> {
 
     /// Receives once; the answer is why the reading ends, if it does.
     fn receive(&mut self) -> Option<NoEvent>
-        requires { Live self.old }
-        ensures { ReceivedTo T.sends T.receives self.old result self.new }
+        requires { Live self.old.session }
+        ensures { ReceivedTo T.sends T.receives self.old.session result self.new.session }
     {
         let Err(fault) = self.socket.fill_incoming_buffers() else {
             return None;
@@ -56,29 +57,43 @@ impl<T: Transport + Drop, U: Drop> Session<T, U> {
         }
     }
 
-    /// The next event; or why there is none.
-    pub fn next_event(&mut self) -> Result<Message<ObjectId, Token>, NoEvent>
-        ensures { NextEvent T.sends T.receives self.old (event_answer result) (event_refused result) self.new }
+    /// The next event, which is open until `finish_event` ends it.
+    ///
+    /// Events of the display are handled and not handed out, and neither are those for an object that the client has
+    /// destroyed. The refusals are, in this order: `Failed` where the session has an error; `EventOpen`; then what
+    /// the reading comes to: `Failed` where it stores an error, `WouldBlock` where the transport would block or
+    /// no whole message waits after 64 receives, `OutOfMemory`. After the last two what was handled stays handled, and
+    /// what waits is read by the next call.
+    ///
+    /// However bytes and tokens are cut into receives, the session before it goes on over all that comes as the session
+    /// after it does over the rest, behind the event that was handed out.
+    pub fn next_event(&mut self) -> Result<Message<ObjectId, Token>, EventError>
+        ensures cutting { CutsReading T.sends T.receives self.old.session (event_content result) self.new.refused self.new.session }
+        ensures read { NextEvent T.sends T.receives self.old.session (event_content result) self.new.refused self.new.session }
     {
+        self.refused = false;
         if self.error.is_some() {
-            return Err(NoEvent {
-                error: EventError::Failed,
-                refused: false,
-            });
+            return Err(EventError::Failed);
         }
         if self.open_event.is_some() {
-            return Err(NoEvent {
-                error: EventError::EventOpen,
-                refused: false,
-            });
+            return Err(EventError::EventOpen);
         }
-        self.read_event()
+        match self.read_event() {
+            Ok(event) => {
+                self.refused = false;
+                Ok(event)
+            }
+            Err(end) => {
+                self.refused = end.refused;
+                Err(end.error)
+            }
+        }
     }
 
     /// Handles messages and receives, until there is an event or no receive is left.
     fn read_event(&mut self) -> Result<Message<ObjectId, Token>, NoEvent>
-        requires { Live self.old }
-        ensures { ReadsTo T.sends T.receives self.old (event_answer result) (event_refused result) self.new }
+        requires { Live self.old.session }
+        ensures { ReadsTo T.sends T.receives self.old.session (event_answer result) (event_refused result) self.new.session }
     {
         for used in 0..READ_TURNS {
             if let Some(end) = self.handle_waiting() {

@@ -1,12 +1,18 @@
-//! Look-ups among the objects of a session, and the changes of one object.
+//! The objects of a session: look-ups among them, and what a program asks and changes of one.
 
-ghost use Rattle.std.specs.Prelude.{◌≡◌, option_copied};
-ghost use Rattle.wl_client.specs.Session.{named, alive, fresh_object as the_object};
+ghost use Rattle.std.specs.Prelude.{◌≡◌, false, None, Some, IsSome, Ok, Err, MatchOption, MatchResult, option_copied};
+ghost use Rattle.wl_client.specs.Session.{named, noted, alive, fresh_object as the_object, id_at as the_id};
+ghost use Rattle.wl_client.specs.Objects.{info_of, user_data_of, DataSet, DestroyedBy};
+ghost use Rattle.wl_client.specs.Finish.{data_given};
+ghost use Rattle.wl_client.specs.Steps.{refused_destroy};
 
+use crate::backend::{Backend, DISPLAY};
+use crate::error::{DestroyError, InvalidId};
 use crate::kept::Kept;
+use crate::note::Note;
 use crate::object_id::ObjectId;
 use wl_link::{Object, ObjectMap};
-use wl_wire::InterfaceId;
+use wl_wire::{InterfaceId, ObjectInfo, OutOfMemory};
 
 /// An object that nobody has destroyed.
 pub fn fresh_object<U>(
@@ -55,5 +61,120 @@ pub fn live_in<'a, U: Drop>(
     match named_in(objects, id) {
         Some(object) if !object.value.client_destroyed => Some(object),
         _ => None,
+    }
+}
+
+/// The id of the object that a number holds.
+fn id_at<U>(number: u32, object: &Object<Kept<U>>) -> ObjectId
+    ensures { result ≡ the_id number object.now }
+{
+    ObjectId::from_parts(number, object.value.serial, object.interface)
+}
+
+/// Notes that the object of a number is no longer the program's, where it has user data. Where there is no memory the
+/// notes stay as they were.
+pub fn note_end<U>(
+    notes: &mut Vec<Note>,
+    number: u32,
+    object: &Object<Kept<U>>,
+) -> Result<(), OutOfMemory>
+    ensures { MatchResult result
+        (λ _. notes.new.items ≡ noted notes.old.items object.now.value.user_data (the_id number object.now))
+        (λ _. (notes.new.items ≡ notes.old.items) × IsSome object.now.value.user_data) }
+{
+    if object.value.user_data.is_none() {
+        return Ok(());
+    }
+    match notes.push(Note::Destroyed(id_at(number, object))) {
+        Ok(()) => Ok(()),
+        Err(_) => Err(OutOfMemory),
+    }
+}
+
+/// Gives the object that the id names these user data, in place of what it had.
+pub fn give_data<U: Drop>(
+    objects: &mut ObjectMap<Kept<U>>,
+    id: &ObjectId,
+    user_data: U,
+) -> Result<(), InvalidId>
+    ensures answer { MatchOption (named objects.old.store id.now) (result ≡ Err _) (λ _. result ≡ Ok tt) }
+    ensures given { objects.new.store ≡ data_given objects.old.store id.now.number (named objects.old.store id.now) user_data }
+{
+    if named_in(objects, id).is_none() {
+        return Err(InvalidId);
+    }
+    objects.with(id.protocol_id(), |object| {
+        object.value.user_data = Some(user_data);
+    });
+    Ok(())
+}
+
+impl<T: Drop, U: Drop> Backend<T, U> {
+    /// What the protocol says of the object that the id names. `InvalidId` where the id names none, or one that the
+    /// client has destroyed.
+    pub fn info(&self, id: &ObjectId) -> Result<ObjectInfo, InvalidId>
+        ensures { MatchResult result (λ info. info_of self.now.session id.now ≡ Some info)
+            (λ _. info_of self.now.session id.now ≡ None) }
+    {
+        match live_in(&self.objects, id) {
+            Some(object) => Ok(ObjectInfo {
+                id: id.protocol_id(),
+                interface: object.interface,
+                version: object.version,
+            }),
+            None => Err(InvalidId),
+        }
+    }
+
+    /// The user data of the object that the id names, also of one that was destroyed, until it leaves the map.
+    /// `InvalidId` where the id names none, or one without user data.
+    pub fn get_data(&self, id: &ObjectId) -> Result<&U, InvalidId>
+        ensures { MatchResult result (λ u. user_data_of self.now.session id.now ≡ Some u.now)
+            (λ _. user_data_of self.now.session id.now ≡ None) }
+    {
+        let Some(object) = named_in(&self.objects, id) else {
+            return Err(InvalidId);
+        };
+        match &object.value.user_data {
+            Some(user_data) => Ok(user_data),
+            None => Err(InvalidId),
+        }
+    }
+
+    /// Gives the object that the id names this user data; what it had is dropped. `InvalidId` where the id names
+    /// none. It takes no memory.
+    pub fn set_data(&mut self, id: &ObjectId, user_data: U) -> Result<(), InvalidId>
+        ensures set { DataSet self.old.session id.now user_data result self.new.session }
+        ensures refused { self.new.refused ≡ false }
+    {
+        self.refused = false;
+        give_data(&mut self.objects, id, user_data)
+    }
+
+    /// Destroys the object that the id names, on the client's side: it is noted, if it has user data, and leaves the
+    /// map when the server gives up its number after that.
+    ///
+    /// `InvalidId` where the id names none, or the display, or an object that the client has destroyed already;
+    /// `OutOfMemory` where there is none for the note. A refusal changes nothing.
+    pub fn destroy_object(&mut self, id: &ObjectId) -> Result<(), DestroyError>
+        ensures destroyed { DestroyedBy self.old.session id.now result self.new.session }
+        ensures refused { self.new.refused ≡ refused_destroy result }
+    {
+        self.refused = false;
+        let number = id.protocol_id();
+        if number == DISPLAY {
+            return Err(DestroyError::InvalidId);
+        }
+        let Some(object) = live_in(&self.objects, id) else {
+            return Err(DestroyError::InvalidId);
+        };
+        if note_end(&mut self.notes, number, object).is_err() {
+            self.refused = true;
+            return Err(DestroyError::OutOfMemory);
+        }
+        self.objects.with(number, |object| {
+            object.value.client_destroyed = true;
+        });
+        Ok(())
     }
 }

@@ -79,7 +79,7 @@ impl<U: Drop> Backend<Memory, U> {
         ensures stopped { IfErr result (λ stopped. StopsAt self.old.session steps.items stopped.step stopped.replies.items self.new.session) }
         ensures refused { self.new.refused ≡ is_err result }
     {
-        let alloc = *self.session.notes.allocator();
+        let alloc = *self.notes.allocator();
         let Ok(mut replies) = Vec::with_capacity(alloc, steps.len()) else {
             self.refused = true;
             return Err(Stopped {

@@ -3,16 +3,17 @@
 ghost use Rattle.std.specs.Prelude.{◌≡◌, ◌<◌, ◌⊎◌, true, IfSome, IsSome, IsTrue, OnErr, OnOk, MatchResult, is_some, vec_len, vec_capacity};
 ghost use Rattle.wl_wire.specs.MapIds.{numbered};
 ghost use Rattle.wl_link.specs.Store.{held};
-ghost use Rattle.wl_client.specs.Requests.{Requested, Sent, ended_by, id_of_new, number_of_new, session_content};
+ghost use Rattle.wl_client.specs.Requests.{Requested, Sent, SentAs, SentWithChild, ended_by, id_of_new, number_of_new, session_content};
 ghost use Rattle.wl_client.specs.Sending.{IsNext, IsNextObject, LacksNext, WrittenTo, ending, given_up_at, is_noted, notes_ending, serial_with, store_ending, store_with};
+ghost use Rattle.wl_client.specs.Steps.{refused_request};
 
+use crate::backend::Backend;
 use crate::error::{RequestError, WaylandError};
 use crate::kept::Kept;
 use crate::note::Note;
 use crate::object_id::ObjectId;
 use crate::objects::{fresh_object, named_in};
-use crate::request::{RequestNumbers, check_request};
-use crate::session::Session;
+use crate::request::{Granted, RequestNumbers, check_request};
 use wl_link::{BufferedSocket, Object, ObjectMap, Transport};
 use wl_wire::{InterfaceId, IoFault, Message, OutOfMemory, Token};
 
@@ -153,15 +154,15 @@ fn end_sender<U: Drop>(
     }
 }
 
-impl<T: Transport, U: Drop> Session<T, U> {
+impl<T: Transport + Drop, U: Drop> Backend<T, U> {
     /// The next object of the client, with its number; nothing is changed.
     fn next_object(
         &mut self,
         child: (InterfaceId, u32),
         user_data: U,
     ) -> Result<(u32, Object<Kept<U>>), RequestError>
-        ensures next { MatchResult result (IsNextObject self.old child user_data) (LacksNext self.old) }
-        ensures unchanged { self.new ≡ self.old }
+        ensures next { MatchResult result (IsNextObject self.old.session child user_data) (LacksNext self.old.session) }
+        ensures unchanged { self.new.session ≡ self.old.session }
     {
         let Some(number) = self.objects.next_client() else {
             return Err(RequestError::IdsExhausted);
@@ -183,9 +184,9 @@ impl<T: Transport, U: Drop> Session<T, U> {
         new: Option<(u32, Object<Kept<U>>)>,
         is_destructor: bool,
     ) -> Result<ObjectId, RequestError>
-        requires { IfSome new (IsNext self.old.store self.old.last_serial) }
-        ensures { Sent T.sends self.old (session_content message.now) new
-            (ended_by self.old.store (session_content message.now) is_destructor) result self.new }
+        requires { IfSome new (IsNext self.old.session.store self.old.session.last_serial) }
+        ensures { Sent T.sends self.old.session (session_content message.now) new
+            (ended_by self.old.session.store (session_content message.now) is_destructor) result self.new.session }
     {
         let ended = ended_sender(&self.objects, message, is_destructor);
         let number = number_of(&new);
@@ -207,28 +208,76 @@ impl<T: Transport, U: Drop> Session<T, U> {
         Ok(id)
     }
 
-    /// Sends a request, and answers the id of the object that it creates, or the null id.
-    ///
-    /// A request that creates an object gives it the user data; what it is to be is `spec`, its interface and version,
-    /// or else what the table says. A request that is refused changes nothing. That the transport failed is kept as the
-    /// session's error, and the request counts as sent.
-    pub fn send_request(
+    /// Sends a request that creates an object of this interface and version, with these user data. It is refused where
+    /// no number or no serial is left for the object.
+    fn send_with_child(
         &mut self,
         message: &Message<ObjectId, Token>,
-        user_data: Option<U>,
-        spec: Option<(InterfaceId, u32)>,
+        child: (InterfaceId, u32),
+        user_data: U,
+        is_destructor: bool,
     ) -> Result<ObjectId, RequestError>
-        ensures { Requested T.sends self.old (session_content message.now) user_data spec result self.new }
+        ensures { SentWithChild T.sends self.old.session (session_content message.now) child user_data
+            (ended_by self.old.session.store (session_content message.now) is_destructor) result self.new.session }
     {
-        let has_data = user_data.is_some();
-        let granted = check_request(&self.protocol, &self.objects, message, has_data, spec)?;
+        let new = self.next_object(child, user_data)?;
+        self.send(message, Some(new), is_destructor)
+    }
+
+    /// Sends a request that is granted; one that creates an object has user data for it.
+    fn send_granted(
+        &mut self,
+        message: &Message<ObjectId, Token>,
+        granted: Granted,
+        user_data: Option<U>,
+    ) -> Result<ObjectId, RequestError>
+        requires { IsSome granted.child → IsSome user_data }
+        ensures { SentAs T.sends self.old.session (session_content message.now) granted.child user_data
+            (ended_by self.old.session.store (session_content message.now) granted.is_destructor) result self.new.session }
+    {
         match (granted.child, user_data) {
             (None, _) => self.send(message, None, granted.is_destructor),
             (Some(_), None) => unreachable!(),
             (Some(child), Some(user_data)) => {
-                let new = self.next_object(child, user_data)?;
-                self.send(message, Some(new), granted.is_destructor)
+                self.send_with_child(message, child, user_data, granted.is_destructor)
             }
         }
+    }
+
+    /// Writes the request behind what waits to be sent, and answers the id of the object that it creates, or null.
+    ///
+    /// A request with a new id has it null in its arguments; the session puts the number in. Its object gets this
+    /// user data, and the interface and version of `child_spec`, which may be left out where the table names a child
+    /// interface: then the version is the sender's. For another request data and spec are dropped. A destructor
+    /// request destroys its sender on the client's side, as `destroy_object` does.
+    ///
+    /// The refusals are those of `RequestError`, decided in the order of its variants, but that an unknown sender
+    /// comes before an unknown opcode and a destroyed one after it; object arguments are looked at from left to
+    /// right, before the new object is made. A refusal changes nothing, but that after `OutOfMemory` what a flush of the
+    /// write sent is gone from the link, and a storage that grew stays so. A fault of the transport is stored as the
+    /// session's error, and the answer is `Ok`; so is `TooBig`, where the request is too long.
+    pub fn send_request(
+        &mut self,
+        message: Message<ObjectId, Token>,
+        user_data: Option<U>,
+        child_spec: Option<(InterfaceId, u32)>,
+    ) -> Result<ObjectId, RequestError>
+        ensures requested { Requested T.sends self.old.session (session_content message) user_data child_spec result self.new.session }
+        ensures refused { self.new.refused ≡ refused_request result }
+    {
+        let has_data = user_data.is_some();
+        let checked = check_request(
+            &self.protocol,
+            &self.objects,
+            &message,
+            has_data,
+            child_spec,
+        );
+        let answer = match checked {
+            Ok(granted) => self.send_granted(&message, granted, user_data),
+            Err(error) => Err(error),
+        };
+        self.refused = matches!(answer, Err(RequestError::OutOfMemory));
+        answer
     }
 }

@@ -1,31 +1,34 @@
 //! One turn of a reading: the message at the front is taken off the link and handled.
 
-ghost use Rattle.std.specs.Prelude.{◌≡◌, ◌≢◌, ◌≤◌, [], true, false, None, Some, Ok, Err, MatchResult, length, IfOk};
+ghost use Rattle.std.specs.Prelude.{◌≡◌, ◌≢◌, ◌≤◌, [], true, false, None, Some, Ok, Err, MatchResult, length, IfOk, option_copied, option_map};
 ghost use Rattle.smallvec.specs.SmallVec.{HasRoomFor};
 ghost use Rattle.wl_wire.specs.Message.{content};
+ghost use Rattle.wl_wire.specs.Table.{message_row};
+ghost use Rattle.wl_link.specs.Link.{ReadOne, read_content};
+ghost use Rattle.wl_link.specs.Store.{held};
 ghost use Rattle.wl_wire.specs.declared.error.IoFault.TheVariants as io;
 ghost use Rattle.wl_client.specs.declared.error.EventError.TheVariants as no_event;
 ghost use Rattle.wl_client.specs.declared.error.WaylandError.TheVariants.{Io, Protocol as ProtocolFault};
 ghost use Rattle.wl_client.specs.Events.{error_of};
-ghost use Rattle.wl_client.specs.Handling.{Breaks, handling};
+ghost use Rattle.wl_client.specs.Handling.{Breaks, handling, row_in};
 ghost use Rattle.wl_client.specs.Reading.{with_error};
 ghost use Rattle.wl_client.specs.Session.{objects_of};
 ghost use Rattle.wl_client.specs.declared.turn.Turn.TheVariants as turned;
 ghost use Rattle.wl_client.specs.Turns.{HandledTo, NotTaken, NotTakenTo, TookWith, Turns};
 
-use crate::display::{DisplayEvent, display_event};
+use crate::backend::{Backend, DISPLAY};
+use crate::display::{DisplayMessage, delete_id, display_event};
 use crate::error::{EventError, WaylandError};
+use crate::event::{Handled, handle_event};
 use crate::event_fault::EventFault;
 use crate::kept::Kept;
 use crate::object_id::ObjectId;
-use crate::reading::{delete_id, event_desc, fault_error, read_under, told_error};
-use crate::receive::{Handled, handle_event};
-use crate::session::{DISPLAY, Session};
+use crate::protocol_error::{fault_error, told_error};
 use smallvec::SmallVec;
 use wl_link::{BufferedSocket, ObjectMap, Transport};
 use wl_wire::{
-    Argument, INLINE_ARGS, IoFault, Message, MessageDesc, MessageParseError, OutOfMemory, Protocol,
-    ProtocolError, Token,
+    Argument, ArgumentType, INLINE_ARGS, IoFault, Message, MessageDesc, MessageParseError,
+    OutOfMemory, Protocol, ProtocolError, Token,
 };
 
 /// Why no event was handed out, and whether memory was refused.
@@ -48,6 +51,30 @@ pub enum Turn {
     Lacks,
     /// The reading ends without an event.
     Ends(NoEvent),
+}
+
+/// The event of that opcode of the object that the number holds.
+fn event_desc<'p, U: Drop>(
+    protocol: &'p Protocol,
+    objects: &ObjectMap<Kept<U>>,
+    sender: u32,
+    opcode: u16,
+) -> Option<&'p MessageDesc>
+    ensures { option_map message_row (option_copied result) ≡ row_in protocol.now (held objects.now.store sender) opcode }
+{
+    let object = objects.find(sender)?;
+    let interface = protocol.get(object.interface)?;
+    interface.events.get(opcode as usize)
+}
+
+/// Reads the message at the front under the signature.
+fn read_under<T>(
+    socket: &mut BufferedSocket<T>,
+    signature: &[ArgumentType],
+) -> Result<Message<u32, Token>, MessageParseError>
+    ensures { ReadOne (λ _ _ found. found ≡ Some signature.now) socket.old (read_content result) socket.new }
+{
+    socket.read_one_message(|_, _| Some(signature))
 }
 
 /// Takes the message at the front off the link, with room for what it becomes: for its arguments in `converted`, and
@@ -86,14 +113,14 @@ fn take<'p, T: Drop, U: Drop>(
     }
 }
 
-impl<T: Transport + Drop, U: Drop> Session<T, U> {
+impl<T: Transport + Drop, U: Drop> Backend<T, U> {
     /// Stores the error, or that there was no memory for its texts.
     #[cold]
     #[inline(never)]
     fn fail(&mut self, error: Result<ProtocolError, OutOfMemory>) -> NoEvent
         ensures { MatchResult error
-            (λ e. (result ≡ record { error = no_event.Failed; refused = false }) × (self.new ≡ with_error self.old (ProtocolFault e)))
-            (λ _. (result ≡ record { error = no_event.Failed; refused = true }) × (self.new ≡ with_error self.old (Io io.OutOfMemory))) }
+            (λ e. (result ≡ record { error = no_event.Failed; refused = false }) × (self.new.session ≡ with_error self.old.session (ProtocolFault e)))
+            (λ _. (result ≡ record { error = no_event.Failed; refused = true }) × (self.new.session ≡ with_error self.old.session (Io io.OutOfMemory))) }
     {
         match error {
             Ok(error) => {
@@ -117,7 +144,7 @@ impl<T: Transport + Drop, U: Drop> Session<T, U> {
     #[cold]
     #[inline(never)]
     fn fail_by(&mut self, fault: EventFault) -> NoEvent
-        ensures { HandledTo self.old (Breaks (error_of self.old.table fault) (objects_of self.old)) (turned.Ends result) self.new }
+        ensures { HandledTo self.old.session (Breaks (error_of self.old.session.table fault) (objects_of self.old.session)) (turned.Ends result) self.new.session }
     {
         let error = fault_error(*self.notes.allocator(), &self.protocol, fault);
         self.fail(error)
@@ -126,25 +153,25 @@ impl<T: Transport + Drop, U: Drop> Session<T, U> {
     /// Handles an event of the display.
     fn handle_display(&mut self, message: &Message<u32, Token>) -> Turn
         requires { message.now.sender_id ≡ 1 }
-        ensures { HandledTo self.old (handling self.old.table (objects_of self.old) (content message.now)) result self.new }
+        ensures { HandledTo self.old.session (handling self.old.session.table (objects_of self.old.session) (content message.now)) result self.new.session }
     {
         match display_event(message) {
-            DisplayEvent::Deletes(number) => {
+            DisplayMessage::Deletes(number) => {
                 delete_id(&mut self.objects, number);
                 Turn::GoesOn
             }
-            DisplayEvent::Fails(code, number, text) => {
+            DisplayMessage::Fails(code, number, text) => {
                 let alloc = *self.notes.allocator();
                 let error = told_error(alloc, &self.protocol, &self.objects, code, number, text);
                 Turn::Ends(self.fail(error))
             }
-            DisplayEvent::Unreadable => Turn::Ends(self.fail_by(EventFault::Malformed)),
+            DisplayMessage::Unreadable => Turn::Ends(self.fail_by(EventFault::Malformed)),
         }
     }
 
     /// Takes the message at the front off the link and handles it.
-    pub fn turn(&mut self) -> Turn
-        ensures { Turns self.old result self.new }
+    pub(crate) fn turn(&mut self) -> Turn
+        ensures { Turns self.old.session result self.new.session }
     {
         if self.socket.next_header().is_none() {
             return self.not_taken(MessageParseError::MissingData);
@@ -155,7 +182,7 @@ impl<T: Transport + Drop, U: Drop> Session<T, U> {
     /// The same where a header waits. It is apart, so that a reading that waits does not pay for what it keeps.
     #[inline(never)]
     fn turn_at_header(&mut self) -> Turn
-        ensures { Turns self.old result self.new }
+        ensures { Turns self.old.session result self.new.session }
     {
         let mut converted = SmallVec::new(*self.notes.allocator());
         let (message, desc) = match take(
@@ -189,8 +216,8 @@ impl<T: Transport + Drop, U: Drop> Session<T, U> {
 
     /// What it comes to that no message was taken.
     fn not_taken(&mut self, error: MessageParseError) -> Turn
-        requires { NotTaken self.old error }
-        ensures { NotTakenTo self.old result self.new }
+        requires { NotTaken self.old.session error }
+        ensures { NotTakenTo self.old.session result self.new.session }
     {
         match error {
             MessageParseError::MissingData | MessageParseError::MissingFD => Turn::Lacks,

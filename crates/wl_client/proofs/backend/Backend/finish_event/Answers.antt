@@ -1,7 +1,7 @@
+use Rattle.std.proofs.Common.{rules, Ok}
 use Rattle.wl_client.specs.ReadingLaws.{finish_cuts}
 use Rattle.wl_client.proofs.backend.Backend.finish_event.Goals as goal
 
 pub returns-clause-cutting : goal.returns-clause-cutting
 returns-clause-cutting g c =
-    rw (← c.self.view_is)
-    (finish_cuts c.self.inside.session c.args.user_data c.finish_event-answer.result c.finish_event-answer.new.self c.finish_event-answer.ensures)
+    finish_cuts c.args.self.now.session c.args.user_data (Ok tt) c.match-event.self.session (search rules)

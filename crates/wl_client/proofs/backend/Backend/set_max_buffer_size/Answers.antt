@@ -1,4 +1,5 @@
+use Rattle.std.proofs.Common.{refl}
 use Rattle.wl_client.proofs.backend.Backend.set_max_buffer_size.Goals as goal
 
 pub returns-clause-set : goal.returns-clause-set
-returns-clause-set g c = rw (← c.self.view_is) c.set_max_buffer_size.ensures
+returns-clause-set g c = rw (← c.self.view_is) (c.set_max_buffer_size.new.self, c.set_max_buffer_size.ensures, refl)

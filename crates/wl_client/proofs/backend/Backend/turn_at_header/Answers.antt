@@ -1,7 +1,7 @@
 use Rattle.wl_wire.specs.Message.{content}
 use Rattle.wl_wire.specs.Table.{message_row}
 use Rattle.wl_client.proofs.Handling.{display_turns, faulted_turns, handed_turns, swallowed_turns}
-use Rattle.wl_client.proofs.session.Session.turn_at_header.Goals as goal
+use Rattle.wl_client.proofs.backend.Backend.turn_at_header.Goals as goal
 
 pub returns-then-message-eq-DISPLAY : goal.returns-then-message-eq-DISPLAY
 returns-then-message-eq-DISPLAY g c =

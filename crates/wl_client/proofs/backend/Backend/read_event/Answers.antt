@@ -1,6 +1,6 @@
 use Rattle.std.proofs.Common.{arith}
 use Rattle.wl_client.proofs.Readings.{fault_ends, goes_on, none_is_left, some_ends, starts}
-use Rattle.wl_client.proofs.session.Session.read_event.Goals as goal
+use Rattle.wl_client.proofs.backend.Backend.read_event.Goals as goal
 
 pub loop-used-init : goal.loop-used-init
 loop-used-init g c = record { live = c.requires; leads = starts g.T.Transport.sends g.T.Transport.receives _ }

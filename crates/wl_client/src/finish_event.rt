@@ -2,14 +2,15 @@
 
 ghost use Rattle.std.specs.Prelude.{◌≡◌, IsSome, MatchOption, MatchResult};
 ghost use Rattle.wl_client.specs.Session.{alive, named};
+ghost use Rattle.wl_client.specs.Cutting.{CutsFinish};
 ghost use Rattle.wl_client.specs.Finish.{Finishes, with_dead, refusal};
+ghost use Rattle.wl_client.specs.Steps.{refused_finish};
 
-use crate::destroy::note_end;
+use crate::backend::Backend;
 use crate::error::{FinishError, FinishRefused};
 use crate::object_id::ObjectId;
-use crate::objects::named_in;
+use crate::objects::{give_data, named_in, note_end};
 use crate::open_event::OpenEvent;
-use crate::session::Session;
 use wl_wire::OutOfMemory;
 
 /// Why an event cannot be finished with these user data, whatever memory there is.
@@ -23,15 +24,19 @@ fn refusal_of<U>(event: &OpenEvent, user_data: &Option<U>) -> Option<FinishError
     }
 }
 
-impl<T, U: Drop> Session<T, U> {
-    /// Finishes the event that was handed out last.
+impl<T: Drop, U: Drop> Backend<T, U> {
+    /// Ends the event that `next_event` handed out, and gives the object that it made its user data.
     ///
-    /// User data are given exactly where the event made an object, which gets them. An event that is a destructor
-    /// ends the object that it was sent to: it is destroyed on both sides, and noted if it has user data and the
-    /// client had not destroyed it. A refusal gives the user data back and changes nothing: the event stays open.
+    /// An event that ends its sender destroys it on both sides; it is noted, if it has user data and the client had
+    /// not destroyed it. The refusals are, in this order: `NoOpenEvent`; `MissingObjectData` where the event made an
+    /// object and no data are given; `UnexpectedData` where it made none and data are given; `OutOfMemory` where
+    /// there is none for a note. Each gives the data back, and leaves the event open.
     pub fn finish_event(&mut self, user_data: Option<U>) -> Result<(), FinishRefused<U>>
-        ensures { Finishes self.old user_data result self.new }
+        ensures cutting { CutsFinish self.old.session user_data result self.new.session }
+        ensures finished { Finishes self.old.session user_data result self.new.session }
+        ensures refused { self.new.refused ≡ refused_finish result }
     {
+        self.refused = false;
         let Some(event) = self.open_event else {
             let error = FinishError::NoOpenEvent;
             return Err(FinishRefused { error, user_data });
@@ -40,12 +45,13 @@ impl<T, U: Drop> Session<T, U> {
             return Err(FinishRefused { error, user_data });
         }
         if event.is_destructor && self.end_object(&event.sender).is_err() {
+            self.refused = true;
             let error = FinishError::OutOfMemory;
             return Err(FinishRefused { error, user_data });
         }
         self.open_event = None;
         if let (Some(id), Some(user_data)) = (event.created, user_data) {
-            let _ = self.set_data(&id, user_data);
+            let _ = give_data(&mut self.objects, &id, user_data);
         }
         Ok(())
     }
@@ -53,9 +59,10 @@ impl<T, U: Drop> Session<T, U> {
     /// Marks the object that the id names as destroyed by both sides, and notes it if it has user data and the client
     /// had not destroyed it. Where there is no memory for the note nothing is changed.
     fn end_object(&mut self, id: &ObjectId) -> Result<(), OutOfMemory>
-        ensures { MatchResult result
-            (λ _. self.new ≡ with_dead self.old id.now.number (named self.old.store id.now))
-            (λ _. (self.new ≡ self.old) × MatchOption (alive (named self.old.store id.now)) ⊥ (λ x. IsSome x.value.user_data)) }
+        ensures ended { MatchResult result
+            (λ _. self.new.session ≡ with_dead self.old.session id.now.number (named self.old.session.store id.now))
+            (λ _. (self.new.session ≡ self.old.session) × MatchOption (alive (named self.old.session.store id.now)) ⊥ (λ x. IsSome x.value.user_data)) }
+        ensures refused { self.new.refused ≡ self.old.refused }
     {
         let number = id.protocol_id();
         let Some(object) = named_in(&self.objects, id) else {

@@ -1,7 +1,7 @@
 use Rattle.std.proofs.Common.{◌∙◌, sym, ap}
 use Rattle.wl_client.specs.Requests.{session_content, wire_message}
 use Rattle.wl_client.proofs.Sending.{request_numbered, sent_lacking, sent_done}
-use Rattle.wl_client.proofs.session.Session.send.Goals as goal
+use Rattle.wl_client.proofs.backend.Backend.send.Goals as goal
 
 pub returns-then-is_err-2 : goal.returns-then-is_err-2
 returns-then-is_err-2 g c =

@@ -1,6 +1,6 @@
 use Rattle.wl_wire.specs.declared.error.IoFault.TheVariants as fault
 use Rattle.wl_client.proofs.Readings.{received, received_other}
-use Rattle.wl_client.proofs.session.Session.receive.Goals as goal
+use Rattle.wl_client.proofs.backend.Backend.receive.Goals as goal
 
 pub returns-in-WouldBlock : goal.returns-in-WouldBlock
 returns-in-WouldBlock g c =

@@ -1,5 +1,5 @@
 use Rattle.wl_client.proofs.Readings.{end_ends, event_ends, lacks_waits, on_more, shorter}
-use Rattle.wl_client.proofs.session.Session.handle_waiting.Goals as goal
+use Rattle.wl_client.proofs.backend.Backend.handle_waiting.Goals as goal
 
 pub loop-event-preserved : goal.loop-event-preserved
 loop-event-preserved g c =

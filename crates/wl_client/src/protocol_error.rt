@@ -1,4 +1,4 @@
-//! What a reading looks up, the errors that it stores, and the numbers that the server gives up.
+//! The errors that a reading stores.
 
 ghost use Rattle.std.specs.Prelude.{◌≡◌, Some, IfOk, option_copied, option_map};
 ghost use Rattle.wl_wire.specs.Table.{message_row};
@@ -16,30 +16,6 @@ use wl_wire::{
     ArgumentType, CString, Message, MessageDesc, MessageParseError, OutOfMemory, Protocol,
     ProtocolError, Text, Token,
 };
-
-/// The event of that opcode of the object that the number holds.
-pub fn event_desc<'p, U: Drop>(
-    protocol: &'p Protocol,
-    objects: &ObjectMap<Kept<U>>,
-    sender: u32,
-    opcode: u16,
-) -> Option<&'p MessageDesc>
-    ensures { option_map message_row (option_copied result) ≡ row_in protocol.now (held objects.now.store sender) opcode }
-{
-    let object = objects.find(sender)?;
-    let interface = protocol.get(object.interface)?;
-    interface.events.get(opcode as usize)
-}
-
-/// Reads the message at the front under the signature.
-pub fn read_under<T>(
-    socket: &mut BufferedSocket<T>,
-    signature: &[ArgumentType],
-) -> Result<Message<u32, Token>, MessageParseError>
-    ensures { ReadOne (λ _ _ found. found ≡ Some signature.now) socket.old (read_content result) socket.new }
-{
-    socket.read_one_message(|_, _| Some(signature))
-}
 
 /// What is stored where an event has a fault: code 0, object 0, no interface, and the fault's text.
 #[cold]
@@ -105,18 +81,4 @@ pub fn told_error<U: Drop>(
         object_interface: Text::new(String::from_str(alloc, name)?),
         message: Text::new(text.to_string_lossy(alloc)?),
     })
-}
-
-/// The server gave up the number: an object that the client destroyed leaves the map, another is flagged.
-pub fn delete_id<U: Drop>(objects: &mut ObjectMap<Kept<U>>, number: u32)
-    ensures { objects.new.store ≡ deleted objects.old.store number }
-{
-    let Some(object) = objects.find(number) else {
-        return;
-    };
-    if object.value.client_destroyed {
-        objects.remove(number);
-        return;
-    }
-    objects.with(number, |object| object.value.server_destroyed = true);
 }

@@ -1,10 +1,10 @@
 use Rattle.wl_client.specs.Turns.{Live}
 use Rattle.wl_client.proofs.Readings.{So}
-use Rattle.wl_client.proofs.session.Session.read_event.Given as goal
+use Rattle.wl_client.proofs.backend.Backend.read_event.Given as goal
 
 -- where the receives that are left may lead, all may
 abbrev pub invariant-loop-used : goal.invariant-loop-used
 invariant-loop-used g l = record {
-  live : Live l.self;
-  leads : So g.T.Transport.sends g.T.Transport.receives l.fn.self l.used l.self;
+  live : Live l.self.session;
+  leads : So g.T.Transport.sends g.T.Transport.receives l.fn.self.session l.used l.self.session;
 }

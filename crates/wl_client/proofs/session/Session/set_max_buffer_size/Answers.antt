@@ -1,6 +1,0 @@
-use Rattle.std.proofs.Common.{refl}
-use Rattle.wl_client.proofs.session.Session.set_max_buffer_size.Goals as goal
-
-pub returns : goal.returns
-returns g c =
-    rw (← c.self.view_is) (c.set_max_buffer_size.new.self, c.set_max_buffer_size.ensures, refl)

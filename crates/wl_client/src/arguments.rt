@@ -1,0 +1,197 @@
+//! The arguments of an event, and what they do to the objects of a session.
+
+ghost use Rattle.std.specs.Prelude.{◌≡◌, ◌+◌, ◌<◌, false, true, Ok, Err, IfOk, MatchResult, length, reverse};
+ghost use Rattle.smallvec.specs.SmallVec.{HasRoomFor};
+ghost use Rattle.wl_link.specs.Store.{is_free};
+ghost use Rattle.wl_wire.specs.Asked.{next_interface, rest_of};
+ghost use Rattle.wl_client.specs.Events.{Wrong, convert, object_argument, vacated};
+ghost use Rattle.wl_client.specs.Conversion.{CanMake, Converts, EndsWhole, Makes, objects_in, state};
+
+use crate::event_fault::EventFault;
+use crate::kept::Kept;
+use crate::object_id::ObjectId;
+use smallvec::SmallVec;
+use wl_link::{InsertError, Object, ObjectMap, SERVER_ID_LIMIT};
+use wl_wire::{
+    ANONYMOUS_INTERFACE, Argument, INLINE_ARGS, InterfaceId, Token, same_interface_or_anonymous,
+};
+
+/// What the making of an object has to know of the receiver of the event.
+#[derive(Clone, Copy)]
+pub struct Receiver {
+    /// Its version.
+    pub version: u32,
+    /// Whether the client destroyed it.
+    pub client_destroyed: bool,
+}
+
+/// How far the arguments of an event were gone through.
+#[derive(Clone, Copy)]
+pub struct Progress<'a> {
+    /// The interfaces of the table that no object argument took yet.
+    pub asked: &'a [InterfaceId],
+    /// The interface of the object that the event may yet make.
+    pub child: Option<InterfaceId>,
+    /// The object that it made.
+    pub created: Option<ObjectId>,
+}
+
+/// The id that the number of an object becomes, where the table asks for this interface.
+fn object_argument<U: Drop>(
+    objects: &ObjectMap<Kept<U>>,
+    asked: InterfaceId,
+    number: u32,
+) -> Result<ObjectId, EventFault>
+    ensures { result ≡ object_argument objects.now.store asked number }
+{
+    if number == 0 {
+        return Ok(ObjectId::null());
+    }
+    let Some(object) = objects.find(number) else {
+        return Err(EventFault::UnknownObject(number));
+    };
+    if !same_interface_or_anonymous(asked, object.interface) {
+        return Err(EventFault::WrongInterface(number, asked, object.interface));
+    }
+    Ok(ObjectId::from_parts(number, object.value.serial, object.interface))
+}
+
+/// Frees the number where the client destroyed its object.
+fn vacate<U: Drop>(objects: &mut ObjectMap<Kept<U>>, number: u32)
+    requires { 0 < number }
+    ensures store { objects.new.store ≡ vacated objects.old.store number }
+    ensures kept { is_free objects.new.store number ≡ false → objects.new.store ≡ objects.old.store }
+    ensures reserved { objects.new.reserved ≡ objects.old.reserved }
+{
+    let Some(object) = objects.find(number) else {
+        return;
+    };
+    if !object.value.client_destroyed {
+        return;
+    }
+    objects.remove(number);
+}
+
+/// Makes the object of a new id, and answers its id; `None` where the server may make none at that number, or where
+/// no serial is left. Then nothing is changed.
+fn make_object<U: Drop>(
+    objects: &mut ObjectMap<Kept<U>>,
+    last_serial: &mut u64,
+    receiver: Receiver,
+    interface: InterfaceId,
+    number: u32,
+) -> Option<ObjectId>
+    requires { objects.old.reserved ≡ true }
+    ensures { Makes (objects_in objects.old last_serial.old) receiver.version receiver.client_destroyed interface number result
+        (objects_in objects.new last_serial.new) }
+{
+    if number < SERVER_ID_LIMIT || *last_serial == u64::MAX {
+        return None;
+    }
+    vacate(objects, number);
+    let serial = *last_serial + 1;
+    let object = Object {
+        interface,
+        version: receiver.version,
+        value: Kept {
+            serial,
+            user_data: None,
+            client_destroyed: receiver.client_destroyed,
+            server_destroyed: false,
+        },
+    };
+    match objects.insert_at(number, object) {
+        Ok(()) => {
+            *last_serial = serial;
+            Some(ObjectId::from_parts(number, serial, interface))
+        }
+        Err(InsertError::NotFree) => None,
+        Err(InsertError::OutOfMemory) => unreachable!(),
+    }
+}
+
+/// The next of the interfaces that the table asks for, which is taken.
+fn take_asked(progress: &mut Progress<'_>) -> InterfaceId
+    ensures next { result ≡ next_interface progress.old.asked.now }
+    ensures rest { progress.new.asked.now ≡ rest_of progress.old.asked.now }
+    ensures child { progress.new.child ≡ progress.old.child }
+    ensures created { progress.new.created ≡ progress.old.created }
+{
+    match progress.asked.split_first() {
+        Some((next, rest)) => {
+            progress.asked = rest;
+            *next
+        }
+        None => ANONYMOUS_INTERFACE,
+    }
+}
+
+/// What an argument of an event becomes.
+fn convert_one<U: Drop>(
+    objects: &mut ObjectMap<Kept<U>>,
+    last_serial: &mut u64,
+    receiver: Receiver,
+    progress: &mut Progress<'_>,
+    arg: Argument<u32, Token>,
+) -> Result<Argument<ObjectId, Token>, EventFault>
+    requires { CanMake progress.old objects.old }
+    ensures converts { Converts receiver.version receiver.client_destroyed (state objects.old last_serial.old progress.old) arg result
+        (state objects.new last_serial.new progress.new) }
+    ensures can_make { IfOk result (λ _. CanMake progress.new objects.new) }
+{
+    match arg {
+        Argument::Int(value) => Ok(Argument::Int(value)),
+        Argument::Uint(value) => Ok(Argument::Uint(value)),
+        Argument::Fixed(value) => Ok(Argument::Fixed(value)),
+        Argument::Str(text) => Ok(Argument::Str(text)),
+        Argument::Array(bytes) => Ok(Argument::Array(bytes)),
+        Argument::Fd(token) => Ok(Argument::Fd(token)),
+        Argument::Object(number) => {
+            let asked = take_asked(progress);
+            match object_argument(objects, asked, number) {
+                Ok(id) => Ok(Argument::Object(id)),
+                Err(fault) => Err(fault),
+            }
+        }
+        Argument::NewId(number) => {
+            let Some(interface) = progress.child else {
+                return Err(EventFault::InvalidNewId(number, ANONYMOUS_INTERFACE));
+            };
+            match make_object(objects, last_serial, receiver, interface, number) {
+                Some(id) => {
+                    progress.child = None;
+                    progress.created = Some(id);
+                    Ok(Argument::NewId(id))
+                }
+                None => Err(EventFault::InvalidNewId(number, interface)),
+            }
+        }
+    }
+}
+
+/// What the arguments of an event become, from left to right; `args` has the last of them first. The answer is the
+/// object that the event makes.
+pub fn convert<U: Drop>(
+    objects: &mut ObjectMap<Kept<U>>,
+    last_serial: &mut u64,
+    receiver: Receiver,
+    progress: &mut Progress<'_>,
+    args: SmallVec<Argument<u32, Token>, INLINE_ARGS>,
+    converted: &mut SmallVec<Argument<ObjectId, Token>, INLINE_ARGS>,
+) -> Result<Option<ObjectId>, EventFault>
+    requires can_make { CanMake progress.old objects.old }
+    requires room { HasRoomFor converted.old (length args.items) }
+    ensures { MatchResult result
+        (λ created. EndsWhole
+        (convert receiver.version receiver.client_destroyed (state objects.old last_serial.old progress.old) converted.old.items (reverse args.items))
+        (objects_in objects.new last_serial.new) created converted.new.items)
+        (λ wrong. convert receiver.version receiver.client_destroyed (state objects.old last_serial.old progress.old) converted.old.items (reverse args.items)
+        ≡ Wrong wrong (objects_in objects.new last_serial.new)) }
+{
+    let mut args = args;
+    while let Some(arg) = args.pop() {
+        let converted_arg = convert_one(objects, last_serial, receiver, progress, arg)?;
+        converted.push_reserved(converted_arg);
+    }
+    Ok(progress.created)
+}
