@@ -22,6 +22,7 @@ use Rattle.wl_link.specs.Exchange.{Queue}
 use Rattle.wl_link.specs.Identity.{Objects, Change, Born, Gone, Wrote, Ended, Made, StepOwns, named_in, names}
 use Rattle.wl_link.specs.IdentityLaw.{born_first, born_later, made_first, made_later}
 use Rattle.wl_link.specs.Reader.{Given, HandedOut, Queued}
+use Rattle.wl_link.specs.Refusals.{first_refusal, when}
 use Rattle.wl_link.specs.Script.{Script, ScriptSends, ScriptReceives}
 use Rattle.wl_link.specs.Store.{Store, held, is_free, is_server_number, removed, rewritten, stored}
 use Rattle.wl_link.specs.StoreLaws.{stored_here, stored_other}
@@ -40,13 +41,13 @@ use Rattle.wl_client.specs.declared.step.Step.{Step}
 use Rattle.wl_client.specs.declared.step.Step.TheVariants as step
 use Rattle.wl_client.specs.ObjectId.{IdParts}
 use Rattle.wl_client.specs.Events.{Converting, Converted, Outcome, Whole, Wrong, object_argument_of, is_destroyed, vacated, is_valid_new, made_object, with_object_argument, with_new_at, with_new_argument, convert_one, going_on, convert, start, DisplayEvent, Fails, Deletes, Unreadable, display_event, after_delete}
-use Rattle.wl_client.specs.Finish.{Closes, Finishes, FlushEnds, SessionFlushed, after_destructor, data_given, with_data_for, with_dead}
+use Rattle.wl_client.specs.Finish.{Closes, Finishes, FlushEnds, SessionFlushed, after_destructor, data_given, refusal, with_data_for, with_dead}
 use Rattle.wl_client.specs.Handed.{Found, HandedId, IsHandedIn, New, argument_ids, ended_notes, event_ids, ids_in, is_over, note_ids, notes_in, request_ids}
 use Rattle.wl_client.specs.Objects.{DataSet, DestroyedBy, destroyable}
 use Rattle.wl_client.specs.Handling.{Handling, Swallows, HandsOut, event_of, handed, handling, objects_after, of_converted, of_display, of_event, opened_of, row_in}
 use Rattle.wl_client.specs.Reading.{Core, NextEvent, event_content, handed_by, objects_in as cored}
 use Rattle.wl_client.specs.ReadingLaws.{SeesObjects, next_event_respects}
-use Rattle.wl_client.specs.Requests.{Numbered, Requested, error_after, Sent, SentAs, SentWithChild, SessionMessage, Spec, Written, checked_opcode, checked_sender, ended_by, id_of_new, lacked_memory, new_child, number_of_new, request_check, session_content, wire_message, with_born, with_ended}
+use Rattle.wl_client.specs.Requests.{Numbered, Requested, error_after, Sent, SentAs, SentWithChild, SessionMessage, Spec, Written, checked_row, checked_sender, ended_by, grant, id_of_new, lacked_memory, new_child, number_of_new, request_check, session_content, unless, wire_message, with_born, with_ended}
 use Rattle.wl_client.specs.Session.{SessionState, alive, id_at, id_of, last_possible_serial, named, noted, null_parts, objects_of, serial_of, with_flags, with_user_data}
 use Rattle.wl_client.specs.Steps.{StepOf}
 
@@ -603,13 +604,13 @@ module _ {T U : Type 0} where
 
     -- the sender of a request that is granted
     sender_alive : (x : Object (Kept U)) (row : Option MessageRow) (has_data : Bool) (spec : Option Spec) (g : Granted)
-        → checked_opcode s.table s.store x row m has_data spec ≡ Ok g → is_over x.value ≡ false
+        → checked_row s.table s.store x row m has_data spec ≡ Ok g → is_over x.value ≡ false
     sender_alive x None has_data spec g e = absurd (true≢false (sym (ap is_ok e)))
-    sender_alive x (Some row) has_data spec g e = go x.value.client_destroyed _ e
+    sender_alive x (Some row) has_data spec g e = go x.value.client_destroyed _ (grant row x.version spec) e
       where
-        go : (b : Bool) (rest : Result Granted RequestError) → cond b (Err refused.InvalidId) rest ≡ Ok g → b ≡ false
-        go true rest e = absurd (true≢false (sym (ap is_ok e)))
-        go false rest e = refl
+        go : (b : Bool) (rest : List (Option RequestError)) (h : Granted) → unless (first_refusal (when b refused.InvalidId ∷ rest)) h ≡ Ok g → b ≡ false
+        go true rest h e = absurd (true≢false (sym (ap is_ok e)))
+        go false rest h e = refl
 
     ended_alive : (has_data : Bool) (spec : Option Spec) (g : Granted) → request_check s.table s.store m has_data spec ≡ Ok g
         → (b : Bool) → IsAlive s (ended_by s.store m b)
@@ -672,17 +673,9 @@ module _ {T U : Type 0} where
       elim (either_option s.open_event h) [
         | inl (none, (is, same)) ↦ quiet s s after same (still (holding s))
         | inr (event, some, g) ↦
-            elim (either_option event.created g) [
-              | inl (none, f) ↦
-                  elim (either_option u f) [
-                    | inl (empty, end) ↦ closes s event u answer after end
-                    | inr (d, given, (is, same)) ↦ quiet s s after same (still (holding s))
-                  ]
-              | inr (id, made, f) ↦
-                  elim (either_option u f) [
-                    | inl (empty, (is, same)) ↦ quiet s s after same (still (holding s))
-                    | inr (d, given, end) ↦ closes s event u answer after end
-                  ]
+            elim (either_option (refusal event.created u) g) [
+              | inl (none, end) ↦ closes s event u answer after end
+              | inr (e, refuses, (is, same)) ↦ quiet s s after same (still (holding s))
             ]
       ]
 

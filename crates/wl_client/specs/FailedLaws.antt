@@ -24,7 +24,7 @@ use Rattle.wl_client.specs.declared.step.Step.{Step}
 use Rattle.wl_client.specs.declared.step.Step.TheVariants as step
 use Rattle.wl_client.specs.ObjectId.{IdParts}
 use Rattle.wl_client.specs.Failed.{AnswersFailed, StaysFailed}
-use Rattle.wl_client.specs.Finish.{Closes, Finishes, SessionFlushed, after_destructor, with_data_for, with_dead}
+use Rattle.wl_client.specs.Finish.{Closes, Finishes, SessionFlushed, refusal, after_destructor, with_data_for, with_dead}
 use Rattle.wl_client.specs.Objects.{DataSet, DestroyedBy, destroyable}
 use Rattle.wl_client.specs.Reading.{NextEvent, event_content}
 use Rattle.wl_client.specs.Requests.{Numbered, Requested, Sent, SentAs, SentWithChild, SessionMessage, Spec, Written, ended_by, error_after, lacked_memory, new_child, number_of_new, request_check, session_content, wire_message, with_born, with_ended}
@@ -135,17 +135,9 @@ module _ {T U : Type 0} where
       elim (either_option s.open_event h) [
         | inl (none, (is, same)) ↦ lands after _ same failed
         | inr (event, some, g) ↦
-            elim (either_option event.created g) [
-              | inl (none, f) ↦
-                  elim (either_option u f) [
-                    | inl (empty, end) ↦ closes s event u answer after failed end
-                    | inr (d, given, (is, same)) ↦ lands after _ same failed
-                  ]
-              | inr (id, made, f) ↦
-                  elim (either_option u f) [
-                    | inl (empty, (is, same)) ↦ lands after _ same failed
-                    | inr (d, given, end) ↦ closes s event u answer after failed end
-                  ]
+            elim (either_option (refusal event.created u) g) [
+              | inl (none, end) ↦ closes s event u answer after failed end
+              | inr (e, refuses, (is, same)) ↦ lands after _ same failed
             ]
       ]
 

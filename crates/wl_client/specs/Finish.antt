@@ -1,10 +1,11 @@
 -- What the end of an event does, and a flush.
-use Rattle.std.specs.Prelude.{◌≡◌, ℕ, ◌⊎◌, true, if◌then◌else◌, Option, None, Some, IsSome, Result, Ok, Err, MatchOption}
+use Rattle.std.specs.Prelude.{◌≡◌, ℕ, ◌⊎◌, true, ◌&&◌, [], ◌∷◌, if◌then◌else◌, Option, None, Some, IsSome, is_none, is_some, Result, Ok, Err, MatchOption}
 use Rattle.wl_wire.specs.declared.error.IoFault.{IoFault}
 use Rattle.wl_wire.specs.declared.error.IoFault.TheVariants as fault
 use Rattle.wl_link.specs.declared.object.Object.{Object}
 use Rattle.wl_link.specs.Exchange.{Queue}
 use Rattle.wl_link.specs.Link.{LinkState, Flushed}
+use Rattle.wl_link.specs.Refusals.{first_refusal, when}
 use Rattle.wl_link.specs.Store.{Store, rewritten}
 use Rattle.wl_client.specs.declared.error.FinishError.{FinishError}
 use Rattle.wl_client.specs.declared.error.FinishError.TheVariants as finish
@@ -23,12 +24,14 @@ module _ {U : Type 0} where
   data_given store n None u = store
   data_given store n (Some x) u = rewritten store n (with_user_data u x)
 
-  -- why an event that made this object is not finished with these data, whatever memory there is
+  -- why an event that made this object is not finished with these data, whatever memory there is: data are given exactly
+  -- where it made one
   abbrev pub refusal : Option IdParts → Option U → Option FinishError
-  refusal None None = None
-  refusal None (Some _) = Some finish.UnexpectedData
-  refusal (Some _) None = Some finish.MissingObjectData
-  refusal (Some _) (Some _) = None
+  refusal created u =
+      first_refusal
+      (when (is_some created && is_none u) finish.MissingObjectData
+      ∷ when (is_none created && is_some u) finish.UnexpectedData
+      ∷ [])
 
 module _ {T U : Type 0} where
   -- an object is destroyed by both sides, and noted if the client had not destroyed it and it has user data
@@ -67,14 +70,12 @@ module _ {T U : Type 0} where
       ((answer ≡ Ok tt) × (after ≡ closed before event u))
       ⊎ (NotesEnd before event × Refuses before u finish.OutOfMemory answer after)
 
-  -- data are given exactly where the event made an object; a refusal gives them back, and the event stays open
+  -- a refusal gives the data back, and the event stays open
   abbrev pub Finishes : SessionState T U → Option U → Result (Unit {0}) (FinishRefused U) → SessionState T U → Type 0
   Finishes before u answer after =
       MatchOption before.open_event
       (Refuses before u finish.NoOpenEvent answer after)
-      (λ event. MatchOption event.created
-      (MatchOption u (Closes before event u answer after) (λ _. Refuses before u finish.UnexpectedData answer after))
-      (λ _. MatchOption u (Refuses before u finish.MissingObjectData answer after) (λ _. Closes before event u answer after)))
+      (λ event. MatchOption (refusal event.created u) (Closes before event u answer after) (λ e. Refuses before u e answer after))
 
   -- what a session makes of a fault of its flush: it is stored, unless more may be sent later
   abbrev pub FlushEnds : SessionState T U → Result (Unit {0}) IoFault → Result (Unit {0}) FlushError → SessionState T U → Type 0

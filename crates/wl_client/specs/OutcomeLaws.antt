@@ -27,7 +27,7 @@ use Rattle.wl_client.specs.declared.step.Reply.TheVariants as reply
 use Rattle.wl_client.specs.declared.step.Step.{Step}
 use Rattle.wl_client.specs.declared.step.Step.TheVariants as step
 use Rattle.wl_client.specs.ObjectId.{IdParts}
-use Rattle.wl_client.specs.Finish.{Closes, Finishes, FlushEnds, SessionFlushed}
+use Rattle.wl_client.specs.Finish.{Closes, Finishes, FlushEnds, refusal, SessionFlushed}
 use Rattle.wl_client.specs.Objects.{DataSet, DestroyedBy, destroyable}
 use Rattle.wl_client.specs.Reading.{event_content}
 use Rattle.wl_client.specs.ReadingLaws.{SameEnd, next_event_one, same_end}
@@ -199,17 +199,9 @@ module _ {T U : Type 0} where
         elim (both_option s.open_event h g) [
           | inl (none, (is, same), (is', same')) ↦ same_end is is' same same'
           | inr (event, some, h', g') ↦
-              elim (both_option event.created h' g') [
-                | inl (none, f, f') ↦
-                    elim (both_option u f f') [
-                      | inl (empty, end, end') ↦ closes_one event end end'
-                      | inr (d, given, (is, same), (is', same')) ↦ same_end is is' same same'
-                    ]
-                | inr (id, made, f, f') ↦
-                    elim (both_option u f f') [
-                      | inl (empty, (is, same), (is', same')) ↦ same_end is is' same same'
-                      | inr (d, given, end, end') ↦ closes_one event end end'
-                    ]
+              elim (both_option (refusal event.created u) h' g') [
+                | inl (none, end, end') ↦ closes_one event end end'
+                | inr (e, refuses, (is, same), (is', same')) ↦ same_end is is' same same'
               ]
         ]
 

@@ -222,17 +222,9 @@ module _ {T U : Type 0} where
       elim (both_option s.open_event h h) [
         | inl (none, (is, same), again) ↦ absurd (refused_not _ is)
         | inr (event, some, g, again) ↦
-            elim (both_option event.created g g) [
-              | inl (none, f, _) ↦
-                  elim (both_option u f f) [
-                    | inl (empty, end, _) ↦ (event, some, ap (λ c. refusal c u) none ∙ ap (λ (d : Option U). refusal None d) empty, closes_as s after event u end)
-                    | inr (d, given, (is, same), _) ↦ absurd (refused_not _ is)
-                  ]
-              | inr (id, made, f, _) ↦
-                  elim (both_option u f f) [
-                    | inl (empty, (is, same), _) ↦ absurd (refused_not _ is)
-                    | inr (d, given, end, _) ↦ (event, some, ap (λ c. refusal c u) made ∙ ap (λ (d : Option U). refusal (Some id) d) given, closes_as s after event u end)
-                  ]
+            elim (both_option (refusal event.created u) g g) [
+              | inl (fits, end, again) ↦ (event, some, fits, closes_as s after event u end)
+              | inr (e, refuses, (is, same), again) ↦ absurd (refused_not _ is)
             ]
       ]
 

@@ -1,5 +1,5 @@
 -- What a request does to a session.
-use Rattle.std.specs.Prelude.{◌≡◌, ℕ, ◌+◌, ◌<◌, ◌⊎◌, length, List, [], ◌∷◌, map, Bool, true, false, ◌==◌, slice_get, if◌then◌else◌, Option, None, Some, IsSome, is_some, option_map, Result, Ok, Err, MatchResult, MatchBool, MatchOption}
+use Rattle.std.specs.Prelude.{◌≡◌, ℕ, ◌+◌, ◌<◌, ◌⊎◌, length, List, [], ◌∷◌, map, Bool, true, false, not, ◌==◌, slice_get, if◌then◌else◌, Option, None, Some, IsSome, is_none, is_some, option_map, Result, Ok, Err, MatchResult, MatchBool, MatchOption}
 use Rattle.std.specs.List.{list_all}
 use Rattle.wl_wire.specs.declared.argument.AllowNull.{AllowNull}
 use Rattle.wl_wire.specs.declared.argument.AllowNull.TheVariants.{Yes, No}
@@ -18,6 +18,7 @@ use Rattle.wl_wire.specs.Table.{InterfaceRow, MessageRow}
 use Rattle.wl_link.specs.declared.object.Object.{Object}
 use Rattle.wl_link.specs.Exchange.{Queue}
 use Rattle.wl_link.specs.Link.{LinkState, Wrote}
+use Rattle.wl_link.specs.Refusals.{first_refusal, when}
 use Rattle.wl_link.specs.Store.{Store, client_range, stored, IsLeastAbsent, IsFull}
 use Rattle.wl_wire.specs.Asked.{creates, fits, left_after, matches, next_interface, request_row}
 use Rattle.wl_client.specs.declared.error.RequestError.{RequestError}
@@ -45,22 +46,23 @@ session_content m = record { sender = m.sender_id; opcode = m.opcode; args = m.a
 abbrev pub Spec : Type 0
 Spec = InterfaceId × ℕ
 
--- what a request creates for which the caller names an interface and a version
-abbrev pub named_child : Option InterfaceId → Spec → ℕ → Result Spec RequestError
-named_child None spec version = Ok spec
-named_child (Some child) spec version =
-    if child.0 == spec.0.0 then (if version == spec.1 then Ok spec else Err refused.WrongChildVersion) else Err refused.WrongChild
+-- what a request with a new id creates: as the caller says, or else as the table says, of the sender's version
+abbrev pub child_of : MessageRow → ℕ → Option Spec → Option Spec
+child_of row version (Some spec) = Some spec
+child_of row version None = option_map (λ child. (child, version)) row.child_interface
 
--- what a request creates for which the caller names none
-abbrev pub known_child : Option InterfaceId → ℕ → Result Spec RequestError
-known_child None version = Err refused.MissingChildSpec
-known_child (Some child) version = Ok (child, version)
+abbrev pub names_no_interface : List InterfaceRow → Option Spec → Bool
+names_no_interface table None = false
+names_no_interface table (Some spec) = is_none (slice_get table spec.0.0)
 
--- what a request with a new id creates: as the caller says and the table allows, or else as the table says
-abbrev pub child_of : List InterfaceRow → MessageRow → ℕ → Option Spec → Result Spec RequestError
-child_of table row version None = known_child row.child_interface version
-child_of table row version (Some spec) =
-    if is_some (slice_get table spec.0.0) then named_child row.child_interface spec version else Err refused.UnknownInterface
+-- the caller and the table say another interface, or the caller says another version than the sender's
+abbrev pub differ : Option InterfaceId → Option Spec → Bool
+differ (Some child) (Some spec) = not (child.0 == spec.0.0)
+differ _ _ = false
+
+abbrev pub differ_in_version : Option InterfaceId → ℕ → Option Spec → Bool
+differ_in_version (Some child) version (Some spec) = not (version == spec.1)
+differ_in_version _ version _ = false
 
 -- a new id is null until the session gives it a number
 abbrev pub is_placeholder : Argument IdParts Token → Bool
@@ -97,44 +99,49 @@ first_fault store (k ∷ kinds) asked [] = None
 first_fault store (k ∷ kinds) asked (a ∷ args) =
     fault_or (argument_fault store k (next_interface asked) a) (first_fault store kinds (left_after a asked) args)
 
-abbrev pub placed_child : Result Spec RequestError → Bool → Bool → Result (Option Spec) RequestError
-placed_child (Err e) has_data placeholders = Err e
-placed_child (Ok child) has_data placeholders =
-    if has_data then (if placeholders then Ok (Some child) else Err refused.NotPlaceholder) else Err refused.MissingObjectData
+-- why a request that creates an object is refused for what it creates, in the order in which that is looked at
+abbrev pub child_refusals : List InterfaceRow → MessageRow → ℕ → Option Spec → Bool → List (Argument IdParts Token) → List (Option RequestError)
+child_refusals table row version spec has_data args =
+    when (is_none (child_of row version spec)) refused.MissingChildSpec
+    ∷ when (names_no_interface table spec) refused.UnknownInterface
+    ∷ when (differ row.child_interface spec) refused.WrongChild
+    ∷ when (differ_in_version row.child_interface version spec) refused.WrongChildVersion
+    ∷ when (not has_data) refused.MissingObjectData
+    ∷ when (not (list_all is_placeholder args)) refused.NotPlaceholder
+    ∷ []
 
--- what is looked at only where the request creates an object: that its interface and version can be told, that it gets
--- user data, and that its id is a placeholder
-abbrev pub checked_child : List InterfaceRow → MessageRow → ℕ → Option Spec → Bool → List (Argument IdParts Token)
-    → Result (Option Spec) RequestError
-checked_child table row version spec has_data args =
-    if creates row then placed_child (child_of table row version spec) has_data (list_all is_placeholder args) else Ok None
+-- what a request is granted that is not refused
+abbrev pub grant : MessageRow → ℕ → Option Spec → Granted
+grant row version spec = record {
+  child = if creates row then child_of row version spec else None;
+  is_destructor = row.is_destructor;
+}
 
-abbrev pub granted : MessageRow → Option Spec → Option RequestError → Result Granted RequestError
-granted row child (Some e) = Err e
-granted row child None = Ok (record { child = child; is_destructor = row.is_destructor })
+abbrev pub unless : Option RequestError → Granted → Result Granted RequestError
+unless None g = Ok g
+unless (Some error) g = Err error
 
-abbrev pub checked_args : {U : Type 0} → Store (Kept U) → MessageRow → List (Argument IdParts Token)
-    → Result (Option Spec) RequestError → Result Granted RequestError
-checked_args store row args (Err e) = Err e
-checked_args store row args (Ok child) = granted row child (first_fault store row.signature row.arg_interfaces args)
-
--- what is looked at where sender and opcode are known, in this order
 module _ {U : Type 0} (table : List InterfaceRow) (store : Store (Kept U)) where
-  abbrev pub checked_row : Object (Kept U) → MessageRow → SessionMessage → Bool → Option Spec → Result Granted RequestError
-  checked_row sender row m has_data spec =
-      if sender.value.client_destroyed then Err refused.InvalidId
-      else (if matches row.signature m.args
-      then checked_args store row m.args (checked_child table row sender.version spec has_data m.args)
-      else Err refused.BadSignature)
+  -- why a request of that sender and row is refused, in the order in which that is looked at
+  abbrev pub refusals : Object (Kept U) → MessageRow → SessionMessage → Bool → Option Spec → List (Option RequestError)
+  refusals sender row m has_data spec =
+      when sender.value.client_destroyed refused.InvalidId
+      ∷ when (not (matches row.signature m.args)) refused.BadSignature
+      ∷ (if creates row then first_refusal (child_refusals table row sender.version spec has_data m.args) else None)
+      ∷ first_fault store row.signature row.arg_interfaces m.args
+      ∷ []
 
-  abbrev pub checked_opcode : Object (Kept U) → Option MessageRow → SessionMessage → Bool → Option Spec → Result Granted RequestError
-  checked_opcode sender None m has_data spec = Err refused.UnknownOpcode
-  checked_opcode sender (Some row) m has_data spec = checked_row sender row m has_data spec
+  -- an opcode that the sender's interface lacks is looked at before that
+  abbrev pub checked_row : Object (Kept U) → Option MessageRow → SessionMessage → Bool → Option Spec → Result Granted RequestError
+  checked_row sender None m has_data spec = Err refused.UnknownOpcode
+  checked_row sender (Some row) m has_data spec =
+      unless (first_refusal (refusals sender row m has_data spec)) (grant row sender.version spec)
 
+  -- and a sender that the id does not name before all
   abbrev pub checked_sender : Option (Object (Kept U)) → SessionMessage → Bool → Option Spec → Result Granted RequestError
   checked_sender None m has_data spec = Err refused.InvalidId
   checked_sender (Some sender) m has_data spec =
-      checked_opcode sender (request_row table sender.interface m.opcode) m has_data spec
+      checked_row sender (request_row table sender.interface m.opcode) m has_data spec
 
   -- what the request is granted, or the first reason for which it is refused
   abbrev pub request_check : SessionMessage → Bool → Option Spec → Result Granted RequestError

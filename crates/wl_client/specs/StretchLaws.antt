@@ -31,7 +31,7 @@ use Rattle.wl_client.specs.declared.step.Step.{Step}
 use Rattle.wl_client.specs.declared.step.Step.TheVariants as step
 use Rattle.wl_client.specs.ObjectId.{IdParts}
 use Rattle.wl_client.specs.Events.{error_of}
-use Rattle.wl_client.specs.Finish.{Closes, Finishes, closed, with_data_for, with_dead}
+use Rattle.wl_client.specs.Finish.{Closes, Finishes, closed, refusal, with_data_for, with_dead}
 use Rattle.wl_client.specs.Handling.{Handling, Swallows, HandsOut, Breaks, handling}
 use Rattle.wl_client.specs.Reading.{Core, NextEvent, answered, client, core_of, event_content, faulted, handed_by, objects_in, part_of, reads_on, receives_allowed, verdict}
 use Rattle.wl_client.specs.ReadingLaws.{finish_as, finish_ends}
@@ -258,17 +258,9 @@ module _ {U : Type 0} where
       elim (both_option s.open_event h h) [
         | inl (none, (is, same), again) ↦ same
         | inr (event, some, g, again) ↦
-            elim (both_option event.created g g) [
-              | inl (none, f, _) ↦
-                  elim (both_option u f f) [
-                    | inl (empty, end, _) ↦ closes_refused s mid event u e end
-                    | inr (d, given, (is, same), _) ↦ same
-                  ]
-              | inr (id, made, f, _) ↦
-                  elim (both_option u f f) [
-                    | inl (empty, (is, same), _) ↦ same
-                    | inr (d, given, end, _) ↦ closes_refused s mid event u e end
-                  ]
+            elim (both_option (refusal event.created u) g g) [
+              | inl (fits, end, _) ↦ closes_refused s mid event u e end
+              | inr (error, refuses, (is, same), _) ↦ same
             ]
       ]
 

@@ -4,7 +4,8 @@ ghost use Rattle.std.specs.Prelude.{◌≡◌, option_copied, option_map};
 ghost use Rattle.std.specs.List.{list_all};
 ghost use Rattle.wl_wire.specs.Table.{message_row};
 ghost use Rattle.wl_wire.specs.Asked.{creates, left_after, matches, next_interface, request_row};
-ghost use Rattle.wl_client.specs.Requests.{child_of, named_child, is_placeholder, object_fault, argument_fault, first_fault, checked_child, checked_row, request_check, session_content};
+ghost use Rattle.wl_link.specs.Refusals.{first_refusal};
+ghost use Rattle.wl_client.specs.Requests.{child_of, child_refusals, is_placeholder, object_fault, argument_fault, first_fault, grant, refusals, request_check, session_content};
 
 use crate::error::RequestError;
 use crate::kept::Kept;
@@ -23,42 +24,6 @@ pub struct Granted {
     pub child: Option<(InterfaceId, u32)>,
     /// Whether it ends its sender.
     pub is_destructor: bool,
-}
-
-/// What the caller asks for the new object, where the table allows it.
-fn named_child(
-    child: Option<InterfaceId>,
-    spec: (InterfaceId, u32),
-    version: u32,
-) -> Result<(InterfaceId, u32), RequestError>
-    ensures { result ≡ named_child child spec version }
-{
-    match child {
-        None => Ok(spec),
-        Some(child) if child.0 != spec.0.0 => Err(RequestError::WrongChild),
-        Some(_) if version != spec.1 => Err(RequestError::WrongChildVersion),
-        Some(_) => Ok(spec),
-    }
-}
-
-/// The interface and the version of the object that a request with a new id creates: as the caller says and the table
-/// allows, or else as the table says. `version` is that of the sender.
-fn child_of(
-    protocol: &Protocol,
-    desc: &MessageDesc,
-    version: u32,
-    spec: Option<(InterfaceId, u32)>,
-) -> Result<(InterfaceId, u32), RequestError>
-    ensures { result ≡ child_of protocol.now (message_row desc.now) version spec }
-{
-    match (spec, desc.child_interface) {
-        (None, None) => Err(RequestError::MissingChildSpec),
-        (None, Some(child)) => Ok((child, version)),
-        (Some((interface, _)), _) if protocol.get(interface).is_none() => {
-            Err(RequestError::UnknownInterface)
-        }
-        (Some(spec), child) => named_child(child, spec, version),
-    }
 }
 
 /// Whether the request creates an object.
@@ -165,30 +130,56 @@ fn first_fault<U: Drop>(
     None
 }
 
-/// What the request creates, where its interface and version can be told, it gets user data, and its id is null.
-fn checked_child(
+/// What a request with a new id creates: as the caller says, or else as the table says. `version` is that of the sender.
+fn child_of(
+    desc: &MessageDesc,
+    version: u32,
+    spec: Option<(InterfaceId, u32)>,
+) -> Option<(InterfaceId, u32)>
+    ensures { result ≡ child_of (message_row desc.now) version spec }
+{
+    match (spec, desc.child_interface) {
+        (Some(spec), _) => Some(spec),
+        (None, Some(child)) => Some((child, version)),
+        (None, None) => None,
+    }
+}
+
+/// Why a request is refused for the object that it creates.
+fn child_refusal(
     protocol: &Protocol,
     desc: &MessageDesc,
     version: u32,
     spec: Option<(InterfaceId, u32)>,
     has_data: bool,
     args: &[Argument<ObjectId, Token>],
-) -> Result<Option<(InterfaceId, u32)>, RequestError>
-    ensures { result ≡ checked_child protocol.now (message_row desc.now) version spec has_data args.now }
+) -> Option<RequestError>
+    ensures { result ≡ first_refusal (child_refusals protocol.now (message_row desc.now) version spec has_data args.now) }
 {
-    if !creates(desc) {
-        return Ok(None);
+    match (spec, desc.child_interface) {
+        (None, None) => return Some(RequestError::MissingChildSpec),
+        (Some((interface, _)), _) if protocol.get(interface).is_none() => {
+            return Some(RequestError::UnknownInterface);
+        }
+        (Some((interface, _)), Some(child)) if child.0 != interface.0 => {
+            return Some(RequestError::WrongChild);
+        }
+        (Some((_, asked)), Some(_)) if version != asked => {
+            return Some(RequestError::WrongChildVersion);
+        }
+        _ => {}
     }
-    match child_of(protocol, desc, version, spec) {
-        Err(error) => Err(error),
-        Ok(_) if !has_data => Err(RequestError::MissingObjectData),
-        Ok(_) if !are_placeholders(args) => Err(RequestError::NotPlaceholder),
-        Ok(child) => Ok(Some(child)),
+    if !has_data {
+        return Some(RequestError::MissingObjectData);
     }
+    if !are_placeholders(args) {
+        return Some(RequestError::NotPlaceholder);
+    }
+    None
 }
 
-/// What the request is granted, or why it is refused, where it is of that sender and that description.
-fn checked_row<U: Drop>(
+/// Why the request is refused, where it is of that sender and that description.
+fn refusal<U: Drop>(
     protocol: &Protocol,
     objects: &ObjectMap<Kept<U>>,
     sender: &Object<Kept<U>>,
@@ -196,25 +187,36 @@ fn checked_row<U: Drop>(
     message: &Message<ObjectId, Token>,
     has_data: bool,
     spec: Option<(InterfaceId, u32)>,
-) -> Result<Granted, RequestError>
-    ensures { result ≡ checked_row protocol.now objects.now.store sender.now (message_row desc.now) (session_content message.now) has_data spec }
+) -> Option<RequestError>
+    ensures { result ≡ first_refusal (refusals protocol.now objects.now.store sender.now (message_row desc.now) (session_content message.now) has_data spec) }
 {
-    if sender.value.client_destroyed {
-        return Err(RequestError::InvalidId);
-    }
     let args = message.args.as_slice();
-    if !check_for_signature(&desc.signature, args) {
-        return Err(RequestError::BadSignature);
+    if sender.value.client_destroyed {
+        return Some(RequestError::InvalidId);
     }
-    match checked_child(protocol, desc, sender.version, spec, has_data, args) {
-        Err(error) => Err(error),
-        Ok(child) => match first_fault(objects, &desc.signature, &desc.arg_interfaces, args) {
-            Some(error) => Err(error),
-            None => Ok(Granted {
-                child,
-                is_destructor: desc.is_destructor,
-            }),
-        },
+    if !check_for_signature(&desc.signature, args) {
+        return Some(RequestError::BadSignature);
+    }
+    if creates(desc) {
+        if let Some(error) = child_refusal(protocol, desc, sender.version, spec, has_data, args) {
+            return Some(error);
+        }
+    }
+    first_fault(objects, &desc.signature, &desc.arg_interfaces, args)
+}
+
+/// What the request is granted, where it is not refused.
+fn grant(desc: &MessageDesc, version: u32, spec: Option<(InterfaceId, u32)>) -> Granted
+    ensures { result ≡ grant (message_row desc.now) version spec }
+{
+    let child = if creates(desc) {
+        child_of(desc, version, spec)
+    } else {
+        None
+    };
+    Granted {
+        child,
+        is_destructor: desc.is_destructor,
     }
 }
 
@@ -241,9 +243,12 @@ pub(crate) fn check_request<U: Drop>(
     let Some(sender) = named_in(objects, &message.sender_id) else {
         return Err(RequestError::InvalidId);
     };
-    match request_desc(protocol, sender.interface, message.opcode) {
-        None => Err(RequestError::UnknownOpcode),
-        Some(desc) => checked_row(protocol, objects, sender, desc, message, has_data, spec),
+    let Some(desc) = request_desc(protocol, sender.interface, message.opcode) else {
+        return Err(RequestError::UnknownOpcode);
+    };
+    match refusal(protocol, objects, sender, desc, message, has_data, spec) {
+        Some(error) => Err(error),
+        None => Ok(grant(desc, sender.version, spec)),
     }
 }
 

@@ -42,3 +42,4 @@ pub mod StretchLaws
 pub mod LogLaws
 pub mod FoundLaws
 pub mod TotalLaws
+pub mod Refusals
