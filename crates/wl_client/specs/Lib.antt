@@ -10,6 +10,7 @@ pub mod Finish
 pub mod Conversion
 pub mod Turns
 pub mod Steps
+pub mod Performing
 pub mod Client
 pub mod Handed
 pub mod ChangeLaws

@@ -3,7 +3,7 @@
 ghost use Rattle.std.specs.Prelude.{◌≡◌, IsSome, MatchOption, MatchResult};
 ghost use Rattle.wl_client.specs.Session.{alive, named};
 ghost use Rattle.wl_client.specs.Cutting.{CutsFinish};
-ghost use Rattle.wl_client.specs.Finish.{Finishes, with_dead, refusal};
+ghost use Rattle.wl_client.specs.Finish.{Finishes, with_data_for, with_dead, refusal};
 ghost use Rattle.wl_client.specs.Steps.{refused_finish};
 
 use crate::backend::Backend;
@@ -50,10 +50,18 @@ impl<T: Drop, U: Drop> Backend<T, U> {
             return Err(FinishRefused { error, user_data });
         }
         self.open_event = None;
-        if let (Some(id), Some(user_data)) = (event.created, user_data) {
+        self.give_created(event.created, user_data);
+        Ok(())
+    }
+
+    /// Gives the object that an event made, if it made one, these user data.
+    fn give_created(&mut self, created: Option<ObjectId>, user_data: Option<U>)
+        ensures given { self.new.session ≡ with_data_for self.old.session created user_data }
+        ensures refused { self.new.refused ≡ self.old.refused }
+    {
+        if let (Some(id), Some(user_data)) = (created, user_data) {
             let _ = give_data(&mut self.objects, &id, user_data);
         }
-        Ok(())
     }
 
     /// Marks the object that the id names as destroyed by both sides, and notes it if it has user data and the client

@@ -1,12 +1,13 @@
 //! Runs of calls over a transport by script.
 
-ghost use Rattle.std.specs.Prelude.{◌≡◌, ◌++◌, List, [], IfOk, IfErr, IsOk, is_err, length};
+ghost use Rattle.std.specs.Prelude.{◌≡◌, ◌++◌, List, [], true, false, IfOk, IfErr, IsOk, is_err, length};
 ghost use Rattle.wl_wire.specs.Table.{InterfaceRow};
 ghost use Rattle.wl_link.specs.Script.{Script};
 ghost use Rattle.wl_client.specs.Handed.{HasOwnIds};
 ghost use Rattle.wl_client.specs.Noted.{AccountsForStopped, NotesWhatEnded};
 ghost use Rattle.wl_client.specs.Replies.{SameReplies};
 ghost use Rattle.wl_client.specs.Session.{IsConnected, SessionState};
+ghost use Rattle.wl_client.specs.Performing.{IsOfScript};
 ghost use Rattle.wl_client.specs.Steps.{Entry, Leads, StepOf, StopsAt, entries};
 ghost use Rattle.wl_client.specs.Stretches.{IsServed, IsStretch};
 
@@ -15,6 +16,21 @@ use crate::step::{Reply, Step, Stopped};
 use wl_link::Memory;
 
 impl<U: Drop> Backend<Memory, U> {
+    /// Makes the call of a step of the transport by script.
+    fn perform_script(&mut self, step: Step<U>) -> Reply<U>
+        requires { IsOfScript step }
+        ensures { StepOf self.old.session step result self.new.refused self.new.session }
+    {
+        match step {
+            Step::Arrive(bytes, tokens) => Reply::Arrive(self.arrive(bytes, tokens)),
+            Step::ArriveFault(fault) => Reply::ArriveFault(self.arrive_fault(fault)),
+            Step::Accept(count) => Reply::Accept(self.accept(count)),
+            Step::AcceptFault(fault) => Reply::AcceptFault(self.accept_fault(fault)),
+            Step::TakeSent => Reply::TakeSent(self.take_sent()),
+            _ => unreachable!(),
+        }
+    }
+
     /// Makes the call of a step.
     fn perform(&mut self, step: Step<U>) -> Reply<U>
         ensures { StepOf self.old.session step result self.new.refused self.new.session }
@@ -34,11 +50,37 @@ impl<U: Drop> Backend<Memory, U> {
                 Reply::SetMaxBufferSize
             }
             Step::TakeNotes => Reply::TakeNotes(self.take_notes()),
-            Step::Arrive(bytes, tokens) => Reply::Arrive(self.arrive(bytes, tokens)),
-            Step::ArriveFault(fault) => Reply::ArriveFault(self.arrive_fault(fault)),
-            Step::Accept(count) => Reply::Accept(self.accept(count)),
-            Step::AcceptFault(fault) => Reply::AcceptFault(self.accept_fault(fault)),
-            Step::TakeSent => Reply::TakeSent(self.take_sent()),
+            Step::Arrive(..)
+            | Step::ArriveFault(_)
+            | Step::Accept(_)
+            | Step::AcceptFault(_)
+            | Step::TakeSent => self.perform_script(step),
+        }
+    }
+
+    /// Makes the calls of the steps, one after another, and puts their replies into the list, which is empty; up to the
+    /// step in which memory is refused. Room for the replies is made first.
+    fn perform_all(&mut self, steps: &mut Vec<Step<U>>, replies: &mut Vec<Reply<U>>)
+        requires { replies.old.items ≡ [] }
+        ensures none { steps.old.items ≡ [] → self.new.refused ≡ false }
+        ensures made { self.new.refused ≡ false →
+            Leads self.old.session (entries steps.old.items replies.new.items) self.new.session × (length replies.new.items ≡ length steps.old.items) }
+        ensures stopped { self.new.refused ≡ true → StopsAt self.old.session steps.old.items (length replies.new.items) replies.new.items self.new.session }
+    {
+        let Ok(()) = replies.reserve_exact(steps.len()) else {
+            self.refused = true;
+            return;
+        };
+        // The first step is then the last, which is taken out without moving the others.
+        steps.reverse();
+        self.refused = false;
+        while let Some(step) = steps.pop() {
+            let reply = self.perform(step);
+            if self.refused {
+                drop(reply);
+                return;
+            }
+            replies.push_reserved(reply);
         }
     }
 
@@ -79,29 +121,14 @@ impl<U: Drop> Backend<Memory, U> {
         ensures stopped { IfErr result (λ stopped. StopsAt self.old.session steps.items stopped.step stopped.replies.items self.new.session) }
         ensures refused { self.new.refused ≡ is_err result }
     {
-        let alloc = *self.notes.allocator();
-        let Ok(mut replies) = Vec::with_capacity(alloc, steps.len()) else {
-            self.refused = true;
+        let mut steps = steps;
+        let mut replies = Vec::new(*self.notes.allocator());
+        self.perform_all(&mut steps, &mut replies);
+        if self.refused {
             return Err(Stopped {
-                step: 0,
-                replies: Vec::new(alloc),
+                step: replies.len(),
+                replies,
             });
-        };
-        let mut rest = steps;
-        // The first step is then the last, which is taken out without moving the others.
-        rest.reverse();
-        self.refused = false;
-        while let Some(step) = rest.pop() {
-            let reply = self.perform(step);
-            if self.refused {
-                return Err(Stopped {
-                    step: replies.len(),
-                    replies,
-                });
-            }
-            let Ok(()) = replies.push(reply) else {
-                unreachable!();
-            };
         }
         Ok(replies)
     }

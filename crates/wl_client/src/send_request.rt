@@ -100,19 +100,19 @@ fn write<T: Transport>(
     }
 }
 
-/// Puts the new object, if there is one, at its number, and uses up its serial. The answer is its id.
+/// Takes the new object, if there is one, puts it at its number, and uses up its serial. The answer is its id.
 fn put_new<U: Drop>(
     objects: &mut ObjectMap<Kept<U>>,
     last_serial: &mut u64,
-    new: Option<(u32, Object<Kept<U>>)>,
+    new: &mut Option<(u32, Object<Kept<U>>)>,
 ) -> ObjectId
-    requires next { IfSome new (IsNext objects.old.store last_serial.old) }
-    requires room { IsSome new → objects.old.reserved ≡ true }
-    ensures store { objects.new.store ≡ store_with objects.old.store new }
-    ensures serial { last_serial.new ≡ serial_with last_serial.old new }
-    ensures id { result ≡ id_of_new new }
+    requires next { IfSome new.old (IsNext objects.old.store last_serial.old) }
+    requires room { IsSome new.old → objects.old.reserved ≡ true }
+    ensures store { objects.new.store ≡ store_with objects.old.store new.old }
+    ensures serial { last_serial.new ≡ serial_with last_serial.old new.old }
+    ensures id { result ≡ id_of_new new.old }
 {
-    let Some((number, object)) = new else {
+    let Some((number, object)) = new.take() else {
         return ObjectId::null();
     };
     let serial = object.value.serial;
@@ -154,6 +154,13 @@ fn end_sender<U: Drop>(
     }
 }
 
+/// Whether there was no memory for the request.
+fn lacks_memory(answer: &Result<ObjectId, RequestError>) -> bool
+    ensures { result ≡ refused_request answer.now }
+{
+    matches!(answer, Err(RequestError::OutOfMemory))
+}
+
 impl<T: Transport + Drop, U: Drop> Backend<T, U> {
     /// The next object of the client, with its number; nothing is changed.
     fn next_object(
@@ -181,15 +188,15 @@ impl<T: Transport + Drop, U: Drop> Backend<T, U> {
     fn send(
         &mut self,
         message: &Message<ObjectId, Token>,
-        new: Option<(u32, Object<Kept<U>>)>,
+        new: &mut Option<(u32, Object<Kept<U>>)>,
         is_destructor: bool,
     ) -> Result<ObjectId, RequestError>
-        requires { IfSome new (IsNext self.old.session.store self.old.session.last_serial) }
-        ensures { Sent T.sends self.old.session (session_content message.now) new
+        requires { IfSome new.old (IsNext self.old.session.store self.old.session.last_serial) }
+        ensures { Sent T.sends self.old.session (session_content message.now) new.old
             (ended_by self.old.session.store (session_content message.now) is_destructor) result self.new.session }
     {
         let ended = ended_sender(&self.objects, message, is_destructor);
-        let number = number_of(&new);
+        let number = number_of(new);
         let creates = new.is_some();
         let room = make_room(
             &mut self.objects,
@@ -221,7 +228,7 @@ impl<T: Transport + Drop, U: Drop> Backend<T, U> {
             (ended_by self.old.session.store (session_content message.now) is_destructor) result self.new.session }
     {
         let new = self.next_object(child, user_data)?;
-        self.send(message, Some(new), is_destructor)
+        self.send(message, &mut Some(new), is_destructor)
     }
 
     /// Sends a request that is granted; one that creates an object has user data for it.
@@ -236,7 +243,7 @@ impl<T: Transport + Drop, U: Drop> Backend<T, U> {
             (ended_by self.old.session.store (session_content message.now) granted.is_destructor) result self.new.session }
     {
         match (granted.child, user_data) {
-            (None, _) => self.send(message, None, granted.is_destructor),
+            (None, _) => self.send(message, &mut None, granted.is_destructor),
             (Some(_), None) => unreachable!(),
             (Some(child), Some(user_data)) => {
                 self.send_with_child(message, child, user_data, granted.is_destructor)
@@ -277,7 +284,7 @@ impl<T: Transport + Drop, U: Drop> Backend<T, U> {
             Ok(granted) => self.send_granted(&message, granted, user_data),
             Err(error) => Err(error),
         };
-        self.refused = matches!(answer, Err(RequestError::OutOfMemory));
+        self.refused = lacks_memory(&answer);
         answer
     }
 }

@@ -8,11 +8,11 @@ returns-then-is_err-2 g c =
     let m = session_content c.args.message.now in
     let wire = request_numbered c.number_of-number.result c.args.message.now ∙ ap (λ n. wire_message n m) c.number_of-number.ensures in
     rw (← c.self.view_is)
-    (sent_lacking g.T.Transport.sends _ m c.args.new _ c.write.result c.write.new.socket c.write.new.error wire c.write.ensures _ _ _ c.make_room-room.ensures.store c.make_room-room.ensures.notes (sym c.is_err-2.ensures.value ∙ c.if-is_err-2.true))
+    (sent_lacking g.T.Transport.sends _ m c.args.new.now _ c.write.result c.write.new.socket c.write.new.error wire c.write.ensures _ _ _ c.make_room-room.ensures.store c.make_room-room.ensures.notes (sym c.is_err-2.ensures.value ∙ c.if-is_err-2.true))
 
 pub returns : goal.returns
 returns g c =
     let m = session_content c.args.message.now in
     let wire = request_numbered c.number_of-number.result c.args.message.now ∙ ap (λ n. wire_message n m) c.number_of-number.ensures in
     rw (← c.self.view_is)
-    (sent_done g.T.Transport.sends _ m c.args.new _ c.write.result c.write.new.socket c.write.new.error wire c.write.ensures c.args.is_destructor _ _ _ _ _ _ _ _ (rw (← c.self.view_is) at c.requires) c.ended_sender-ended.ensures c.make_room-room.ensures.store c.put_new-id.ensures.store c.end_sender.ensures.store c.make_room-room.ensures.notes c.end_sender.ensures.notes c.put_new-id.ensures.serial c.put_new-id.ensures.id (sym c.is_err-2.ensures.value ∙ c.if-is_err-2.false))
+    (sent_done g.T.Transport.sends _ m c.args.new.now _ c.write.result c.write.new.socket c.write.new.error wire c.write.ensures c.args.is_destructor _ _ _ _ _ _ _ _ (rw (← c.self.view_is) at c.requires) c.ended_sender-ended.ensures c.make_room-room.ensures.store c.put_new-id.ensures.store c.end_sender.ensures.store c.make_room-room.ensures.notes c.end_sender.ensures.notes c.put_new-id.ensures.serial c.put_new-id.ensures.id (sym c.is_err-2.ensures.value ∙ c.if-is_err-2.false))

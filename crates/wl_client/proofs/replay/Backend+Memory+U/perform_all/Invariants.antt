@@ -2,14 +2,15 @@ use Rattle.std.proofs.Common.{◌≡◌, ◌+◌, ◌≤◌, false, length}
 use Rattle.std.specs.Prelude.{vec_len, vec_capacity}
 use Rattle.wl_link.specs.Runs.{MadeSoFar}
 use Rattle.wl_client.specs.Steps.{StepOf}
-use Rattle.wl_client.proofs.replay.Backend+Memory+U.replay.Given as goal
+use Rattle.wl_client.proofs.replay.Backend+Memory+U.perform_all.Given as goal
 
 abbrev pub invariant-loop-step : goal.invariant-loop-step
 invariant-loop-step g l = record {
-  so_far : MadeSoFar StepOf l.fn.self.session l.fn.steps.items l.replies.items l.rest.items l.self.session;
-  room : vec_len l.replies + vec_len l.rest ≤ vec_capacity l.replies;
+  so_far : MadeSoFar StepOf l.fn.self.session l.fn.steps.items l.replies.items l.steps.items l.self.session;
+  room : vec_len l.replies + vec_len l.steps ≤ vec_capacity l.replies;
+  fewer : vec_len l.steps ≤ vec_len l.fn.steps;
   calm : l.self.refused ≡ false;
 }
 
 abbrev pub decreases-loop-step : goal.decreases-loop-step
-decreases-loop-step g l = length l.rest.items
+decreases-loop-step g l = length l.steps.items
