@@ -102,23 +102,13 @@ fault_of i (suc (suc (suc (suc (suc zero))))) = fault.ArgInterfaces i
 fault_of i (suc (suc (suc (suc (suc (suc n)))))) = fault.OutOfMemory
 
 pub fault_of-rank : (e : TableError) → fault_of (place e) (rank e) ≡ e
-fault_of-rank (fault.ZeroInName i) = refl
-fault_of-rank (fault.DuplicateName i) = refl
-fault_of-rank (fault.UnknownInterface i) = refl
-fault_of-rank (fault.TooManyNewIds i) = refl
-fault_of-rank (fault.MissingChild i) = refl
-fault_of-rank (fault.ArgInterfaces i) = refl
 fault_of-rank fault.OutOfMemory = refl
+fault_of-rank _ = refl
 
 -- whether an interface has a fault goes by the fault's rank alone
 at_rank : (taken : Bool) (count : ℕ) (row : InterfaceRow) (e : TableError) → is_at_fault taken count row e ≡ is_at_fault taken count row (fault_of 0 (rank e))
-at_rank taken count row (fault.ZeroInName i) = refl
-at_rank taken count row (fault.DuplicateName i) = refl
-at_rank taken count row (fault.UnknownInterface i) = refl
-at_rank taken count row (fault.TooManyNewIds i) = refl
-at_rank taken count row (fault.MissingChild i) = refl
-at_rank taken count row (fault.ArgInterfaces i) = refl
 at_rank taken count row fault.OutOfMemory = refl
+at_rank taken count row _ = refl
 
 pub same_rank : (taken : Bool) (count : ℕ) (row : InterfaceRow) (e f : TableError) → rank e ≡ rank f → is_at_fault taken count row e ≡ is_at_fault taken count row f
 same_rank taken count row e f same =
@@ -139,13 +129,8 @@ pub LacksFirst-all : (taken : Bool) (count : ℕ) (row : InterfaceRow) → Lacks
 LacksFirst-all taken count row so_far = LacksFirst-more 6 taken count row fault.OutOfMemory so_far refl (no_want_of_memory taken count row)
 
 rank-small : (e : TableError) → rank e < 7
-rank-small (fault.ZeroInName i) = omega arith
-rank-small (fault.DuplicateName i) = omega arith
-rank-small (fault.UnknownInterface i) = omega arith
-rank-small (fault.TooManyNewIds i) = omega arith
-rank-small (fault.MissingChild i) = omega arith
-rank-small (fault.ArgInterfaces i) = omega arith
 rank-small fault.OutOfMemory = omega arith
+rank-small _ = omega arith
 
 -- ---- the faults of a table
 

@@ -12,10 +12,7 @@ use Rattle.wl_wire.specs.Argument.{WireArgument}
 use Rattle.wl_wire.specs.MapIds.{numbered, with_ids}
 use Rattle.wl_wire.specs.Message.{IsArgument, content, word, pad_len, counted, piece, pieces, token, tokens}
 use Rattle.wl_wire.specs.Buffer.{overwritten, counted_len, piece_len, token_count}
-
-pub length-word : (n : ℕ) → length (word n) ≡ 4
-unfolding word
-length-word n = refl
+use Rattle.wl_wire.specs.Laws.{length-word}
 
 word-zero : word 0 ≡ replicate 4 0
 unfolding word
@@ -40,36 +37,17 @@ length-piece (arg.Fd t) = refl
 -- ---- whatever the numbers of the ids are
 
 pub piece_len-with_ids : {Id : Type 0} (object_number new_number : Id → ℕ) (a : Argument Id Token) → piece_len (with_ids object_number new_number a) ≡ piece_len a
-piece_len-with_ids f g (arg.Int z) = refl
-piece_len-with_ids f g (arg.Uint n) = refl
-piece_len-with_ids f g (arg.Fixed z) = refl
-piece_len-with_ids f g (arg.Str None) = refl
-piece_len-with_ids f g (arg.Str (Some text)) = refl
-piece_len-with_ids f g (arg.Object id) = refl
-piece_len-with_ids f g (arg.NewId id) = refl
-piece_len-with_ids f g (arg.Array bytes) = refl
 piece_len-with_ids f g (arg.Fd t) = refl
+piece_len-with_ids f g _ = refl
 
 pub length-token-with_ids : {Id : Type 0} (object_number new_number : Id → ℕ) (a : Argument Id Token) → length (token (with_ids object_number new_number a)) ≡ token_count a
-length-token-with_ids f g (arg.Int z) = refl
-length-token-with_ids f g (arg.Uint n) = refl
-length-token-with_ids f g (arg.Fixed z) = refl
-length-token-with_ids f g (arg.Str text) = refl
-length-token-with_ids f g (arg.Object id) = refl
-length-token-with_ids f g (arg.NewId id) = refl
-length-token-with_ids f g (arg.Array bytes) = refl
 length-token-with_ids f g (arg.Fd t) = refl
+length-token-with_ids f g _ = refl
 
 -- an argument has one token at most
 pub token_count-few : {Id : Type 0} (a : Argument Id Token) → token_count a ≤ 1
-token_count-few (arg.Int z) = omega arith
-token_count-few (arg.Uint n) = omega arith
-token_count-few (arg.Fixed z) = omega arith
-token_count-few (arg.Str text) = omega arith
-token_count-few (arg.Object id) = omega arith
-token_count-few (arg.NewId id) = omega arith
-token_count-few (arg.Array bytes) = omega arith
 token_count-few (arg.Fd t) = omega arith
+token_count-few _ = omega arith
 
 pub length_pieces : {Id : Type 0} (object_number new_number : Id → ℕ) (args : List (Argument Id Token)) → length (pieces (map (with_ids object_number new_number) args)) ≡ sum_by piece_len args
 length_pieces f g [] = refl
@@ -82,14 +60,8 @@ length_tokens f g (a ∷ args) =
     omega (arith, length-append (token (with_ids f g a)) (tokens (map (with_ids f g) args)), length-token-with_ids f g a, length_tokens f g args, sum_by-cons token_count a args)
 
 own_argument : (a : WireArgument) → with_ids (λ n. n) (λ n. n) a ≡ a
-own_argument (arg.Int z) = refl
-own_argument (arg.Uint n) = refl
-own_argument (arg.Fixed z) = refl
-own_argument (arg.Str text) = refl
-own_argument (arg.Object n) = refl
-own_argument (arg.NewId n) = refl
-own_argument (arg.Array bytes) = refl
 own_argument (arg.Fd t) = refl
+own_argument _ = refl
 
 own_arguments : (args : List WireArgument) → map (with_ids (λ n. n) (λ n. n)) args ≡ args
 own_arguments [] = refl

@@ -13,7 +13,7 @@ use Rattle.wl_wire.specs.declared.argument.ArgumentType.TheVariants as kind
 use Rattle.wl_wire.specs.declared.argument.Argument.TheVariants as arg
 use Rattle.wl_wire.specs.declared.argument.Token.{Token}
 use Rattle.wl_wire.specs.Text.{HasNoZero}
-use Rattle.wl_wire.specs.Argument.{WireArgument}
+use Rattle.wl_wire.specs.Argument.{WireArgument, kind_of, type_of}
 use Rattle.wl_wire.specs.Message.{pad_len, token, tokens}
 use Rattle.wl_wire.specs.Reading.{IsWord, IsCounted, IsPiece, Reads}
 use Rattle.wl_wire.specs.Parse.{is_fd, fd_count}
@@ -321,26 +321,28 @@ one_reading signature args args' payload fds r r' =
     let pair_is : one ≡ two = cc in
     ap (λ (x : List WireArgument × List Token). x.0) pair_is
 
--- ---- how many tokens there are
+-- ---- the types of the arguments, and how many tokens there are
 
-pub piece_tokens : (k : ArgumentType) (a : WireArgument) (piece : List ℕ) → IsPiece k a piece → length (token a) ≡ (if is_fd k then 1 else 0)
+-- an argument that a piece stands for is of the piece's type, and has a token where that is a descriptor
+pub piece_fits : (k : ArgumentType) (a : WireArgument) (piece : List ℕ) → IsPiece k a piece
+    → (kind_of k ≡ type_of a) × (length (token a) ≡ (if is_fd k then 1 else 0))
 unfolding IsPiece
-piece_tokens kind.Int (arg.Int z) piece p = refl
-piece_tokens kind.Uint (arg.Uint n) piece p = refl
-piece_tokens kind.Fixed (arg.Fixed z) piece p = refl
-piece_tokens (kind.Str null) (arg.Str text) piece p = refl
-piece_tokens (kind.Object null) (arg.Object n) piece p = refl
-piece_tokens kind.NewId (arg.NewId n) piece p = refl
-piece_tokens kind.Array (arg.Array content) piece p = refl
-piece_tokens kind.Fd (arg.Fd t) piece p = refl
-piece_tokens _ _ piece p = absurd p
+piece_fits kind.Int (arg.Int z) piece p = (refl, refl)
+piece_fits kind.Uint (arg.Uint n) piece p = (refl, refl)
+piece_fits kind.Fixed (arg.Fixed z) piece p = (refl, refl)
+piece_fits (kind.Str null) (arg.Str text) piece p = (refl, refl)
+piece_fits (kind.Object null) (arg.Object n) piece p = (refl, refl)
+piece_fits kind.NewId (arg.NewId n) piece p = (refl, refl)
+piece_fits kind.Array (arg.Array content) piece p = (refl, refl)
+piece_fits kind.Fd (arg.Fd t) piece p = (refl, refl)
+piece_fits _ _ piece p = absurd p
 
 pub reads_tokens : (signature : List ArgumentType) (args : List WireArgument) (payload : List ℕ) (fds : List Token)
     → Reads signature args payload fds → length (tokens args) ≡ fd_count signature
 unfolding Reads
 reads_tokens [] [] payload fds r = refl
 reads_tokens (k ∷ signature) (a ∷ args) payload fds r =
-    length-append (token a) (tokens args) ∙ ap (λ (n : ℕ). n + length (tokens args)) (piece_tokens k a r.0 r.5)
+    length-append (token a) (tokens args) ∙ ap (λ (n : ℕ). n + length (tokens args)) (piece_fits k a r.0 r.5).1
     ∙ ap (λ (n : ℕ). (if is_fd k then 1 else 0) + n) (reads_tokens signature args r.1 r.2 r.6) ∙ sym (sum_by-cons (λ x. cond (is_fd x) 1 0) k signature)
 reads_tokens [] (a ∷ args) payload fds r = absurd r
 reads_tokens (k ∷ signature) [] payload fds r = absurd r

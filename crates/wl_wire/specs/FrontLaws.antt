@@ -10,7 +10,7 @@ use Rattle.wl_wire.specs.declared.error.MessageParseError.TheVariants as errors
 use Rattle.wl_wire.specs.Argument.{WireArgument}
 use Rattle.wl_wire.specs.Message.{WireMessage, token}
 use Rattle.wl_wire.specs.Reading.{Reads}
-use Rattle.wl_wire.specs.CursorLaws.{piece_tokens}
+use Rattle.wl_wire.specs.CursorLaws.{piece_fits}
 use Rattle.wl_wire.specs.Parse.{length_of, second_word, sender_of, opcode_of, payload_of, fd_count, is_fd, IsWhole, ReadsMessage, RefusesMessage}
 
 -- ---- bytes
@@ -74,7 +74,7 @@ unfolding Reads
 reads_fewer [] [] payload fds others enough r = tt
 reads_fewer (k ∷ signature) (a ∷ args) payload fds others enough r =
     let n : ℕ = length (token a) in
-    let one = piece_tokens k a r.0 r.5 in
+    let one = (piece_fits k a r.0 r.5).1 in
     let count = sum_by-cons (λ x. cond (is_fd x) 1 0) k signature in
     let within : n ≤ length fds = omega (arith, one, count, enough) in
     let first : take n fds ≡ token a = sym (take-append-le n fds others within) ∙ ap (take n) r.4 ∙ take_at (token a) r.2 n refl in

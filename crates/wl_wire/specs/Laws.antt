@@ -15,7 +15,7 @@ use Rattle.wl_wire.specs.Message.{WireMessage, word, pad_len, counted, piece, pi
 use Rattle.wl_wire.specs.Reading.{IsWord, IsCounted, IsPiece, Reads}
 use Rattle.wl_wire.specs.Parse.{sender_of, second_word, length_of, opcode_of, payload_of, IsWhole, ReadsMessage}
 use Rattle.wl_wire.specs.Stream.{Stream}
-use Rattle.wl_wire.specs.CursorLaws.{one_reading}
+use Rattle.wl_wire.specs.CursorLaws.{piece_fits, one_reading}
 
 -- ---- words
 
@@ -83,25 +83,12 @@ pieces_read (k ∷ signature) [] rest others same fits le = absurd cc
 
 -- ---- what was read
 
--- an argument that a piece stands for is of the piece's type
-piece_type : (k : ArgumentType) (a : WireArgument) (bytes : List ℕ) → IsPiece k a bytes → kind_of k ≡ type_of a
-unfolding IsPiece
-piece_type kind.Int (arg.Int z) bytes p = refl
-piece_type kind.Uint (arg.Uint n) bytes p = refl
-piece_type kind.Fixed (arg.Fixed z) bytes p = refl
-piece_type (kind.Str null) (arg.Str text) bytes p = refl
-piece_type (kind.Object null) (arg.Object n) bytes p = refl
-piece_type kind.NewId (arg.NewId n) bytes p = refl
-piece_type kind.Array (arg.Array content) bytes p = refl
-piece_type kind.Fd (arg.Fd t) bytes p = refl
-piece_type k a bytes p = absurd p
-
 -- the arguments that are read fit the signature
 pub reads_match : (signature : List ArgumentType) (args : List WireArgument) (payload : List ℕ) (fds : List Token) → Reads signature args payload fds → Matches signature args
 unfolding Reads
 reads_match [] [] payload fds r = refl
 reads_match (k ∷ signature) (a ∷ args) payload fds r =
-    ap (λ (t : ArgumentType). t ∷ map kind_of signature) (piece_type k a r.0 r.5) ∙ ap (λ (ts : List ArgumentType). type_of a ∷ ts) (reads_match signature args r.1 r.2 r.6)
+    ap (λ (t : ArgumentType). t ∷ map kind_of signature) (piece_fits k a r.0 r.5).0 ∙ ap (λ (ts : List ArgumentType). type_of a ∷ ts) (reads_match signature args r.1 r.2 r.6)
 reads_match [] (a ∷ args) payload fds r = absurd r
 reads_match (k ∷ signature) [] payload fds r = absurd r
 

@@ -12,14 +12,8 @@ use Rattle.wl_wire.specs.Asked.{matches, type_number}
 
 -- the type of an argument says nothing of null
 pub kind_of-type_of : {Id Fd : Type 0} (a : Argument Id Fd) → kind_of (type_of a) ≡ type_of a
-kind_of-type_of (arg.Int _) = refl
-kind_of-type_of (arg.Uint _) = refl
-kind_of-type_of (arg.Fixed _) = refl
-kind_of-type_of (arg.Str _) = refl
-kind_of-type_of (arg.Object _) = refl
-kind_of-type_of (arg.NewId _) = refl
-kind_of-type_of (arg.Array _) = refl
 kind_of-type_of (arg.Fd _) = refl
+kind_of-type_of _ = refl
 
 -- the type of a number
 kind_at : ℕ → ArgumentType
@@ -34,24 +28,12 @@ kind_at (suc (suc (suc (suc (suc (suc (suc n))))))) = kind.Fd
 
 kind_at-type_number : (k : ArgumentType) → kind_at (type_number k) ≡ kind_of k
 unfolding kind_at
-kind_at-type_number kind.Int = refl
-kind_at-type_number kind.Uint = refl
-kind_at-type_number kind.Fixed = refl
-kind_at-type_number (kind.Str _) = refl
-kind_at-type_number (kind.Object _) = refl
-kind_at-type_number kind.NewId = refl
-kind_at-type_number kind.Array = refl
 kind_at-type_number kind.Fd = refl
+kind_at-type_number _ = refl
 
 type_number-kind_of : (k : ArgumentType) → type_number (kind_of k) ≡ type_number k
-type_number-kind_of kind.Int = refl
-type_number-kind_of kind.Uint = refl
-type_number-kind_of kind.Fixed = refl
-type_number-kind_of (kind.Str _) = refl
-type_number-kind_of (kind.Object _) = refl
-type_number-kind_of kind.NewId = refl
-type_number-kind_of kind.Array = refl
 type_number-kind_of kind.Fd = refl
+type_number-kind_of _ = refl
 
 same_type-true : {Id Fd : Type 0} (k : ArgumentType) (a : Argument Id Fd) → eqb (type_number k) (type_number (type_of a)) ≡ true → kind_of k ≡ type_of a
 same_type-true k a same =

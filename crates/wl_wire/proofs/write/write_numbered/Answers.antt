@@ -1,7 +1,8 @@
 use Rattle.std.proofs.Common.{◌≡◌, ◌+◌, ◌*◌, arith}
 use Rattle.wl_wire.specs.MapIds.{numbered}
 use Rattle.wl_wire.specs.Message.{word, pieces, size}
-use Rattle.wl_wire.proofs.Pieces.{length-word, overwritten-header}
+use Rattle.wl_wire.specs.Laws.{length-word}
+use Rattle.wl_wire.proofs.Pieces.{overwritten-header}
 use Rattle.wl_wire.proofs.write.write_numbered.Goals as goal
 
 pub returns-clause-written : goal.returns-clause-written
