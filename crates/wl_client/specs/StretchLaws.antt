@@ -335,7 +335,7 @@ module _ {U : Type 0} where
     does = r.does;
     pieces = stretch.pieces;
     ends = ends stretch.ends;
-    roomy = λ p lacks room incoming storage is. stretch.roomy (ap (λ (c : Core U). c.error) is);
+    roomy = λ core is lacks. absurd (stretch.roomy (ap (λ (c : Core U). c.error) is));
   }
     where
       ends : (reads_on (core_of after) ≡ false) ⊎ (EndsWaiting run × (arrivals_of (part_of after) ≡ []))

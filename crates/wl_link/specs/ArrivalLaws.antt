@@ -36,31 +36,43 @@ some_taken : (n : ℕ) (bytes : List ℕ) → bytes ≢ [] → take (suc n) byte
 some_taken n [] some none = some refl
 some_taken n (b ∷ bytes) some none = let e : length (take (suc n) (b ∷ bytes)) ≡ 0 = ap length none in absurd cc
 
-first_gives : (n : ℕ) (arrivals : List (Result Queue IoFault)) → AllPieces arrivals → Pieces arrivals (given arrivals (suc n)) (arrivals_after arrivals (suc n))
-first_gives n [] all = record { fed = refl; came = refl; pieces = tt }
-first_gives n (Err f ∷ arrivals) all = record { fed = all.0; came = refl; pieces = all.1 }
-first_gives n (Ok chunk ∷ arrivals) all = go (nat_le (length chunk.bytes) (suc n)) refl
+pub first_came : (n : ℕ) (arrivals : List (Result Queue IoFault))
+    → left_over arrivals ≡ joined (came_by (given arrivals (suc n))) (left_over (arrivals_after arrivals (suc n)))
+first_came n [] = refl
+first_came n (Err f ∷ arrivals) = refl
+first_came n (Ok chunk ∷ arrivals) = go (nat_le (length chunk.bytes) (suc n)) refl
   where
+    first : Queue
+    first = record { bytes = take (suc n) chunk.bytes; tokens = chunk.tokens }
+
     go : (b : Bool) → nat_le (length chunk.bytes) (suc n) ≡ b
-        → Pieces (Ok chunk ∷ arrivals) (Ok (record { bytes = take (suc n) chunk.bytes; tokens = chunk.tokens }))
-        (cond b arrivals (Ok (record { bytes = drop (suc n) chunk.bytes; tokens = [] }) ∷ arrivals))
+        → joined chunk (left_over arrivals)
+        ≡ joined first (left_over (cond b arrivals (Ok (record { bytes = drop (suc n) chunk.bytes; tokens = [] }) ∷ arrivals)))
     go true small =
-        let whole = take_all (suc n) chunk.bytes (leb-true (length chunk.bytes) (suc n) small) in record {
-          fed = some_taken n chunk.bytes all.0;
-          came = ap (λ (bs : List ℕ). joined (record { bytes = bs; tokens = chunk.tokens }) (left_over arrivals)) (sym whole);
-          pieces = all.1;
-        }
+        let whole = take_all (suc n) chunk.bytes (leb-true (length chunk.bytes) (suc n) small) in
+        ap (λ (bs : List ℕ). joined (record { bytes = bs; tokens = chunk.tokens }) (left_over arrivals)) (sym whole)
     go false large =
-        let more : suc n < length chunk.bytes = leb-false (length chunk.bytes) (suc n) large in
-        let first : Queue = record { bytes = take (suc n) chunk.bytes; tokens = chunk.tokens } in
         let others : Queue = record { bytes = drop (suc n) chunk.bytes; tokens = [] } in
         let bytes = ap (λ (bs : List ℕ). let q : Queue = record { bytes = bs; tokens = chunk.tokens } in q) (sym (take-append-drop (suc n) chunk.bytes)) in
         let fds = ap (λ (ts : List Token). let q : Queue = record { bytes = take (suc n) chunk.bytes ++ drop (suc n) chunk.bytes; tokens = ts } in q) (sym (append-nil chunk.tokens)) in
-        let split : chunk ≡ joined first others = bytes ∙ fds in record {
-          fed = some_taken n chunk.bytes all.0;
-          came = ap (λ (q : Queue). joined q (left_over arrivals)) split ∙ joined_assoc first others (left_over arrivals);
-          pieces = (λ none. absurd (omega (arith, more, length-drop (suc n) chunk.bytes, ap length none)), all.1);
-        }
+        let split : chunk ≡ joined first others = bytes ∙ fds in
+        ap (λ (q : Queue). joined q (left_over arrivals)) split ∙ joined_assoc first others (left_over arrivals)
+
+first_gives : (n : ℕ) (arrivals : List (Result Queue IoFault)) → AllPieces arrivals → Pieces arrivals (given arrivals (suc n)) (arrivals_after arrivals (suc n))
+first_gives n [] all = record { fed = refl; came = refl; pieces = tt }
+first_gives n (Err f ∷ arrivals) all = record { fed = all.0; came = refl; pieces = all.1 }
+first_gives n (Ok chunk ∷ arrivals) all = record {
+  fed = some_taken n chunk.bytes all.0;
+  came = first_came n (Ok chunk ∷ arrivals);
+  pieces = go (nat_le (length chunk.bytes) (suc n)) refl;
+}
+  where
+    go : (b : Bool) → nat_le (length chunk.bytes) (suc n) ≡ b
+        → AllPieces (cond b arrivals (Ok (record { bytes = drop (suc n) chunk.bytes; tokens = [] }) ∷ arrivals))
+    go true small = all.1
+    go false large =
+        let more : suc n < length chunk.bytes = leb-false (length chunk.bytes) (suc n) large in
+        (λ none. absurd (omega (arith, more, length-drop (suc n) chunk.bytes, ap length none)), all.1)
 
 -- so does a receive that was not refused memory and was made into some room
 pub script_gives_roomy : (script after : Script) (room : ℕ) (r : Result Queue IoFault) → ScriptReceives script room r after → AllPieces script.arrivals

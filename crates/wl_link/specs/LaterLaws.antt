@@ -1,7 +1,7 @@
 -- What a read of a link finds, it finds on each link on which the same waits, or more behind it.
 use Rattle.std.proofs.Common.{◌≡◌, ◌⊎◌, ℕ, ◌≤◌, true, false, List, ◌++◌, Option, None, Some, Ok, Err, refl, sym, ap, subst, ◌∙◌, arith, length, drop, length-append}
 use Rattle.std.specs.Prelude.{nat_le}
-use Rattle.std.proofs.lemmas.Bool.{le-leb, leb-true, cases_Bool, MatchBool-at_true, MatchBool-at_false}
+use Rattle.std.proofs.lemmas.Bool.{le-leb, leb-true, leb-false, cases_Bool, MatchBool-at_true, MatchBool-at_false}
 use Rattle.std.proofs.lemmas.List.{drop-append-le}
 use mathlib.Core.Logic.{inl, inr}
 use Rattle.wl_wire.specs.declared.argument.ArgumentType.{ArgumentType}
@@ -12,7 +12,7 @@ use Rattle.wl_wire.specs.Message.{WireMessage}
 use Rattle.wl_wire.specs.Parse.{ReadsMessage, RefusesMessage, fd_count, length_of, opcode_of, payload_of, sender_of}
 use Rattle.wl_wire.specs.FrontLaws.{behind_front, malformed_front, message_front, opcode_front, sender_front}
 use Rattle.wl_link.specs.Exchange.{Queue, joined}
-use Rattle.wl_link.specs.Link.{LinkState, ReadFound, ReadOne, behind_first, with_incoming}
+use Rattle.wl_link.specs.Link.{LacksBytes, LinkState, ReadFound, ReadOne, behind_first, with_incoming}
 use Rattle.wl_link.specs.ReadLaws.{reads_enough}
 
 -- what a read finds, or that it finds it malformed, is so for each link on which more waits behind
@@ -109,3 +109,17 @@ refused_there looks_up l k e is read = at (cases_Bool (nat_le 8 (length l.incomi
         let looked = subst (λ (q : Queue). looks_up (sender_of q.bytes) (opcode_of q.bytes) r.0) (sym is) r.1 in
         rw (sizes ∙ header) (r.0, looked, found r.0 r.2)
     at (inr short) = rw (sizes ∙ short) ((MatchBool-at_false _ _ short read).0, refl)
+
+-- what lacks data does not hold the message at the front to its last byte
+pub lacks_bytes : {T : Type 0} (looks_up : ℕ → ℕ → Option (List ArgumentType) → Type 0) (l : LinkState T) → ReadOne looks_up l (Err errors.MissingData) l
+    → LacksBytes l.incoming.bytes
+lacks_bytes looks_up l read = at (cases_Bool (nat_le 8 (length l.incoming.bytes)))
+  where
+    found : (f : Option (List ArgumentType)) → ReadFound f l (Err errors.MissingData) l → LacksBytes l.incoming.bytes
+    found None none = let e = none.0 in absurd cc
+    found (Some signature) (inl short, asks, same) = inl short
+    found (Some signature) (inr (header, whole, short), asks, same) = inr short
+
+    at : (nat_le 8 (length l.incoming.bytes) ≡ true) ⊎ (nat_le 8 (length l.incoming.bytes) ≡ false) → LacksBytes l.incoming.bytes
+    at (inl header) = let r = MatchBool-at_true _ _ header read in found r.0 r.2
+    at (inr short) = inl (leb-false 8 (length l.incoming.bytes) short)

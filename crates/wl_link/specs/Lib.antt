@@ -39,6 +39,7 @@ pub mod SendingLaws
 pub mod ArrivalLaws
 pub mod RanLaws
 pub mod StretchLaws
+pub mod LengthLaws
 pub mod LogLaws
 pub mod FoundLaws
 pub mod TotalLaws

@@ -1,21 +1,22 @@
 -- What a reading over the transport by script received and sent.
-use Rattle.std.proofs.Common.{◌≡◌, ◌≢◌, ℕ, zero, suc, false, List, [], ◌∷◌, ◌++◌, Some, Result, Ok, Err, is_ok, MatchResult, refl, sym, ap, subst, ◌∙◌, true≢false}
+use Rattle.std.proofs.Common.{◌≡◌, ◌≢◌, ◌⊎◌, ◌<◌, ◌≤◌, ℕ, zero, suc, false, List, [], ◌∷◌, ◌++◌, length, arith, Option, Some, Result, Ok, Err, is_ok, MatchResult, refl, sym, ap, subst, ◌∙◌, true≢false}
 use mathlib.Core.Logic.{inl, inr}
 use Rattle.wl_wire.specs.declared.error.IoFault.{IoFault}
 use Rattle.wl_wire.specs.declared.error.IoFault.TheVariants as fault
+use Rattle.wl_wire.specs.Parse.{length_of}
 use Rattle.wl_link.specs.Exchange.{Chain, Queue, Sending, joined, nothing}
-use Rattle.wl_link.specs.Link.{FilledBy, LinkState, count_of, counted_answer, free_room, grown_room, with_came}
+use Rattle.wl_link.specs.Link.{FilledBy, FindsRoom, LacksBytes, LinkState, count_of, counted_answer, free_room, grown_room, incoming_limit, with_came}
 use Rattle.wl_link.specs.Puts.{lacked_memory}
 use Rattle.wl_link.specs.Reader.{AllFed, Gives, Handled, Lacks, Leaves, Part, Reader, Reads, Received, Takes, Then, Turn, Unread, Verdict, came_by, came_in, sends_in, stops, with_link}
 use Rattle.wl_link.specs.Served.{Finds}
 use Rattle.wl_link.specs.Script.{Script, ScriptReceives, ScriptSends}
-use Rattle.wl_link.specs.Stretch.{AllPieces, NotFull, left_over, sending_side}
+use Rattle.wl_link.specs.Stretch.{AllPieces, MayCome, NotFull, left_over, sending_side}
 use Rattle.wl_link.specs.PutsLaws.{not_lacked}
 use Rattle.wl_link.specs.ServedLaws.{both_false}
 use Rattle.wl_link.specs.CuttingLaws.{byte_came}
 use Rattle.wl_link.specs.SendingLaws.{carries_send}
-use Rattle.wl_link.specs.ArrivalLaws.{Pieces, script_gives_roomy}
-use Rattle.wl_link.specs.LaterLaws.{other_reads}
+use Rattle.wl_link.specs.ArrivalLaws.{Pieces, lacks_there, script_gives_roomy}
+use Rattle.wl_link.specs.LaterLaws.{lacks_bytes, other_reads}
 use Rattle.wl_link.specs.QueueLaws.{chain_joins, joined_assoc, joined_nothing}
 
 module _ {Core Event Finish : Type 0} (reader : Reader Core Event Finish) where
@@ -63,20 +64,41 @@ module _ {Core Event Finish : Type 0} (reader : Reader Core Event Finish) where
         not_lacked (Err f) lacked is
 
     not_full : (n : ℕ) (p : Part Script Core) (turns : List Turn) (out : Gives Event) (link : LinkState Script) (r : Result Queue IoFault) → out.refused ≡ false
-        → Lacks ScriptSends reader p → FilledBy ScriptReceives p.link r (counted_answer (count_of r)) link → ReceivedThen n p turns out link (counted_answer (count_of r))
+        → Lacks ScriptSends reader p → FilledBy ScriptReceives p.link r (counted_answer (count_of r)) link
+        → (counted_answer (count_of r) ≢ Err fault.OutOfMemory → FindsRoom p.link link.room) → ReceivedThen n p turns out link (counted_answer (count_of r))
         → free_room p.link ≡ 0 → ⊥
-    not_full n p turns out link r ample lacks filled h full = at (subst (λ (room : ℕ). ScriptReceives p.link.transport room r link.transport) full filled.0)
+    not_full n p turns out link r ample lacks filled finds h full = at (subst (λ (room : ℕ). ScriptReceives p.link.transport room r link.transport) full filled.0)
       where
+        memory : counted_answer (count_of r) ≢ Err fault.OutOfMemory
+        memory = not_memory n p turns out link (counted_answer (count_of r)) ample h
+
+        here : Part Script Core
+        here = record { core = p.core; link = link }
+
+        -- it found a byte free
+        free : link.incoming ≡ p.link.incoming → (length link.incoming.bytes < link.room) ⊎ MayCome reader p.core link → Lacks ScriptSends reader here
+            → length link.incoming.bytes < link.room
+        free waits (inl some) there = some
+        free waits (inr (fits, in_time)) (inr late) = absurd (in_time late)
+        free waits (inr (fits, in_time)) (inl short) =
+            let limit : link.limit ≡ p.link.limit = ap (λ (l : LinkState Script). l.limit) filled.2 in
+            let fits' = subst (λ (q : Queue). 8 ≤ length q.bytes → length_of q.bytes ≤ incoming_limit link.limit) waits fits in
+            let fits'' = subst (λ (m : Option ℕ). 8 ≤ length p.link.incoming.bytes → length_of p.link.incoming.bytes ≤ incoming_limit m) limit fits' in
+            let lacking = lacks_bytes (λ sender opcode found. found ≡ reader.signature p.core sender opcode) link short in
+            let lacking' = subst (λ (q : Queue). LacksBytes q.bytes) waits lacking in
+            subst (λ (q : Queue). length q.bytes < link.room) (sym waits) (finds memory lacking' fits'')
+
         at : ScriptReceives p.link.transport 0 r link.transport → ⊥
-        at (inr (is, same, some)) =
-            not_memory n p turns out link (counted_answer (count_of r)) ample h (ap (λ (z : Result Queue IoFault). counted_answer (count_of z)) is)
+        at (inr (is, same, some)) = memory (ap (λ (z : Result Queue IoFault). counted_answer (count_of z)) is)
         at (inl (few, is, same)) =
             let g = subst (λ (z : Result Queue IoFault). ReceivedThen n p turns out link (counted_answer (count_of z))) is h in
             let waits : link.incoming ≡ p.link.incoming
             = ap (λ (l : LinkState Script). l.incoming) filled.2 ∙ ap (λ (z : Result Queue IoFault). with_came p.link.incoming z) is ∙ joined_nothing p.link.incoming in
             let room : link.room ≡ grown_room p.link = ap (λ (l : LinkState Script). l.room) filled.2 in
-            roomy p lacks full (ap (λ (x : Part Script Core). x.link.incoming) g.2 ∙ waits) (ap (λ (x : Part Script Core). x.link.room) g.2 ∙ room)
-            (ap (λ (x : Part Script Core). x.core) g.2)
+            let there = lacks_there ScriptSends ScriptSends reader p link waits lacks in
+            let ends = subst (NotFull reader) g.2 roomy p.core refl there in
+            let some = free waits ends there in
+            omega (arith, some, room, full, ap (λ (q : Queue). length q.bytes) waits)
 
     found_link : (p : Part Script Core) (v : Verdict Core Event) (link : LinkState Script) → Finds ScriptSends reader p v link → link.transport ≡ p.link.transport
     found_link p v link (inl (m, read, is)) =
@@ -114,12 +136,12 @@ module _ {Core Event Finish : Type 0} (reader : Reader Core Event Finish) where
     ran left p (Received (Ok came) ∷ turns) out ample (on, lacks, (n, is, (link, filled, finds, h))) all =
         let c : Result (Unit {0}) IoFault = counted_answer (count_of (Ok came)) in
         let gives = script_gives_roomy p.link.transport link.transport (free_room p.link) (Ok came) filled.0 all (not_memory n p turns out link c ample h)
-        (not_full n p turns out link (Ok came) ample lacks filled h) in
+        (not_full n p turns out link (Ok came) ample lacks filled finds h) in
         let more = subst (λ z. ReceivedThen n p turns out link z) (byte_came came gives.fed) h in
         ran_received p.link link after.link (Ok came) turns gives (receive_keeps p.link.transport link.transport _ (Ok came) filled.0) (ran n (with_link p link) turns out ample more gives.pieces)
     ran left p (Received (Err f) ∷ turns) out ample (on, lacks, (n, is, (link, filled, finds, h))) all =
         let gives = script_gives_roomy p.link.transport link.transport (free_room p.link) (Err f) filled.0 all (not_memory n p turns out link (Err f) ample h)
-        (not_full n p turns out link (Err f) ample lacks filled h) in
+        (not_full n p turns out link (Err f) ample lacks filled finds h) in
         ran_received p.link link after.link (Err f) turns gives (receive_keeps p.link.transport link.transport _ (Err f) filled.0)
         (ran_nothing link after.link turns h.0 (ap (λ (x : Part Script Core). x.link.transport) h.2) gives.pieces)
     ran left p (Handled es ∷ turns) out ample h all =

@@ -1,12 +1,14 @@
 -- A stretch over the transport by script in which bytes arrive, and a reader reads and ends what is open.
 --
 -- What a session does in a run of its calls is a list of such acts, where its other calls change nothing.
-use Rattle.std.specs.Prelude.{◌≡◌, ◌⊎◌, ℕ, false, List, [], ◌∷◌, ◌++◌, None, Some, Result}
+use Rattle.std.specs.Prelude.{◌≡◌, ◌⊎◌, ◌<◌, ◌≤◌, ℕ, zero, suc, false, List, [], ◌∷◌, ◌++◌, None, Some, Result, Err, drop, length}
 use Rattle.wl_wire.specs.declared.error.IoFault.{IoFault}
 use Rattle.wl_wire.specs.declared.error.IoFault.TheVariants as fault
+use Rattle.wl_wire.specs.declared.error.MessageParseError.TheVariants as parse
+use Rattle.wl_wire.specs.Parse.{IsWhole, length_of}
 use Rattle.wl_link.specs.Exchange.{Queue, Sending, joined, nothing}
-use Rattle.wl_link.specs.Link.{free_room, grown_room, with_transport}
-use Rattle.wl_link.specs.Reader.{Ends, Given, Gives, IsFed, Lacks, Part, Reader, Reads, Turn, came_by, with_link}
+use Rattle.wl_link.specs.Link.{FrontFits, LinkState, incoming_limit, with_transport}
+use Rattle.wl_link.specs.Reader.{Ends, Given, Gives, IsFed, Lacks, Part, Reader, Reads, ReadsAs, Turn, came_by, with_link}
 use Rattle.wl_link.specs.Served.{Served, part_as}
 use Rattle.wl_link.specs.Script.{Script, ScriptReceives, ScriptSends}
 
@@ -20,6 +22,17 @@ left_over (r ∷ arrivals) = joined (came_by r) (left_over arrivals)
 abbrev pub AllPieces : List (Result Queue IoFault) → Type 0
 AllPieces [] = Unit {0}
 AllPieces (r ∷ arrivals) = IsFed r × AllPieces arrivals
+
+-- ---- how long the messages are
+
+-- what is left behind so many whole messages
+abbrev pub Behind : ℕ → List ℕ → List ℕ → Type 0
+Behind zero bytes rest = rest ≡ bytes
+Behind (suc n) bytes rest = IsWhole bytes × Behind n (drop (length_of bytes) bytes) rest
+
+-- each message is at most so long, that of which only a beginning came too
+abbrev pub EachWithin : ℕ → List ℕ → Type 0
+EachWithin most bytes = (n : ℕ) (rest : List ℕ) → Behind n bytes rest → 8 ≤ length rest → length_of rest ≤ most
 
 -- the script apart from its arrivals, of which no send takes notice
 abbrev pub sending_side : Script → Script
@@ -94,12 +107,16 @@ module _ {Core Event Finish : Type 0} (reader : Reader Core Event Finish) where
   DoesAll before [] after = after ≡ before
   DoesAll before (a ∷ acts) after = (mid : Part Script Core) × Does before a mid × DoesAll mid acts after
 
-  -- No receive found the storage full: what is there is not what such a receive leaves of a part in which no whole message
-  -- waits.
+  -- The message at the front is no longer than the incoming storage may become, and lacks not its tokens alone.
+  abbrev pub MayCome : Core → LinkState Script → Type 0
+  MayCome core link = FrontFits link × (ReadsAs ScriptSends reader (record { core = core; link = link }) (Err parse.MissingFD) link → ⊥)
+
+  -- No receive found the storage full: where one of no bytes may have been the end, a byte is free; or what lacks there
+  -- may come, so that one was.
   abbrev pub NotFull : Part Script Core → Type 0
   NotFull after =
-      (p : Part Script Core) → Lacks ScriptSends reader p → free_room p.link ≡ 0 → after.link.incoming ≡ p.link.incoming → after.link.room ≡ grown_room p.link
-      → after.core ≡ reader.faulted p.core fault.Pipe → ⊥
+      (core : Core) → after.core ≡ reader.faulted core fault.Pipe → Lacks ScriptSends reader (record { core = core; link = after.link })
+      → (length after.link.incoming.bytes < after.link.room) ⊎ MayCome core after.link
 
   -- it reads on no more, and ends nothing
   abbrev pub IsOver : Core → Type 0
@@ -116,6 +133,16 @@ module _ {Core Event Finish : Type 0} (reader : Reader Core Event Finish) where
     pub pieces : AllPieces (arrivals_of before)
     pub ends : (reader.reads_on after.core ≡ false) ⊎ (EndsWaiting acts × (arrivals_of after ≡ []))
     pub roomy : NotFull after
+
+  -- The same of messages each of which is no longer than the incoming storage may become, and whose tokens come no later
+  -- than its last byte: none waits whole in the end and lacks tokens.
+  pub record IsStretchWithin (before : Part Script Core) (acts : List (Act Event Finish)) (after : Part Script Core) : Type 0 where
+    pub does : DoesAll before acts after
+    pub pieces : AllPieces (arrivals_of before)
+    pub ends : (reader.reads_on after.core ≡ false) ⊎ (EndsWaiting acts × (arrivals_of after ≡ []))
+    pub within : EachWithin (incoming_limit before.link.limit) (joined before.link.incoming (joined (left_over (arrivals_of before)) (arrived acts))).bytes
+    pub in_time : (core : Core) → after.core ≡ reader.faulted core fault.Pipe
+        → ReadsAs ScriptSends reader (record { core = core; link = after.link }) (Err parse.MissingFD) after.link → ⊥
 
   -- What it gave, and what it came to, is what is served of all that arrived, with the data with which something was
   -- ended, over the script's answers to the sends.

@@ -1,17 +1,20 @@
 -- That what a stretch gives is what is served of all that arrived, however it was cut.
-use Rattle.std.proofs.Common.{◌≡◌, ◌⊎◌, ℕ, zero, suc, false, List, [], ◌∷◌, ◌++◌, append_assoc, append-nil, is_some, Result, refl, sym, ap, subst, ◌∙◌, true≢false}
+use Rattle.std.proofs.Common.{◌≡◌, ◌⊎◌, ◌<◌, ℕ, zero, suc, false, List, [], ◌∷◌, ◌++◌, append_assoc, append-nil, length, is_some, Result, refl, sym, ap, subst, ◌∙◌, true≢false}
 use mathlib.Core.Logic.{inl, inr}
 use Rattle.wl_wire.specs.declared.error.IoFault.{IoFault}
+use Rattle.wl_wire.specs.declared.error.MessageParseError.TheVariants as parse
 use Rattle.wl_link.specs.Exchange.{Queue, joined, nothing}
+use Rattle.wl_link.specs.Link.{LinkState, with_transport}
 use Rattle.wl_link.specs.Reader.{Given, Gives, Handled, Lacks, Part, Reader, Reads, Received, Turn, Unread, came_by, came_in}
 use Rattle.wl_link.specs.Served.{NoneFits, Rests, ServedFrom, Serves, link_as, part_as}
 use Rattle.wl_link.specs.Script.{Script, ScriptReceives, ScriptSends}
-use Rattle.wl_link.specs.Stretch.{Act, AllPieces, Arrived, Does, DoesAll, EndsByPipe, EndsWaiting, HasEnded, HasRead, IsOver, IsServed, IsStretch, IsWaiting, NotFull, arrivals_of, arrived, arrived_by, ended, ended_by, given_by, given_in, left_over, sending_side}
+use Rattle.wl_link.specs.Stretch.{Act, AllPieces, Arrived, Does, DoesAll, EndsByPipe, EndsWaiting, HasEnded, HasRead, IsOver, IsServed, IsStretch, IsWaiting, MayCome, NotFull, arrivals_of, arrived, arrived_by, ended, ended_by, given_by, given_in, left_over, sending_side}
 use Rattle.wl_link.specs.ScriptLaws.{script_sends_function}
 use Rattle.wl_link.specs.ServedLaws.{served_one}
 use Rattle.wl_link.specs.CuttingLaws.{carries_there, comes, serves_ending}
 use Rattle.wl_link.specs.SendingLaws.{carries_send}
 use Rattle.wl_link.specs.ArrivalLaws.{Waits, lacks_there, left_over_more, pieces_more, reading_waits}
+use Rattle.wl_link.specs.LaterLaws.{refused_there}
 use Rattle.wl_link.specs.RanLaws.{ran}
 use Rattle.wl_link.specs.Branches.{at_false, at_true}
 use Rattle.wl_link.specs.QueueLaws.{joined_assoc, joined_nothing}
@@ -83,15 +86,10 @@ module _ {Core Event Finish : Type 0} (reader : Reader Core Event Finish) (ends_
 
   record StaysOver (before after : Part Script Core) : Type 0 where
     core : after.core ≡ before.core
-    incoming : after.link.incoming ≡ before.link.incoming
-    room : after.link.room ≡ before.link.room
+    link : after.link ≡ with_transport before.link after.link.transport
 
   stays_same : (before after : Part Script Core) → after ≡ before → StaysOver before after
-  stays_same before after same = record {
-    core = ap (λ (x : Part Script Core). x.core) same;
-    incoming = ap (λ (x : Part Script Core). x.link.incoming) same;
-    room = ap (λ (x : Part Script Core). x.link.room) same;
-  }
+  stays_same before after same = subst (λ (x : Part Script Core). StaysOver before x) (sym same) (record { core = refl; link = refl })
 
   reads_nothing : (left : ℕ) (turns : List Turn) (out : Gives Event) (before after : Part Script Core) → reader.reads_on before.core ≡ false
       → Reads ScriptSends reader ScriptReceives left before turns out after → after ≡ before
@@ -101,11 +99,8 @@ module _ {Core Event Finish : Type 0} (reader : Reader Core Event Finish) (ends_
   reads_nothing left (Unread es ∷ turns) out before after off h = absurd (true≢false (sym h.0 ∙ off))
 
   act_over : (before after : Part Script Core) (a : Act Event Finish) → IsOver reader before.core → Does reader before a after → StaysOver before after
-  act_over before after (Arrived r) over (fed, same) = record {
-    core = ap (λ (x : Part Script Core). x.core) same;
-    incoming = ap (λ (x : Part Script Core). x.link.incoming) same;
-    room = ap (λ (x : Part Script Core). x.link.room) same;
-  }
+  act_over before after (Arrived r) over (fed, same) =
+      subst (λ (x : Part Script Core). StaysOver before x) (sym same) (record { core = refl; link = refl })
   act_over before after (HasRead out) over (ample, (left, turns, reads)) = stays_same before after (reads_nothing left turns out before after over.0 reads)
   act_over before after (HasEnded u gave) over (off, (es, (v, is, carried))) = absurd (true≢false (sym (ap is_some is) ∙ ap is_some (over.1 u)))
 
@@ -114,13 +109,23 @@ module _ {Core Event Finish : Type 0} (reader : Reader Core Event Finish) (ends_
   acts_over before after (a ∷ acts) over (mid, first, rest) =
       let one = act_over before mid a over first in
       let others = acts_over mid after acts (subst (IsOver reader) (sym one.core) over) rest in
-      record { core = others.core ∙ one.core; incoming = others.incoming ∙ one.incoming; room = others.room ∙ one.room }
+      record { core = others.core ∙ one.core; link = others.link ∙ ap (λ (l : LinkState Script). with_transport l after.link.transport) one.link }
 
   -- so no receive found the storage full, if none is seen to have at the end
   roomy_before : (before after : Part Script Core) (acts : List (Act Event Finish)) → DoesAll reader before acts after → NotFull reader after → NotFull reader before
-  roomy_before before after acts does roomy p lacks full waits room core =
-      let over = acts_over before after acts (subst (IsOver reader) (sym core) (ends_by.over p.core)) does in
-      roomy p lacks full (over.incoming ∙ waits) (over.room ∙ room) (over.core ∙ core)
+  roomy_before before after acts does roomy core is lacks =
+      let over = acts_over before after acts (subst (IsOver reader) (sym is) (ends_by.over core)) does in
+      let incoming : after.link.incoming ≡ before.link.incoming = ap (λ (l : LinkState Script). l.incoming) over.link in
+      let there = lacks_there ScriptSends ScriptSends reader (record { core = core; link = before.link }) after.link incoming lacks in
+      free core (subst (λ (l : LinkState Script). (length l.incoming.bytes < l.room) ⊎ MayCome reader core l) over.link (roomy core (over.core ∙ is) there))
+    where
+      free : (core : Core)
+          → (length before.link.incoming.bytes < before.link.room) ⊎ MayCome reader core (with_transport before.link after.link.transport)
+          → (length before.link.incoming.bytes < before.link.room) ⊎ MayCome reader core before.link
+      free core (inl some) = inl some
+      free core (inr (fits, in_time)) =
+          inr (fits, λ late. in_time
+          (refused_there (λ sender opcode found. found ≡ reader.signature core sender opcode) before.link (with_transport before.link after.link.transport) parse.MissingFD refl late))
 
   -- ---- what an act is among what is served
 

@@ -16,7 +16,7 @@ ghost use Rattle.wl_link.specs.RespectLaws.{Respects, RespectsCores, RespectsRea
 ghost use Rattle.wl_link.specs.Script.{Script};
 ghost use Rattle.wl_link.specs.Served.{GoesOnAs, ServedFrom, Told, part_as};
 ghost use Rattle.wl_link.specs.TotalLaws.{GoesOn, IsServedTo};
-ghost use Rattle.wl_link.specs.Stretch.{Act, EndsByPipe, IsServed, IsStretch, arrivals_of, arrived, ended, given_in, left_over, sending_side};
+ghost use Rattle.wl_link.specs.Stretch.{Act, EndsByPipe, IsServed, IsStretch, IsStretchWithin, arrivals_of, arrived, ended, given_in, left_over, sending_side};
 ghost use Rattle.wl_link.specs.Sides.{spelled_all};
 
 use crate::transport::Transport;
@@ -121,10 +121,13 @@ pub fn something_is_always_served<S: Transport, Core, Event, Finish>()
 /// stretches over which the same arrives and is ended give the same, and lead to the same.
 ///
 /// Each arrival brought a byte or says that the transport would block, memory was not refused, and no receive found the
-/// storage full.
+/// storage full. None does where each message is no longer than the incoming storage may become, and its tokens come
+/// no later than its last byte.
 pub fn cutting_does_not_matter_to_a_stretch<Core, Event, Finish>()
     ensures served { (reader : Reader Core Event Finish) → EndsByPipe reader → (before after : Part Script Core)
         (acts : List (Act Event Finish)) → IsStretch reader before acts after → IsServed reader before acts after }
+    ensures within { (reader : Reader Core Event Finish) (before after : Part Script Core) (acts : List (Act Event Finish)) →
+        IsStretchWithin reader before acts after → IsStretch reader before acts after }
     ensures same { (reader : Reader Core Event Finish) → EndsByPipe reader → (before after other : Part Script Core)
         (acts others : List (Act Event Finish)) → IsStretch reader before acts after → IsStretch reader before others other →
         arrived acts ≡ arrived others → ended acts ≡ ended others →

@@ -1,5 +1,7 @@
 //! What a run has a client do, as plain data, and the calls of it.
 
+ghost use Rattle.std.specs.Prelude.{◌<◌};
+
 use super::steps::{Call, replay};
 use super::told::*;
 use super::values::{Child, Object, Request, message};
