@@ -21,6 +21,7 @@ pub mod FailedLaws
 pub mod Replies
 pub mod Cutting
 pub mod ReadingLaws
+pub mod RoomLaws
 pub mod OutcomeLaws
 pub mod Stretches
 pub mod StretchLaws

@@ -12,7 +12,7 @@ use Rattle.wl_wire.specs.Table.{InterfaceRow, MessageRow}
 use Rattle.wl_link.specs.declared.object.Object.{Object}
 use Rattle.wl_link.specs.Exchange.{Queue}
 use Rattle.wl_link.specs.Identity.{Objects}
-use Rattle.wl_link.specs.Link.{LinkState, ReadOne}
+use Rattle.wl_link.specs.Link.{FindsRoom, LinkState, ReadOne}
 use Rattle.wl_link.specs.Reader.{Given, Gives, HandedOut, Part, Queued, Reader, Reads, Turn, Verdict}
 use Rattle.wl_link.specs.Store.{Store, held, rewritten}
 use Rattle.wl_client.specs.declared.error.EventError.{EventError}
@@ -217,6 +217,11 @@ module _ {T U : Type 0} where
   -- what waits lacks data or tokens
   abbrev pub Lacks : SessionState T U → Type 0
   Lacks s = ReadsAs s (Err parse.MissingData) s.link ⊎ ReadsAs s (Err parse.MissingFD) s.link
+
+  -- Where it ends the session because no bytes came, a byte is free for what the message at the front lacks, unless this
+  -- is longer than the incoming storage may become.
+  abbrev pub EndsWithRoom : SessionState T U → SessionState T U → Type 0
+  EndsWithRoom before after = before.error ≡ None → after.error ≡ Some (Io fault.Pipe) → FindsRoom after.link after.link.room
 
   module _ (sends : T → Queue → Result ℕ IoFault → T → Type 0) (receives : T → ℕ → Result Queue IoFault → T → Type 0) where
     -- a reading that is allowed so many receives answers so

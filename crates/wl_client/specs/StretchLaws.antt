@@ -6,18 +6,20 @@ use mathlib.Core.Logic.{inl, inr}
 use Rattle.wl_wire.specs.declared.argument.Token.{Token}
 use Rattle.wl_wire.specs.declared.error.IoFault.{IoFault}
 use Rattle.wl_wire.specs.declared.error.IoFault.TheVariants as fault
+use Rattle.wl_wire.specs.declared.error.MessageParseError.TheVariants as parse
 use Rattle.wl_wire.specs.declared.message.Message.{Message}
 use Rattle.wl_link.specs.declared.memory.ArriveError.{ArriveError}
 use Rattle.wl_link.specs.declared.object.Object.{Object}
 use Rattle.wl_link.specs.Branches.{both_option}
 use Rattle.wl_link.specs.Exchange.{Queue, Sending, joined, nothing}
-use Rattle.wl_link.specs.Link.{LinkState, counted_answer, count_of}
+use Rattle.wl_link.specs.LengthLaws.{front_fits}
+use Rattle.wl_link.specs.Link.{LinkState, ReadOne, counted_answer, count_of, incoming_limit}
 use Rattle.wl_link.specs.Puts.{lacked_memory}
 use Rattle.wl_link.specs.QueueLaws.{joined_nothing}
 use Rattle.wl_link.specs.Reader.{CarriesOut, Gives, Given, Handled, HandedOut, IsFed, Part, Queued, Reads, Received, Turn, Unread, Verdict, came_by, came_to as comes_to, stops, with_link}
 use Rattle.wl_link.specs.Script.{Script, ScriptReceives, ScriptSends}
 use Rattle.wl_link.specs.Served.{Served, part_as}
-use Rattle.wl_link.specs.Stretch.{Act, Arrived, DoesAll, EndsByPipe, EndsWaiting as ActsEndWaiting, HasEnded, HasRead, IsStretch as IsActStretch, arrivals_of, arrived as act_arrived, ended as act_ended, given_in, sending_side, with_arrival}
+use Rattle.wl_link.specs.Stretch.{Act, Arrived, DoesAll, EachWithin, EndsByPipe, EndsWaiting as ActsEndWaiting, HasEnded, HasRead, IsStretch as IsActStretch, MayCome as ActMayCome, arrivals_of, arrived as act_arrived, ended as act_ended, given_in, sending_side, with_arrival}
 use Rattle.wl_link.specs.StretchLaws.{arrived-append, cut_otherwise as acts_cut_otherwise, does_joins, ended-append, ends_waiting-append, given_in-append, stretch_served as acts_served}
 use Rattle.wl_client.specs.declared.error.EventError.{EventError}
 use Rattle.wl_client.specs.declared.error.EventError.TheVariants as no_event
@@ -32,13 +34,13 @@ use Rattle.wl_client.specs.declared.step.Step.TheVariants as step
 use Rattle.wl_client.specs.ObjectId.{IdParts}
 use Rattle.wl_client.specs.Events.{error_of}
 use Rattle.wl_client.specs.Finish.{Closes, Finishes, closed, refusal, with_data_for, with_dead}
-use Rattle.wl_client.specs.Handling.{Handling, Swallows, HandsOut, Breaks, handling}
+use Rattle.wl_client.specs.Handling.{Handling, Swallows, HandsOut, Breaks, handling, signature_in}
 use Rattle.wl_client.specs.Reading.{Core, NextEvent, answered, client, core_of, event_content, faulted, handed_by, objects_in, part_of, reads_on, receives_allowed, verdict}
 use Rattle.wl_client.specs.ReadingLaws.{finish_as, finish_ends}
 use Rattle.wl_client.specs.Requests.{SessionMessage}
 use Rattle.wl_client.specs.Session.{SessionState, named}
 use Rattle.wl_client.specs.Steps.{Entry, Leads, StepOf}
-use Rattle.wl_client.specs.Stretches.{AllHeard, EndsWaiting, IsHeard, IsServed, IsStretch, SameLeft, arrived, arrived_by, events_by, events_of, finished, finished_by, if_accepted, left_in}
+use Rattle.wl_client.specs.Stretches.{AllHeard, EndsWaiting, IsHeard, IsServed, IsStretch, IsStretchWithin, MayCome, SameLeft, arrived, arrived_by, events_by, events_of, finished, finished_by, if_accepted, left_in}
 
 -- ---- answers
 
@@ -335,13 +337,32 @@ module _ {U : Type 0} where
     does = r.does;
     pieces = stretch.pieces;
     ends = ends stretch.ends;
-    roomy = λ core is lacks. absurd (stretch.roomy (ap (λ (c : Core U). c.error) is));
+    roomy = λ core is lacks. inr (may_come core is (stretch.roomy (ap (λ (c : Core U). c.error) is)));
   }
     where
       ends : (reads_on (core_of after) ≡ false) ⊎ (EndsWaiting run × (arrivals_of (part_of after) ≡ []))
           → (reads_on (core_of after) ≡ false) ⊎ (ActsEndWaiting r.acts × (arrivals_of (part_of after) ≡ []))
       ends (inl off) = inl off
       ends (inr (waiting, none)) = inr (r.waits waiting [], none)
+
+      may_come : (core : Core U) → core_of after ≡ faulted core fault.Pipe → MayCome after → ActMayCome client core after.link
+      may_come core is (fits, in_time) = (
+        fits,
+        λ late. in_time (subst (λ (c : Core U). ReadOne (λ sender opcode found. found ≡ signature_in c.table c.store sender opcode) after.link (Err parse.MissingFD) after.link) (sym is) late),
+      )
+
+  -- no receive of a stretch of such messages finds the storage full
+  pub within_stretch : (before after : SessionState Script U) (run : List (Entry U)) → Leads before run after → IsStretchWithin before run after → IsStretch before run after
+  within_stretch before after run leads stretch =
+      let r = run_acts before after run leads stretch.heard (inl stretch.live) in
+      let within = subst (λ (q : Queue). EachWithin (incoming_limit before.link.limit) (joined before.link.incoming (joined (left_in before) q)).bytes) (sym r.came_in) stretch.within in
+      record {
+        heard = stretch.heard;
+        live = stretch.live;
+        pieces = stretch.pieces;
+        ends = stretch.ends;
+        roomy = λ is. (front_fits client (part_of before) (part_of after) r.acts r.does within, stretch.in_time is);
+      }
 
   pub stretch_served : (before after : SessionState Script U) (run : List (Entry U)) → Leads before run after → IsStretch before run after → IsServed before run after
   stretch_served before after run leads stretch =

@@ -1,18 +1,20 @@
 -- A stretch of a run in which bytes arrive, and events are read and finished.
 use Rattle.std.specs.Prelude.{◌≡◌, ◌≢◌, ◌⊎◌, List, [], ◌∷◌, ◌++◌, false, Option, None, Some, Ok, Err}
 use Rattle.wl_wire.specs.declared.error.IoFault.TheVariants as fault
+use Rattle.wl_wire.specs.declared.error.MessageParseError.TheVariants as parse
 use Rattle.wl_link.specs.Exchange.{Queue, joined, nothing}
+use Rattle.wl_link.specs.Link.{FrontFits, incoming_limit}
 use Rattle.wl_link.specs.Reader.{Given}
 use Rattle.wl_link.specs.Script.{Script, ScriptSends}
 use Rattle.wl_link.specs.Served.{Served, part_as}
-use Rattle.wl_link.specs.Stretch.{AllPieces, arrivals_of, left_over, sending_side}
+use Rattle.wl_link.specs.Stretch.{AllPieces, EachWithin, arrivals_of, left_over, sending_side}
 use Rattle.wl_client.specs.declared.error.EventError.TheVariants as no_event
 use Rattle.wl_client.specs.declared.error.WaylandError.TheVariants.{Io}
 use Rattle.wl_client.specs.declared.step.Reply.{Reply}
 use Rattle.wl_client.specs.declared.step.Reply.TheVariants as reply
 use Rattle.wl_client.specs.declared.step.Step.{Step}
 use Rattle.wl_client.specs.declared.step.Step.TheVariants as step
-use Rattle.wl_client.specs.Reading.{client, core_of, event_content, handed_by, part_of, reads_on}
+use Rattle.wl_client.specs.Reading.{ReadsAs, client, core_of, event_content, handed_by, part_of, reads_on}
 use Rattle.wl_client.specs.Requests.{SessionMessage}
 use Rattle.wl_client.specs.Session.{SessionState}
 use Rattle.wl_client.specs.Steps.{Entry}
@@ -72,19 +74,33 @@ module _ {U : Type 0} where
 
   -- ---- the law
 
+  -- the message at the front is no longer than the incoming storage may become, and lacks not its tokens alone
+  abbrev pub MayCome : SessionState Script U → Type 0
+  MayCome s = FrontFits s.link × (ReadsAs s (Err parse.MissingFD) s.link → ⊥)
+
   -- A stretch begins where no error is stored, and ends with a stored error, with an open event, or with a reading that
   -- would block where no arrival is left. The transport answers by no byte only into a full buffer, which ends the session
-  -- with `Pipe`.
+  -- with `Pipe`: so it does not end so, or what lacks in the end may come.
   pub record IsStretch (before : SessionState Script U) (run : List (Entry U)) (after : SessionState Script U) : Type 0 where
     pub heard : AllHeard run
     pub live : before.error ≡ None
     pub pieces : AllPieces (arrivals_of (part_of before))
     pub ends : (reads_on (core_of after) ≡ false) ⊎ (EndsWaiting run × (arrivals_of (part_of after) ≡ []))
-    pub roomy : after.error ≢ Some (Io fault.Pipe)
+    pub roomy : after.error ≡ Some (Io fault.Pipe) → MayCome after
 
   -- what is left over of the arrivals, behind what waits
   abbrev pub left_in : SessionState Script U → Queue
   left_in s = left_over (arrivals_of (part_of s))
+
+  -- A stretch of messages each of which is no longer than the incoming storage may become, and whose tokens come no later
+  -- than its last byte: none waits whole in the end and lacks tokens.
+  pub record IsStretchWithin (before : SessionState Script U) (run : List (Entry U)) (after : SessionState Script U) : Type 0 where
+    pub heard : AllHeard run
+    pub live : before.error ≡ None
+    pub pieces : AllPieces (arrivals_of (part_of before))
+    pub ends : (reads_on (core_of after) ≡ false) ⊎ (EndsWaiting run × (arrivals_of (part_of after) ≡ []))
+    pub within : EachWithin (incoming_limit before.link.limit) (joined before.link.incoming (joined (left_in before) (arrived run))).bytes
+    pub in_time : after.error ≡ Some (Io fault.Pipe) → ReadsAs after (Err parse.MissingFD) after.link → ⊥
 
   -- What it handed out, and what it came to, is what is served of all that arrived, with the finishes that were accepted.
   abbrev pub IsServed : SessionState Script U → List (Entry U) → SessionState Script U → Type 0

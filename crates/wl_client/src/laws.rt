@@ -17,7 +17,7 @@ ghost use Rattle.wl_client.specs.Noted.{NotesWhatEnded};
 ghost use Rattle.wl_client.specs.Replies.{SameReply, SameReplies};
 ghost use Rattle.wl_client.specs.Session.{SessionState, IsConnected};
 ghost use Rattle.wl_client.specs.Steps.{Entry, Leads, StepOf, entries};
-ghost use Rattle.wl_client.specs.Stretches.{IsServed as IsRunServed, IsStretch, SameLeft, arrived, events_of, finished};
+ghost use Rattle.wl_client.specs.Stretches.{IsServed as IsRunServed, IsStretch, IsStretchWithin, SameLeft, arrived, events_of, finished};
 
 use crate::next_event::READ_TURNS;
 use wl_link::Transport;
@@ -87,10 +87,13 @@ pub fn cutting_does_not_matter_to_a_client<T: Transport, U>()
 /// are cut, and the same finishes are accepted, hand out the same and lead to the same.
 ///
 /// Each arrival brings a byte or says that the transport would block, memory is not refused, and no receive found the
-/// storage full.
+/// storage full. None does where each message is no longer than the incoming storage may become, and its tokens come
+/// no later than its last byte.
 pub fn cutting_does_not_matter_to_a_run<U>()
     ensures served { (before after : SessionState Script U) (run : List (Entry U)) →
         Leads before run after → IsStretch before run after → IsRunServed before run after }
+    ensures within { (before after : SessionState Script U) (run : List (Entry U)) →
+        Leads before run after → IsStretchWithin before run after → IsStretch before run after }
     ensures same { (before after other : SessionState Script U) (run others : List (Entry U)) →
         Leads before run after → Leads before others other → IsStretch before run after → IsStretch before others other →
         arrived run ≡ arrived others → finished run ≡ finished others → (events_of run ≡ events_of others) × SameLeft after other }

@@ -1,21 +1,21 @@
 -- That each message is no longer than the incoming storage may become, wherever in a stretch it comes to the front.
-use Rattle.std.proofs.Common.{◌≡◌, ◌≢◌, ◌⊎◌, ◌≤◌, ℕ, zero, suc, Bool, true, false, List, [], ◌∷◌, ◌++◌, append_assoc, append-nil, length, drop, Some, Result, Ok, Err, is_ok, MatchResult, refl, sym, ap, subst, ◌∙◌, true≢false, arith}
+use Rattle.std.proofs.Common.{◌≡◌, ◌≢◌, ◌<◌, ◌≤◌, ℕ, zero, suc, Bool, true, false, List, [], ◌∷◌, ◌++◌, append_assoc, append-nil, length, drop, Option, Some, Result, Ok, Err, is_ok, MatchResult, refl, sym, ap, subst, ◌∙◌, true≢false, arith, cond, eqb}
 use Rattle.std.specs.Prelude.{nat_le}
-use Rattle.std.proofs.lemmas.List.{length-append}
+use Rattle.std.proofs.lemmas.Bool.{eqb-true}
+use Rattle.std.proofs.lemmas.List.{length-append, nil_from_length}
 use mathlib.Core.Logic.{inl, inr}
 use Rattle.wl_wire.specs.declared.error.IoFault.{IoFault}
 use Rattle.wl_wire.specs.declared.error.IoFault.TheVariants as fault
-use Rattle.wl_wire.specs.declared.error.MessageParseError.TheVariants as parse
 use Rattle.wl_wire.specs.FrontLaws.{behind_front, length_front, whole_front}
 use Rattle.wl_wire.specs.Message.{WireMessage, size}
 use Rattle.wl_wire.specs.Parse.{IsWhole, length_of}
 use Rattle.wl_link.specs.Branches.{either_bool, either_result}
 use Rattle.wl_link.specs.Exchange.{Queue, Sending, joined, nothing}
-use Rattle.wl_link.specs.Link.{FilledBy, FlushedBy, FrontFits, LinkState, PlacedBy, Put, WroteBy, count_of, counted_answer, has_room, ignoring, incoming_limit, with_came}
+use Rattle.wl_link.specs.Link.{FilledBy, FindsRoom, FlushedBy, FrontFits, LacksBytes, LinkState, PlacedBy, Put, WroteBy, count_of, counted_answer, has_room, ignoring, incoming_limit}
 use Rattle.wl_link.specs.Puts.{FlushesOut, PutBy, PutsOut, Said, lacked_memory}
 use Rattle.wl_link.specs.PutsLaws.{not_lacked}
 use Rattle.wl_link.specs.QueueLaws.{joined_assoc, joined_nothing}
-use Rattle.wl_link.specs.Reader.{CarriesOut, Ends, Given, Gives, Handled, Leaves, Part, Reader, Reads, ReadsAs, Received, Takes, Turn, Unread, Verdict, came_by, came_in, stops, with_link}
+use Rattle.wl_link.specs.Reader.{CarriesOut, Given, Gives, Handled, Part, Reader, Reads, ReadsAs, Received, Turn, Unread, Verdict, came_by, came_in, stops, with_link}
 use Rattle.wl_link.specs.Script.{Script, ScriptReceives, ScriptSends, given}
 use Rattle.wl_link.specs.Served.{Finds}
 use Rattle.wl_link.specs.ServedLaws.{both_false}
@@ -136,6 +136,30 @@ module _ {T : Type 0} where
   }
   flows_came receives before after (Err f) answer filled =
       flows_nothing before after (ap (λ (l : LinkState T). l.incoming) filled.2) (ap (λ (l : LinkState T). l.limit) filled.2)
+
+-- ---- what a receive that failed finds
+
+count_blocks : (b : Bool) (f : IoFault) → ◌≡◌ {A = Result (Unit {0}) IoFault} (cond b (Err fault.Pipe) (Ok tt)) (Err f) → b ≡ true
+count_blocks true f is = refl
+count_blocks false f is = absurd (true≢false (ap is_ok is))
+
+module _ {T : Type 0} (receives : T → ℕ → Result Queue IoFault → T → Type 0) (before after : LinkState T) where
+  no_bytes_came : (r : Result Queue IoFault) (f : IoFault) → counted_answer (count_of r) ≡ Err f → FilledBy receives before r (counted_answer (count_of r)) after
+      → after.incoming.bytes ≡ before.incoming.bytes
+  no_bytes_came (Err g) f failed filled = ap (λ (l : LinkState T). l.incoming.bytes) filled.2
+  no_bytes_came (Ok came) f failed filled =
+      let none : came.bytes ≡ [] = nil_from_length came.bytes (eqb-true (length came.bytes) 0 (count_blocks (eqb (length came.bytes) 0) f failed)) in
+      ap (λ (l : LinkState T). l.incoming.bytes) filled.2 ∙ ap (λ (bs : List ℕ). before.incoming.bytes ++ bs) none ∙ append-nil before.incoming.bytes
+
+  -- the storage after it has a byte free too
+  pub failed_finds : (r : Result Queue IoFault) (f : IoFault) → counted_answer (count_of r) ≡ Err f → FilledBy receives before r (counted_answer (count_of r)) after
+      → FindsRoom before after.room → FindsRoom after after.room
+  failed_finds r f failed filled finds lacks fits =
+      let bytes = no_bytes_came r f failed filled in
+      let limit : after.limit ≡ before.limit = ap (λ (l : LinkState T). l.limit) filled.2 in
+      let fits' = subst (λ (bs : List ℕ). 8 ≤ length bs → length_of bs ≤ incoming_limit after.limit) bytes fits in
+      let fits'' = subst (λ (m : Option ℕ). 8 ≤ length before.incoming.bytes → length_of before.incoming.bytes ≤ incoming_limit m) limit fits' in
+      subst (λ (bs : List ℕ). length bs < after.room) (sym bytes) (finds (subst LacksBytes bytes lacks) fits'')
 
 module _ {T Core Event Finish : Type 0} (sends : T → Queue → Result ℕ IoFault → T → Type 0) (receives : T → ℕ → Result Queue IoFault → T → Type 0)
     (reader : Reader Core Event Finish) where

@@ -124,8 +124,11 @@ module _ {Core Event Finish : Type 0} (reader : Reader Core Event Finish) (ends_
           → (length before.link.incoming.bytes < before.link.room) ⊎ MayCome reader core before.link
       free core (inl some) = inl some
       free core (inr (fits, in_time)) =
-          inr (fits, λ late. in_time
-          (refused_there (λ sender opcode found. found ≡ reader.signature core sender opcode) before.link (with_transport before.link after.link.transport) parse.MissingFD refl late))
+          inr (
+            fits,
+            λ late. in_time
+                (refused_there (λ sender opcode found. found ≡ reader.signature core sender opcode) before.link (with_transport before.link after.link.transport) parse.MissingFD refl late),
+          )
 
   -- ---- what an act is among what is served
 

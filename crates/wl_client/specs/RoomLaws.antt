@@ -1,0 +1,112 @@
+-- That a reading which ends a session because no bytes came found a byte free for what lacked.
+use Rattle.std.proofs.Common.{◌≡◌, ◌≢◌, ◌⊎◌, ℕ, Bool, false, List, [], ◌∷◌, Option, None, Some, is_none, Result, Ok, Err, MatchResult, refl, sym, ap, subst, ◌∙◌, true≢false, ◌&&◌}
+use mathlib.Core.Logic.{inl, inr}
+use Rattle.wl_wire.specs.declared.error.IoFault.{IoFault}
+use Rattle.wl_wire.specs.declared.error.IoFault.TheVariants as fault
+use Rattle.wl_link.specs.Branches.{both_option}
+use Rattle.wl_link.specs.Exchange.{Queue, Sending}
+use Rattle.wl_link.specs.LengthLaws.{failed_finds}
+use Rattle.wl_link.specs.Link.{FilledBy, FindsRoom, LinkState, counted_answer, count_of}
+use Rattle.wl_link.specs.Puts.{lacked_memory}
+use Rattle.wl_link.specs.Reader.{CarriesOut, Given, Gives, Handled, Part, Reads, Received, Turn, Unread, Verdict, came_to as comes_to, stops, with_link}
+use Rattle.wl_client.specs.declared.error.EventError.{EventError}
+use Rattle.wl_client.specs.declared.error.WaylandError.{WaylandError}
+use Rattle.wl_client.specs.declared.error.WaylandError.TheVariants.{Io, Protocol}
+use Rattle.wl_client.specs.declared.event_fault.EventFault.TheVariants as wrong
+use Rattle.wl_client.specs.Events.{error_of}
+use Rattle.wl_client.specs.Handling.{Handling, Swallows, HandsOut, Breaks, handling}
+use Rattle.wl_client.specs.Reading.{Core, EndsWithRoom, NextEvent, client, objects_in, part_of, verdict}
+use Rattle.wl_client.specs.Requests.{SessionMessage}
+use Rattle.wl_client.specs.Session.{SessionState}
+
+some_same : {e f : WaylandError} → Some e ≡ Some f → e ≡ f
+some_same same = cc
+
+none_ended : {e : Option WaylandError} → e ≡ None → e ≡ Some (Io fault.Pipe) → ⊥
+none_ended none is = true≢false (ap is_none (sym none ∙ is))
+
+module _ {T U : Type 0} (sends : T → Queue → Result ℕ IoFault → T → Type 0) (receives : T → ℕ → Result Queue IoFault → T → Type 0) where
+  -- ---- what a message comes to
+
+  -- no error is stored, or another one, and it reads no more
+  abbrev NotEnded : Core U → Type 0
+  NotEnded c = (c.error ≡ None) ⊎ ((client.reads_on c ≡ false) × (c.error ≢ Some (Io fault.Pipe)))
+
+  came : (c : Core U) (h : Handling U) (d : Core U) (wrote : Result (Unit {0}) IoFault) → wrote ≡ Ok tt → d ≡ comes_to client (verdict c h) wrote → d ≡ (verdict c h).core
+  came c h d wrote is end = end ∙ ap (comes_to client (verdict c h)) is
+
+  broken : (d : Core U) (e : WaylandError) → e ≢ Io fault.Pipe → d.error ≡ Some e → NotEnded d
+  broken d e other is =
+      inr (
+        ap (λ (o : Option WaylandError). is_none o && is_none d.open_event) is,
+        λ same. other (some_same (sym is ∙ same)),
+      )
+
+  not_ended : (c : Core U) (h : Handling U) (before : LinkState T) (es : List Sending) (gave : List (Given SessionMessage)) (lacked : Bool) (mid : Part T (Core U))
+      → c.error ≡ None → CarriesOut sends client (verdict c h) before es gave lacked mid → NotEnded mid.core
+  not_ended c (Swallows o) before es gave lacked mid none (inr (asks, was, sent, gives, same)) = absurd (true≢false (sym asks))
+  not_ended c (HandsOut m event o) before es gave lacked mid none (inr (asks, was, sent, gives, same)) = absurd (true≢false (sym asks))
+  not_ended c (Breaks e o) before es gave lacked mid none (inr (asks, was, sent, gives, same)) =
+      broken mid.core (Io fault.OutOfMemory) (λ is. cc) (ap (λ (p : Part T (Core U)). p.core.error) same)
+  not_ended c (Swallows o) before es gave lacked mid none (inl (first, others, put, wrote, link, short, puts, flushes, split, end, is, was)) =
+      inl (ap (λ (d : Core U). d.error) (came c (Swallows o) mid.core wrote puts.2 end) ∙ none)
+  not_ended c (HandsOut m event o) before es gave lacked mid none (inl (first, others, put, wrote, link, short, puts, flushes, split, end, is, was)) =
+      inl (ap (λ (d : Core U). d.error) (came c (HandsOut m event o) mid.core wrote puts.2 end) ∙ none)
+  not_ended c (Breaks e o) before es gave lacked mid none (inl (first, others, put, wrote, link, short, puts, flushes, split, end, is, was)) =
+      broken mid.core (Protocol e) (λ same. cc) (ap (λ (d : Core U). d.error) (came c (Breaks e o) mid.core wrote puts.2 end))
+
+  reads_nothing : (left : ℕ) (p after : Part T (Core U)) (turns : List Turn) (out : Gives SessionMessage) → client.reads_on p.core ≡ false
+      → Reads sends client receives left p turns out after → after ≡ p
+  reads_nothing left p after [] out off (same, ends) = same
+  reads_nothing left p after (Received r ∷ turns) out off h = absurd (true≢false (sym h.0 ∙ off))
+  reads_nothing left p after (Handled es ∷ turns) out off h = absurd (true≢false (sym h.0 ∙ off))
+  reads_nothing left p after (Unread es ∷ turns) out off h = absurd (true≢false (sym h.0 ∙ off))
+
+  -- ---- a reading
+
+  fault_room : (p after : Part T (Core U)) (link : LinkState T) (r : Result Queue IoFault) (f : IoFault) → counted_answer (count_of r) ≡ Err f
+      → FilledBy receives p.link r (counted_answer (count_of r)) link → (counted_answer (count_of r) ≢ Err fault.OutOfMemory → FindsRoom p.link link.room)
+      → after ≡ record { core = client.faulted p.core f; link = link } → p.core.error ≡ None → after.core.error ≡ Some (Io fault.Pipe) → FindsRoom after.link after.link.room
+  fault_room p after link r fault.OutOfMemory failed filled finds same none is = absurd (none_ended none (sym (ap (λ (x : Part T (Core U)). x.core.error) same) ∙ is))
+  fault_room p after link r f failed filled finds same none is =
+      subst (λ (x : Part T (Core U)). FindsRoom x.link x.link.room) (sym same) (failed_finds receives p.link link r f failed filled (finds (λ memory. let e = sym failed ∙ memory in cc)))
+
+  -- after a message
+  heard_room : (left : ℕ) (p after : Part T (Core U)) (turns : List Turn) (out : Gives SessionMessage) → Reads sends client receives left p turns out after
+      → (p.core.error ≡ None → FindsRoom after.link after.link.room) → after.core.error ≡ Some (Io fault.Pipe) → NotEnded p.core → FindsRoom after.link after.link.room
+  heard_room left p after turns out reads goes is (inl none) = goes none
+  heard_room left p after turns out reads goes is (inr (off, other)) =
+      absurd (other (sym (ap (λ (x : Part T (Core U)). x.core.error) (reads_nothing left p after turns out off reads)) ∙ is))
+
+  reads_room : (left : ℕ) (p after : Part T (Core U)) (turns : List Turn) (out : Gives SessionMessage) → Reads sends client receives left p turns out after
+      → p.core.error ≡ None → after.core.error ≡ Some (Io fault.Pipe) → FindsRoom after.link after.link.room
+  reads_room left p after [] out (same, ends) none is = absurd (none_ended none (sym (ap (λ (x : Part T (Core U)). x.core.error) same) ∙ is))
+  reads_room left p after (Received r ∷ turns) out (on, lacks, (n, is', (link, filled, finds, h))) none is =
+      go (counted_answer (count_of r)) refl h (λ more. reads_room n (with_link p link) after turns out more none is)
+    where
+      go : (c : Result (Unit {0}) IoFault) → counted_answer (count_of r) ≡ c
+          → MatchResult c (λ _. Reads sends client receives n (with_link p link) turns out after)
+          (λ f. (turns ≡ []) × (out ≡ stops (Some f) (lacked_memory (Err f)) n) × (after ≡ record { core = client.faulted p.core f; link = link }))
+          → (Reads sends client receives n (with_link p link) turns out after → FindsRoom after.link after.link.room) → FindsRoom after.link after.link.room
+      go (Ok u) was more goes = goes more
+      go (Err f) was (last, ends, same) goes = fault_room p after link r f was filled finds same none is
+  reads_room left p after (Handled es ∷ turns) out (on, (v, link, first, lacked, mid, rest, (m, read, is'), carried, split, more)) none is =
+      heard_room left mid after turns rest more (λ on'. reads_room left mid after turns rest more on' is) is
+      (not_ended p.core (handling p.core.table (objects_in p.core) m) link es first lacked mid none
+      (subst (λ (w : Verdict (Core U) SessionMessage). CarriesOut sends client w link es first lacked mid) is' carried))
+  reads_room left p after (Unread es ∷ turns) out (on, (v, link, first, lacked, mid, rest, (read, same, is'), carried, split, more)) none is =
+      heard_room left mid after turns rest more (λ on'. reads_room left mid after turns rest more on' is) is
+      (not_ended p.core (Breaks (error_of p.core.table wrong.Malformed) (objects_in p.core)) link es first lacked mid none
+      (subst (λ (w : Verdict (Core U) SessionMessage). CarriesOut sends client w link es first lacked mid) is' carried))
+
+  pub next_event_room : (s : SessionState T U) (answer : Result SessionMessage EventError) (refused : Bool) (after : SessionState T U)
+      → NextEvent sends receives s answer refused after → EndsWithRoom s after
+  next_event_room s answer refused after h live is =
+      elim (both_option s.error h h) [
+        | inr (e, some, p, q) ↦ absurd (true≢false (ap is_none (sym live ∙ some)))
+        | inl (none, p, q) ↦
+            elim (both_option s.open_event p q) [
+              | inr (event, some, (failed, unasked, same), again) ↦ absurd (none_ended live (sym (ap (λ (x : SessionState T U). x.error) same) ∙ is))
+              | inl (shut, (turns, out, reads, told, gave, calm), again) ↦ reads_room _ (part_of s) (part_of after) turns out reads live is
+            ]
+      ]
