@@ -19,19 +19,15 @@ use Rattle.wl_link.specs.Store.{Store, held}
 use Rattle.wl_client.specs.declared.event_fault.EventFault.{EventFault}
 use Rattle.wl_client.specs.declared.kept.Kept.{Kept}
 use Rattle.wl_client.specs.declared.open_event.OpenEvent.{OpenEvent}
-use Rattle.wl_client.specs.declared.event.Handled.{Handled}
-use Rattle.wl_client.specs.declared.event.Handled.TheVariants as handled
 use Rattle.wl_client.specs.declared.turn.NoEvent.{NoEvent}
-use Rattle.wl_client.specs.declared.turn.Turn.{Turn as Turned}
-use Rattle.wl_client.specs.declared.turn.Turn.TheVariants as turned
 use Rattle.wl_client.specs.ObjectId.{IdParts}
 use Rattle.wl_client.specs.Conversion.{objects_in}
 use Rattle.wl_client.specs.Events.{Outcome, Whole, Wrong, convert, start, error_of, display_event}
 use Rattle.wl_client.specs.Handling.{Handling, Swallows, HandsOut, Breaks, handling, of_converted, of_display, of_event, event_of, opened_of}
 use Rattle.wl_client.specs.Reading.{ReadsAs, row_of, with_link}
-use Rattle.wl_client.specs.Requests.{SessionMessage}
+use Rattle.wl_client.specs.Requests.{SessionMessage, session_content}
 use Rattle.wl_client.specs.Session.{SessionState, objects_of, with_objects}
-use Rattle.wl_client.specs.Turns.{HandledAs, HandledTo, Turns}
+use Rattle.wl_client.specs.Turns.{HandledAs, HandledTo, Turned, GaveEvent, WentOn, Ended, Turns}
 
 -- ---- as many arguments as places
 
@@ -91,26 +87,26 @@ module _ {T U : Type 0} where
     abbrev whole : Bool → Objects (Kept U) → SessionMessage → OpenEvent → Handling U
     whole destroyed o e opened = cond destroyed (Swallows o) (HandsOut e opened o)
 
-    swallows : (outcome : Outcome U) (objects : Objects (Kept U)) → HandledAs m x row outcome handled.Swallowed objects
-        → HandledTo before (came outcome) turned.GoesOn (with_objects before objects)
-    swallows (Whole c args) objects (destroyed, same) =
-        subst (λ (b : Bool). HandledTo before (whole b c.objects (event_of m x args) (opened_of m x row c.created)) turned.GoesOn (with_objects before objects))
+    swallows : (outcome : Outcome U) (event : SessionMessage) (objects : Objects (Kept U)) → HandledAs m x row outcome (Ok None) event objects
+        → HandledTo before (came outcome) WentOn (with_objects before objects)
+    swallows (Whole c args) event objects (destroyed, same) =
+        subst (λ (b : Bool). HandledTo before (whole b c.objects (event_of m x args) (opened_of m x row c.created)) WentOn (with_objects before objects))
         (sym destroyed) (ap (with_objects before) same)
-    swallows (Wrong w o) objects f = absurd f
+    swallows (Wrong w o) event objects f = absurd f
 
-    hands : (outcome : Outcome U) (e : Message IdParts Token) (opened : OpenEvent) (objects : Objects (Kept U)) → HandledAs m x row outcome (handled.Event e opened) objects
-        → HandledTo before (came outcome) (turned.Event e) (opened_in objects opened)
+    hands : (outcome : Outcome U) (e : Message IdParts Token) (opened : OpenEvent) (objects : Objects (Kept U)) → HandledAs m x row outcome (Ok (Some opened)) (session_content e) objects
+        → HandledTo before (came outcome) (GaveEvent e) (opened_in objects opened)
     hands (Whole c args) e opened objects (alive, content, opens, same) =
-        subst (λ (b : Bool). HandledTo before (whole b c.objects (event_of m x args) (opened_of m x row c.created)) (turned.Event e) (opened_in objects opened))
+        subst (λ (b : Bool). HandledTo before (whole b c.objects (event_of m x args) (opened_of m x row c.created)) (GaveEvent e) (opened_in objects opened))
         (sym alive) (content, ap₂ opened_in same opens)
     hands (Wrong w o) e opened objects f = absurd f
 
-    faults : (outcome : Outcome U) (w : EventFault) (objects : Objects (Kept U)) (end : NoEvent) (after : SessionState T U) → HandledAs m x row outcome (handled.Fault w) objects
-        → HandledTo before (Breaks (error_of before.table w) objects) (turned.Ends end) after → HandledTo before (came outcome) (turned.Ends end) after
-    faults (Whole c args) w objects end after f h = absurd f
-    faults (Wrong w' o) w objects end after (fault, same) h =
-        subst (λ (z : Objects (Kept U)). HandledTo before (Breaks (error_of before.table w') z) (turned.Ends end) after) same
-        (subst (λ (z : EventFault). HandledTo before (Breaks (error_of before.table z) objects) (turned.Ends end) after) fault h)
+    faults : (outcome : Outcome U) (w : EventFault) (event : SessionMessage) (objects : Objects (Kept U)) (end : NoEvent) (after : SessionState T U) → HandledAs m x row outcome (Err w) event objects
+        → HandledTo before (Breaks (error_of before.table w) objects) (Ended end) after → HandledTo before (came outcome) (Ended end) after
+    faults (Whole c args) w event objects end after f h = absurd f
+    faults (Wrong w' o) w event objects end after (fault, same) h =
+        subst (λ (z : Objects (Kept U)). HandledTo before (Breaks (error_of before.table w') z) (Ended end) after) same
+        (subst (λ (z : EventFault). HandledTo before (Breaks (error_of before.table z) objects) (Ended end) after) fault h)
 
   -- the message was taken off the link, and is an event of an object
   module _ (before : SessionState T U) (m : WireMessage) (link : LinkState T) (took : ReadsAs before (Ok m) link) (map : MapState (Kept U)) (row : MessageRow)
@@ -121,16 +117,16 @@ module _ {T U : Type 0} where
     abbrev outcome : Object (Kept U) → Outcome U
     outcome x = convert x.version x.value.client_destroyed (start (objects_of before) row) [] m.args
 
-    abbrev Came : Handled → Type 0
-    Came h = MatchOption (held map.store m.sender) ⊥
-        (λ x. HandledAs m x row (convert x.version x.value.client_destroyed (start (objects_in map before.last_serial) row) [] m.args) h objects)
+    abbrev Came : Result (Option OpenEvent) EventFault → SessionMessage → Type 0
+    Came h event = MatchOption (held map.store m.sender) ⊥
+        (λ x. HandledAs m x row (convert x.version x.value.client_destroyed (start (objects_in map before.last_serial) row) [] m.args) h event objects)
 
-    by : (h : Handled) (turned : Turned) (after : SessionState T U) → Came h
-        → ((x : Object (Kept U)) → HandledAs m x row (outcome x) h objects → HandledTo taken (of_converted before.table (objects_of before) m x row (outcome x)) turned after)
+    by : (h : Result (Option OpenEvent) EventFault) (event : SessionMessage) (turned : Turned) (after : SessionState T U) → Came h event
+        → ((x : Object (Kept U)) → HandledAs m x row (outcome x) h event objects → HandledTo taken (of_converted before.table (objects_of before) m x row (outcome x)) turned after)
         → Turns before turned after
-    by h turned after fact to =
+    by h event turned after fact to =
         let seen = known (held before.store m.sender) (subst (λ (s : Store (Kept U)). MatchOption (held s m.sender) ⊥
-        (λ x. HandledAs m x row (convert x.version x.value.client_destroyed (start (record { store = s; last_serial = before.last_serial }) row) [] m.args) h objects)) same fact) in
+        (λ x. HandledAs m x row (convert x.version x.value.client_destroyed (start (record { store = s; last_serial = before.last_serial }) row) [] m.args) h event objects)) same fact) in
         let row_known = subst (λ (r : Option MessageRow). HandledTo taken (of_event before.table (objects_of before) m (Some seen.0) r) turned after) (sym is) (to seen.0 seen.2) in
         let known' = subst (λ (o : Option (Object (Kept U))). HandledTo taken (of_event before.table (objects_of before) m o (row_of before m.sender m.opcode)) turned after) (sym seen.1) row_known in
         inr (
@@ -141,16 +137,16 @@ module _ {T U : Type 0} where
               (of_event before.table (objects_of before) m (held before.store m.sender) (row_of before m.sender m.opcode))) turned after) (sym (ne_eqb m.sender 1 other)) known',
         )
 
-    pub swallowed_turns : Came handled.Swallowed → Turns before turned.GoesOn (with_objects taken objects)
-    swallowed_turns fact = by handled.Swallowed turned.GoesOn (with_objects taken objects) fact (λ x h. swallows taken m row x (outcome x) objects h)
+    pub swallowed_turns : (event : SessionMessage) → Came (Ok None) event → Turns before WentOn (with_objects taken objects)
+    swallowed_turns event fact = by (Ok None) event WentOn (with_objects taken objects) fact (λ x h. swallows taken m row x (outcome x) event objects h)
 
-    pub handed_turns : (e : Message IdParts Token) (opened : OpenEvent) → Came (handled.Event e opened)
-        → Turns before (turned.Event e) (record (with_objects taken objects) { open_event = Some opened })
-    handed_turns e opened fact = by (handled.Event e opened) (turned.Event e) _ fact (λ x h. hands taken m row x (outcome x) e opened objects h)
+    pub handed_turns : (e : Message IdParts Token) (opened : OpenEvent) → Came (Ok (Some opened)) (session_content e)
+        → Turns before (GaveEvent e) (record (with_objects taken objects) { open_event = Some opened })
+    handed_turns e opened fact = by (Ok (Some opened)) (session_content e) (GaveEvent e) _ fact (λ x h. hands taken m row x (outcome x) e opened objects h)
 
-    pub faulted_turns : (w : EventFault) (end : NoEvent) (after : SessionState T U) → Came (handled.Fault w)
-        → HandledTo (with_objects taken objects) (Breaks (error_of before.table w) objects) (turned.Ends end) after → Turns before (turned.Ends end) after
-    faulted_turns w end after fact ended = by (handled.Fault w) (turned.Ends end) after fact (λ x h. faults taken m row x (outcome x) w objects end after h ended)
+    pub faulted_turns : (w : EventFault) (event : SessionMessage) (end : NoEvent) (after : SessionState T U) → Came (Err w) event
+        → HandledTo (with_objects taken objects) (Breaks (error_of before.table w) objects) (Ended end) after → Turns before (Ended end) after
+    faulted_turns w event end after fact ended = by (Err w) event (Ended end) after fact (λ x h. faults taken m row x (outcome x) w event objects end after h ended)
 
   pub display_turns : (before : SessionState T U) (m : WireMessage) (link : LinkState T) → ReadsAs before (Ok m) link → (store : Store (Kept U)) (turned : Turned) (after : SessionState T U)
       → store ≡ before.store

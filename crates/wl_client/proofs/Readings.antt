@@ -26,14 +26,12 @@ use Rattle.wl_client.specs.declared.error.WaylandError.TheVariants.{Io}
 use Rattle.wl_client.specs.declared.error.WaylandError.{WaylandError}
 use Rattle.wl_client.specs.declared.open_event.OpenEvent.{OpenEvent}
 use Rattle.wl_client.specs.declared.turn.NoEvent.{NoEvent}
-use Rattle.wl_client.specs.declared.turn.Turn.{Turn as Turned}
-use Rattle.wl_client.specs.declared.turn.Turn.TheVariants as turned
 use Rattle.wl_client.specs.ObjectId.{IdParts}
 use Rattle.wl_client.specs.Handling.{Handling, Swallows, HandsOut, Breaks, front_row, handling}
 use Rattle.wl_client.specs.Reading.{NextEvent, Core, Lacks, ReadsAs, ReadsTo, answered, by_fault, client, core_of, faulted, handed_by, part_of, reads_on, receives_allowed, row_asks, verdict, with_link}
 use Rattle.wl_client.specs.Requests.{SessionMessage, session_content}
 use Rattle.wl_client.specs.Session.{SessionState, objects_of}
-use Rattle.wl_client.specs.Turns.{EndsAs, HandledTo, Leads, Live, NotTaken, ReceivedTo, RowAsks, Turns, event_answer, event_refused, malformed}
+use Rattle.wl_client.specs.Turns.{Turned, GaveEvent, WentOn, LacksMore, Ended, EndsAs, HandledTo, Leads, Live, NotTaken, ReceivedTo, RowAsks, Turns, event_answer, event_refused, malformed}
 
 abbrev failed_with : IoFault → Result (Unit {0}) IoFault
 failed_with f = Err f
@@ -67,11 +65,11 @@ shorter_at false looks_up before m after (impossible, same) = absurd (ok_err imp
 
 -- what a turn gives, and whether memory was refused in it
 abbrev pub given_by : Turned → List (Given SessionMessage)
-given_by (turned.Event e) = HandedOut (session_content e) ∷ []
+given_by (GaveEvent e) = HandedOut (session_content e) ∷ []
 given_by _ = []
 
 abbrev pub refused_by : Turned → Bool
-refused_by (turned.Ends end) = end.refused
+refused_by (Ended end) = end.refused
 refused_by _ = false
 
 and_false : (b : Bool) → b && false ≡ false
@@ -102,9 +100,9 @@ module _ {T U : Type 0} where
   -- what a message came to is a verdict that was carried out
   pub carried : (sends : T → Queue → Result ℕ IoFault → T → Type 0) (s : SessionState T U) (h : Handling U) (turned : Turned) (after : SessionState T U) → HandledTo s h turned after
       → CarriesOut sends client (verdict (core_of s) h) s.link [] (given_by turned) (refused_by turned) (part_of after)
-  carried sends s (Swallows o) turned.GoesOn after same =
+  carried sends s (Swallows o) WentOn after same =
       inl ([], [], [], Ok tt, s.link, false, (refl, refl, refl, refl), (refl, ap (λ (x : SessionState T U). x.link) same, refl), refl, ap core_of same, refl, refl)
-  carried sends s (HandsOut m event o) (turned.Event e) after (content, same) =
+  carried sends s (HandsOut m event o) (GaveEvent e) after (content, same) =
       inl (
         [],
         [],
@@ -119,32 +117,32 @@ module _ {T U : Type 0} where
         ap (λ (x : SessionMessage). let l : List (Given SessionMessage) = HandedOut x ∷ [] in l) content,
         refl,
       )
-  carried sends s (Breaks e o) (turned.Ends end) after (failed, inl (unasked, same)) =
+  carried sends s (Breaks e o) (Ended end) after (failed, inl (unasked, same)) =
       inl ([], [], [], Ok tt, s.link, false, (refl, refl, refl, refl), (refl, ap (λ (x : SessionState T U). x.link) same, refl), refl, ap core_of same, refl, unasked)
-  carried sends s (Breaks e o) (turned.Ends end) after (failed, inr (asked, same)) = inr (refl, asked, refl, refl, ap part_of same)
-  carried sends s (Swallows o) turned.Lacks after h = absurd h
-  carried sends s (Swallows o) (turned.Event e) after h = absurd h
-  carried sends s (Swallows o) (turned.Ends end) after h = absurd h
-  carried sends s (HandsOut m event o) turned.Lacks after h = absurd h
-  carried sends s (HandsOut m event o) turned.GoesOn after h = absurd h
-  carried sends s (HandsOut m event o) (turned.Ends end) after h = absurd h
-  carried sends s (Breaks e o) turned.Lacks after h = absurd h
-  carried sends s (Breaks e o) turned.GoesOn after h = absurd h
-  carried sends s (Breaks e o) (turned.Event e') after h = absurd h
+  carried sends s (Breaks e o) (Ended end) after (failed, inr (asked, same)) = inr (refl, asked, refl, refl, ap part_of same)
+  carried sends s (Swallows o) LacksMore after h = absurd h
+  carried sends s (Swallows o) (GaveEvent e) after h = absurd h
+  carried sends s (Swallows o) (Ended end) after h = absurd h
+  carried sends s (HandsOut m event o) LacksMore after h = absurd h
+  carried sends s (HandsOut m event o) WentOn after h = absurd h
+  carried sends s (HandsOut m event o) (Ended end) after h = absurd h
+  carried sends s (Breaks e o) LacksMore after h = absurd h
+  carried sends s (Breaks e o) WentOn after h = absurd h
+  carried sends s (Breaks e o) (GaveEvent e') after h = absurd h
 
   -- ---- which turns leave the session live
 
-  lives : (s after : SessionState T U) (h : Handling U) → Live s → HandledTo s h turned.GoesOn after → Live after
+  lives : (s after : SessionState T U) (h : Handling U) → Live s → HandledTo s h WentOn after → Live after
   lives s after (Swallows o) (live, unopened) same = (ap (λ (x : SessionState T U). x.error) same ∙ live, ap (λ (x : SessionState T U). x.open_event) same ∙ unopened)
   lives s after (HandsOut m event o) live h = absurd h
   lives s after (Breaks e o) live h = absurd h
 
-  opens : (s after : SessionState T U) (h : Handling U) (e : Message IdParts Token) → HandledTo s h (turned.Event e) after → reads_on (core_of after) ≡ false
+  opens : (s after : SessionState T U) (h : Handling U) (e : Message IdParts Token) → HandledTo s h (GaveEvent e) after → reads_on (core_of after) ≡ false
   opens s after (HandsOut m event o) e (content, same) = ap (λ (x : SessionState T U). reads_on (core_of x)) same ∙ and_false (is_none s.error)
   opens s after (Swallows o) e h = absurd h
   opens s after (Breaks e' o) e h = absurd h
 
-  fails : (s after : SessionState T U) (h : Handling U) (end : NoEvent) → HandledTo s h (turned.Ends end) after → (reads_on (core_of after) ≡ false) × (end.error ≡ no_event.Failed)
+  fails : (s after : SessionState T U) (h : Handling U) (end : NoEvent) → HandledTo s h (Ended end) after → (reads_on (core_of after) ≡ false) × (end.error ≡ no_event.Failed)
   fails s after (Breaks e o) end (failed, inl (unasked, same)) = (ap (λ (x : SessionState T U). reads_on (core_of x)) same, failed)
   fails s after (Breaks e o) end (failed, inr (asked, same)) = (ap (λ (x : SessionState T U). reads_on (core_of x)) same, failed)
   fails s after (Swallows o) end h = absurd h
@@ -170,19 +168,19 @@ module _ {T U : Type 0} where
         leads_on sends receives client (part_of start) (part_of before) (part_of after) [] gave false refused leads
         (one_more sends receives client (part_of before) (part_of after) gave refused (live_reads before live) handles)
 
-    pub on_more : (start before after : SessionState T U) → Live before → Leads sends receives start before → Turns before turned.GoesOn after → Live after × Leads sends receives start after
+    pub on_more : (start before after : SessionState T U) → Live before → Leads sends receives start before → Turns before WentOn after → Live after × Leads sends receives start after
     on_more start before after live leads (inl impossible) = absurd impossible
     on_more start before after live leads (inr (m, link, read, h)) = (
       lives (with_link before link) after (handling before.table (objects_of before) m) live h,
-      then start before after [] false leads live (took before after m link turned.GoesOn read h),
+      then start before after [] false leads live (took before after m link WentOn read h),
     )
 
-    pub event_ends : (start before after : SessionState T U) (e : Message IdParts Token) → Live before → Leads sends receives start before → Turns before (turned.Event e) after
+    pub event_ends : (start before after : SessionState T U) (e : Message IdParts Token) → Live before → Leads sends receives start before → Turns before (GaveEvent e) after
         → EndsAs sends receives start (Ok e) after
     event_ends start before after e live leads (inl impossible) = absurd impossible
     event_ends start before after e live leads (inr (m, link, read, h)) =
         let gave : List (Given SessionMessage) = HandedOut (session_content e) ∷ [] in
-        let on = then start before after gave false leads live (took before after m link (turned.Event e) read h) in
+        let on = then start before after gave false leads live (took before after m link (GaveEvent e) read h) in
         record {
           lacked = false;
           stopped = None;
@@ -206,12 +204,12 @@ module _ {T U : Type 0} where
           refused_is = or_false end.refused;
         }
 
-    pub end_ends : (start before after : SessionState T U) (end : NoEvent) → Live before → Leads sends receives start before → Turns before (turned.Ends end) after
+    pub end_ends : (start before after : SessionState T U) (end : NoEvent) → Live before → Leads sends receives start before → Turns before (Ended end) after
         → EndsAs sends receives start (Err end) after
     end_ends start before after end live leads (inr (m, link, read, h)) =
-        stored start before after end live leads (took before after m link (turned.Ends end) read h) (fails (with_link before link) after (handling before.table (objects_of before) m) end h)
+        stored start before after end live leads (took before after m link (Ended end) read h) (fails (with_link before link) after (handling before.table (objects_of before) m) end h)
     end_ends start before after end live leads (inl (inl (read, h))) =
-        stored start before after end live leads (left_there before after (turned.Ends end) read h) (fails before after (malformed before) end h)
+        stored start before after end live leads (left_there before after (Ended end) read h) (fails before after (malformed before) end h)
     end_ends start before after end live leads (inl (inr (is, asks, same))) =
         record {
           lacked = false;
@@ -227,23 +225,23 @@ module _ {T U : Type 0} where
         asked (inl read) = inr read
         asked (inr (same, asks)) = inl (row_asks_memory (front_row before.table before.store before.link.incoming.bytes) asks)
 
-    pub shorter : (before after : SessionState T U) → Turns before turned.GoesOn after → length after.link.incoming.bytes < length before.link.incoming.bytes
+    pub shorter : (before after : SessionState T U) → Turns before WentOn after → length after.link.incoming.bytes < length before.link.incoming.bytes
     shorter before after (inl impossible) = absurd impossible
     shorter before after (inr (m, link, read, h)) =
         subst (λ (l : LinkState T). length l.incoming.bytes < length before.link.incoming.bytes) (sym (link_is (handling before.table (objects_of before) m) h)) (shorter_at _ _ before.link m link read)
       where
-        link_is : (h : Handling U) → HandledTo (with_link before link) h turned.GoesOn after → after.link ≡ link
+        link_is : (h : Handling U) → HandledTo (with_link before link) h WentOn after → after.link ≡ link
         link_is (Swallows o) same = ap (λ (x : SessionState T U). x.link) same
         link_is (HandsOut m' event o) f = absurd f
         link_is (Breaks e o) f = absurd f
 
-    pub lacks_waits : (start before after : SessionState T U) → Live before → Leads sends receives start before → Turns before turned.Lacks after
+    pub lacks_waits : (start before after : SessionState T U) → Live before → Leads sends receives start before → Turns before LacksMore after
         → Live after × Lacks after × Leads sends receives start after
     lacks_waits start before after live leads (inl (lacks, same)) =
         subst (λ (s : SessionState T U). Live s × Lacks s × Leads sends receives start s) (sym same) (live, lacks, leads)
     lacks_waits start before after live leads (inr (m, link, read, h)) = absurd (nothing (handling before.table (objects_of before) m) h)
       where
-        nothing : (h : Handling U) → HandledTo (with_link before link) h turned.Lacks after → ⊥
+        nothing : (h : Handling U) → HandledTo (with_link before link) h LacksMore after → ⊥
         nothing (Swallows o) f = f
         nothing (HandsOut m event o) f = f
         nothing (Breaks e o) f = f

@@ -24,11 +24,11 @@ use Rattle.wl_client.specs.declared.error.EventError.TheVariants as no_event
 use Rattle.wl_client.specs.declared.error.WaylandError.TheVariants.{Io, Protocol}
 use Rattle.wl_client.specs.declared.event_fault.EventFault.TheVariants as wrong
 use Rattle.wl_client.specs.declared.kept.Kept.{Kept}
-use Rattle.wl_client.specs.declared.event.Handled.{Handled}
-use Rattle.wl_client.specs.declared.event.Handled.TheVariants as handled
+use Rattle.wl_client.specs.declared.event_fault.EventFault.{EventFault}
+use Rattle.wl_client.specs.declared.open_event.OpenEvent.{OpenEvent}
 use Rattle.wl_client.specs.declared.turn.NoEvent.{NoEvent}
-use Rattle.wl_client.specs.declared.turn.Turn.{Turn as Turned}
-use Rattle.wl_client.specs.declared.turn.Turn.TheVariants as turned
+use Rattle.wl_client.specs.declared.turn.TurnEnd.{TurnEnd}
+use Rattle.wl_client.specs.declared.turn.TurnEnd.TheVariants as came
 use Rattle.wl_client.specs.ObjectId.{IdParts}
 use Rattle.wl_client.specs.Events.{Outcome, Whole, Wrong, DisplayEvent, Fails, Deletes, Unreadable, error_of}
 use Rattle.wl_client.specs.Handling.{Handling, Swallows, HandsOut, Breaks, front_row, handling, row_in, signature_in}
@@ -48,17 +48,17 @@ told_by (told.Deletes number) = Deletes number
 told_by told.Unreadable = Unreadable
 
 module _ {U : Type 0} where
-  -- what an event came to whose arguments were gone through
-  abbrev pub HandledAs : WireMessage → Object (Kept U) → MessageRow → Outcome U → Handled → Objects (Kept U) → Type 0
-  HandledAs m receiver row (Whole c args) handled.Swallowed after =
+  -- what an event came to whose arguments were gone through: it is open from then on, or not handed out, or has a fault
+  abbrev pub HandledAs : WireMessage → Object (Kept U) → MessageRow → Outcome U → Result (Option OpenEvent) EventFault → SessionMessage → Objects (Kept U) → Type 0
+  HandledAs m receiver row (Whole c args) (Ok None) event after =
       (receiver.value.client_destroyed ≡ true) × (after ≡ c.objects)
-  HandledAs m receiver row (Whole c args) (handled.Event e opened) after =
+  HandledAs m receiver row (Whole c args) (Ok (Some opened)) event after =
       (receiver.value.client_destroyed ≡ false)
-      × (session_content e ≡ record { sender = id_at m.sender receiver; opcode = m.opcode; args = args })
+      × (event ≡ record { sender = id_at m.sender receiver; opcode = m.opcode; args = args })
       × (opened ≡ record { sender = id_at m.sender receiver; is_destructor = row.is_destructor; created = c.created })
       × (after ≡ c.objects)
-  HandledAs m receiver row (Wrong w objects) (handled.Fault w') after = (w' ≡ w) × (after ≡ objects)
-  HandledAs m receiver row _ _ after = ⊥
+  HandledAs m receiver row (Wrong w objects) (Err w') event after = (w' ≡ w) × (after ≡ objects)
+  HandledAs m receiver row _ _ event after = ⊥
 
   -- what the read of the message at the front answers under the session's signatures
   abbrev pub ReadsIn : {T : Type 0} → List InterfaceRow → Store (Kept U) → LinkState T → Result WireMessage MessageParseError → LinkState T → Type 0
@@ -66,14 +66,32 @@ module _ {U : Type 0} where
 
   -- the message at the front was taken, with what the table says of it; or it was not, and the link is as before
   abbrev pub TookWith : {T : Type 0} → List InterfaceRow → Store (Kept U) → LinkState T
-      → Result (Message ℕ Token × Bor MessageDesc) MessageParseError → LinkState T → Type 0
-  TookWith table store before (Ok taken) after =
-      ReadsIn table store before (Ok (content taken.0)) after
-      × (row_in table (held store taken.0.sender_id) taken.0.opcode ≡ Some (message_row taken.1.now))
-  TookWith table store before (Err e) after =
+      → Result (Bor MessageDesc) MessageParseError → WireMessage → LinkState T → Type 0
+  TookWith table store before (Ok desc) m after =
+      ReadsIn table store before (Ok m) after
+      × (row_in table (held store m.sender) m.opcode ≡ Some (message_row desc.now))
+  TookWith table store before (Err e) m after =
       (after ≡ before)
       × (ReadsIn table store before (Err e) before
       ⊎ ((e ≡ parse.OutOfMemory) × RowAsks (front_row table store before.incoming.bytes)))
+
+-- what a turn came to, with the event that it hands out
+pub data Turned : Type 0 where
+  GaveEvent : Message IdParts Token → Turned
+  WentOn : Turned
+  LacksMore : Turned
+  Ended : NoEvent → Turned
+
+abbrev pub turned : TurnEnd → Message IdParts Token → Turned
+turned came.Event event = GaveEvent event
+turned came.GoesOn event = WentOn
+turned came.Lacks event = LacksMore
+turned (came.Ends e) event = Ended e
+
+-- how a reading ended, with the event that it hands out
+abbrev pub with_event : Result (Unit {0}) NoEvent → Message IdParts Token → Result (Message IdParts Token) NoEvent
+with_event (Ok _) event = Ok event
+with_event (Err e) event = Err e
 
 -- the answer of a reading, and whether memory was refused in it
 abbrev pub event_answer : Result (Message IdParts Token) NoEvent → Result SessionMessage EventError
@@ -87,10 +105,10 @@ event_refused (Err end) = end.refused
 module _ {T U : Type 0} where
   -- what a message came to was carried out
   abbrev pub HandledTo : SessionState T U → Handling U → Turned → SessionState T U → Type 0
-  HandledTo before (Swallows o) turned.GoesOn after = after ≡ with_objects before o
-  HandledTo before (HandsOut m event o) (turned.Event e) after =
+  HandledTo before (Swallows o) WentOn after = after ≡ with_objects before o
+  HandledTo before (HandsOut m event o) (GaveEvent e) after =
       (session_content e ≡ m) × (after ≡ record (with_objects before o) { open_event = Some event })
-  HandledTo before (Breaks e o) (turned.Ends end) after =
+  HandledTo before (Breaks e o) (Ended end) after =
       (end.error ≡ no_event.Failed)
       × (((end.refused ≡ false) × (after ≡ with_error (with_objects before o) (Protocol e)))
       ⊎ ((end.refused ≡ true) × (after ≡ with_error (with_objects before o) (Io fault.OutOfMemory))))
@@ -105,18 +123,18 @@ module _ {T U : Type 0} where
 
   -- no message was taken, and that comes to this
   abbrev pub NotTakenTo : SessionState T U → Turned → SessionState T U → Type 0
-  NotTakenTo before turned.Lacks after = Lacks before × (after ≡ before)
-  NotTakenTo before (turned.Ends end) after =
-      (ReadsAs before (Err parse.Malformed) before.link × HandledTo before (malformed before) (turned.Ends end) after)
+  NotTakenTo before LacksMore after = Lacks before × (after ≡ before)
+  NotTakenTo before (Ended end) after =
+      (ReadsAs before (Err parse.Malformed) before.link × HandledTo before (malformed before) (Ended end) after)
       ⊎ ((end ≡ record { error = no_event.OutOfMemory; refused = true }) × NotTaken before parse.OutOfMemory × (after ≡ before))
   NotTakenTo before _ after = ⊥
 
   -- a turn of a reading
   abbrev pub Turns : SessionState T U → Turned → SessionState T U → Type 0
-  Turns before turned after =
-      NotTakenTo before turned after
+  Turns before to after =
+      NotTakenTo before to after
       ⊎ ((m : WireMessage) × (link : LinkState T) × ReadsAs before (Ok m) link
-      × HandledTo (with_link before link) (handling before.table (objects_of before) m) turned after)
+      × HandledTo (with_link before link) (handling before.table (objects_of before) m) to after)
 
   abbrev pub Live : SessionState T U → Type 0
   Live s = (s.error ≡ None) × (s.open_event ≡ None)

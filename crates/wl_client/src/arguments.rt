@@ -169,26 +169,26 @@ fn convert_one<U: Drop>(
     }
 }
 
-/// What the arguments of an event become, from left to right; `args` has the last of them first. The answer is the
-/// object that the event makes.
+/// What the arguments of an event become, from left to right; `args` has the last of them first, and they are taken out
+/// of it. The answer is the object that the event makes.
 pub fn convert<U: Drop>(
     objects: &mut ObjectMap<Kept<U>>,
     last_serial: &mut u64,
     receiver: Receiver,
     progress: &mut Progress<'_>,
-    args: SmallVec<Argument<u32, Token>, INLINE_ARGS>,
+    args: &mut SmallVec<Argument<u32, Token>, INLINE_ARGS>,
     converted: &mut SmallVec<Argument<ObjectId, Token>, INLINE_ARGS>,
 ) -> Result<Option<ObjectId>, EventFault>
     requires can_make { CanMake progress.old objects.old }
-    requires room { HasRoomFor converted.old (length args.items) }
-    ensures { MatchResult result
+    requires room { HasRoomFor converted.old (length args.old.items) }
+    ensures capacity { converted.new.capacity ≡ converted.old.capacity }
+    ensures converts { MatchResult result
         (λ created. EndsWhole
-        (convert receiver.version receiver.client_destroyed (state objects.old last_serial.old progress.old) converted.old.items (reverse args.items))
+        (convert receiver.version receiver.client_destroyed (state objects.old last_serial.old progress.old) converted.old.items (reverse args.old.items))
         (objects_in objects.new last_serial.new) created converted.new.items)
-        (λ wrong. convert receiver.version receiver.client_destroyed (state objects.old last_serial.old progress.old) converted.old.items (reverse args.items)
+        (λ wrong. convert receiver.version receiver.client_destroyed (state objects.old last_serial.old progress.old) converted.old.items (reverse args.old.items)
         ≡ Wrong wrong (objects_in objects.new last_serial.new)) }
 {
-    let mut args = args;
     while let Some(arg) = args.pop() {
         let converted_arg = convert_one(objects, last_serial, receiver, progress, arg)?;
         converted.push_reserved(converted_arg);

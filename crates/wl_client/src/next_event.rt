@@ -1,31 +1,38 @@
 //! A reading: messages are handled, and more is received where none waits whole.
 
+ghost use Rattle.std.specs.Prelude.{◌≤◌, option_map};
 ghost use Rattle.wl_client.specs.Cutting.{CutsReading};
 ghost use Rattle.wl_client.specs.Reading.{EndsWithRoom, NextEvent, ReadsTo, event_content};
-ghost use Rattle.wl_client.specs.Turns.{Live, ReceivedTo, Waited, event_answer, event_refused};
+ghost use Rattle.wl_client.specs.Turns.{Live, ReceivedTo, Waited, event_answer, event_refused, with_event};
 
 use crate::backend::Backend;
 use crate::error::{EventError, WaylandError};
 use crate::object_id::ObjectId;
-use crate::turn::{NoEvent, Turn};
+use crate::turn::{NoEvent, TurnEnd};
+use smallvec::SmallVec;
 use wl_link::Transport;
-use wl_wire::{IoFault, Message, Token};
+use wl_wire::{INLINE_ARGS, IoFault, Message, Token};
 
 /// How many receives a reading makes at most.
 pub const READ_TURNS: u32 = 64;
 
 impl<T: Transport + Drop, U: Drop> Backend<T, U> {
-    /// Handles messages until the reading ends, or no message waits whole.
-    fn handle_waiting(&mut self) -> Option<Result<Message<ObjectId, Token>, NoEvent>>
-        requires { Live self.old.session }
-        ensures { Waited T.sends T.receives self.old.session result self.new.session }
+    /// Handles messages until the reading ends, or no message waits whole. An event to hand out is in `event` then.
+    fn handle_waiting(
+        &mut self,
+        event: &mut Message<ObjectId, Token>,
+    ) -> Option<Result<(), NoEvent>>
+        requires live { Live self.old.session }
+        requires inline { INLINE_ARGS ≤ event.old.args.capacity }
+        ensures waited { Waited T.sends T.receives self.old.session (option_map (λ ended. with_event ended event.new) result) self.new.session }
+        ensures inline { INLINE_ARGS ≤ event.new.args.capacity }
     {
         loop {
-            match self.turn() {
-                Turn::GoesOn => {}
-                Turn::Lacks => return None,
-                Turn::Event(event) => return Some(Ok(event)),
-                Turn::Ends(end) => return Some(Err(end)),
+            match self.turn(event) {
+                TurnEnd::GoesOn => {}
+                TurnEnd::Lacks => return None,
+                TurnEnd::Event => return Some(Ok(())),
+                TurnEnd::Ends(end) => return Some(Err(end)),
             }
         }
     }
@@ -82,32 +89,39 @@ impl<T: Transport + Drop, U: Drop> Backend<T, U> {
         if self.open_event.is_some() {
             return Err(EventError::EventOpen);
         }
-        match self.read_event() {
-            Ok(event) => {
+        let mut event = Message {
+            sender_id: ObjectId::null(),
+            opcode: 0,
+            args: SmallVec::new(*self.notes.allocator()),
+        };
+        match self.read_event(&mut event) {
+            Ok(()) => {
                 self.refused = false;
                 Ok(event)
             }
             Err(end) => {
+                drop(event);
                 self.refused = end.refused;
                 Err(end.error)
             }
         }
     }
 
-    /// Handles messages and receives, until there is an event or no receive is left.
-    fn read_event(&mut self) -> Result<Message<ObjectId, Token>, NoEvent>
-        requires { Live self.old.session }
-        ensures { ReadsTo T.sends T.receives self.old.session (event_answer result) (event_refused result) self.new.session }
+    /// Handles messages and receives, until there is an event or no receive is left. The event is in `event` then.
+    fn read_event(&mut self, event: &mut Message<ObjectId, Token>) -> Result<(), NoEvent>
+        requires live { Live self.old.session }
+        requires inline { INLINE_ARGS ≤ event.old.args.capacity }
+        ensures { ReadsTo T.sends T.receives self.old.session (event_answer (with_event result event.new)) (event_refused (with_event result event.new)) self.new.session }
     {
         for used in 0..READ_TURNS {
-            if let Some(end) = self.handle_waiting() {
+            if let Some(end) = self.handle_waiting(event) {
                 return end;
             }
             if let Some(end) = self.receive() {
                 return Err(end);
             }
         }
-        if let Some(end) = self.handle_waiting() {
+        if let Some(end) = self.handle_waiting(event) {
             return end;
         }
         Err(NoEvent {

@@ -1,6 +1,6 @@
 //! One turn of a reading: the message at the front is taken off the link and handled.
 
-ghost use Rattle.std.specs.Prelude.{◌≡◌, ◌≢◌, ◌≤◌, [], true, false, None, Some, Ok, Err, MatchResult, length, IfOk, option_copied, option_map};
+ghost use Rattle.std.specs.Prelude.{◌≡◌, ◌≢◌, ◌≤◌, [], true, false, None, Some, Ok, Err, MatchResult, length, IfOk, OnOk, option_copied, option_map};
 ghost use Rattle.smallvec.specs.SmallVec.{HasRoomFor};
 ghost use Rattle.wl_wire.specs.Message.{content};
 ghost use Rattle.wl_wire.specs.Table.{message_row};
@@ -13,13 +13,15 @@ ghost use Rattle.wl_client.specs.Events.{error_of};
 ghost use Rattle.wl_client.specs.Handling.{Breaks, handling, row_in};
 ghost use Rattle.wl_client.specs.Reading.{with_error};
 ghost use Rattle.wl_client.specs.Session.{objects_of};
-ghost use Rattle.wl_client.specs.declared.turn.Turn.TheVariants as turned;
-ghost use Rattle.wl_client.specs.Turns.{HandledTo, NotTaken, NotTakenTo, TookWith, Turns};
+ghost use Rattle.wl_wire.specs.declared.argument.Token.{Token};
+ghost use Rattle.wl_wire.specs.declared.message.Message.{Message};
+ghost use Rattle.wl_client.specs.ObjectId.{IdParts};
+ghost use Rattle.wl_client.specs.Turns.{Ended, HandledTo, NotTaken, NotTakenTo, TookWith, Turns, turned};
 
 use crate::backend::{Backend, DISPLAY};
 use crate::display::{DisplayMessage, delete_id, display_event};
 use crate::error::{EventError, WaylandError};
-use crate::event::{Handled, handle_event};
+use crate::event::handle_event;
 use crate::event_fault::EventFault;
 use crate::kept::Kept;
 use crate::object_id::ObjectId;
@@ -41,10 +43,10 @@ pub struct NoEvent {
 }
 
 /// What a turn came to.
-#[derive(Drop)]
-pub enum Turn {
-    /// An event to hand out.
-    Event(Message<ObjectId, Token>),
+#[derive(Clone, Copy)]
+pub enum TurnEnd {
+    /// An event is there to hand out.
+    Event,
     /// A message was handled, and the reading goes on.
     GoesOn,
     /// No message waits whole.
@@ -77,22 +79,24 @@ fn read_under<T>(
     socket.read_one_message(|_, _| Some(signature))
 }
 
-/// Takes the message at the front off the link, with room for what it becomes: for its arguments in `converted`, and
-/// for the object that it may make in the map.
+/// Takes the message at the front off the link, with room for what it becomes: for its arguments in `converted`, which
+/// is emptied, and for the object that it may make in the map. The answer is what the table says of it.
 fn take<'p, T: Drop, U: Drop>(
     protocol: &'p Protocol,
     objects: &mut ObjectMap<Kept<U>>,
     socket: &mut BufferedSocket<T>,
+    message: &mut Message<u32, Token>,
     converted: &mut SmallVec<Argument<ObjectId, Token>, INLINE_ARGS>,
-) -> Result<(Message<u32, Token>, &'p MessageDesc), MessageParseError>
-    requires items { converted.old.items ≡ [] }
+) -> Result<&'p MessageDesc, MessageParseError>
     requires inline { INLINE_ARGS ≤ converted.old.capacity }
-    ensures took { TookWith protocol.now objects.old.store socket.old result socket.new }
+    ensures took { TookWith protocol.now objects.old.store socket.old result (content message.new) socket.new }
     ensures store { objects.new.store ≡ objects.old.store }
-    ensures room { IfOk result (λ r. HasRoomFor converted.new (length r.0.args.items)) }
+    ensures room { OnOk result (HasRoomFor converted.new (length message.new.args.items)) }
+    ensures inline { INLINE_ARGS ≤ converted.new.capacity }
     ensures empty { converted.new.items ≡ [] }
-    ensures can_make { IfOk result (λ r. r.1.now.child_interface ≢ None → objects.new.reserved ≡ true) }
+    ensures can_make { IfOk result (λ desc. desc.now.child_interface ≢ None → objects.new.reserved ≡ true) }
 {
+    converted.clear();
     let Some((sender, opcode)) = socket.next_header() else {
         return Err(MessageParseError::MissingData);
     };
@@ -108,7 +112,10 @@ fn take<'p, T: Drop, U: Drop>(
         };
     }
     match read_under(socket, desc.signature.as_slice()) {
-        Ok(message) => Ok((message, desc)),
+        Ok(read) => {
+            *message = read;
+            Ok(desc)
+        }
         Err(error) => Err(error),
     }
 }
@@ -144,85 +151,107 @@ impl<T: Transport + Drop, U: Drop> Backend<T, U> {
     #[cold]
     #[inline(never)]
     fn fail_by(&mut self, fault: EventFault) -> NoEvent
-        ensures { HandledTo self.old.session (Breaks (error_of self.old.session.table fault) (objects_of self.old.session)) (turned.Ends result) self.new.session }
+        ensures { HandledTo self.old.session (Breaks (error_of self.old.session.table fault) (objects_of self.old.session)) (Ended result) self.new.session }
     {
         let error = fault_error(*self.notes.allocator(), &self.protocol, fault);
         self.fail(error)
     }
 
     /// Handles an event of the display.
-    fn handle_display(&mut self, message: &Message<u32, Token>) -> Turn
+    fn handle_display(&mut self, message: &Message<u32, Token>) -> TurnEnd
         requires { message.now.sender_id ≡ 1 }
-        ensures { HandledTo self.old.session (handling self.old.session.table (objects_of self.old.session) (content message.now)) result self.new.session }
+        ensures { (event : Message IdParts Token) → HandledTo self.old.session (handling self.old.session.table (objects_of self.old.session) (content message.now)) (turned result event) self.new.session }
     {
         match display_event(message) {
             DisplayMessage::Deletes(number) => {
                 delete_id(&mut self.objects, number);
-                Turn::GoesOn
+                TurnEnd::GoesOn
             }
             DisplayMessage::Fails(code, number, text) => {
                 let alloc = *self.notes.allocator();
                 let error = told_error(alloc, &self.protocol, &self.objects, code, number, text);
-                Turn::Ends(self.fail(error))
+                TurnEnd::Ends(self.fail(error))
             }
-            DisplayMessage::Unreadable => Turn::Ends(self.fail_by(EventFault::Malformed)),
+            DisplayMessage::Unreadable => TurnEnd::Ends(self.fail_by(EventFault::Malformed)),
         }
     }
 
-    /// Takes the message at the front off the link and handles it.
-    pub(crate) fn turn(&mut self) -> Turn
-        ensures { Turns self.old.session result self.new.session }
+    /// Takes the message at the front off the link and handles it. An event that it makes is in `event` then.
+    pub(crate) fn turn(&mut self, event: &mut Message<ObjectId, Token>) -> TurnEnd
+        requires { INLINE_ARGS ≤ event.old.args.capacity }
+        ensures turns { Turns self.old.session (turned result event.new) self.new.session }
+        ensures inline { INLINE_ARGS ≤ event.new.args.capacity }
     {
         if self.socket.next_header().is_none() {
             return self.not_taken(MessageParseError::MissingData);
         }
-        self.turn_at_header()
+        self.turn_at_header(event)
     }
 
     /// The same where a header waits. It is apart, so that a reading that waits does not pay for what it keeps.
     #[inline(never)]
-    fn turn_at_header(&mut self) -> Turn
-        ensures { Turns self.old.session result self.new.session }
+    fn turn_at_header(&mut self, event: &mut Message<ObjectId, Token>) -> TurnEnd
+        requires { INLINE_ARGS ≤ event.old.args.capacity }
+        ensures turns { Turns self.old.session (turned result event.new) self.new.session }
+        ensures inline { INLINE_ARGS ≤ event.new.args.capacity }
     {
-        let mut converted = SmallVec::new(*self.notes.allocator());
-        let (message, desc) = match take(
+        let mut message = Message {
+            sender_id: 0,
+            opcode: 0,
+            args: SmallVec::new(*self.notes.allocator()),
+        };
+        self.turn_with(&mut message, event)
+    }
+
+    /// The same with a place for the message that is taken.
+    fn turn_with(
+        &mut self,
+        message: &mut Message<u32, Token>,
+        event: &mut Message<ObjectId, Token>,
+    ) -> TurnEnd
+        requires { INLINE_ARGS ≤ event.old.args.capacity }
+        ensures turns { Turns self.old.session (turned result event.new) self.new.session }
+        ensures inline { INLINE_ARGS ≤ event.new.args.capacity }
+    {
+        let desc = match take(
             &self.protocol,
             &mut self.objects,
             &mut self.socket,
-            &mut converted,
+            message,
+            &mut event.args,
         ) {
-            Ok(taken) => taken,
+            Ok(desc) => desc,
             Err(error) => return self.not_taken(error),
         };
         if message.sender_id == DISPLAY {
-            return self.handle_display(&message);
+            return self.handle_display(message);
         }
         let handled = handle_event(
             &mut self.objects,
             &mut self.last_serial,
             desc,
             message,
-            converted,
+            event,
         );
         match handled {
-            Handled::Swallowed => Turn::GoesOn,
-            Handled::Fault(fault) => Turn::Ends(self.fail_by(fault)),
-            Handled::Event(event, open_event) => {
+            Ok(None) => TurnEnd::GoesOn,
+            Ok(Some(open_event)) => {
                 self.open_event = Some(open_event);
-                Turn::Event(event)
+                TurnEnd::Event
             }
+            Err(fault) => TurnEnd::Ends(self.fail_by(fault)),
         }
     }
 
     /// What it comes to that no message was taken.
-    fn not_taken(&mut self, error: MessageParseError) -> Turn
+    fn not_taken(&mut self, error: MessageParseError) -> TurnEnd
         requires { NotTaken self.old.session error }
-        ensures { NotTakenTo self.old.session result self.new.session }
+        ensures { (event : Message IdParts Token) → NotTakenTo self.old.session (turned result event) self.new.session }
     {
         match error {
-            MessageParseError::MissingData | MessageParseError::MissingFD => Turn::Lacks,
-            MessageParseError::Malformed => Turn::Ends(self.fail_by(EventFault::Malformed)),
-            MessageParseError::OutOfMemory => Turn::Ends(NoEvent {
+            MessageParseError::MissingData | MessageParseError::MissingFD => TurnEnd::Lacks,
+            MessageParseError::Malformed => TurnEnd::Ends(self.fail_by(EventFault::Malformed)),
+            MessageParseError::OutOfMemory => TurnEnd::Ends(NoEvent {
                 error: EventError::OutOfMemory,
                 refused: true,
             }),

@@ -5,5 +5,5 @@ use Rattle.wl_client.proofs.turn.take.Goals as goal
 
 pub returns-in-Ok-read_under-clause-room : goal.returns-in-Ok-read_under-clause-room
 returns-in-Ok-read_under-clause-room g c =
-    let many = as_many _ _ (content c.in-Ok-read_under.message) _ c.in-Ok-read_under.ensures in
+    let many = as_many _ _ (content c.in-Ok-read_under.read) _ c.in-Ok-read_under.ensures in
     omega (arith, many, c.in-Ok.ensures.ok, c.len.ensures)

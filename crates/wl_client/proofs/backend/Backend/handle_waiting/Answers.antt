@@ -1,19 +1,19 @@
 use Rattle.wl_client.proofs.Readings.{end_ends, event_ends, lacks_waits, on_more, shorter}
 use Rattle.wl_client.proofs.backend.Backend.handle_waiting.Goals as goal
 
-pub loop-event-preserved : goal.loop-event-preserved
-loop-event-preserved g c =
-    let on = on_more g.T.Transport.sends g.T.Transport.receives _ _ _ c.loop-event.invariant.live c.loop-event.invariant.leads c.in-GoesOn.ensures in
-    record { live = on.0; leads = on.1 }
+pub loop-end-preserved : goal.loop-end-preserved
+loop-end-preserved g c =
+    let on = on_more g.T.Transport.sends g.T.Transport.receives _ _ _ c.loop-end.invariant.live c.loop-end.invariant.leads c.in-GoesOn.ensures.turns in
+    record { inline = c.turn.ensures.inline; live = on.0; leads = on.1 }
 
-pub returns-in-Event : goal.returns-in-Event
-returns-in-Event g c = event_ends g.T.Transport.sends g.T.Transport.receives _ _ _ c.in-Event.event c.loop-event.invariant.live c.loop-event.invariant.leads c.in-Event.ensures
+pub returns-in-Event-clause-waited : goal.returns-in-Event-clause-waited
+returns-in-Event-clause-waited g c = event_ends g.T.Transport.sends g.T.Transport.receives _ _ _ c.turn.new.event c.loop-end.invariant.live c.loop-end.invariant.leads c.in-Event.ensures.turns
 
-pub returns-in-Ends : goal.returns-in-Ends
-returns-in-Ends g c = end_ends g.T.Transport.sends g.T.Transport.receives _ _ _ c.in-Ends.end c.loop-event.invariant.live c.loop-event.invariant.leads c.in-Ends.ensures
+pub returns-in-Ends-clause-waited : goal.returns-in-Ends-clause-waited
+returns-in-Ends-clause-waited g c = end_ends g.T.Transport.sends g.T.Transport.receives _ _ _ c.in-Ends.end c.loop-end.invariant.live c.loop-end.invariant.leads c.in-Ends.ensures.turns
 
-pub loop-event-smaller : goal.loop-event-smaller
-loop-event-smaller g c = shorter g.T.Transport.sends g.T.Transport.receives _ _ c.in-GoesOn.ensures
+pub loop-end-smaller : goal.loop-end-smaller
+loop-end-smaller g c = shorter g.T.Transport.sends g.T.Transport.receives _ _ c.in-GoesOn.ensures.turns
 
-pub returns-in-Lacks : goal.returns-in-Lacks
-returns-in-Lacks g c = lacks_waits g.T.Transport.sends g.T.Transport.receives _ _ _ c.loop-event.invariant.live c.loop-event.invariant.leads c.in-Lacks.ensures
+pub returns-in-Lacks-clause-waited : goal.returns-in-Lacks-clause-waited
+returns-in-Lacks-clause-waited g c = lacks_waits g.T.Transport.sends g.T.Transport.receives _ _ _ c.loop-end.invariant.live c.loop-end.invariant.leads c.in-Lacks.ensures.turns
