@@ -117,35 +117,22 @@ static QUAD_EVENTS: [Row; 3] = [
     },
 ];
 
-/// The request of `pair`.
-static PAIR_REQUESTS: [Row; 1] = [Row {
-    name: "join",
-    since: 1,
-    kind: Kind::Plain,
-    signature: &[
-        ArgumentType::Object(AllowNull::No),
-        ArgumentType::Object(AllowNull::No),
-        ArgumentType::Str(AllowNull::No),
-        ArgumentType::Array,
-        ArgumentType::Fd,
-    ],
-    objects: &[QUAD, QUAD],
-}];
-
-/// The event of `pair`.
-static PAIR_EVENTS: [Row; 1] = [Row {
-    name: "joined",
-    since: 1,
-    kind: Kind::Plain,
-    signature: &[
-        ArgumentType::Object(AllowNull::No),
-        ArgumentType::Object(AllowNull::No),
-        ArgumentType::Str(AllowNull::No),
-        ArgumentType::Array,
-        ArgumentType::Fd,
-    ],
-    objects: &[QUAD, QUAD],
-}];
+/// The message of `pair` of that name, its request or its event.
+fn joining(name: &'static str) -> Row {
+    Row {
+        name,
+        since: 1,
+        kind: Kind::Plain,
+        signature: &[
+            ArgumentType::Object(AllowNull::No),
+            ArgumentType::Object(AllowNull::No),
+            ArgumentType::Str(AllowNull::No),
+            ArgumentType::Array,
+            ArgumentType::Fd,
+        ],
+        objects: &[QUAD, QUAD],
+    }
+}
 
 /// The description of the message.
 fn described(alloc: Global, row: &Row) -> Result<MessageDesc, AllocError> {
@@ -214,8 +201,8 @@ pub fn quad_table(alloc: Global) -> Result<Protocol, Fail> {
         alloc,
         &mut interfaces,
         ("pair", 1),
-        &PAIR_REQUESTS,
-        &PAIR_EVENTS,
+        &[joining("join")],
+        &[joining("joined")],
     )?;
     Ok(Protocol::new(alloc, interfaces)?)
 }

@@ -7,13 +7,17 @@ use std::collections::VecDeque;
 use wl_link::{Memory, Transport};
 use wl_wire::{IoFault, Token};
 
-/// A transport that may record what is sent over it.
+/// A transport that may record what is sent over it. Here it records nothing.
 pub trait Record {
     /// What each send that took something took, the oldest first.
-    fn sends(&self) -> &[(Vec<u8>, Vec<Token>)];
+    fn sends(&self) -> &[(Vec<u8>, Vec<Token>)] {
+        &[]
+    }
 
     /// The record, which is empty from then on.
-    fn take_sends(&mut self, alloc: Global) -> Vec<(Vec<u8>, Vec<Token>)>;
+    fn take_sends(&mut self, alloc: Global) -> Vec<(Vec<u8>, Vec<Token>)> {
+        Vec::new(alloc)
+    }
 }
 
 impl Record for Memory {
@@ -57,15 +61,7 @@ impl Transport for Refusing {
     ghost few_tokens = { λ before after room came received. Prim.search rules };
 }
 
-impl Record for Refusing {
-    fn sends(&self) -> &[(Vec<u8>, Vec<Token>)] {
-        &[]
-    }
-
-    fn take_sends(&mut self, alloc: Global) -> Vec<(Vec<u8>, Vec<Token>)> {
-        Vec::new(alloc)
-    }
-}
+impl Record for Refusing {}
 
 /// Takes one byte of each send, with its tokens, and gives nothing.
 #[derive(Drop)]
@@ -98,15 +94,7 @@ impl Transport for OneByte {
     ghost few_tokens = { λ before after room came received. Prim.search rules };
 }
 
-impl Record for OneByte {
-    fn sends(&self) -> &[(Vec<u8>, Vec<Token>)] {
-        &[]
-    }
-
-    fn take_sends(&mut self, alloc: Global) -> Vec<(Vec<u8>, Vec<Token>)> {
-        Vec::new(alloc)
-    }
-}
+impl Record for OneByte {}
 
 /// Takes nothing. A receive gives one byte and one token, where the queue has room for all the tokens that a receive may
 /// give, and is refused where it has not.
@@ -145,12 +133,4 @@ impl Transport for WantsRoom {
     ghost few_tokens = { λ before after room came received. received.1 };
 }
 
-impl Record for WantsRoom {
-    fn sends(&self) -> &[(Vec<u8>, Vec<Token>)] {
-        &[]
-    }
-
-    fn take_sends(&mut self, alloc: Global) -> Vec<(Vec<u8>, Vec<Token>)> {
-        Vec::new(alloc)
-    }
-}
+impl Record for WantsRoom {}
