@@ -13,13 +13,13 @@ use Rattle.wl_link.specs.declared.object.Object.{Object}
 use Rattle.wl_link.specs.Branches.{both_option}
 use Rattle.wl_link.specs.Exchange.{Queue, Sending, joined, nothing}
 use Rattle.wl_link.specs.LengthLaws.{front_fits}
-use Rattle.wl_link.specs.Link.{LinkState, ReadOne, counted_answer, count_of, incoming_limit}
+use Rattle.wl_link.specs.Link.{EachWithin, LinkState, ReadOne, counted_answer, count_of, incoming_limit}
 use Rattle.wl_link.specs.Puts.{lacked_memory}
 use Rattle.wl_link.specs.QueueLaws.{joined_nothing}
 use Rattle.wl_link.specs.Reader.{CarriesOut, Gives, Given, Handled, HandedOut, IsFed, Part, Queued, Reads, Received, Turn, Unread, Verdict, came_by, came_to as comes_to, stops, with_link}
 use Rattle.wl_link.specs.Script.{Script, ScriptReceives, ScriptSends}
 use Rattle.wl_link.specs.Served.{Served, part_as}
-use Rattle.wl_link.specs.Stretch.{Act, Arrived, DoesAll, EachWithin, EndsByPipe, EndsWaiting as ActsEndWaiting, HasEnded, HasRead, IsStretch as IsActStretch, MayCome as ActMayCome, arrivals_of, arrived as act_arrived, ended as act_ended, given_in, sending_side, with_arrival}
+use Rattle.wl_link.specs.Stretch.{Act, Arrived, DoesAll, EndsByPipe, EndsWaiting as ActsEndWaiting, HasEnded, HasRead, IsStretch as IsActStretch, MayCome as ActMayCome, arrivals_of, arrived as act_arrived, ended as act_ended, given_in, sending_side, with_arrival}
 use Rattle.wl_link.specs.StretchLaws.{arrived-append, cut_otherwise as acts_cut_otherwise, does_joins, ended-append, ends_waiting-append, given_in-append, stretch_served as acts_served}
 use Rattle.wl_client.specs.declared.error.EventError.{EventError}
 use Rattle.wl_client.specs.declared.error.EventError.TheVariants as no_event

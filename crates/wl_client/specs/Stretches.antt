@@ -3,11 +3,11 @@ use Rattle.std.specs.Prelude.{◌≡◌, ◌≢◌, ◌⊎◌, List, [], ◌∷�
 use Rattle.wl_wire.specs.declared.error.IoFault.TheVariants as fault
 use Rattle.wl_wire.specs.declared.error.MessageParseError.TheVariants as parse
 use Rattle.wl_link.specs.Exchange.{Queue, joined, nothing}
-use Rattle.wl_link.specs.Link.{FrontFits, incoming_limit}
+use Rattle.wl_link.specs.Link.{EachWithin, FrontFits, incoming_limit}
 use Rattle.wl_link.specs.Reader.{Given}
 use Rattle.wl_link.specs.Script.{Script, ScriptSends}
 use Rattle.wl_link.specs.Served.{Served, part_as}
-use Rattle.wl_link.specs.Stretch.{AllPieces, EachWithin, arrivals_of, left_over, sending_side}
+use Rattle.wl_link.specs.Stretch.{AllPieces, arrivals_of, left_over, sending_side}
 use Rattle.wl_client.specs.declared.error.EventError.TheVariants as no_event
 use Rattle.wl_client.specs.declared.error.WaylandError.TheVariants.{Io}
 use Rattle.wl_client.specs.declared.step.Reply.{Reply}

@@ -153,8 +153,9 @@ impl<T: Drop, U: Drop> Backend<T, U> {
         mem::replace(&mut self.notes, none)
     }
 
-    /// Sets how far the storage of what waits to be sent may grow, in bytes, rounded up to a power of two of at least
-    /// 4096; `None` is no limit, which a new session has.
+    /// Sets how far the storages of what waits to be sent and to be read may grow, in bytes, rounded up to a power of
+    /// two of at least 4096; `None` is no limit, which a new session has. That of what waits to be read never grows past
+    /// 65536 bytes.
     pub fn set_max_buffer_size(&mut self, max_buffer_size: Option<usize>)
         ensures set { (link : LinkState T) × LimitSet self.old.session.link max_buffer_size link
             × (self.new.session ≡ record self.old.session { link = link }) }

@@ -3,7 +3,7 @@
 -- The sends of a call are a list, which the transport's relation chains from its value before the call to its value
 -- after. Each relation comes with its sends as an argument (`FlushedBy`, `WroteBy`) and with them hidden (`Flushed`,
 -- `Wrote`).
-use Rattle.std.specs.Prelude.{◌≡◌, ◌≢◌, ℕ, ◌+◌, ◌-◌, ◌*◌, ◌^◌, ◌<◌, ◌≤◌, ◌⊎◌, List, [], ◌∷◌, length, take, drop, min, Bool, ◌&&◌, nat_le, nat_lt, ◌==◌, Option, Some, None, Result, Ok, Err, MatchBool, MatchResult, if◌then◌else◌}
+use Rattle.std.specs.Prelude.{◌≡◌, ◌≢◌, ℕ, zero, suc, ◌+◌, ◌-◌, ◌*◌, ◌^◌, ◌<◌, ◌≤◌, ◌⊎◌, List, [], ◌∷◌, length, take, drop, min, Bool, ◌&&◌, nat_le, nat_lt, ◌==◌, Option, Some, None, Result, Ok, Err, MatchBool, MatchResult, if◌then◌else◌}
 use Rattle.std.specs.Int.{IsPowerOfTwo}
 use Rattle.std.specs.Option.{option_copied}
 use Rattle.std.specs.Borrow.{Bor}
@@ -15,7 +15,7 @@ use Rattle.wl_wire.specs.declared.error.MessageParseError.{MessageParseError}
 use Rattle.wl_wire.specs.declared.error.MessageParseError.TheVariants as errors
 use Rattle.wl_wire.specs.declared.message.Message.{Message}
 use Rattle.wl_wire.specs.Message.{WireMessage, content, size, spelling, tokens}
-use Rattle.wl_wire.specs.Parse.{length_of, sender_of, opcode_of, fd_count, IsInline, ReadsMessage, RefusesMessage}
+use Rattle.wl_wire.specs.Parse.{IsWhole, length_of, sender_of, opcode_of, fd_count, IsInline, ReadsMessage, RefusesMessage}
 use Rattle.wl_link.specs.Exchange.{Queue, Sending, Chain, joined, nothing}
 
 pub record LinkState (T : Type 0) : Type 0 where
@@ -275,6 +275,15 @@ FrontFits l = 8 ≤ length l.incoming.bytes → length_of l.incoming.bytes ≤ i
 -- a storage of that size has a byte free for what such a message lacks
 abbrev pub FindsRoom : {T : Type 0} → LinkState T → ℕ → Type 0
 FindsRoom l room = LacksBytes l.incoming.bytes → FrontFits l → length l.incoming.bytes < room
+
+-- what is left behind so many whole messages
+abbrev pub Behind : ℕ → List ℕ → List ℕ → Type 0
+Behind zero bytes rest = rest ≡ bytes
+Behind (suc n) bytes rest = IsWhole bytes × Behind n (drop (length_of bytes) bytes) rest
+
+-- each message is at most so long, that of which only a beginning came too
+abbrev pub EachWithin : ℕ → List ℕ → Type 0
+EachWithin most bytes = (n : ℕ) (rest : List ℕ) → Behind n bytes rest → 8 ≤ length rest → length_of rest ≤ most
 
 -- ---- a read
 

@@ -1,5 +1,5 @@
 -- The calls on both sides of a link, one after another, and the messages that they carry.
-use Rattle.std.specs.Prelude.{◌≡◌, ◌≢◌, ℕ, List, [], ◌∷◌, ◌++◌, Option, Some, None, Result, Ok, Err, MatchOption, IfOk, ◌↔◌}
+use Rattle.std.specs.Prelude.{◌≡◌, ◌≢◌, ℕ, ◌≤◌, Bool, true, false, List, [], ◌∷◌, ◌++◌, Option, Some, None, Result, Ok, Err, MatchOption, IfOk, ◌↔◌}
 use Rattle.std.specs.List.{AllByRecursion}
 use Rattle.wl_wire.specs.declared.argument.ArgumentType.{ArgumentType}
 use Rattle.wl_wire.specs.declared.error.IoFault.{IoFault}
@@ -9,7 +9,7 @@ use Rattle.wl_wire.specs.Argument.{Matches}
 use Rattle.wl_wire.specs.Message.{WireMessage, IsMessage}
 use Rattle.wl_wire.specs.Stream.{Stream}
 use Rattle.wl_link.specs.Exchange.{Queue, Sending, joined, nothing}
-use Rattle.wl_link.specs.Link.{LinkState, with_transport, FlushedBy, WroteBy, FilledBy, with_came, ReadOne, spelled}
+use Rattle.wl_link.specs.Link.{EachWithin, LinkState, with_transport, FlushedBy, WroteBy, FilledBy, incoming_limit, with_came, ReadOne, spelled}
 use Rattle.wl_link.specs.Kept.{taken, NoZero}
 
 -- ---- the sending side
@@ -140,6 +140,39 @@ CuttingLaw {T = T} receives =
     → FilledBy receives start (Ok x) a mid → ReceiverStep receives look_up mid (Reading (Err e)) between → FilledBy receives between (Ok y) b end
     → (end.incoming ≡ with_came start.incoming (Ok (joined x y)))
     × (FilledBy receives start (Ok (joined x y)) c at_once → end.incoming ≡ at_once.incoming)
+
+-- ---- room
+
+-- Each receive is made only where the read before it lacked data or tokens. At first nothing waits, so that it lacks data
+-- without a read.
+abbrev pub InNeed : Bool → List ReceiverCall → Type 0
+InNeed lacking [] = Unit {0}
+InNeed lacking (Filling None ∷ cs) = InNeed lacking cs
+InNeed lacking (Filling (Some received) ∷ cs) = (lacking ≡ true) × InNeed false cs
+InNeed lacking (Reading (Ok m) ∷ cs) = InNeed false cs
+InNeed lacking (Reading (Err errors.MissingData) ∷ cs) = InNeed true cs
+InNeed lacking (Reading (Err errors.MissingFD) ∷ cs) = InNeed true cs
+InNeed lacking (Reading (Err errors.Malformed) ∷ cs) = InNeed false cs
+InNeed lacking (Reading (Err errors.OutOfMemory) ∷ cs) = InNeed false cs
+
+-- tokens come no later than the last byte of their message: no read lacks them
+abbrev pub InTime : List ReceiverCall → Type 0
+InTime cs = AllByRecursion (λ c. c ≢ Reading (Err errors.MissingFD)) cs
+
+-- what a transport receives where it is offered a byte at least
+abbrev pub roomy : {T : Type 0} → (T → ℕ → Result Queue IoFault → T → Type 0) → T → ℕ → Result Queue IoFault → T → Type 0
+roomy receives before room received after = receives before room received after × (room ≢ 0)
+
+-- Where each message is no longer than the incoming storage may become, each receive that is made in need is offered a byte
+-- at least: none finds the storage full.
+abbrev pub RoomLaw : {T : Type 0} → (T → ℕ → Result Queue IoFault → T → Type 0) → Type 0
+RoomLaw {T = T} receives =
+    (look_up : ℕ → ℕ → Option (List ArgumentType)) (empty full : LinkState T) (got : List ReceiverCall)
+    → ReceiverRun receives look_up empty got full → empty.incoming ≡ nothing → 8 ≤ empty.room
+    → EachWithin (incoming_limit empty.limit) (all_came got).bytes → InNeed true got → InTime got
+    → ReceiverRun (roomy receives) look_up empty got full
+
+-- ---- a read
 
 -- A read that is answered by Ok takes the first message off the stream: before it the stream is that message and
 -- then others exactly where after it the stream is these others.

@@ -202,7 +202,7 @@ module _ {T : Type 0} (receives : T → ℕ → Result Queue IoFault → T → T
       at (inl header) = let r = MatchBool-at_true _ _ header read in found r.0 r.1 r.2
       at (inr short) = let r = MatchBool-at_false _ _ short read in let e = r.0 in absurd cc
 
-  read_same : (before after : LinkState T) (e : MessageParseError) → ReadOne (λ sender opcode found. found ≡ look_up sender opcode) before (Err e) after → after ≡ before
+  pub read_same : (before after : LinkState T) (e : MessageParseError) → ReadOne (λ sender opcode found. found ≡ look_up sender opcode) before (Err e) after → after ≡ before
   read_same before after e read = at (cases_Bool (nat_le 8 (length before.incoming.bytes)))
     where
       found : (f : Option (List ArgumentType)) → ReadFound f before (Err e) after → after ≡ before

@@ -1,13 +1,12 @@
 -- A stretch over the transport by script in which bytes arrive, and a reader reads and ends what is open.
 --
 -- What a session does in a run of its calls is a list of such acts, where its other calls change nothing.
-use Rattle.std.specs.Prelude.{◌≡◌, ◌⊎◌, ◌<◌, ◌≤◌, ℕ, zero, suc, false, List, [], ◌∷◌, ◌++◌, None, Some, Result, Err, drop, length}
+use Rattle.std.specs.Prelude.{◌≡◌, ◌⊎◌, ◌<◌, ℕ, false, List, [], ◌∷◌, ◌++◌, None, Some, Result, Err, length}
 use Rattle.wl_wire.specs.declared.error.IoFault.{IoFault}
 use Rattle.wl_wire.specs.declared.error.IoFault.TheVariants as fault
 use Rattle.wl_wire.specs.declared.error.MessageParseError.TheVariants as parse
-use Rattle.wl_wire.specs.Parse.{IsWhole, length_of}
 use Rattle.wl_link.specs.Exchange.{Queue, Sending, joined, nothing}
-use Rattle.wl_link.specs.Link.{FrontFits, LinkState, incoming_limit, with_transport}
+use Rattle.wl_link.specs.Link.{EachWithin, FrontFits, LinkState, incoming_limit, with_transport}
 use Rattle.wl_link.specs.Reader.{Ends, Given, Gives, IsFed, Lacks, Part, Reader, Reads, ReadsAs, Turn, came_by, with_link}
 use Rattle.wl_link.specs.Served.{Served, part_as}
 use Rattle.wl_link.specs.Script.{Script, ScriptReceives, ScriptSends}
@@ -22,17 +21,6 @@ left_over (r ∷ arrivals) = joined (came_by r) (left_over arrivals)
 abbrev pub AllPieces : List (Result Queue IoFault) → Type 0
 AllPieces [] = Unit {0}
 AllPieces (r ∷ arrivals) = IsFed r × AllPieces arrivals
-
--- ---- how long the messages are
-
--- what is left behind so many whole messages
-abbrev pub Behind : ℕ → List ℕ → List ℕ → Type 0
-Behind zero bytes rest = rest ≡ bytes
-Behind (suc n) bytes rest = IsWhole bytes × Behind n (drop (length_of bytes) bytes) rest
-
--- each message is at most so long, that of which only a beginning came too
-abbrev pub EachWithin : ℕ → List ℕ → Type 0
-EachWithin most bytes = (n : ℕ) (rest : List ℕ) → Behind n bytes rest → 8 ≤ length rest → length_of rest ≤ most
 
 -- the script apart from its arrivals, of which no send takes notice
 abbrev pub sending_side : Script → Script

@@ -54,9 +54,9 @@ impl<T> Model for BufferedSocket<T> {
 impl<T> BufferedSocket<T> {
     ghost use Rattle.wl_link.specs.Lending.{LendsTransport};
 
-    /// A link over the transport on which nothing waits. Both storages have 4096 bytes, and the outgoing one may grow
-    /// up to the limit, which is rounded up to a power of two and is at least 4096; without a limit it may always
-    /// grow.
+    /// A link over the transport on which nothing waits. Both storages have 4096 bytes, and may grow up to the limit,
+    /// which is rounded up to a power of two and is at least 4096. Without a limit the outgoing one may always grow;
+    /// the incoming one never grows past 65536 bytes.
     pub fn new(
         alloc: Global,
         transport: T,
@@ -78,14 +78,14 @@ impl<T> BufferedSocket<T> {
         })
     }
 
-    /// Sets how far the outgoing storage may grow, rounded as for a new link. A storage that is larger already stays.
+    /// Sets how far the storages may grow, rounded as for a new link. A storage that is larger already stays.
     pub fn set_max_buffer_size(&mut self, max_buffer_size: Option<usize>)
         ensures { LimitSet self.old max_buffer_size self.new }
     {
         self.limit = rounded(max_buffer_size);
     }
 
-    /// How far the outgoing storage may grow, in bytes; `None` where it always may.
+    /// How far the storages may grow, in bytes; `None` where the outgoing one always may.
     pub fn max_buffer_size(&self) -> Option<usize>
         ensures { result ≡ self.now.limit }
     {

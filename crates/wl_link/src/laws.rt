@@ -13,7 +13,7 @@ ghost use Rattle.wl_link.specs.Link.{LinkState, Flushed, FlushedBy, Wrote, Wrote
 ghost use Rattle.wl_link.specs.Kept.{FlushKeeps, FlushDrains, WriteKeeps};
 ghost use Rattle.wl_link.specs.OneLaws.{IsFunction, IsReceiveFunction, SameOutcome, SameFill};
 ghost use Rattle.wl_link.specs.ReadLaws.{SameRead};
-ghost use Rattle.wl_link.specs.Sides.{StreamLaw, AllReadLaw, CuttingLaw, ReadTakes};
+ghost use Rattle.wl_link.specs.Sides.{StreamLaw, AllReadLaw, CuttingLaw, ReadTakes, RoomLaw};
 
 use crate::limit::{DEFAULT_MAX_BUFFER_SIZE, INCOMING_LIMIT};
 use crate::transport::{MAX_BYTES_OUT, MAX_FDS_OUT, Transport};
@@ -65,9 +65,14 @@ pub fn script_has_one_outcome()
 
 /// The messages that were written, carried whole and in order, are read back as the same messages in the same order,
 /// however bytes and tokens were cut.
+///
+/// That they come is not said. But where each of them is no longer than the incoming storage may become, each receive is
+/// made only where the read before it lacked data or tokens, and a token comes no later than its message's last byte, no
+/// receive finds the storage full.
 pub fn messages_come_back<S: Transport, R: Transport>()
     ensures in_order { StreamLaw S.sends R.receives }
     ensures all { AllReadLaw S.sends R.receives }
+    ensures room { RoomLaw R.receives }
 {}
 
 /// Receiving one part and then another leaves what receiving both at once would, also where a read between finds no

@@ -3,8 +3,8 @@
 ghost use Rattle.std.specs.Prelude.{◌≡◌, ◌≢◌, ◌↔◌, ◌<◌, ◌≤◌, IsTrue, IfSome, MatchOption};
 ghost use Rattle.wl_link.specs.Link.{AreLimits, IsLimit, Grows, Wants, incoming_limit};
 
-/// The limit of the outgoing storage that a connection has where nothing else is asked for. It is the least limit, and
-/// the size that the storages of a new link have.
+/// The limit of the storages that a connection has where nothing else is asked for. It is the least limit, and the size
+/// that the storages of a new link have.
 pub const DEFAULT_MAX_BUFFER_SIZE: usize = 4096;
 
 /// The greatest size of the incoming storage, where no limit asks for a smaller one.
