@@ -9,11 +9,13 @@ use Rattle.wl_wire.specs.declared.error.MessageParseError.TheVariants as errors
 use Rattle.wl_wire.specs.declared.message.Message.{Message}
 use Rattle.wl_wire.specs.Argument.{WireArgument}
 use Rattle.wl_wire.specs.Message.{WireMessage}
+use Rattle.wl_wire.specs.Parse.{IsThere}
 use Rattle.wl_wire.specs.Reading.{Reads as ReadsArgs}
 use Rattle.wl_wire.specs.Table.{MessageRow}
 use Rattle.wl_link.specs.declared.object.Object.{Object}
 use Rattle.wl_link.specs.Identity.{Objects}
 use Rattle.wl_link.specs.Link.{LinkState, ReadOne, ReadFound}
+use Rattle.wl_link.specs.ReadLaws.{reads_enough}
 use Rattle.wl_link.specs.ObjectMap.{MapState}
 use Rattle.wl_link.specs.Store.{Store, held}
 use Rattle.wl_client.specs.declared.event_fault.EventFault.{EventFault}
@@ -67,6 +69,26 @@ as_many_at false signature before m after (answer, same) = absurd (ok_err answer
 pub as_many : {T : Type 0} (signature : List ArgumentType) (before : LinkState T) (m : WireMessage) (after : LinkState T)
     → ReadOne (λ _ _ found. found ≡ Some signature) before (Ok m) after → length m.args ≡ length signature
 as_many signature before m after read = as_many_at _ signature before m after read
+
+-- ---- a message that is read is there whole
+
+there_found : {T : Type 0} (signature : List ArgumentType) (found : Option (List ArgumentType)) (before : LinkState T) (m : WireMessage) (after : LinkState T)
+    → found ≡ Some signature → ReadFound found before (Ok m) after → IsThere before.incoming.bytes signature before.incoming.tokens
+there_found signature None before m after is read = absurd (true≢false (sym (ap is_some is)))
+there_found signature (Some s) before m after is read =
+    subst (λ (k : List ArgumentType). IsThere before.incoming.bytes k before.incoming.tokens) (ap (λ o. unwrap_or o s) is)
+    (read.0.whole, reads_enough s m.args _ _ read.0.args)
+
+there_at : {T : Type 0} (b : Bool) (signature : List ArgumentType) (before : LinkState T) (m : WireMessage) (after : LinkState T)
+    → MatchBool b ((found : Option (List ArgumentType)) × (found ≡ Some signature) × ReadFound found before (Ok m) after)
+    ((ok_answer m ≡ Err errors.MissingData) × (after ≡ before))
+    → IsThere before.incoming.bytes signature before.incoming.tokens
+there_at true signature before m after (found, is, read) = there_found signature found before m after is read
+there_at false signature before m after (answer, same) = absurd (true≢false (ap is_ok answer))
+
+pub read_there : {T : Type 0} (signature : List ArgumentType) (before : LinkState T) (m : WireMessage) (after : LinkState T)
+    → ReadOne (λ _ _ found. found ≡ Some signature) before (Ok m) after → IsThere before.incoming.bytes signature before.incoming.tokens
+read_there signature before m after read = there_at _ signature before m after read
 
 -- ---- events of objects
 

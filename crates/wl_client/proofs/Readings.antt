@@ -1,5 +1,5 @@
 -- How the functions of a client's reading say the reader's words.
-use Rattle.std.proofs.Common.{◌≡◌, ◌≢◌, ◌∙◌, ℕ, ◌+◌, ◌<◌, ◌≤◌, Bool, true, false, ◌||◌, ◌&&◌, List, [], ◌∷◌, append-nil, length, nat_lt, Option, None, Some, is_some, is_none, Result, Ok, Err, is_ok, MatchBool, MatchOption, refl, sym, ap, ap₂, subst, arith, true≢false}
+use Rattle.std.proofs.Common.{◌≡◌, ◌≢◌, ◌∙◌, ℕ, ◌+◌, ◌<◌, ◌≤◌, Bool, true, false, ◌||◌, ◌&&◌, List, [], ◌∷◌, append-nil, length, nat_lt, Option, None, Some, is_some, is_none, option_map, Result, Ok, Err, is_ok, MatchBool, MatchOption, refl, sym, ap, ap₂, subst, arith, true≢false}
 use mathlib.Core.Logic.{inl, inr}
 use Rattle.std.proofs.lemmas.Bool.{lt-ltb}
 use Rattle.std.proofs.lemmas.List.{length-drop}
@@ -17,7 +17,7 @@ use Rattle.wl_wire.specs.Table.{MessageRow}
 use Rattle.wl_link.specs.Exchange.{Queue}
 use Rattle.wl_link.specs.Link.{LinkState, Filled, FindsRoom, ReadFound}
 use Rattle.wl_link.specs.Puts.{lacked_memory}
-use Rattle.wl_link.specs.Reader.{AsksForMemory, CarriesOut, Given, HandedOut, Part}
+use Rattle.wl_link.specs.Reader.{FrontAsks, CarriesOut, Given, HandedOut, Part}
 use Rattle.wl_link.specs.ReaderLoops.{EndsSo, LeadsOn, ReceivedTo as PartReceived, SoFar, begins, ends_at, ends_there, leads_on, none_left, one_more, receive_ends, receive_goes_on, received_fault, starves_there}
 use Rattle.wl_link.specs.Served.{Handles}
 use Rattle.wl_client.specs.declared.error.EventError.{EventError}
@@ -27,7 +27,7 @@ use Rattle.wl_client.specs.declared.error.WaylandError.{WaylandError}
 use Rattle.wl_client.specs.declared.open_event.OpenEvent.{OpenEvent}
 use Rattle.wl_client.specs.declared.turn.NoEvent.{NoEvent}
 use Rattle.wl_client.specs.ObjectId.{IdParts}
-use Rattle.wl_client.specs.Handling.{Handling, Swallows, HandsOut, Breaks, front_row, handling}
+use Rattle.wl_client.specs.Handling.{Handling, Swallows, HandsOut, Breaks, handling}
 use Rattle.wl_client.specs.Reading.{NextEvent, Core, Lacks, ReadsAs, ReadsTo, answered, by_fault, client, core_of, faulted, handed_by, part_of, reads_on, receives_allowed, row_asks, verdict, with_link}
 use Rattle.wl_client.specs.Requests.{SessionMessage, session_content}
 use Rattle.wl_client.specs.Session.{SessionState, objects_of}
@@ -80,14 +80,13 @@ or_false : (b : Bool) → b ≡ b || false
 or_false true = refl
 or_false false = refl
 
-row_asks_memory : (row : Option MessageRow) → RowAsks row → row_asks row ≡ true
-row_asks_memory None asks = absurd asks
-row_asks_memory (Some row) (inl some) = made row.child_interface some
+row_asks_memory : (row : MessageRow) → RowAsks row → row_asks (Some row) ≡ true
+row_asks_memory row (inl some) = made row.child_interface some
   where
     made : (o : Option InterfaceId) → o ≢ None → is_some o || nat_lt 4 (length row.signature) ≡ true
     made None some = absurd (some refl)
     made (Some i) some = refl
-row_asks_memory (Some row) (inr many) = or_true (is_some row.child_interface) (nat_lt 4 (length row.signature)) (lt-ltb 4 (length row.signature) many)
+row_asks_memory row (inr many) = or_true (is_some row.child_interface) (nat_lt 4 (length row.signature)) (lt-ltb 4 (length row.signature) many)
   where
     or_true : (a b : Bool) → b ≡ true → a || b ≡ true
     or_true true b is = refl
@@ -221,9 +220,10 @@ module _ {T U : Type 0} where
           refused_is = ap (λ (e : NoEvent). e.refused) is;
         }
       where
-        asked : NotTaken before parse.OutOfMemory → AsksForMemory sends client (part_of before)
+        asked : NotTaken before parse.OutOfMemory → FrontAsks sends client (part_of before)
         asked (inl read) = inr read
-        asked (inr (same, asks)) = inl (row_asks_memory (front_row before.table before.store before.link.incoming.bytes) asks)
+        asked (inr (same, (row, front, asks, there))) =
+            inl (ap row_asks front ∙ row_asks_memory row asks, (row.signature, ap (option_map (λ r. r.signature)) front, there))
 
     pub shorter : (before after : SessionState T U) → Turns before WentOn after → length after.link.incoming.bytes < length before.link.incoming.bytes
     shorter before after (inl impossible) = absurd impossible

@@ -1,5 +1,5 @@
 -- What a request does to a session.
-use Rattle.std.specs.Prelude.{◌≡◌, ℕ, ◌+◌, ◌<◌, ◌⊎◌, length, List, [], ◌∷◌, map, Bool, true, false, not, ◌==◌, slice_get, if◌then◌else◌, Option, None, Some, IsSome, is_none, is_some, option_map, Result, Ok, Err, MatchResult, MatchBool, MatchOption}
+use Rattle.std.specs.Prelude.{◌≡◌, ℕ, ◌+◌, ◌⊎◌, List, [], ◌∷◌, map, Bool, true, false, not, ◌==◌, slice_get, if◌then◌else◌, Option, None, Some, IsSome, is_none, is_some, option_map, Result, Ok, Err, MatchResult, MatchBool, MatchOption}
 use Rattle.std.specs.List.{list_all}
 use Rattle.wl_wire.specs.declared.argument.AllowNull.{AllowNull}
 use Rattle.wl_wire.specs.declared.argument.AllowNull.TheVariants.{Yes, No}
@@ -190,10 +190,9 @@ module _ {U : Type 0} where
   ended_by store m false = None
   ended_by store m true = option_map (λ x. (m.sender.number, x)) (named store m.sender)
 
-  -- what asks for memory before the write: a new object, the note of one that ends, and arguments beyond four
-  abbrev pub AsksForMemory : SessionMessage → Option (Numbered U) → Option (Numbered U) → Type 0
-  AsksForMemory m new ended =
-      IsSome new ⊎ (MatchOption ended ⊥ (λ e. IsSome e.1.value.user_data) ⊎ (4 < length m.args))
+  -- what asks for memory before the write: a new object, and the note of one that ends
+  abbrev pub AsksForMemory : Option (Numbered U) → Option (Numbered U) → Type 0
+  AsksForMemory new ended = IsSome new ⊎ MatchOption ended ⊥ (λ e. IsSome e.1.value.user_data)
 
 module _ {T U : Type 0} where
   -- the new object is put at its number, and uses up a serial
@@ -225,7 +224,7 @@ module _ {T U : Type 0} where
   abbrev pub Sent : (T → Queue → Result ℕ IoFault → T → Type 0) → SessionState T U → SessionMessage → Option (Numbered U)
       → Option (Numbered U) → Result IdParts RequestError → SessionState T U → Type 0
   Sent sends before m new ended answer after =
-      ((answer ≡ Err refused.OutOfMemory) × (after ≡ before) × AsksForMemory m new ended)
+      ((answer ≡ Err refused.OutOfMemory) × (after ≡ before) × AsksForMemory new ended)
       ⊎ Written sends before (wire_message (number_of_new new) m) new ended answer after
 
   abbrev pub new_child : SessionState T U → Spec → U → Object (Kept U)

@@ -8,7 +8,8 @@ use Rattle.wl_wire.specs.declared.error.MessageParseError.{MessageParseError}
 use Rattle.wl_wire.specs.declared.error.MessageParseError.TheVariants as parse
 use Rattle.wl_wire.specs.declared.interface.MessageDesc.{MessageDesc}
 use Rattle.wl_wire.specs.declared.message.Message.{Message}
-use Rattle.wl_wire.specs.Message.{WireMessage, content}
+use Rattle.wl_wire.specs.Message.{WireMessage}
+use Rattle.wl_wire.specs.Parse.{IsThere}
 use Rattle.wl_wire.specs.Table.{InterfaceRow, MessageRow, message_row}
 use Rattle.wl_link.specs.declared.object.Object.{Object}
 use Rattle.wl_link.specs.Exchange.{Queue}
@@ -37,9 +38,8 @@ use Rattle.wl_client.specs.Requests.{SessionMessage, session_content}
 use Rattle.wl_client.specs.Session.{SessionState, id_at, objects_of, with_objects}
 
 -- an event asks for memory before it is read: for the object that it makes, or for arguments beyond four
-abbrev pub RowAsks : Option MessageRow → Type 0
-RowAsks None = ⊥
-RowAsks (Some row) = (row.child_interface ≢ None) ⊎ (4 < length row.signature)
+abbrev pub RowAsks : MessageRow → Type 0
+RowAsks row = (row.child_interface ≢ None) ⊎ (4 < length row.signature)
 
 -- what an event of the display tells, which the code keeps by reference
 abbrev pub told_by : DisplayMessage → DisplayEvent
@@ -64,6 +64,11 @@ module _ {U : Type 0} where
   abbrev pub ReadsIn : {T : Type 0} → List InterfaceRow → Store (Kept U) → LinkState T → Result WireMessage MessageParseError → LinkState T → Type 0
   ReadsIn table store before answer after = ReadOne (λ sender opcode found. found ≡ signature_in table store sender opcode) before answer after
 
+  -- the message at the front, which is there whole, asks for memory before it is read
+  abbrev pub FrontAsks : List InterfaceRow → Store (Kept U) → Queue → Type 0
+  FrontAsks table store incoming =
+      (row : MessageRow) × (front_row table store incoming.bytes ≡ Some row) × RowAsks row × IsThere incoming.bytes row.signature incoming.tokens
+
   -- the message at the front was taken, with what the table says of it; or it was not, and the link is as before
   abbrev pub TookWith : {T : Type 0} → List InterfaceRow → Store (Kept U) → LinkState T
       → Result (Bor MessageDesc) MessageParseError → WireMessage → LinkState T → Type 0
@@ -73,7 +78,7 @@ module _ {U : Type 0} where
   TookWith table store before (Err e) m after =
       (after ≡ before)
       × (ReadsIn table store before (Err e) before
-      ⊎ ((e ≡ parse.OutOfMemory) × RowAsks (front_row table store before.incoming.bytes)))
+      ⊎ ((e ≡ parse.OutOfMemory) × FrontAsks table store before.incoming))
 
 -- what a turn came to, with the event that it hands out
 pub data Turned : Type 0 where
@@ -119,7 +124,7 @@ module _ {T U : Type 0} where
 
   -- no message was taken, for this reason
   abbrev pub NotTaken : SessionState T U → MessageParseError → Type 0
-  NotTaken s e = ReadsAs s (Err e) s.link ⊎ ((e ≡ parse.OutOfMemory) × RowAsks (front_row s.table s.store s.link.incoming.bytes))
+  NotTaken s e = ReadsAs s (Err e) s.link ⊎ ((e ≡ parse.OutOfMemory) × FrontAsks s.table s.store s.link.incoming)
 
   -- no message was taken, and that comes to this
   abbrev pub NotTakenTo : SessionState T U → Turned → SessionState T U → Type 0

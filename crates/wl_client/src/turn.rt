@@ -1,8 +1,9 @@
 //! One turn of a reading: the message at the front is taken off the link and handled.
 
-ghost use Rattle.std.specs.Prelude.{◌≡◌, ◌≢◌, ◌≤◌, [], true, false, None, Some, Ok, Err, MatchResult, length, IfOk, OnOk, option_copied, option_map};
+ghost use Rattle.std.specs.Prelude.{◌≡◌, ◌≢◌, ◌≤◌, ◌↔◌, IsTrue, [], true, false, None, Some, Ok, Err, MatchResult, length, IfOk, OnErr, OnOk, option_copied, option_map};
 ghost use Rattle.smallvec.specs.SmallVec.{HasRoomFor};
 ghost use Rattle.wl_wire.specs.Message.{content};
+ghost use Rattle.wl_wire.specs.Parse.{IsThere};
 ghost use Rattle.wl_wire.specs.Table.{message_row};
 ghost use Rattle.wl_link.specs.Link.{ReadOne, read_content};
 ghost use Rattle.wl_link.specs.Store.{held};
@@ -16,7 +17,7 @@ ghost use Rattle.wl_client.specs.Session.{objects_of};
 ghost use Rattle.wl_wire.specs.declared.argument.Token.{Token};
 ghost use Rattle.wl_wire.specs.declared.message.Message.{Message};
 ghost use Rattle.wl_client.specs.ObjectId.{IdParts};
-ghost use Rattle.wl_client.specs.Turns.{Ended, HandledTo, NotTaken, NotTakenTo, TookWith, Turns, turned};
+ghost use Rattle.wl_client.specs.Turns.{Ended, HandledTo, NotTaken, NotTakenTo, RowAsks, TookWith, Turns, turned};
 
 use crate::backend::{Backend, DISPLAY};
 use crate::display::{DisplayMessage, delete_id, display_event};
@@ -79,6 +80,43 @@ fn read_under<T>(
     socket.read_one_message(|_, _| Some(signature))
 }
 
+/// Whether an event asks for memory before it is read: for the object that it makes, or for its arguments.
+fn asks_for_memory(desc: &MessageDesc) -> bool
+    ensures { IsTrue result ↔ RowAsks (message_row desc.now) }
+{
+    desc.child_interface.is_some() || desc.signature.len() > INLINE_ARGS
+}
+
+/// Makes room for what the message at the front becomes, where it is there whole: for its arguments, and for the object
+/// that it may make. Of a message that is not there nothing is asked for.
+fn make_room<T: Drop, U: Drop>(
+    objects: &mut ObjectMap<Kept<U>>,
+    converted: &mut SmallVec<Argument<ObjectId, Token>, INLINE_ARGS>,
+    socket: &BufferedSocket<T>,
+    desc: &MessageDesc,
+) -> Result<(), OutOfMemory>
+    requires empty { converted.old.items ≡ [] }
+    requires inline { INLINE_ARGS ≤ converted.old.capacity }
+    ensures store { objects.new.store ≡ objects.old.store }
+    ensures empty { converted.new.items ≡ [] }
+    ensures inline { INLINE_ARGS ≤ converted.new.capacity }
+    ensures room { OnOk result (IsThere socket.now.incoming.bytes desc.now.signature.items socket.now.incoming.tokens
+        → length desc.now.signature.items ≤ converted.new.capacity) }
+    ensures can_make { OnOk result (IsThere socket.now.incoming.bytes desc.now.signature.items socket.now.incoming.tokens
+        → desc.now.child_interface ≢ None → objects.new.reserved ≡ true) }
+    ensures asked { OnErr result (RowAsks (message_row desc.now)
+        × IsThere socket.now.incoming.bytes desc.now.signature.items socket.now.incoming.tokens) }
+{
+    if !asks_for_memory(desc) || !socket.holds_message(desc.signature.as_slice()) {
+        return Ok(());
+    }
+    converted.reserve(desc.signature.len())?;
+    if desc.child_interface.is_some() {
+        objects.reserve()?;
+    }
+    Ok(())
+}
+
 /// Takes the message at the front off the link, with room for what it becomes: for its arguments in `converted`, which
 /// is emptied, and for the object that it may make in the map. The answer is what the table says of it.
 fn take<'p, T: Drop, U: Drop>(
@@ -103,15 +141,11 @@ fn take<'p, T: Drop, U: Drop>(
     let Some(desc) = event_desc(protocol, objects, sender, opcode) else {
         return Err(MessageParseError::Malformed);
     };
-    let Ok(()) = converted.reserve(desc.signature.len()) else {
+    let signature = desc.signature.as_slice();
+    let Ok(()) = make_room(objects, converted, socket, desc) else {
         return Err(MessageParseError::OutOfMemory);
     };
-    if desc.child_interface.is_some() {
-        let Ok(()) = objects.reserve() else {
-            return Err(MessageParseError::OutOfMemory);
-        };
-    }
-    match read_under(socket, desc.signature.as_slice()) {
+    match read_under(socket, signature) {
         Ok(read) => {
             *message = read;
             Ok(desc)

@@ -11,7 +11,7 @@ use Rattle.wl_wire.specs.declared.error.MessageParseError.{MessageParseError}
 use Rattle.wl_wire.specs.declared.error.IoFault.TheVariants as fault
 use Rattle.wl_wire.specs.declared.error.MessageParseError.TheVariants as parse
 use Rattle.wl_wire.specs.Message.{WireMessage}
-use Rattle.wl_wire.specs.Parse.{opcode_of, sender_of}
+use Rattle.wl_wire.specs.Parse.{IsThere, opcode_of, sender_of}
 use Rattle.wl_link.specs.Exchange.{Queue, Sending, joined, nothing}
 use Rattle.wl_link.specs.Link.{FilledBy, FindsRoom, LinkState, ReadOne, count_of, counted_answer}
 use Rattle.wl_link.specs.Puts.{FlushesOut, PutsOut, Said, lacked_memory}
@@ -152,10 +152,18 @@ module _ {T Core Event Finish : Type 0} (sends : T → Queue → Result ℕ IoFa
   abbrev pub Lacks : Part T Core → Type 0
   Lacks p = ReadsAs p (Err parse.MissingData) p.link ⊎ ReadsAs p (Err parse.MissingFD) p.link
 
-  -- the message at the front asks for memory: before it is read, or for its texts and arrays
-  abbrev pub AsksForMemory : Part T Core → Type 0
-  AsksForMemory p =
-      (reader.asks p.core (sender_of p.link.incoming.bytes) (opcode_of p.link.incoming.bytes) ≡ true) ⊎ ReadsAs p (Err parse.OutOfMemory) p.link
+  -- the message at the front is there to its end, with its tokens
+  abbrev pub IsThereWhole : Part T Core → Type 0
+  IsThereWhole p =
+      (signature : List ArgumentType)
+      × (reader.signature p.core (sender_of p.link.incoming.bytes) (opcode_of p.link.incoming.bytes) ≡ Some signature)
+      × IsThere p.link.incoming.bytes signature p.link.incoming.tokens
+
+  -- the message at the front asks for memory: before it is read, where it is there whole, or for its texts and arrays
+  abbrev pub FrontAsks : Part T Core → Type 0
+  FrontAsks p =
+      ((reader.asks p.core (sender_of p.link.incoming.bytes) (opcode_of p.link.incoming.bytes) ≡ true) × IsThereWhole p)
+      ⊎ ReadsAs p (Err parse.OutOfMemory) p.link
 
   -- the message at the front is taken, and comes to this; or malformed bytes, which stay
   abbrev pub Takes : Part T Core → Verdict Core Event → LinkState T → Type 0
@@ -168,7 +176,7 @@ module _ {T Core Event Finish : Type 0} (sends : T → Queue → Result ℕ IoFa
   abbrev pub Halts : ℕ → Part T Core → Gives Event → Type 0
   Halts left p out =
       (Lacks p × (left ≡ 0) × (out ≡ stops (Some fault.WouldBlock) false left))
-      ⊎ ((AsksForMemory p × (out ≡ stops (Some fault.OutOfMemory) true left))
+      ⊎ ((FrontAsks p × (out ≡ stops (Some fault.OutOfMemory) true left))
       ⊎ (Lacks p × ((n : ℕ) × (left ≡ suc n) × (out ≡ stops (Some fault.OutOfMemory) true n))))
 
   abbrev pub Stops : ℕ → Part T Core → Gives Event → Type 0

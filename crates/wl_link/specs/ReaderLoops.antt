@@ -6,7 +6,7 @@ use Rattle.wl_wire.specs.declared.error.IoFault.TheVariants as fault
 use Rattle.wl_link.specs.Exchange.{Queue}
 use Rattle.wl_link.specs.Link.{Filled, FilledBy, FindsRoom, LinkState, count_of, counted_answer}
 use Rattle.wl_link.specs.Puts.{lacked_memory}
-use Rattle.wl_link.specs.Reader.{AsksForMemory, Given, Gives, Halts, Handled, Lacks, Part, Reader, Reads, Received, Turn, Unread, behind, stops, with_link}
+use Rattle.wl_link.specs.Reader.{FrontAsks, Given, Gives, Halts, Handled, Lacks, Part, Reader, Reads, Received, Turn, Unread, behind, stops, with_link}
 use Rattle.wl_link.specs.Served.{Handles}
 use Rattle.wl_link.specs.Branches.{at_false, at_true}
 
@@ -88,7 +88,7 @@ module _ {T Core Event Finish : Type 0} (sends : T → Queue → Result ℕ IoFa
 
   -- the message at the front asks for memory
   pub starves_there : (start now : Part T Core) (gave : List (Given Event)) (refused : Bool) → LeadsOn start gave refused now → reader.reads_on now.core ≡ true
-      → AsksForMemory sends reader now → EndsSo start gave refused (Some fault.OutOfMemory) true now
+      → FrontAsks sends reader now → EndsSo start gave refused (Some fault.OutOfMemory) true now
   starves_there start now gave refused leads on asks left =
       leads left (stops (Some fault.OutOfMemory) true left) now (halts left now (stops (Some fault.OutOfMemory) true left) on (inr (inl (asks, refl))))
 

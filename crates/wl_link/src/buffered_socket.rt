@@ -1,11 +1,11 @@
 //! The buffered link over a transport.
 
-ghost use Rattle.std.specs.Prelude.{◌≡◌, ◌≢◌, ◌+◌, ◌<◌, ◌≤◌, ◌∷◌, [], length, take, nat_le, if◌then◌else◌, IsTrue, Some, Ok, Err, IfOk, OnOk, OnErr, MatchOption, MatchResult};
+ghost use Rattle.std.specs.Prelude.{◌≡◌, ◌≢◌, ◌+◌, ◌<◌, ◌≤◌, ◌∷◌, [], length, take, ◌↔◌, nat_le, if◌then◌else◌, IsTrue, Some, Ok, Err, IfOk, OnOk, OnErr, MatchOption, MatchResult};
 ghost use Rattle.std.specs.Borrow.{sem};
 ghost use Rattle.wl_wire.specs.Argument.{Matches};
 ghost use Rattle.wl_wire.specs.MapIds.{numbered};
 ghost use Rattle.wl_wire.specs.Message.{IsMessage, content, size};
-ghost use Rattle.wl_wire.specs.Parse.{sender_of, opcode_of};
+ghost use Rattle.wl_wire.specs.Parse.{IsThere, sender_of, opcode_of};
 ghost use Rattle.wl_link.specs.Link.{IsFresh, LimitSet, Flushed, Filled, Grown, Wants, Put, Placed, Wrote, ReadOne, looked_up, read_content, needed, has_room, ignoring, counted_answer, grown_room, with_room, FindsRoom};
 ghost use Rattle.wl_link.specs.Kept.{FlushKeeps, FlushDrains, WriteKeeps};
 ghost use Rattle.wl_link.specs.Sides.{ReadTakes};
@@ -20,7 +20,7 @@ use std::collections::VecDeque;
 use std::marker::Model;
 use wl_wire::{
     ArgumentType, IoFault, Message, MessageParseError, MessageWriteError, Numbering, OutOfMemory,
-    OwnNumbers, Token, message_header, numbered_size, parse_message,
+    OwnNumbers, Token, message_header, message_is_there, numbered_size, parse_message,
 };
 
 /// A transport, and what waits on both sides of it: bytes and tokens that were received and not read yet, and those
@@ -136,6 +136,13 @@ impl<T> BufferedSocket<T> {
     {
         let header = message_header(self.incoming.bytes())?;
         Some((header.sender_id, header.opcode))
+    }
+
+    /// Whether the message at the front is there to its end, and with it as many tokens as the signature asks for.
+    pub fn holds_message(&self, signature: &[ArgumentType]) -> bool
+        ensures { IsTrue result ↔ IsThere self.now.incoming.bytes signature.now self.now.incoming.tokens }
+    {
+        message_is_there(self.incoming.bytes(), signature, self.fds_in.len())
     }
 
     /// Reads the message at the front of what was received, under the signature that the closure gives for its sender

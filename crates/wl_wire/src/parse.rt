@@ -1,6 +1,6 @@
 //! Reading a message from bytes and tokens.
 
-ghost use Rattle.std.specs.Prelude.{None, ℕ, List, MatchOption, MatchResult, ◌≡◌, ◌≢◌, ◌↔◌, ◌<◌, ◌≤◌, ◌++◌, length, drop, IsOk, IsSome, IfSome, is_some, All, IfOk, IfErr, OnOk, OnErr, option_map, slice_index_or};
+ghost use Rattle.std.specs.Prelude.{None, ℕ, List, MatchOption, MatchResult, ◌≡◌, ◌≢◌, ◌↔◌, ◌<◌, ◌≤◌, ◌++◌, length, drop, IsOk, IsSome, IsTrue, IfSome, is_some, All, IfOk, IfErr, OnOk, OnErr, option_map, slice_index_or};
 ghost use Rattle.std.specs.VecDeque.{deque_len};
 ghost use Rattle.wl_wire.specs.declared.error.MessageParseError.TheVariants as errors;
 ghost use Rattle.wl_wire.specs.declared.error.MessageParseError.TheVariants.{OutOfMemory};
@@ -328,6 +328,17 @@ fn read_header(raw: &[u8]) -> Result<MessageHeader, MessageParseError>
         return Err(MessageParseError::MissingData);
     }
     Ok(header)
+}
+
+/// Whether the message at the front is there to its end, and with it as many tokens as the signature asks for. Then
+/// `parse_message` lacks neither bytes nor tokens.
+pub fn message_is_there(raw: &[u8], signature: &[ArgumentType], tokens: usize) -> bool
+    ensures { IsTrue result ↔ (IsWhole raw.now × (fd_count signature.now ≤ tokens)) }
+{
+    let Some(header) = message_header(raw) else {
+        return false;
+    };
+    8 <= header.len && header.len <= raw.len() && fd_places(signature) <= tokens
 }
 
 /// Takes so many tokens off the front.

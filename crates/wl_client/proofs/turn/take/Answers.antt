@@ -1,9 +1,18 @@
-use Rattle.std.proofs.Common.{arith}
+use Rattle.std.proofs.Common.{arith, ap, length, subst}
 use Rattle.wl_wire.specs.Message.{content}
-use Rattle.wl_client.proofs.Handling.{as_many}
+use Rattle.wl_wire.specs.Parse.{IsThere}
+use Rattle.wl_client.proofs.Handling.{as_many, read_there}
 use Rattle.wl_client.proofs.turn.take.Goals as goal
 
+-- what was read was there whole
 pub returns-in-Ok-read_under-clause-room : goal.returns-in-Ok-read_under-clause-room
 returns-in-Ok-read_under-clause-room g c =
     let many = as_many _ _ (content c.in-Ok-read_under.read) _ c.in-Ok-read_under.ensures in
-    omega (arith, many, c.in-Ok.ensures.ok, c.len.ensures)
+    let there = read_there _ _ (content c.in-Ok-read_under.read) _ c.in-Ok-read_under.ensures in
+    let room = c.in-Ok.ensures.room (subst (λ s. IsThere c.args.socket.now.incoming.bytes s c.args.socket.now.incoming.tokens) c.as_slice-signature.ensures.value there) in
+    omega (arith, many, room, ap length c.make_room.ensures.empty, ap length c.as_slice-signature.ensures.value)
+
+pub returns-in-Ok-read_under-clause-can_make : goal.returns-in-Ok-read_under-clause-can_make
+returns-in-Ok-read_under-clause-can_make g c =
+    let there = read_there _ _ (content c.in-Ok-read_under.read) _ c.in-Ok-read_under.ensures in
+    c.in-Ok.ensures.can_make (subst (λ s. IsThere c.args.socket.now.incoming.bytes s c.args.socket.now.incoming.tokens) c.as_slice-signature.ensures.value there)
