@@ -50,24 +50,45 @@ fn sends(
     Ok(sent.len() == 1 && sent[0].0.as_slice() == bytes)
 }
 
+/// Whether what waits is not yet a whole message.
+fn lacks_data(link: &mut BufferedSocket<Memory>) -> bool {
+    link.read_one_message(|_, _| Some(&DONE)) == Err(MessageParseError::MissingData)
+}
+
+/// Whether the message is read.
+fn reads(link: &mut BufferedSocket<Memory>, message: &Message<u32, Token>) -> Result<bool, Fail> {
+    let read = link.read_one_message(|_, _| Some(&DONE))?;
+    Ok(read == *message)
+}
+
 /// Whether the message is read, where a first receive does not bring it to its end and a second does.
 fn reads_in_two(
     link: &mut BufferedSocket<Memory>,
     message: &Message<u32, Token>,
 ) -> Result<bool, Fail> {
     link.fill_incoming_buffers()?;
-    let half = link.read_one_message(|_, _| Some(&DONE));
+    let half = lacks_data(link);
     link.fill_incoming_buffers()?;
-    let whole = link.read_one_message(|_, _| Some(&DONE))?;
-    Ok(half == Err(MessageParseError::MissingData) && whole == *message)
+    Ok(half && reads(link, message)?)
+}
+
+/// Whether the sync is sent.
+fn sends_sync(link: &mut BufferedSocket<Memory>, alloc: Global) -> Result<bool, Fail> {
+    let sync = message(alloc, 1, Argument::NewId(2))?;
+    sends(link, &sync, &[1, 0, 0, 0, 0, 0, 12, 0, 2, 0, 0, 0])
+}
+
+/// Whether the answer to the sync is read.
+fn reads_answer(link: &mut BufferedSocket<Memory>, alloc: Global) -> Result<bool, Fail> {
+    let done = message(alloc, 2, Argument::Uint(9))?;
+    reads_in_two(link, &done)
 }
 
 /// Whether the sync is sent, and its answer read.
 fn asks(link: &mut BufferedSocket<Memory>, alloc: Global) -> Result<(bool, bool), Fail> {
-    let sync = message(alloc, 1, Argument::NewId(2))?;
-    let done = message(alloc, 2, Argument::Uint(9))?;
-    let bytes = [1, 0, 0, 0, 0, 0, 12, 0, 2, 0, 0, 0];
-    Ok((sends(link, &sync, &bytes)?, reads_in_two(link, &done)?))
+    let sent = sends_sync(link, alloc)?;
+    let answered = reads_answer(link, alloc)?;
+    Ok((sent, answered))
 }
 
 /// Whether the sync is sent over a new link, its answer read, and nothing left to wait.

@@ -40,21 +40,23 @@ fn numbered(args: Args) -> Result<Message<u32, Token>, Fail> {
     }
 }
 
-/// Whether the sender is asked for first, and then each object from left to right.
-fn numbers_from_left(alloc: Global) -> Result<bool, Fail> {
-    let mut args = SmallVec::new(alloc);
-    fill(&mut args)?;
-    let numbered = numbered(args)?;
+/// Whether the sender was asked for first, and then each object from left to right.
+fn is_from_left(message: &Message<u32, Token>) -> bool {
     let expected = [
         Argument::Object(1),
         Argument::NewId(100),
         Argument::Fd(Token(7)),
         Argument::Object(2),
     ];
-    Ok(
-        (numbered.sender_id, numbered.opcode) == (0, 7)
-            && numbered.args.as_slice() == expected.as_slice(),
-    )
+    (message.sender_id, message.opcode) == (0, 7) && message.args.as_slice() == expected.as_slice()
+}
+
+/// Whether the ids are numbered from left to right.
+fn numbers_from_left(alloc: Global) -> Result<bool, Fail> {
+    let mut args = SmallVec::new(alloc);
+    fill(&mut args)?;
+    let numbered = numbered(args)?;
+    Ok(is_from_left(&numbered))
 }
 
 #[test]
