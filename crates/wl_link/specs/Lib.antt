@@ -40,6 +40,7 @@ pub mod ArrivalLaws
 pub mod RanLaws
 pub mod StretchLaws
 pub mod LengthLaws
+pub mod RoomLaws
 pub mod LogLaws
 pub mod FoundLaws
 pub mod TotalLaws

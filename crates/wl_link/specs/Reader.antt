@@ -172,7 +172,7 @@ module _ {T Core Event Finish : Type 0} (sends : T → Queue → Result ℕ IoFa
   abbrev pub Leaves : Part T Core → Verdict Core Event → LinkState T → Type 0
   Leaves p v link = ReadsAs p (Err parse.Malformed) p.link × (link ≡ p.link) × (v ≡ reader.malformed p.core)
 
-  -- no receive is left; or there is no memory for what the message asks for, or for the tokens of a receive
+  -- no receive is left; or there is no memory for what the message asks for, or for what a receive may give
   abbrev pub Halts : ℕ → Part T Core → Gives Event → Type 0
   Halts left p out =
       (Lacks p × (left ≡ 0) × (out ≡ stops (Some fault.WouldBlock) false left))

@@ -1,4 +1,4 @@
-use Rattle.wl_link.specs.LengthLaws.{room_law}
+use Rattle.wl_link.specs.RoomLaws.{room_law}
 use Rattle.wl_link.specs.StreamLaws.{stream_law, all_read_law}
 use Rattle.wl_link.proofs.laws.messages_come_back.Goals as goal
 
