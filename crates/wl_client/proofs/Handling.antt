@@ -22,6 +22,7 @@ use Rattle.wl_client.specs.declared.event_fault.EventFault.{EventFault}
 use Rattle.wl_client.specs.declared.kept.Kept.{Kept}
 use Rattle.wl_client.specs.declared.open_event.OpenEvent.{OpenEvent}
 use Rattle.wl_client.specs.declared.turn.NoEvent.{NoEvent}
+use Rattle.wl_client.specs.declared.turn.TurnEnd.{TurnEnd}
 use Rattle.wl_client.specs.ObjectId.{IdParts}
 use Rattle.wl_client.specs.Conversion.{objects_in}
 use Rattle.wl_client.specs.Events.{Outcome, Whole, Wrong, convert, start, error_of, display_event}
@@ -29,7 +30,7 @@ use Rattle.wl_client.specs.Handling.{Handling, Swallows, HandsOut, Breaks, handl
 use Rattle.wl_client.specs.Reading.{ReadsAs, row_of, with_link}
 use Rattle.wl_client.specs.Requests.{SessionMessage, session_content}
 use Rattle.wl_client.specs.Session.{SessionState, objects_of, with_objects}
-use Rattle.wl_client.specs.Turns.{HandledAs, HandledTo, Turned, GaveEvent, WentOn, Ended, Turns}
+use Rattle.wl_client.specs.Turns.{CarriedOut, HandledAs, HandledTo, Turned, GaveEvent, WentOn, Ended, Turns, turned}
 
 -- ---- as many arguments as places
 
@@ -159,16 +160,27 @@ module _ {T U : Type 0} where
               (of_event before.table (objects_of before) m (held before.store m.sender) (row_of before m.sender m.opcode))) turned after) (sym (ne_eqb m.sender 1 other)) known',
         )
 
-    pub swallowed_turns : (event : SessionMessage) → Came (Ok None) event → Turns before WentOn (with_objects taken objects)
+    swallowed_turns : (event : SessionMessage) → Came (Ok None) event → Turns before WentOn (with_objects taken objects)
     swallowed_turns event fact = by (Ok None) event WentOn (with_objects taken objects) fact (λ x h. swallows taken m row x (outcome x) event objects h)
 
-    pub handed_turns : (e : Message IdParts Token) (opened : OpenEvent) → Came (Ok (Some opened)) (session_content e)
+    handed_turns : (e : Message IdParts Token) (opened : OpenEvent) → Came (Ok (Some opened)) (session_content e)
         → Turns before (GaveEvent e) (record (with_objects taken objects) { open_event = Some opened })
     handed_turns e opened fact = by (Ok (Some opened)) (session_content e) (GaveEvent e) _ fact (λ x h. hands taken m row x (outcome x) e opened objects h)
 
-    pub faulted_turns : (w : EventFault) (event : SessionMessage) (end : NoEvent) (after : SessionState T U) → Came (Err w) event
+    faulted_turns : (w : EventFault) (event : SessionMessage) (end : NoEvent) (after : SessionState T U) → Came (Err w) event
         → HandledTo (with_objects taken objects) (Breaks (error_of before.table w) objects) (Ended end) after → Turns before (Ended end) after
     faulted_turns w event end after fact ended = by (Err w) event (Ended end) after fact (λ x h. faults taken m row x (outcome x) w event objects end after h ended)
+
+    pub carried_turns : (h : Result (Option OpenEvent) EventFault) (e : Message IdParts Token) (end : TurnEnd) (after : SessionState T U) → Came h (session_content e)
+        → CarriedOut (with_objects taken objects) h end after → Turns before (turned end e) after
+    carried_turns (Ok None) e end after fact (is, same) =
+        subst (λ (t : TurnEnd). Turns before (turned t e) after) (sym is)
+        (subst (λ (s : SessionState T U). Turns before WentOn s) (sym same) (swallowed_turns (session_content e) fact))
+    carried_turns (Ok (Some opened)) e end after fact (is, same) =
+        subst (λ (t : TurnEnd). Turns before (turned t e) after) (sym is)
+        (subst (λ (s : SessionState T U). Turns before (GaveEvent e) s) (sym same) (handed_turns e opened fact))
+    carried_turns (Err w) e end after fact (none, is, ended) =
+        subst (λ (t : TurnEnd). Turns before (turned t e) after) (sym is) (faulted_turns w (session_content e) none after fact ended)
 
   pub display_turns : (before : SessionState T U) (m : WireMessage) (link : LinkState T) → ReadsAs before (Ok m) link → (store : Store (Kept U)) (turned : Turned) (after : SessionState T U)
       → store ≡ before.store

@@ -119,6 +119,13 @@ module _ {T U : Type 0} where
       ⊎ ((end.refused ≡ true) × (after ≡ with_error (with_objects before o) (Io fault.OutOfMemory))))
   HandledTo before _ _ after = ⊥
 
+  -- an event of an object was carried out whose arguments were gone through
+  abbrev pub CarriedOut : SessionState T U → Result (Option OpenEvent) EventFault → TurnEnd → SessionState T U → Type 0
+  CarriedOut before (Ok None) end after = (end ≡ came.GoesOn) × (after ≡ before)
+  CarriedOut before (Ok (Some opened)) end after = (end ≡ came.Event) × (after ≡ record before { open_event = Some opened })
+  CarriedOut before (Err w) end after =
+      (e : NoEvent) × (end ≡ came.Ends e) × HandledTo before (Breaks (error_of before.table w) (objects_of before)) (Ended e) after
+
   abbrev pub malformed : SessionState T U → Handling U
   malformed s = Breaks (error_of s.table wrong.Malformed) (objects_of s)
 

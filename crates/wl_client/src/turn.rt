@@ -5,7 +5,7 @@ ghost use Rattle.smallvec.specs.SmallVec.{HasRoomFor};
 ghost use Rattle.wl_wire.specs.Message.{content};
 ghost use Rattle.wl_wire.specs.Parse.{IsThere};
 ghost use Rattle.wl_wire.specs.Table.{message_row};
-ghost use Rattle.wl_link.specs.Link.{ReadOne, read_content};
+ghost use Rattle.wl_link.specs.Link.{ReadOne, read_into};
 ghost use Rattle.wl_link.specs.Store.{held};
 ghost use Rattle.wl_wire.specs.declared.error.IoFault.TheVariants as io;
 ghost use Rattle.wl_client.specs.declared.error.EventError.TheVariants as no_event;
@@ -17,7 +17,7 @@ ghost use Rattle.wl_client.specs.Session.{objects_of};
 ghost use Rattle.wl_wire.specs.declared.argument.Token.{Token};
 ghost use Rattle.wl_wire.specs.declared.message.Message.{Message};
 ghost use Rattle.wl_client.specs.ObjectId.{IdParts};
-ghost use Rattle.wl_client.specs.Turns.{Ended, HandledTo, NotTaken, NotTakenTo, RowAsks, TookWith, Turns, turned};
+ghost use Rattle.wl_client.specs.Turns.{CarriedOut, Ended, HandledTo, NotTaken, NotTakenTo, RowAsks, TookWith, Turns, turned};
 
 use crate::backend::{Backend, DISPLAY};
 use crate::display::{DisplayMessage, delete_id, display_event};
@@ -26,6 +26,7 @@ use crate::event::handle_event;
 use crate::event_fault::EventFault;
 use crate::kept::Kept;
 use crate::object_id::ObjectId;
+use crate::open_event::OpenEvent;
 use crate::protocol_error::{fault_error, told_error};
 use smallvec::SmallVec;
 use wl_link::{BufferedSocket, ObjectMap, Transport};
@@ -74,10 +75,13 @@ fn event_desc<'p, U: Drop>(
 fn read_under<T>(
     socket: &mut BufferedSocket<T>,
     signature: &[ArgumentType],
-) -> Result<Message<u32, Token>, MessageParseError>
-    ensures { ReadOne (λ _ _ found. found ≡ Some signature.now) socket.old (read_content result) socket.new }
+    message: &mut Message<u32, Token>,
+) -> Result<(), MessageParseError>
+    requires { INLINE_ARGS ≤ message.old.args.capacity }
+    ensures read { ReadOne (λ _ _ found. found ≡ Some signature.now) socket.old (read_into result message.new) socket.new }
+    ensures inline { INLINE_ARGS ≤ message.new.args.capacity }
 {
-    socket.read_one_message(|_, _| Some(signature))
+    socket.read_into(|_, _| Some(signature), message)
 }
 
 /// Whether an event asks for memory before it is read: for the object that it makes, or for its arguments.
@@ -127,6 +131,7 @@ fn take<'p, T: Drop, U: Drop>(
     converted: &mut SmallVec<Argument<ObjectId, Token>, INLINE_ARGS>,
 ) -> Result<&'p MessageDesc, MessageParseError>
     requires inline { INLINE_ARGS ≤ converted.old.capacity }
+    requires place { INLINE_ARGS ≤ message.old.args.capacity }
     ensures took { TookWith protocol.now objects.old.store socket.old result (content message.new) socket.new }
     ensures store { objects.new.store ≡ objects.old.store }
     ensures room { OnOk result (HasRoomFor converted.new (length message.new.args.items)) }
@@ -145,11 +150,8 @@ fn take<'p, T: Drop, U: Drop>(
     let Ok(()) = make_room(objects, converted, socket, desc) else {
         return Err(MessageParseError::OutOfMemory);
     };
-    match read_under(socket, signature) {
-        Ok(read) => {
-            *message = read;
-            Ok(desc)
-        }
+    match read_under(socket, signature, message) {
+        Ok(()) => Ok(desc),
         Err(error) => Err(error),
     }
 }
@@ -243,7 +245,8 @@ impl<T: Transport + Drop, U: Drop> Backend<T, U> {
         message: &mut Message<u32, Token>,
         event: &mut Message<ObjectId, Token>,
     ) -> TurnEnd
-        requires { INLINE_ARGS ≤ event.old.args.capacity }
+        requires place { INLINE_ARGS ≤ message.old.args.capacity }
+        requires inline { INLINE_ARGS ≤ event.old.args.capacity }
         ensures turns { Turns self.old.session (turned result event.new) self.new.session }
         ensures inline { INLINE_ARGS ≤ event.new.args.capacity }
     {
@@ -267,6 +270,13 @@ impl<T: Transport + Drop, U: Drop> Backend<T, U> {
             message,
             event,
         );
+        self.carry_out(handled)
+    }
+
+    /// Opens the event that is to be handed out, or stores the error of a fault.
+    fn carry_out(&mut self, handled: Result<Option<OpenEvent>, EventFault>) -> TurnEnd
+        ensures { CarriedOut self.old.session handled result self.new.session }
+    {
         match handled {
             Ok(None) => TurnEnd::GoesOn,
             Ok(Some(open_event)) => {

@@ -320,6 +320,11 @@ abbrev pub read_content : Result (Message ℕ Token) MessageParseError → Resul
 read_content (Ok message) = Ok (content message)
 read_content (Err e) = Err e
 
+-- the same of a read whose message has a place of its own
+abbrev pub read_into : Result (Unit {0}) MessageParseError → Message ℕ Token → Result WireMessage MessageParseError
+read_into (Ok _) message = Ok (content message)
+read_into (Err e) message = Err e
+
 -- a look-up that answers by reference
 abbrev pub looked_up : (ℕ → ℕ → Option (Bor (List ArgumentType)) → Type 0) → ℕ → ℕ → Option (List ArgumentType) → Type 0
 looked_up answers sender opcode found = (r : Option (Bor (List ArgumentType))) × answers sender opcode r × (found ≡ option_copied r)

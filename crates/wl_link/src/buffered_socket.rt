@@ -6,7 +6,7 @@ ghost use Rattle.wl_wire.specs.Argument.{Matches};
 ghost use Rattle.wl_wire.specs.MapIds.{numbered};
 ghost use Rattle.wl_wire.specs.Message.{IsMessage, content, size};
 ghost use Rattle.wl_wire.specs.Parse.{IsThere, sender_of, opcode_of};
-ghost use Rattle.wl_link.specs.Link.{IsFresh, LimitSet, Flushed, Filled, Grown, Wants, Put, Placed, Wrote, ReadOne, looked_up, read_content, needed, has_room, ignoring, counted_answer, grown_room, with_room, FindsRoom};
+ghost use Rattle.wl_link.specs.Link.{IsFresh, LimitSet, Flushed, Filled, Grown, Wants, Put, Placed, Wrote, ReadOne, looked_up, read_content, read_into, needed, has_room, ignoring, counted_answer, grown_room, with_room, FindsRoom};
 ghost use Rattle.wl_link.specs.Kept.{FlushKeeps, FlushDrains, WriteKeeps};
 ghost use Rattle.wl_link.specs.Sides.{ReadTakes};
 ghost use Rattle.wl_link.specs.Storage.{write_answer_of};
@@ -15,12 +15,13 @@ use crate::buffer::Buffer;
 use crate::limit::{DEFAULT_MAX_BUFFER_SIZE, grown_size, incoming_limit, rounded};
 use crate::token_queue::TokenQueue;
 use crate::transport::{MAX_BYTES_OUT, MAX_FDS_OUT, Transport};
+use smallvec::SmallVec;
 use std::alloc::Global;
 use std::collections::VecDeque;
 use std::marker::Model;
 use wl_wire::{
-    ArgumentType, IoFault, Message, MessageParseError, MessageWriteError, Numbering, OutOfMemory,
-    OwnNumbers, Token, message_header, message_is_there, numbered_size, parse_message,
+    ArgumentType, INLINE_ARGS, IoFault, Message, MessageParseError, MessageWriteError, Numbering,
+    OutOfMemory, OwnNumbers, Token, message_header, message_is_there, numbered_size, parse_into,
 };
 
 /// A transport, and what waits on both sides of it: bytes and tokens that were received and not read yet, and those
@@ -164,6 +165,35 @@ impl<T> BufferedSocket<T> {
         ensures matches { IfOk result (λ m. (found : _) × looked_up (F.post signature) m.sender_id m.opcode (Some found) × Matches found m.args.items) }
         ensures fewer { OnOk result (length self.new.incoming.bytes < length self.old.incoming.bytes) }
     {
+        let mut message = Message {
+            sender_id: 0,
+            opcode: 0,
+            args: SmallVec::new(*self.fds_in.allocator()),
+        };
+        match self.read_into(signature, &mut message) {
+            Ok(()) => Ok(message),
+            Err(error) => Err(error),
+        }
+    }
+
+    /// The same in a place for the message, whose arguments it replaces. After an error what is in that place is no
+    /// message.
+    pub fn read_into<'s, F>(
+        &mut self,
+        signature: F,
+        message: &mut Message<u32, Token>,
+    ) -> Result<(), MessageParseError>
+    where
+        F: FnOnce(u32, u16) -> Option<&'s [ArgumentType]> + Drop,
+        // It is called only where a header waits.
+        requires callable { 8 ≤ length self.old.incoming.bytes → F.IsAlwaysCallable signature }
+        requires inline { INLINE_ARGS ≤ message.old.args.capacity }
+        ensures read { ReadOne (looked_up (F.post signature)) self.old (read_into result message.new) self.new }
+        ensures first { ReadTakes (looked_up (F.post signature)) self.old (read_into result message.new) self.new }
+        ensures matches { OnOk result ((found : _) × looked_up (F.post signature) message.new.sender_id message.new.opcode (Some found) × Matches found message.new.args.items) }
+        ensures fewer { OnOk result (length self.new.incoming.bytes < length self.old.incoming.bytes) }
+        ensures capacity { INLINE_ARGS ≤ message.new.args.capacity }
+    {
         let alloc = *self.fds_in.allocator();
         let bytes = self.incoming.bytes();
         let Some(header) = message_header(bytes) else {
@@ -172,11 +202,11 @@ impl<T> BufferedSocket<T> {
         let Some(signature) = signature(header.sender_id, header.opcode) else {
             return Err(MessageParseError::Malformed);
         };
-        match parse_message(alloc, bytes, signature, &mut self.fds_in) {
-            Ok((message, rest)) => {
+        match parse_into(alloc, bytes, signature, &mut self.fds_in, message) {
+            Ok(rest) => {
                 let len = bytes.len() - rest.len();
                 self.incoming.consume(len);
-                Ok(message)
+                Ok(())
             }
             Err(error) => Err(error),
         }

@@ -29,7 +29,7 @@ pub use interface::{
 };
 pub use message::{INLINE_ARGS, Message};
 pub use numbering::{Numbering, OwnNumbers};
-pub use parse::{MessageHeader, message_header, message_is_there, parse_message};
+pub use parse::{MessageHeader, message_header, message_is_there, parse_into, parse_message};
 pub use protocol::{
     Protocol, TableError, check_for_signature, same_interface, same_interface_or_anonymous,
 };

@@ -176,6 +176,7 @@ fn make_room(
     ensures items { args.new.items ≡ args.old.items }
     ensures room { OnOk result (HasRoomFor args.new count) }
     ensures inline { HasRoomFor args.old count → IsOk result }
+    ensures capacity { args.old.capacity ≤ args.new.capacity }
 {
     if count > INLINE_ARGS {
         args.reserve(count)?;
@@ -194,6 +195,7 @@ fn read_arguments(
     requires { HasRoomFor args.old INLINE_ARGS }
     ensures found { Gives (λ used. (args.new.items, drop used fds.now.items)) result (with_front args.old.items (arguments_at signature.now payload.now fds.now.items)) }
     ensures inline { All IsSmall signature.now → HasRoomFor args.old (length signature.now) → IfErr result (λ e. e ≢ OutOfMemory) }
+    ensures capacity { args.old.capacity ≤ args.new.capacity }
 {
     make_room(args, signature.len())?;
     let mut rest = payload;
@@ -350,6 +352,44 @@ fn take_tokens(fds: &mut VecDeque<Token>, count: usize)
     }
 }
 
+/// The same as `parse_message` in a place for the message, whose arguments it replaces. After an error what is in that
+/// place is no message.
+pub fn parse_into<'a>(
+    alloc: Global,
+    raw: &'a [u8],
+    signature: &[ArgumentType],
+    fds: &mut VecDeque<Token>,
+    message: &mut Message<u32, Token>,
+) -> Result<&'a [u8], MessageParseError>
+    requires { INLINE_ARGS ≤ message.old.args.capacity }
+    ensures found { OnOk result (ReadsMessage raw.now signature.now fds.old.items (content message.new)) }
+    ensures matches { OnOk result (Matches signature.now message.new.args.items) }
+    ensures rest { IfOk result (λ rest. rest.now ≡ drop (length_of raw.now) raw.now) }
+    ensures tokens { OnOk result (fds.new.items ≡ drop (fd_count signature.now) fds.old.items) }
+
+    // What was written is read, and leaves what follows it.
+    ensures written { (m : WireMessage) (behind : List ℕ) (others : List WireToken) → IsMessage m → Matches signature.now m.args
+        → raw.now ≡ spelling m ++ behind → fds.old.items ≡ tokens m.args ++ others
+        → MatchResult result (λ rest. (content message.new ≡ m) × (rest.now ≡ behind) × (fds.new.items ≡ others)) (λ e. e ≡ OutOfMemory) }
+
+    ensures refused { IfErr result (RefusesMessage raw.now signature.now fds.old.items) }
+    ensures inline { IsInline signature.now → IfErr result (λ e. e ≢ OutOfMemory) }
+    ensures unchanged { OnErr result (fds.new.items ≡ fds.old.items) }
+    ensures capacity { INLINE_ARGS ≤ message.new.args.capacity }
+{
+    let header = read_header(raw)?;
+    let (whole, rest) = raw.split_at(header.len);
+    let payload = &whole[8..];
+    message.args.clear();
+    let Ok(taken) = read_arguments(alloc, signature, payload, fds, &mut message.args) else {
+        return Err(refusal(signature, payload, fds.make_contiguous()));
+    };
+    take_tokens(fds, taken);
+    message.sender_id = header.sender_id;
+    message.opcode = header.opcode;
+    Ok(rest)
+}
+
 /// Reads the message at the front of `raw` under the signature, with the tokens at the front of `fds`.
 ///
 /// Answers the message and the bytes behind it, which begin where its header says that it ends: bytes of it behind
@@ -377,18 +417,13 @@ pub fn parse_message<'a>(
     ensures inline { IsInline signature.now → IfErr result (λ e. e ≢ OutOfMemory) }
     ensures unchanged { OnErr result (fds.new.items ≡ fds.old.items) }
 {
-    let header = read_header(raw)?;
-    let (whole, rest) = raw.split_at(header.len);
-    let payload = &whole[8..];
-    let mut args = SmallVec::new(alloc);
-    let Ok(taken) = read_arguments(alloc, signature, payload, fds, &mut args) else {
-        return Err(refusal(signature, payload, fds.make_contiguous()));
+    let mut message = Message {
+        sender_id: 0,
+        opcode: 0,
+        args: SmallVec::new(alloc),
     };
-    take_tokens(fds, taken);
-    let message = Message {
-        sender_id: header.sender_id,
-        opcode: header.opcode,
-        args,
-    };
-    Ok((message, rest))
+    match parse_into(alloc, raw, signature, fds, &mut message) {
+        Ok(rest) => Ok((message, rest)),
+        Err(error) => Err(error),
+    }
 }

@@ -13,6 +13,7 @@ pub loop-kind-preserved : goal.loop-kind-preserved
 loop-kind-preserved c = (
   rw c.push_reserved.ensures.items (goes_on c.loop-kind.args.items c.args.signature.now c.loop-kind.kind-index c.loop-kind.rest.now (drop c.loop-kind.used c.args.fds.now.items) Int c.in_ok-arg.arg c.in_ok-arg.after.now (drop c.in_ok-arg.so_far c.args.fds.now.items) _ c.loop-kind-test.true c.in_ok-arg.ensures.found c.loop-kind.invariant.0),
   rw (c.push_reserved.ensures.items, c.push_reserved.ensures.capacity) (omega (arith, length-append c.loop-kind.args.items (c.in_ok-arg.arg ∷ []))),
+  rw c.push_reserved.ensures.capacity c.loop-kind.invariant.2,
 )
 
 pub returns-clause-found : goal.returns-clause-found

@@ -6,3 +6,4 @@ abbrev pub invariant-loop-kind : goal.invariant-loop-kind
 invariant-loop-kind l =
     (with_front l.args.items (arguments_at (drop l.kind-index l.signature) l.rest (drop l.used l.fds.items)) ≡ with_front l.fn.args.items (arguments_at l.signature l.payload l.fds.items))
     × (length l.args.items + (length l.signature - l.kind-index) ≤ l.args.capacity)
+    × (l.fn.args.capacity ≤ l.args.capacity)

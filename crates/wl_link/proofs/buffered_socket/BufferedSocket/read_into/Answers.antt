@@ -5,8 +5,8 @@ use Rattle.wl_wire.specs.Message.{content}
 use Rattle.wl_link.specs.Link.{looked_up}
 use Rattle.wl_link.specs.ReadLaws.{read_by_parser, refused_by_parser}
 use Rattle.wl_link.specs.StreamLaws.{read_takes}
-use Rattle.wl_link.specs.contracts.buffered_socket.BufferedSocket.read_one_message.F-FnOnce.{words}
-use Rattle.wl_link.proofs.buffered_socket.BufferedSocket.read_one_message.Goals as goal
+use Rattle.wl_link.specs.contracts.buffered_socket.BufferedSocket.read_into.F-FnOnce.{words}
+use Rattle.wl_link.proofs.buffered_socket.BufferedSocket.read_into.Goals as goal
 
 pub returns-in-Ok-clause-read : goal.returns-in-Ok-clause-read
 returns-in-Ok-clause-read g c =
@@ -14,7 +14,7 @@ returns-in-Ok-clause-read g c =
     (read_by_parser (looked_up ((words g.row.T g.row.F g.F.FnOnce).post c.args.signature)) _ c.bytes-bytes.result.now
     c.in-Some.header.sender_id c.in-Some.header.opcode c.in-Some-signature.signature.now c.bytes-bytes.ensures
     c.in-Some.ensures.0 c.in-Some.ensures.1 c.in-Some.ensures.2 (Some c.in-Some-signature.signature, c.in-Some-signature.ensures, refl)
-    (content c.in-Ok.message) c.in-Ok.rest.now c.parse_message.new.fds.items c.in-Ok.ensures.found c.in-Ok.ensures.rest c.in-Ok.ensures.tokens)
+    (content c.parse_into.new.message) c.in-Ok.rest.now c.parse_into.new.fds.items c.in-Ok.ensures.found c.in-Ok.ensures.rest c.in-Ok.ensures.tokens)
 
 pub returns-in-Err-clause-read : goal.returns-in-Err-clause-read
 returns-in-Err-clause-read g c =
@@ -22,7 +22,7 @@ returns-in-Err-clause-read g c =
     (refused_by_parser (looked_up ((words g.row.T g.row.F g.F.FnOnce).post c.args.signature)) _ c.bytes-bytes.result.now
     c.in-Some.header.sender_id c.in-Some.header.opcode c.in-Some-signature.signature.now c.bytes-bytes.ensures
     c.in-Some.ensures.0 c.in-Some.ensures.1 c.in-Some.ensures.2 (Some c.in-Some-signature.signature, c.in-Some-signature.ensures, refl)
-    c.in-Err.error c.parse_message.new.fds.items c.in-Err.ensures.refused c.in-Err.ensures.inline c.in-Err.ensures.unchanged)
+    c.in-Err.error c.parse_into.new.fds.items c.in-Err.ensures.refused c.in-Err.ensures.inline c.in-Err.ensures.unchanged)
 
 pub returns-in-Ok-clause-first : goal.returns-in-Ok-clause-first
 returns-in-Ok-clause-first g c =
@@ -34,7 +34,7 @@ returns-in-Ok-clause-matches g c =
     let found = Some c.in-Some-signature.signature in
     let sender = c.in-Some.ensures.1 ∙ sym c.in-Ok.ensures.found.sender in
     let opcode = c.in-Some.ensures.2 ∙ sym c.in-Ok.ensures.found.opcode in
-    let answered = subst (λ (n : ℕ). post n c.in-Ok.message.opcode found) sender (subst (λ (n : ℕ). post c.in-Some.header.sender_id n found) opcode c.in-Some-signature.ensures) in
+    let answered = subst (λ (n : ℕ). post n c.parse_into.new.message.opcode found) sender (subst (λ (n : ℕ). post c.in-Some.header.sender_id n found) opcode c.in-Some-signature.ensures) in
     (c.in-Some-signature.signature.now, (found, answered, refl), c.in-Ok.ensures.matches)
 
 pub returns-in-Ok-clause-fewer : goal.returns-in-Ok-clause-fewer

@@ -5,7 +5,7 @@ use Rattle.wl_wire.specs.Cursor.{RefusesArguments}
 use Rattle.wl_wire.specs.CursorLaws.{arguments_read}
 use Rattle.wl_wire.specs.Laws.{reads_match}
 use Rattle.wl_wire.proofs.Whole.{header_not_refused, only_memory, reads_back, payload-is, found_whole, left_is, refuses}
-use Rattle.wl_wire.proofs.parse.parse_message.Goals as goal
+use Rattle.wl_wire.proofs.parse.parse_into.Goals as goal
 
 pub returns-in_default-clause-refused : goal.returns-in_default-clause-refused
 returns-in_default-clause-refused c =
@@ -17,8 +17,8 @@ returns-in_default-clause-refused c =
 pub returns-clause-found : goal.returns-clause-found
 returns-clause-found c =
     let left = drop c.in-Ok.taken c.args.fds.now.items in
-    let found = found_whole c.args.raw.now c.split_at.result.0.now c.in_ok-header.header.len c.args.signature.now c.args.fds.now.items c.new-args.result.items c.read_arguments.new.args.items left
-    c.in_ok-header.ensures.words.2 c.split_at.ensures.front c.new-args.ensures.items c.in-Ok.ensures.found in
+    let found = found_whole c.args.raw.now c.split_at.result.0.now c.in_ok-header.header.len c.args.signature.now c.args.fds.now.items c.clear.new.self.items c.read_arguments.new.args.items left
+    c.in_ok-header.ensures.words.2 c.split_at.ensures.front c.clear.ensures.items c.in-Ok.ensures.found in
     record {
       whole = c.in_ok-header.ensures.whole;
       sender = c.in_ok-header.ensures.words.0;
@@ -32,8 +32,8 @@ returns-clause-matches c = reads_match c.args.signature.now _ (payload_of c.args
 pub returns-clause-tokens : goal.returns-clause-tokens
 returns-clause-tokens c =
     let left = drop c.in-Ok.taken c.args.fds.now.items in
-    let found = found_whole c.args.raw.now c.split_at.result.0.now c.in_ok-header.header.len c.args.signature.now c.args.fds.now.items c.new-args.result.items c.read_arguments.new.args.items left
-    c.in_ok-header.ensures.words.2 c.split_at.ensures.front c.new-args.ensures.items c.in-Ok.ensures.found in
+    let found = found_whole c.args.raw.now c.split_at.result.0.now c.in_ok-header.header.len c.args.signature.now c.args.fds.now.items c.clear.new.self.items c.read_arguments.new.args.items left
+    c.in_ok-header.ensures.words.2 c.split_at.ensures.front c.clear.ensures.items c.in-Ok.ensures.found in
     c.take_tokens.ensures ∙ left_is c.args.signature.now (payload_of c.args.raw.now) c.args.fds.now.items c.read_arguments.new.args.items left found
 
 pub returns-in_err-header-clause-written : goal.returns-in_err-header-clause-written
