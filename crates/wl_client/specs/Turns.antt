@@ -1,5 +1,5 @@
 -- What the functions of a reading say to each other.
-use Rattle.std.specs.Prelude.{◌≡◌, ◌≢◌, ◌⊎◌, ◌||◌, ◌<◌, ℕ, length, List, [], Bool, true, false, Option, None, Some, Result, Ok, Err}
+use Rattle.std.specs.Prelude.{◌≡◌, ◌≢◌, ◌⊎◌, ◌||◌, ◌<◌, ◌≤◌, ℕ, length, List, [], Bool, true, false, Option, None, Some, Result, Ok, Err}
 use Rattle.std.specs.Borrow.{Bor}
 use Rattle.wl_wire.specs.declared.argument.Token.{Token}
 use Rattle.wl_wire.specs.declared.error.IoFault.{IoFault}
@@ -9,7 +9,7 @@ use Rattle.wl_wire.specs.declared.error.MessageParseError.TheVariants as parse
 use Rattle.wl_wire.specs.declared.interface.MessageDesc.{MessageDesc}
 use Rattle.wl_wire.specs.declared.message.Message.{Message}
 use Rattle.wl_wire.specs.Message.{WireMessage}
-use Rattle.wl_wire.specs.Parse.{IsThere}
+use Rattle.wl_wire.specs.Parse.{IsThere, opcode_of, sender_of}
 use Rattle.wl_wire.specs.Table.{InterfaceRow, MessageRow, message_row}
 use Rattle.wl_link.specs.declared.object.Object.{Object}
 use Rattle.wl_link.specs.Exchange.{Queue}
@@ -46,6 +46,11 @@ abbrev pub told_by : DisplayMessage → DisplayEvent
 told_by (told.Fails code number text) = Fails code number text.now
 told_by (told.Deletes number) = Deletes number
 told_by told.Unreadable = Unreadable
+
+-- this is the sender and the opcode of the header that waits
+abbrev pub IsHeader : {T : Type 0} → LinkState T → ℕ × ℕ → Type 0
+IsHeader link header =
+    (8 ≤ length link.incoming.bytes) × (header.0 ≡ sender_of link.incoming.bytes) × (header.1 ≡ opcode_of link.incoming.bytes)
 
 module _ {U : Type 0} where
   -- what an event came to whose arguments were gone through: it is open from then on, or not handed out, or has a fault

@@ -17,7 +17,7 @@ ghost use Rattle.wl_client.specs.Session.{objects_of};
 ghost use Rattle.wl_wire.specs.declared.argument.Token.{Token};
 ghost use Rattle.wl_wire.specs.declared.message.Message.{Message};
 ghost use Rattle.wl_client.specs.ObjectId.{IdParts};
-ghost use Rattle.wl_client.specs.Turns.{CarriedOut, Ended, HandledTo, NotTaken, NotTakenTo, RowAsks, TookWith, Turns, turned};
+ghost use Rattle.wl_client.specs.Turns.{CarriedOut, Ended, HandledTo, IsHeader, NotTaken, NotTakenTo, RowAsks, TookWith, Turns, turned};
 
 use crate::backend::{Backend, DISPLAY};
 use crate::display::{DisplayMessage, delete_id, display_event};
@@ -121,15 +121,18 @@ fn make_room<T: Drop, U: Drop>(
     Ok(())
 }
 
-/// Takes the message at the front off the link, with room for what it becomes: for its arguments in `converted`, which
-/// is emptied, and for the object that it may make in the map. The answer is what the table says of it.
+/// Takes the message at the front, of that sender and opcode, off the link, with room for what it becomes: for its
+/// arguments in `converted`, which is emptied, and for the object that it may make in the map. The answer is what the
+/// table says of it.
 fn take<'p, T: Drop, U: Drop>(
     protocol: &'p Protocol,
     objects: &mut ObjectMap<Kept<U>>,
     socket: &mut BufferedSocket<T>,
+    header: (u32, u16),
     message: &mut Message<u32, Token>,
     converted: &mut SmallVec<Argument<ObjectId, Token>, INLINE_ARGS>,
 ) -> Result<&'p MessageDesc, MessageParseError>
+    requires header { IsHeader socket.old header }
     requires inline { INLINE_ARGS ≤ converted.old.capacity }
     requires place { INLINE_ARGS ≤ message.old.args.capacity }
     ensures took { TookWith protocol.now objects.old.store socket.old result (content message.new) socket.new }
@@ -140,9 +143,7 @@ fn take<'p, T: Drop, U: Drop>(
     ensures can_make { IfOk result (λ desc. desc.now.child_interface ≢ None → objects.new.reserved ≡ true) }
 {
     converted.clear();
-    let Some((sender, opcode)) = socket.next_header() else {
-        return Err(MessageParseError::MissingData);
-    };
+    let (sender, opcode) = header;
     let Some(desc) = event_desc(protocol, objects, sender, opcode) else {
         return Err(MessageParseError::Malformed);
     };
@@ -218,16 +219,21 @@ impl<T: Transport + Drop, U: Drop> Backend<T, U> {
         ensures turns { Turns self.old.session (turned result event.new) self.new.session }
         ensures inline { INLINE_ARGS ≤ event.new.args.capacity }
     {
-        if self.socket.next_header().is_none() {
-            return self.not_taken(MessageParseError::MissingData);
+        match self.socket.next_header() {
+            Some(header) => self.turn_at_header(header, event),
+            None => self.not_taken(MessageParseError::MissingData),
         }
-        self.turn_at_header(event)
     }
 
-    /// The same where a header waits. It is apart, so that a reading that waits does not pay for what it keeps.
+    /// The same where this header waits. It is apart, so that a reading that waits does not pay for what it keeps.
     #[inline(never)]
-    fn turn_at_header(&mut self, event: &mut Message<ObjectId, Token>) -> TurnEnd
-        requires { INLINE_ARGS ≤ event.old.args.capacity }
+    fn turn_at_header(
+        &mut self,
+        header: (u32, u16),
+        event: &mut Message<ObjectId, Token>,
+    ) -> TurnEnd
+        requires header { IsHeader self.old.session.link header }
+        requires inline { INLINE_ARGS ≤ event.old.args.capacity }
         ensures turns { Turns self.old.session (turned result event.new) self.new.session }
         ensures inline { INLINE_ARGS ≤ event.new.args.capacity }
     {
@@ -236,15 +242,17 @@ impl<T: Transport + Drop, U: Drop> Backend<T, U> {
             opcode: 0,
             args: SmallVec::new(*self.notes.allocator()),
         };
-        self.turn_with(&mut message, event)
+        self.turn_with(header, &mut message, event)
     }
 
     /// The same with a place for the message that is taken.
     fn turn_with(
         &mut self,
+        header: (u32, u16),
         message: &mut Message<u32, Token>,
         event: &mut Message<ObjectId, Token>,
     ) -> TurnEnd
+        requires header { IsHeader self.old.session.link header }
         requires place { INLINE_ARGS ≤ message.old.args.capacity }
         requires inline { INLINE_ARGS ≤ event.old.args.capacity }
         ensures turns { Turns self.old.session (turned result event.new) self.new.session }
@@ -254,6 +262,7 @@ impl<T: Transport + Drop, U: Drop> Backend<T, U> {
             &self.protocol,
             &mut self.objects,
             &mut self.socket,
+            header,
             message,
             &mut event.args,
         ) {
