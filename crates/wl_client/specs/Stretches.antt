@@ -74,13 +74,13 @@ module _ {U : Type 0} where
 
   -- ---- the law
 
-  -- the message at the front is no longer than the incoming storage may become, and lacks not its tokens alone
+  -- the message at the front is no longer than the incoming storage may become, and does not wait whole for its tokens
   abbrev pub MayCome : SessionState Script U → Type 0
   MayCome s = FrontFits s.link × (ReadsAs s (Err parse.MissingFD) s.link → ⊥)
 
   -- A stretch begins where no error is stored, and ends with a stored error, with an open event, or with a reading that
   -- would block where no arrival is left. The transport answers by no byte only into a full buffer, which ends the session
-  -- with `Pipe`: so it does not end so, or what lacks in the end may come.
+  -- with `Pipe`. So it does not end so; or the rest of the message at the front may come, since then no buffer is full.
   pub record IsStretch (before : SessionState Script U) (run : List (Entry U)) (after : SessionState Script U) : Type 0 where
     pub heard : AllHeard run
     pub live : before.error ≡ None
@@ -93,7 +93,7 @@ module _ {U : Type 0} where
   left_in s = left_over (arrivals_of (part_of s))
 
   -- A stretch of messages each of which is no longer than the incoming storage may become, and whose tokens come no later
-  -- than its last byte: none waits whole in the end and lacks tokens.
+  -- than its last byte: where it ends with `Pipe`, none waits whole for tokens.
   pub record IsStretchWithin (before : SessionState Script U) (run : List (Entry U)) (after : SessionState Script U) : Type 0 where
     pub heard : AllHeard run
     pub live : before.error ≡ None

@@ -95,12 +95,12 @@ module _ {Core Event Finish : Type 0} (reader : Reader Core Event Finish) where
   DoesAll before [] after = after ≡ before
   DoesAll before (a ∷ acts) after = (mid : Part Script Core) × Does before a mid × DoesAll mid acts after
 
-  -- The message at the front is no longer than the incoming storage may become, and lacks not its tokens alone.
+  -- the message at the front is no longer than the incoming storage may become, and does not wait whole for its tokens
   abbrev pub MayCome : Core → LinkState Script → Type 0
   MayCome core link = FrontFits link × (ReadsAs ScriptSends reader (record { core = core; link = link }) (Err parse.MissingFD) link → ⊥)
 
-  -- No receive found the storage full: where one of no bytes may have been the end, a byte is free; or what lacks there
-  -- may come, so that one was.
+  -- No receive found the storage full: where the end may be one of no bytes, a byte is free there. So it is also where the
+  -- rest of the message at the front may come, since then a receive finds a byte free.
   abbrev pub NotFull : Part Script Core → Type 0
   NotFull after =
       (core : Core) → after.core ≡ reader.faulted core fault.Pipe → Lacks ScriptSends reader (record { core = core; link = after.link })
@@ -122,8 +122,8 @@ module _ {Core Event Finish : Type 0} (reader : Reader Core Event Finish) where
     pub ends : (reader.reads_on after.core ≡ false) ⊎ (EndsWaiting acts × (arrivals_of after ≡ []))
     pub roomy : NotFull after
 
-  -- The same of messages each of which is no longer than the incoming storage may become, and whose tokens come no later
-  -- than its last byte: none waits whole in the end and lacks tokens.
+  -- A stretch of messages each of which is no longer than the incoming storage may become, and whose tokens come no later
+  -- than its last byte: where its end may be a receive of no bytes, none waits whole for tokens.
   pub record IsStretchWithin (before : Part Script Core) (acts : List (Act Event Finish)) (after : Part Script Core) : Type 0 where
     pub does : DoesAll before acts after
     pub pieces : AllPieces (arrivals_of before)
