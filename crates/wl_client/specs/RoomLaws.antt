@@ -1,29 +1,48 @@
 -- That a reading which ends a session because no bytes came found a byte free for what lacked.
-use Rattle.std.proofs.Common.{◌≡◌, ◌≢◌, ◌⊎◌, ℕ, Bool, false, List, [], ◌∷◌, Option, None, Some, is_none, Result, Ok, Err, MatchResult, refl, sym, ap, subst, ◌∙◌, true≢false, ◌&&◌}
+use Rattle.std.proofs.Common.{◌≡◌, ◌≢◌, ◌⊎◌, ℕ, Bool, false, List, [], ◌∷◌, Option, None, Some, is_none, Result, Ok, Err, MatchResult, refl, sym, ap, subst, ◌∙◌, true≢false, ◌&&◌, true, cond, is_ok}
 use mathlib.Core.Logic.{inl, inr}
+use Rattle.std.proofs.lemmas.Option.{same_Some}
 use Rattle.wl_wire.specs.declared.error.IoFault.{IoFault}
 use Rattle.wl_wire.specs.declared.error.IoFault.TheVariants as fault
+use Rattle.wl_link.specs.declared.object.Object.{Object}
 use Rattle.wl_link.specs.Branches.{both_option}
+use Rattle.wl_link.specs.CuttingLaws.{byte_came}
 use Rattle.wl_link.specs.Exchange.{Queue, Sending}
 use Rattle.wl_link.specs.LengthLaws.{failed_finds}
 use Rattle.wl_link.specs.Link.{FilledBy, FindsRoom, LinkState, counted_answer, count_of}
-use Rattle.wl_link.specs.Puts.{lacked_memory}
-use Rattle.wl_link.specs.Reader.{CarriesOut, Given, Gives, Handled, Part, Reads, Received, Turn, Unread, Verdict, came_to as comes_to, stops, with_link}
+use Rattle.wl_link.specs.Puts.{PutsOut, Said, lacked_memory}
+use Rattle.wl_link.specs.Reader.{AllFed, CarriesOut, Ends, Given, IsFed, Gives, Handled, Part, Reads, Received, Turn, Unread, Verdict, came_to as comes_to, stops, with_link}
 use Rattle.wl_client.specs.declared.error.EventError.{EventError}
 use Rattle.wl_client.specs.declared.error.WaylandError.{WaylandError}
 use Rattle.wl_client.specs.declared.error.WaylandError.TheVariants.{Io, Protocol}
 use Rattle.wl_client.specs.declared.event_fault.EventFault.TheVariants as wrong
+use Rattle.wl_client.specs.declared.kept.Kept.{Kept}
+use Rattle.wl_client.specs.declared.open_event.OpenEvent.{OpenEvent}
+use Rattle.wl_client.specs.ObjectId.{IdParts}
 use Rattle.wl_client.specs.Events.{error_of}
+use Rattle.wl_client.specs.Finish.{refusal}
 use Rattle.wl_client.specs.Handling.{Handling, Swallows, HandsOut, Breaks, handling}
-use Rattle.wl_client.specs.Reading.{Core, EndsWithRoom, NextEvent, client, objects_in, part_of, verdict}
+use Rattle.wl_client.specs.Reading.{Core, EndsWithRoom, NextEvent, client, closed, finish, finished, objects_in, part_of, verdict, with_data_for, with_dead}
 use Rattle.wl_client.specs.Requests.{SessionMessage}
-use Rattle.wl_client.specs.Session.{SessionState}
+use Rattle.wl_client.specs.Session.{SessionState, named}
 
 some_same : {e f : WaylandError} → Some e ≡ Some f → e ≡ f
 some_same same = cc
 
 none_ended : {e : Option WaylandError} → e ≡ None → e ≡ Some (Io fault.Pipe) → ⊥
 none_ended none is = true≢false (ap is_none (sym none ∙ is))
+
+-- no bytes ended it
+abbrev pub NotPiped : {U : Type 0} → Core U → Type 0
+NotPiped c = c.error ≢ Some (Io fault.Pipe)
+
+none_stored : (e : Option WaylandError) (b : Bool) → is_none e && b ≡ true → e ≡ None
+none_stored None b on = refl
+none_stored (Some e) b on = absurd (true≢false (sym on))
+
+fed_blocks : (r : Result Queue IoFault) (f : IoFault) → IsFed r → counted_answer (count_of r) ≡ Err f → f ≡ fault.WouldBlock
+fed_blocks (Ok q) f some is = absurd (true≢false (ap is_ok (sym (byte_came q some) ∙ is)))
+fed_blocks (Err g) f would is = let same : g ≡ f = cc in sym same ∙ would
 
 module _ {T U : Type 0} (sends : T → Queue → Result ℕ IoFault → T → Type 0) (receives : T → ℕ → Result Queue IoFault → T → Type 0) where
   -- ---- what a message comes to
@@ -98,6 +117,77 @@ module _ {T U : Type 0} (sends : T → Queue → Result ℕ IoFault → T → Ty
       heard_room left mid after turns rest more (λ on'. reads_room left mid after turns rest more on' is) is
       (not_ended p.core (Breaks (error_of p.core.table wrong.Malformed) (objects_in p.core)) link es first lacked mid none
       (subst (λ (w : Verdict (Core U) SessionMessage). CarriesOut sends client w link es first lacked mid) is' carried))
+
+  -- ---- a reading that was fed, and the end of an event, do not end it so
+
+  not_piped : (c : Core U) → NotEnded c → NotPiped c
+  not_piped c (inl none) is = none_ended none is
+  not_piped c (inr (off, other)) is = other is
+
+  pub fed_keeps : (left : ℕ) (p after : Part T (Core U)) (turns : List Turn) (out : Gives SessionMessage) → Reads sends client receives left p turns out after → AllFed turns
+      → NotPiped p.core → NotPiped after.core
+  fed_keeps left p after [] out (same, ends) fed not = subst (λ (x : Part T (Core U)). NotPiped x.core) (sym same) not
+  fed_keeps left p after (Received r ∷ turns) out (on, lacks, (n, is', (link, filled, finds, h))) (some, fed) not =
+      go (counted_answer (count_of r)) refl h (λ more. fed_keeps n (with_link p link) after turns out more fed not)
+    where
+      go : (c : Result (Unit {0}) IoFault) → counted_answer (count_of r) ≡ c
+          → MatchResult c (λ _. Reads sends client receives n (with_link p link) turns out after)
+          (λ f. (turns ≡ []) × (out ≡ stops (Some f) (lacked_memory (Err f)) n) × (after ≡ record { core = client.faulted p.core f; link = link }))
+          → (Reads sends client receives n (with_link p link) turns out after → NotPiped after.core) → NotPiped after.core
+      go (Ok u) was more goes = goes more
+      go (Err f) was (last, ends, same) goes =
+          subst (λ (x : Part T (Core U)). NotPiped x.core) (sym same) (subst (λ (g : IoFault). NotPiped (client.faulted p.core g)) (sym (fed_blocks r f some was)) not)
+  fed_keeps left p after (Handled es ∷ turns) out (on, (v, link, first, lacked, mid, rest, (m, read, is'), carried, split, more)) fed not =
+      fed_keeps left mid after turns rest more fed
+      (not_piped mid.core
+      (not_ended p.core (handling p.core.table (objects_in p.core) m) link es first lacked mid (none_stored p.core.error (is_none p.core.open_event) on)
+      (subst (λ (w : Verdict (Core U) SessionMessage). CarriesOut sends client w link es first lacked mid) is' carried)))
+  fed_keeps left p after (Unread es ∷ turns) out (on, (v, link, first, lacked, mid, rest, (read, same, is'), carried, split, more)) fed not =
+      fed_keeps left mid after turns rest more fed
+      (not_piped mid.core
+      (not_ended p.core (Breaks (error_of p.core.table wrong.Malformed) (objects_in p.core)) link es first lacked mid (none_stored p.core.error (is_none p.core.open_event) on)
+      (subst (λ (w : Verdict (Core U) SessionMessage). CarriesOut sends client w link es first lacked mid) is' carried)))
+
+  -- the end of an event keeps the error
+  closed_error : (c : Core U) (event : OpenEvent) (u : Option U) → (closed c event u).error ≡ c.error
+  closed_error c event u = at event.is_destructor (named c.store event.sender) event.created u
+    where
+      shut : Core U
+      shut = record c { open_event = None }
+
+      given_to : (d : Core U) (created : Option IdParts) (u : Option U) → (with_data_for d created u).error ≡ d.error
+      given_to d None u = refl
+      given_to d (Some id) None = refl
+      given_to d (Some id) (Some v) = refl
+
+      at : (b : Bool) (x : Option (Object (Kept U))) (created : Option IdParts) (u : Option U)
+          → (with_data_for (cond b (with_dead shut event.sender.number x) shut) created u).error ≡ c.error
+      at true None created u = given_to shut created u
+      at true (Some x) created u = given_to (with_dead shut event.sender.number (Some x)) created u
+      at false x created u = given_to shut created u
+
+  shut_error : (c : Core U) (error : Option WaylandError) (event : Option OpenEvent) (u : Option U) (v : Verdict (Core U) SessionMessage) → finish c error event u ≡ Some v
+      → (v.puts ≡ []) × ((v.last v.core).error ≡ c.error) × (v.starved.error ≡ c.error)
+  shut_error c (Some e) event u v is = absurd (true≢false (ap is_none is))
+  shut_error c None None u v is = absurd (true≢false (ap is_none is))
+  shut_error c None (Some event) u v is = go (is_none (refusal event.created u)) is
+    where
+      go : (b : Bool) → cond b (Some (finished c event u)) None ≡ Some v → (v.puts ≡ []) × ((v.last v.core).error ≡ c.error) × (v.starved.error ≡ c.error)
+      go true same =
+          let w : finished c event u ≡ v = same_Some (finished c event u) v same in
+          subst (λ (x : Verdict (Core U) SessionMessage). (x.puts ≡ []) × ((x.last x.core).error ≡ c.error) × (x.starved.error ≡ c.error)) w (refl, closed_error c event u, refl)
+      go false same = absurd (true≢false (ap is_none same))
+
+  pub end_keeps : (p after : Part T (Core U)) (u : Option U) (es : List Sending) (gave : List (Given SessionMessage)) → Ends sends client p u es gave false after
+      → NotPiped p.core → NotPiped after.core
+  end_keeps p after u es gave (v, is, inr (asks, was, none, gives, same)) not =
+      let kept = shut_error p.core p.core.error p.core.open_event u v is in
+      subst (λ (e : Option WaylandError). e ≢ Some (Io fault.Pipe)) (sym (ap (λ (x : Part T (Core U)). x.core.error) same ∙ kept.2)) not
+  end_keeps p after u es gave (v, is, inl (first, others, put, wrote, mid, lacked, puts, flushes, split, end, gives, was)) not =
+      let kept = shut_error p.core p.core.error p.core.open_event u v is in
+      let none = subst (λ (ms : List Said). PutsOut sends p.link ms first put wrote mid) kept.0 puts in
+      let core : after.core ≡ v.last v.core = end ∙ ap (comes_to client v) none.2 in
+      subst (λ (e : Option WaylandError). e ≢ Some (Io fault.Pipe)) (sym (ap (λ (d : Core U). d.error) core ∙ kept.1)) not
 
   pub next_event_room : (s : SessionState T U) (answer : Result SessionMessage EventError) (refused : Bool) (after : SessionState T U)
       → NextEvent sends receives s answer refused after → EndsWithRoom s after

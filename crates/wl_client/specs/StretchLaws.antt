@@ -19,8 +19,8 @@ use Rattle.wl_link.specs.QueueLaws.{joined_nothing}
 use Rattle.wl_link.specs.Reader.{CarriesOut, Gives, Given, Handled, HandedOut, IsFed, Part, Queued, Reads, Received, Turn, Unread, Verdict, came_by, came_to as comes_to, stops, with_link}
 use Rattle.wl_link.specs.Script.{Script, ScriptReceives, ScriptSends}
 use Rattle.wl_link.specs.Served.{Served, part_as}
-use Rattle.wl_link.specs.Stretch.{Act, Arrived, DoesAll, EndsByPipe, EndsWaiting as ActsEndWaiting, HasEnded, HasRead, IsStretch as IsActStretch, MayCome as ActMayCome, arrivals_of, arrived as act_arrived, ended as act_ended, given_in, sending_side, with_arrival}
-use Rattle.wl_link.specs.StretchLaws.{arrived-append, cut_otherwise as acts_cut_otherwise, does_joins, ended-append, ends_waiting-append, given_in-append, stretch_served as acts_served}
+use Rattle.wl_link.specs.Stretch.{Act, Arrived, DoesAll, EndsByPipe, EndsWaiting as ActsEndWaiting, HasEnded, HasRead, IsStretch as IsActStretch, arrivals_of, arrived as act_arrived, ended as act_ended, given_in, sending_side, with_arrival}
+use Rattle.wl_link.specs.StretchLaws.{acts_keep, arrived-append, cut_otherwise as acts_cut_otherwise, does_joins, ended-append, ends_waiting-append, given_in-append, stretch_served as acts_served}
 use Rattle.wl_client.specs.declared.error.EventError.{EventError}
 use Rattle.wl_client.specs.declared.error.EventError.TheVariants as no_event
 use Rattle.wl_client.specs.declared.error.FinishRefused.{FinishRefused}
@@ -38,9 +38,10 @@ use Rattle.wl_client.specs.Handling.{Handling, Swallows, HandsOut, Breaks, handl
 use Rattle.wl_client.specs.Reading.{Core, NextEvent, answered, client, core_of, event_content, faulted, handed_by, objects_in, part_of, reads_on, receives_allowed, verdict}
 use Rattle.wl_client.specs.ReadingLaws.{finish_as, finish_ends}
 use Rattle.wl_client.specs.Requests.{SessionMessage}
+use Rattle.wl_client.specs.RoomLaws.{NotPiped, end_keeps, fed_keeps}
 use Rattle.wl_client.specs.Session.{SessionState, named}
 use Rattle.wl_client.specs.Steps.{Entry, Leads, StepOf}
-use Rattle.wl_client.specs.Stretches.{AllHeard, EndsWaiting, IsHeard, IsServed, IsStretch, IsStretchWithin, MayCome, SameLeft, arrived, arrived_by, events_by, events_of, finished, finished_by, if_accepted, left_in}
+use Rattle.wl_client.specs.Stretches.{AllHeard, EndsWaiting, IsHeard, IsServed, IsStretch, IsStretchWithin, SameLeft, arrived, arrived_by, events_by, events_of, finished, finished_by, if_accepted, left_in}
 
 -- ---- answers
 
@@ -337,7 +338,7 @@ module _ {U : Type 0} where
     does = r.does;
     pieces = stretch.pieces;
     ends = ends stretch.ends;
-    roomy = λ core is lacks. inr (may_come core is (stretch.roomy (ap (λ (c : Core U). c.error) is)));
+    roomy = λ core is lacks. absurd (stretch.roomy (ap (λ (c : Core U). c.error) is));
   }
     where
       ends : (reads_on (core_of after) ≡ false) ⊎ (EndsWaiting run × (arrivals_of (part_of after) ≡ []))
@@ -345,24 +346,26 @@ module _ {U : Type 0} where
       ends (inl off) = inl off
       ends (inr (waiting, none)) = inr (r.waits waiting [], none)
 
-      may_come : (core : Core U) → core_of after ≡ faulted core fault.Pipe → MayCome after → ActMayCome client core after.link
-      may_come core is (fits, in_time) = (
-        fits,
-        λ late. in_time (subst (λ (c : Core U). ReadOne (λ sender opcode found. found ≡ signature_in c.table c.store sender opcode) after.link (Err parse.MissingFD) after.link) (sym is) late),
-      )
-
   -- no receive of a stretch of such messages finds the storage full
   pub within_stretch : (before after : SessionState Script U) (run : List (Entry U)) → Leads before run after → IsStretchWithin before run after → IsStretch before run after
   within_stretch before after run leads stretch =
       let r = run_acts before after run leads stretch.heard (inl stretch.live) in
       let within = subst (λ (q : Queue). EachWithin (incoming_limit before.link.limit) (joined before.link.incoming (joined (left_in before) q)).bytes) (sym r.came_in) stretch.within in
+      let fits = front_fits client (part_of before) (part_of after) r.acts r.does within in
       record {
         heard = stretch.heard;
         live = stretch.live;
         pieces = stretch.pieces;
         ends = stretch.ends;
-        roomy = λ is. (front_fits client (part_of before) (part_of after) r.acts r.does within, stretch.in_time is);
+        roomy = acts_keep client ends_by_pipe NotPiped (fed_keeps ScriptSends ScriptReceives) (end_keeps ScriptSends ScriptReceives) (part_of before) (part_of after) r.acts r.does
+            stretch.pieces (λ core is lacks. inr (fits, in_time core is)) (λ ended. true≢false (ap is_none (sym stretch.live ∙ ended)));
       }
+    where
+      in_time : (core : Core U) → core_of after ≡ faulted core fault.Pipe
+          → ReadOne (λ sender opcode found. found ≡ signature_in core.table core.store sender opcode) after.link (Err parse.MissingFD) after.link → ⊥
+      in_time core is late =
+          stretch.in_time (ap (λ (c : Core U). c.error) is)
+          (subst (λ (c : Core U). ReadOne (λ sender opcode found. found ≡ signature_in c.table c.store sender opcode) after.link (Err parse.MissingFD) after.link) (sym is) late)
 
   pub stretch_served : (before after : SessionState Script U) (run : List (Entry U)) → Leads before run after → IsStretch before run after → IsServed before run after
   stretch_served before after run leads stretch =

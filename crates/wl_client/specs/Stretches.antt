@@ -3,7 +3,7 @@ use Rattle.std.specs.Prelude.{◌≡◌, ◌≢◌, ◌⊎◌, List, [], ◌∷�
 use Rattle.wl_wire.specs.declared.error.IoFault.TheVariants as fault
 use Rattle.wl_wire.specs.declared.error.MessageParseError.TheVariants as parse
 use Rattle.wl_link.specs.Exchange.{Queue, joined, nothing}
-use Rattle.wl_link.specs.Link.{EachWithin, FrontFits, incoming_limit}
+use Rattle.wl_link.specs.Link.{EachWithin, incoming_limit}
 use Rattle.wl_link.specs.Reader.{Given}
 use Rattle.wl_link.specs.Script.{Script, ScriptSends}
 use Rattle.wl_link.specs.Served.{Served, part_as}
@@ -74,19 +74,15 @@ module _ {U : Type 0} where
 
   -- ---- the law
 
-  -- the message at the front is no longer than the incoming storage may become, and does not wait whole for its tokens
-  abbrev pub MayCome : SessionState Script U → Type 0
-  MayCome s = FrontFits s.link × (ReadsAs s (Err parse.MissingFD) s.link → ⊥)
-
   -- A stretch begins where no error is stored, and ends with a stored error, with an open event, or with a reading that
   -- would block where no arrival is left. The transport answers by no byte only into a full buffer, which ends the session
-  -- with `Pipe`. So it does not end so; or the rest of the message at the front may come, since then no buffer is full.
+  -- with `Pipe`.
   pub record IsStretch (before : SessionState Script U) (run : List (Entry U)) (after : SessionState Script U) : Type 0 where
     pub heard : AllHeard run
     pub live : before.error ≡ None
     pub pieces : AllPieces (arrivals_of (part_of before))
     pub ends : (reads_on (core_of after) ≡ false) ⊎ (EndsWaiting run × (arrivals_of (part_of after) ≡ []))
-    pub roomy : after.error ≡ Some (Io fault.Pipe) → MayCome after
+    pub roomy : after.error ≢ Some (Io fault.Pipe)
 
   -- what is left over of the arrivals, behind what waits
   abbrev pub left_in : SessionState Script U → Queue

@@ -3,9 +3,9 @@ use Rattle.std.proofs.Common.{◌≡◌, ◌⊎◌, ◌<◌, ℕ, zero, suc, fal
 use mathlib.Core.Logic.{inl, inr}
 use Rattle.wl_wire.specs.declared.error.IoFault.{IoFault}
 use Rattle.wl_wire.specs.declared.error.MessageParseError.TheVariants as parse
-use Rattle.wl_link.specs.Exchange.{Queue, joined, nothing}
+use Rattle.wl_link.specs.Exchange.{Queue, Sending, joined, nothing}
 use Rattle.wl_link.specs.Link.{LinkState, with_transport}
-use Rattle.wl_link.specs.Reader.{Given, Gives, Handled, Lacks, Part, Reader, Reads, Received, Turn, Unread, came_by, came_in}
+use Rattle.wl_link.specs.Reader.{AllFed, Ends, Given, Gives, Handled, Lacks, Part, Reader, Reads, Received, Turn, Unread, came_by, came_in}
 use Rattle.wl_link.specs.Served.{NoneFits, Rests, ServedFrom, Serves, link_as, part_as}
 use Rattle.wl_link.specs.Script.{Script, ScriptReceives, ScriptSends}
 use Rattle.wl_link.specs.Stretch.{Act, AllPieces, Arrived, Does, DoesAll, EndsByPipe, EndsWaiting, HasEnded, HasRead, IsOver, IsServed, IsStretch, IsWaiting, MayCome, NotFull, arrivals_of, arrived, arrived_by, ended, ended_by, given_by, given_in, left_over, sending_side}
@@ -176,6 +176,25 @@ module _ {Core Event Finish : Type 0} (reader : Reader Core Event Finish) (ends_
             = (gave, [], served_with after rest, finishes, one, sym (append-nil gave), (refl, refl, refl)) in
             (1, subst (λ (l : List (Result Queue IoFault)). Serves ScriptSends reader 1 (part_as before (joined (left_over l) rest) (side_of before)) (u ∷ finishes) gave (served_with after rest) finishes) sent.arrivals serves);
       }
+
+  -- what each reading that was fed keeps, and each end, a stretch keeps
+  module _ (P : Core → Type 0)
+      (fed : (left : ℕ) (p mid : Part Script Core) (turns : List Turn) (out : Gives Event) → Reads ScriptSends reader ScriptReceives left p turns out mid → AllFed turns
+      → P p.core → P mid.core)
+      (ends : (p mid : Part Script Core) (u : Finish) (es : List Sending) (gave : List (Given Event)) → Ends ScriptSends reader p u es gave false mid → P p.core → P mid.core) where
+    act_keeps : (before after : Part Script Core) (a : Act Event Finish) → Does reader before a after → AllPieces (arrivals_of before) → NotFull reader after
+        → P before.core → P after.core
+    act_keeps before after (Arrived r) (arrives, same) all roomy holds = subst (λ (x : Part Script Core). P x.core) (sym same) holds
+    act_keeps before after (HasRead out) (ample, (left, turns, reads)) all roomy holds =
+        fed left before after turns out reads (ran reader after roomy left before turns out ample reads all).fed holds
+    act_keeps before after (HasEnded u gave) (off, (es, ended')) all roomy holds = ends before after u es gave ended' holds
+
+    pub acts_keep : (before after : Part Script Core) (acts : List (Act Event Finish)) → DoesAll reader before acts after → AllPieces (arrivals_of before) → NotFull reader after
+        → P before.core → P after.core
+    acts_keep before after [] same all roomy holds = subst (λ (x : Part Script Core). P x.core) (sym same) holds
+    acts_keep before after (a ∷ acts) (mid, first, rest) all roomy holds =
+        let here = roomy_before mid after acts rest roomy in
+        acts_keep mid after acts rest (act_comes before mid a first all here).pieces roomy (act_keeps before mid a first all here holds)
 
   -- ---- a stretch
 
