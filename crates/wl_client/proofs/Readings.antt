@@ -1,7 +1,6 @@
 -- How the functions of a client's reading say the reader's words.
-use Rattle.std.proofs.Common.{◌≡◌, ◌≢◌, ◌∙◌, ℕ, ◌+◌, ◌<◌, ◌≤◌, Bool, true, false, ◌||◌, ◌&&◌, List, [], ◌∷◌, append-nil, length, nat_lt, Option, None, Some, is_some, is_none, option_map, Result, Ok, Err, is_ok, MatchBool, MatchOption, refl, sym, ap, ap₂, subst, arith, true≢false}
+use Rattle.std.proofs.Common.{◌≡◌, ◌≢◌, ◌∙◌, ℕ, ◌+◌, ◌<◌, ◌≤◌, Bool, true, false, ◌||◌, ◌&&◌, List, [], ◌∷◌, append-nil, length, Option, None, Some, is_some, is_none, option_map, Result, Ok, Err, is_ok, MatchBool, MatchOption, refl, sym, ap, ap₂, subst, arith, true≢false}
 use mathlib.Core.Logic.{inl, inr}
-use Rattle.std.proofs.lemmas.Bool.{lt-ltb}
 use Rattle.std.proofs.lemmas.List.{length-drop}
 use Rattle.wl_wire.specs.declared.argument.ArgumentType.{ArgumentType}
 use Rattle.wl_wire.specs.declared.argument.Token.{Token}
@@ -9,11 +8,9 @@ use Rattle.wl_wire.specs.declared.error.IoFault.{IoFault}
 use Rattle.wl_wire.specs.declared.error.IoFault.TheVariants as fault
 use Rattle.wl_wire.specs.declared.error.MessageParseError.{MessageParseError}
 use Rattle.wl_wire.specs.declared.error.MessageParseError.TheVariants as parse
-use Rattle.wl_wire.specs.declared.interface.InterfaceId.{InterfaceId}
 use Rattle.wl_wire.specs.declared.message.Message.{Message}
 use Rattle.wl_wire.specs.Message.{WireMessage}
 use Rattle.wl_wire.specs.Parse.{length_of}
-use Rattle.wl_wire.specs.Table.{MessageRow}
 use Rattle.wl_link.specs.Exchange.{Queue}
 use Rattle.wl_link.specs.Link.{LinkState, Filled, FindsRoom, ReadFound}
 use Rattle.wl_link.specs.Puts.{lacked_memory}
@@ -31,7 +28,7 @@ use Rattle.wl_client.specs.Handling.{Handling, Swallows, HandsOut, Breaks, handl
 use Rattle.wl_client.specs.Reading.{NextEvent, Core, Lacks, ReadsAs, ReadsTo, answered, by_fault, client, core_of, faulted, handed_by, part_of, reads_on, receives_allowed, row_asks, verdict, with_link}
 use Rattle.wl_client.specs.Requests.{SessionMessage, session_content}
 use Rattle.wl_client.specs.Session.{SessionState, objects_of}
-use Rattle.wl_client.specs.Turns.{Turned, GaveEvent, WentOn, LacksMore, Ended, EndsAs, HandledTo, Leads, Live, NotTaken, ReceivedTo, RowAsks, Turns, event_answer, event_refused, malformed}
+use Rattle.wl_client.specs.Turns.{Turned, GaveEvent, WentOn, LacksMore, Ended, EndsAs, HandledTo, Leads, Live, NotTaken, ReceivedTo, Turns, event_answer, event_refused, malformed}
 
 abbrev failed_with : IoFault → Result (Unit {0}) IoFault
 failed_with f = Err f
@@ -79,18 +76,6 @@ and_false false = refl
 or_false : (b : Bool) → b ≡ b || false
 or_false true = refl
 or_false false = refl
-
-row_asks_memory : (row : MessageRow) → RowAsks row → row_asks (Some row) ≡ true
-row_asks_memory row (inl some) = made row.child_interface some
-  where
-    made : (o : Option InterfaceId) → o ≢ None → is_some o || nat_lt 4 (length row.signature) ≡ true
-    made None some = absurd (some refl)
-    made (Some i) some = refl
-row_asks_memory row (inr many) = or_true (is_some row.child_interface) (nat_lt 4 (length row.signature)) (lt-ltb 4 (length row.signature) many)
-  where
-    or_true : (a b : Bool) → b ≡ true → a || b ≡ true
-    or_true true b is = refl
-    or_true false b is = is
 
 module _ {T U : Type 0} where
   live_reads : (s : SessionState T U) → Live s → reads_on (core_of s) ≡ true
@@ -223,7 +208,7 @@ module _ {T U : Type 0} where
         asked : NotTaken before parse.OutOfMemory → FrontAsks sends client (part_of before)
         asked (inl read) = inr read
         asked (inr (same, (row, front, asks, there))) =
-            inl (ap row_asks front ∙ row_asks_memory row asks, (row.signature, ap (option_map (λ r. r.signature)) front, there))
+            inl (ap row_asks front ∙ asks, (row.signature, ap (option_map (λ r. r.signature)) front, there))
 
     pub shorter : (before after : SessionState T U) → Turns before WentOn after → length after.link.incoming.bytes < length before.link.incoming.bytes
     shorter before after (inl impossible) = absurd impossible

@@ -17,15 +17,16 @@ use Rattle.wl_wire.specs.Table.{InterfaceRow, MessageRow}
 use Rattle.wl_link.specs.declared.memory.ArriveError.TheVariants as arrive
 use Rattle.wl_link.specs.declared.object.Object.{Object}
 use Rattle.wl_link.specs.Branches.{either_bool, either_option}
-use Rattle.wl_link.specs.EndsLaw.{owns_joins}
+use Rattle.wl_link.specs.EndsLaw.{keeps_joins}
 use Rattle.wl_link.specs.Exchange.{Queue}
-use Rattle.wl_link.specs.Identity.{Objects, Change, Born, Gone, Wrote, Ended, Made, StepOwns, named_in, names}
+use Rattle.wl_link.specs.Identity.{Objects, Change, Born, Gone, Wrote, Ended, Made, named_in, names, OwnsExactly, StepEnds}
 use Rattle.wl_link.specs.IdentityLaw.{born_first, born_later, made_first, made_later}
 use Rattle.wl_link.specs.Reader.{Given, HandedOut, Queued}
 use Rattle.wl_link.specs.Refusals.{first_refusal, when}
 use Rattle.wl_link.specs.Script.{Script, ScriptSends, ScriptReceives}
 use Rattle.wl_link.specs.Store.{Store, held, is_free, is_server_number, removed, rewritten, stored}
 use Rattle.wl_link.specs.StoreLaws.{stored_here, stored_other}
+use Rattle.wl_link.specs.Puts.{lacked_memory}
 use Rattle.wl_client.specs.declared.error.EventError.{EventError}
 use Rattle.wl_client.specs.declared.error.FlushError.{FlushError}
 use Rattle.wl_client.specs.declared.error.RequestError.{RequestError}
@@ -47,7 +48,7 @@ use Rattle.wl_client.specs.Objects.{DataSet, DestroyedBy, destroyable}
 use Rattle.wl_client.specs.Handling.{Handling, Swallows, HandsOut, event_of, handed, handling, objects_after, of_converted, of_display, of_event, opened_of, row_in}
 use Rattle.wl_client.specs.Reading.{Core, NextEvent, event_content, handed_by, objects_in as cored}
 use Rattle.wl_client.specs.ReadingLaws.{SeesObjects, next_event_respects}
-use Rattle.wl_client.specs.Requests.{Numbered, Requested, error_after, Sent, SentAs, SentWithChild, SessionMessage, Spec, Written, checked_row, checked_sender, ended_by, grant, id_of_new, lacked_memory, new_child, number_of_new, request_check, session_content, unless, wire_message, with_born, with_ended}
+use Rattle.wl_client.specs.Requests.{Numbered, Requested, error_after, Sent, SentAs, SentWithChild, SessionMessage, Spec, Written, checked_row, checked_sender, ended_by, grant, id_of_new, new_child, number_of_new, request_check, session_content, unless, wire_message, with_born, with_ended}
 use Rattle.wl_client.specs.Session.{SessionState, alive, id_at, id_of, last_possible_serial, named, noted, null_parts, objects_of, serial_of, with_flags, with_user_data}
 use Rattle.wl_client.specs.Steps.{StepOf}
 
@@ -159,7 +160,7 @@ module _ {U : Type 0} where
   -- objects that end in them.
   pub record Moved (before : Holding U) (ids : List HandedId) (after : Holding U) : Type 0 where
     pub changes : List (Change (Kept U))
-    pub owns : StepOwns serial_of is_over before.objects changes after.objects
+    pub owns : StepEnds serial_of is_over before.objects changes after.objects
     pub handed : Each (IsHandedIn changes) ids
     pub notes : after.notes ≡ before.notes ++ ended_notes changes
     pub noted : Each (IsHandedIn changes) (noted_ids changes)
@@ -181,7 +182,7 @@ module _ {U : Type 0} where
       let later : (id : HandedId) → IsHandedIn second.changes id → IsHandedIn changes id = handed_later first.changes second.changes in
       record {
         changes = changes;
-        owns = owns_joins serial_of is_over a.objects b.objects c.objects first.changes second.changes first.owns second.owns;
+        owns = keeps_joins serial_of (OwnsExactly is_over) a.objects b.objects c.objects first.changes second.changes first.owns second.owns;
         handed = each_both (IsHandedIn changes) ids others
             (each_more (IsHandedIn first.changes) (IsHandedIn changes) ids earlier first.handed)
             (each_more (IsHandedIn second.changes) (IsHandedIn changes) others later second.handed);
@@ -572,7 +573,7 @@ module _ {T U : Type 0} where
 
     written : (new o : Option (Numbered U)) → IsNew s new → IsAlive s o → Written sends s (wire_message (number_of_new new) m) new o answer after
         → Moves s (request_ids answer) after
-    written new o fresh h (w, link, wrote, end) =
+    written new o fresh h (w, link, by, end) =
         elim (either_bool (lacked_memory w) end) [
           | inl (is, same) ↦ refuses _ (record s { link = link }) is same (still (holding s))
           | inr (is, same) ↦
@@ -675,7 +676,7 @@ module _ {T U : Type 0} where
         | inr (event, some, g) ↦
             elim (either_option (refusal event.created u) g) [
               | inl (none, end) ↦ closes s event u answer after end
-              | inr (e, refuses, (is, same)) ↦ quiet s s after same (still (holding s))
+              | inr (e, why, (is, same)) ↦ quiet s s after same (still (holding s))
             ]
       ]
 
@@ -700,7 +701,7 @@ module _ {U : Type 0} where
   -- are handed out and those that wait after it
   pub record StepMoves (s : SessionState Script U) (reply : Reply U) (after : SessionState Script U) : Type 0 where
     pub changes : List (Change (Kept U))
-    pub owns : StepOwns serial_of is_over (objects_of s) changes (objects_of after)
+    pub owns : StepEnds serial_of is_over (objects_of s) changes (objects_of after)
     pub handed : Each (IsHandedIn changes) (ids_in reply)
     pub notes : s.notes ++ ended_notes changes ≡ notes_in reply ++ after.notes
     pub noted : Each (IsHandedIn changes) (noted_ids changes)

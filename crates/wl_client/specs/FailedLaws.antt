@@ -10,6 +10,7 @@ use Rattle.wl_link.specs.declared.object.Object.{Object}
 use Rattle.wl_link.specs.Exchange.{Queue}
 use Rattle.wl_link.specs.Script.{Script, ScriptSends, ScriptReceives}
 use Rattle.wl_link.specs.Branches.{either_bool, either_option, either_result}
+use Rattle.wl_link.specs.Puts.{lacked_memory}
 use Rattle.wl_client.specs.declared.error.EventError.{EventError}
 use Rattle.wl_client.specs.declared.error.EventError.TheVariants as no_event
 use Rattle.wl_client.specs.declared.error.FlushError.{FlushError}
@@ -27,7 +28,7 @@ use Rattle.wl_client.specs.Failed.{AnswersFailed, StaysFailed}
 use Rattle.wl_client.specs.Finish.{Closes, Finishes, SessionFlushed, refusal, after_destructor, with_data_for, with_dead}
 use Rattle.wl_client.specs.Objects.{DataSet, DestroyedBy, destroyable}
 use Rattle.wl_client.specs.Reading.{NextEvent, event_content}
-use Rattle.wl_client.specs.Requests.{Numbered, Requested, Sent, SentAs, SentWithChild, SessionMessage, Spec, Written, ended_by, error_after, lacked_memory, new_child, number_of_new, request_check, session_content, wire_message, with_born, with_ended}
+use Rattle.wl_client.specs.Requests.{Numbered, Requested, Sent, SentAs, SentWithChild, SessionMessage, Spec, Written, ended_by, error_after, new_child, number_of_new, request_check, session_content, wire_message, with_born, with_ended}
 use Rattle.wl_client.specs.Session.{SessionState, last_possible_serial, named}
 use Rattle.wl_client.specs.Steps.{Entry, Leads, StepOf}
 
@@ -137,7 +138,7 @@ module _ {T U : Type 0} where
         | inr (event, some, g) ↦
             elim (either_option (refusal event.created u) g) [
               | inl (none, end) ↦ closes s event u answer after failed end
-              | inr (e, refuses, (is, same)) ↦ lands after _ same failed
+              | inr (e, why, (is, same)) ↦ lands after _ same failed
             ]
       ]
 

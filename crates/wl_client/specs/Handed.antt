@@ -7,7 +7,7 @@ use Rattle.std.specs.Prelude.{◌≡◌, ◌≢◌, List, [], ◌∷◌, ◌++�
 use Rattle.wl_wire.specs.declared.argument.Argument.{Argument}
 use Rattle.wl_wire.specs.declared.argument.Argument.TheVariants as arg
 use Rattle.wl_wire.specs.declared.argument.Token.{Token}
-use Rattle.wl_link.specs.Identity.{Change, Ended, IsBornInStep, IsMadeInStep, HasIdentity, RunOwns, StepOwns, begun}
+use Rattle.wl_link.specs.Identity.{Change, Ended, IsBornInStep, IsMadeInStep, HasIdentity, RunEnds, StepEnds, begun}
 use Rattle.wl_link.specs.Script.{Script}
 use Rattle.wl_client.specs.declared.error.EventError.{EventError}
 use Rattle.wl_client.specs.declared.error.RequestError.{RequestError}
@@ -86,7 +86,7 @@ module _ {U : Type 0} where
   IsHandedIn changes (New id) = id.number ≢ 0 → IsMadeInStep changes (id_of id) × IsBornInStep serial_of changes (id_of id)
 
   -- The entries of a run lead from one value of the session to another, and the objects by these changes, a list of them
-  -- for each entry. In each step the ids of its reply are made. The notes that waited, and behind them those of the objects
+  -- for each entry, in which an object ends exactly where it becomes the program's no more. In each step the ids of its reply are made. The notes that waited, and behind them those of the objects
   -- that end in the step, are those that its reply hands out, and behind them those that wait after it; the ids of the
   -- notes that are new are made in that step.
   abbrev pub Follows : SessionState Script U → List (Entry U) → List (List (Change (Kept U))) → SessionState Script U → Type 0
@@ -95,7 +95,7 @@ module _ {U : Type 0} where
   Follows s (e ∷ run) [] after = ⊥
   Follows s (e ∷ run) (changes ∷ rest) after =
       (mid : SessionState Script U) × StepOf s e.step e.answer e.refused mid
-      × StepOwns serial_of is_over (objects_of s) changes (objects_of mid)
+      × StepEnds serial_of is_over (objects_of s) changes (objects_of mid)
       × All (IsHandedIn changes) (ids_in e.answer)
       × (s.notes ++ ended_notes changes ≡ notes_in e.answer ++ mid.notes)
       × All (IsHandedIn changes) (map Found (note_ids (ended_notes changes)))
@@ -107,5 +107,5 @@ module _ {U : Type 0} where
   pub record HasOwnIds (begins : SessionState Script U) (run : List (Entry U)) (ends : SessionState Script U) : Type 0 where
     pub changes : List (List (Change (Kept U)))
     pub follows : Follows begins run changes ends
-    pub owns : RunOwns serial_of is_over (begun display_object) changes (objects_of ends)
+    pub ends_so : RunEnds serial_of is_over (begun display_object) changes (objects_of ends)
     pub identity : HasIdentity serial_of changes (objects_of ends)

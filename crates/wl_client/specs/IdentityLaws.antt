@@ -2,8 +2,8 @@
 use Rattle.std.proofs.Common.{◌≡◌, ◌≢◌, ℕ, Bool, List, [], ◌∷◌, ◌++◌, Option, None, Some, is_some, AllPairs, refl, sym, ap, subst, ◌∙◌, append-nil, append_assoc, cond, map}
 use Rattle.wl_wire.specs.Table.{InterfaceRow}
 use Rattle.wl_link.specs.declared.object.Object.{Object}
-use Rattle.wl_link.specs.EndsLaw.{ends_once_law, run_leads}
-use Rattle.wl_link.specs.Identity.{Change, Born, Gone, Wrote, Ended, Made, Id, RunOwns, begun, counted_id, ended_in, ended_over}
+use Rattle.wl_link.specs.EndsLaw.{ends_once_law, run_leads, run_owns}
+use Rattle.wl_link.specs.Identity.{Change, Born, Gone, Wrote, Ended, Made, Id, OwnsExactly, RunEnds, begun, counted_id, ended_in, ended_over}
 use Rattle.wl_link.specs.IdentityLaw.{identity_law}
 use Rattle.wl_link.specs.RunLaws.{joins, stopped_leads}
 use Rattle.wl_link.specs.Script.{Script}
@@ -36,7 +36,7 @@ module _ {U : Type 0} where
   -- the changes of a run
   record RunMoves (s : SessionState Script U) (run : List (Entry U)) (after : SessionState Script U) : Type 0 where
     changes : List (List (Change (Kept U)))
-    owns : RunOwns serial_of is_over (objects_of s) changes (objects_of after)
+    owns : RunEnds serial_of is_over (objects_of s) changes (objects_of after)
     follows : Follows s run changes after
 
   run_moves : (s : SessionState Script U) (run : List (Entry U)) (after : SessionState Script U) → Leads s run after → RunMoves s run after
@@ -52,10 +52,10 @@ module _ {U : Type 0} where
 
   -- from the connecting on, the objects begin as the display alone
   from_display : (table : List InterfaceRow) (transport : Script) (before after : SessionState Script U) → IsConnected table transport before
-      → (changes : List (List (Change (Kept U)))) → RunOwns serial_of is_over (objects_of before) changes (objects_of after)
-      → RunOwns serial_of is_over (begun display_object) changes (objects_of after)
+      → (changes : List (List (Change (Kept U)))) → RunEnds serial_of is_over (objects_of before) changes (objects_of after)
+      → RunEnds serial_of is_over (begun display_object) changes (objects_of after)
   from_display table transport before after (link, fresh, same) changes owns =
-      subst (λ o. RunOwns serial_of is_over o changes (objects_of after)) (ap objects_of same) owns
+      subst (λ o. RunEnds serial_of is_over o changes (objects_of after)) (ap objects_of same) owns
 
   -- every run from the connecting on has ids of its own
   pub own_ids : (table : List InterfaceRow) (transport : Script) (before after : SessionState Script U) (run : List (Entry U))
@@ -66,9 +66,9 @@ module _ {U : Type 0} where
       record {
         changes = moves.changes;
         follows = moves.follows;
-        owns = owns;
+        ends_so = owns;
         identity = identity_law serial_of display_object refl moves.changes (objects_of after)
-            (run_leads serial_of is_over (begun display_object) (objects_of after) moves.changes owns);
+            (run_leads serial_of (OwnsExactly is_over) (begun display_object) (objects_of after) moves.changes owns);
       }
 
   -- ---- notes
@@ -119,17 +119,16 @@ module _ {U : Type 0} where
   pub notes_ended : (table : List InterfaceRow) (transport : Script) (before after : SessionState Script U) (run : List (Entry U))
       → IsConnected table transport before → Leads before run after → NotesWhatEnded before run after
   notes_ended table transport before after run (link, fresh, same) leads =
-      let moves = run_moves before run after leads in
-      let owns = from_display table transport before after (link, fresh, same) moves.changes moves.owns in
+      let ids = own_ids table transport before after run (link, fresh, same) leads in
       let none : before.notes ≡ [] = ap (λ (s : SessionState Script U). s.notes) same in
-      let exact : notes_of run ++ after.notes ≡ all_ended_notes moves.changes = notes_follow before run moves.changes after moves.follows ∙ ap (λ ns. ns ++ all_ended_notes moves.changes) none in
+      let exact : notes_of run ++ after.notes ≡ all_ended_notes ids.changes =
+      notes_follow before run ids.changes after ids.follows ∙ ap (λ ns. ns ++ all_ended_notes ids.changes) none in
       record {
-        changes = moves.changes;
-        follows = moves.follows;
-        owns = owns;
+        ids = ids;
         exact = exact;
-        once = subst (λ (ids : List Id). AllPairs (λ a b. a ≢ b) ids) (sym (ap ids_of exact ∙ ids_ended_over moves.changes))
-            (ends_once_law serial_of is_over has_data display_object refl moves.changes (objects_of after) owns);
+        once = subst (λ (is : List Id). AllPairs (λ a b. a ≢ b) is) (sym (ap ids_of exact ∙ ids_ended_over ids.changes))
+            (ends_once_law serial_of is_over has_data display_object refl ids.changes (objects_of after)
+            (run_owns serial_of is_over (begun display_object) (objects_of after) ids.changes ids.ends_so));
       }
 
   -- ---- a run that stopped
@@ -143,6 +142,6 @@ module _ {U : Type 0} where
       let whole = joins StepOf begun s after run (entries steps replies ++ last) before leads in (
         last,
         one,
-        own_ids table transport begun after (run ++ (entries steps replies ++ last)) connected whole,
+        whole,
         notes_ended table transport begun after (run ++ (entries steps replies ++ last)) connected whole,
       )

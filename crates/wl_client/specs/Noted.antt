@@ -1,15 +1,15 @@
 -- The notes of a run: of each object that ended with user data there is one, and of no other.
-use Rattle.std.specs.Prelude.{◌≡◌, ◌≢◌, List, [], ◌∷◌, ◌++◌, map, AllPairs}
-use Rattle.wl_link.specs.Identity.{Change, RunOwns, begun}
-use Rattle.wl_link.specs.Runs.{AtMostOneRefused}
+use Rattle.std.specs.Prelude.{◌≡◌, ◌≢◌, List, [], ◌∷◌, ◌++◌, length, map, AllPairs}
+use Rattle.wl_link.specs.Identity.{Change}
+use Rattle.wl_link.specs.Runs.{IsWhereItStops}
 use Rattle.wl_link.specs.Script.{Script}
 use Rattle.wl_client.specs.declared.kept.Kept.{Kept}
 use Rattle.wl_client.specs.declared.note.Note.{Note}
 use Rattle.wl_client.specs.declared.step.Reply.{Reply}
 use Rattle.wl_client.specs.declared.step.Step.{Step}
-use Rattle.wl_client.specs.Handed.{Follows, HasOwnIds, ended_notes, is_over, note_ids, notes_in}
-use Rattle.wl_client.specs.Session.{SessionState, display_object, id_of, objects_of, serial_of}
-use Rattle.wl_client.specs.Steps.{Entry, entries}
+use Rattle.wl_client.specs.Handed.{HasOwnIds, ended_notes, note_ids, notes_in}
+use Rattle.wl_client.specs.Session.{SessionState, id_of}
+use Rattle.wl_client.specs.Steps.{Entry, Leads, entries}
 
 module _ {U : Type 0} where
   -- the notes that the replies of a run hand out, in order
@@ -22,18 +22,17 @@ module _ {U : Type 0} where
   all_ended_notes [] = []
   all_ended_notes (changes ∷ rest) = ended_notes changes ++ all_ended_notes rest
 
-  -- The notes that a run handed out, and then those that still wait, are those of the objects that ended with user data,
-  -- in order. Their ids differ pairwise in number or serial.
+  -- By the changes that make its ids its own, the notes that a run handed out, and then those that still wait, are those of
+  -- the objects that ended with user data, in order. Their ids differ pairwise in number or serial.
   pub record NotesWhatEnded (begins : SessionState Script U) (run : List (Entry U)) (ends : SessionState Script U) : Type 0 where
-    pub changes : List (List (Change (Kept U)))
-    pub follows : Follows begins run changes ends
-    pub owns : RunOwns serial_of is_over (begun display_object) changes (objects_of ends)
-    pub exact : notes_of run ++ ends.notes ≡ all_ended_notes changes
+    pub ids : HasOwnIds begins run ends
+    pub exact : notes_of run ++ ends.notes ≡ all_ended_notes ids.changes
     pub once : AllPairs (λ a b. a ≢ b) (map id_of (note_ids (notes_of run ++ ends.notes)))
 
   -- A run, and then steps of which those before a want of memory have these replies: with the step that met it, if one was
-  -- begun, its ids and its notes are as those of every run.
+  -- begun, they lead to what is left, and ids and notes are as those of every run.
   abbrev pub AccountsForStopped : SessionState Script U → List (Entry U) → List (Step U) → List (Reply U) → SessionState Script U → Type 0
   AccountsForStopped begins run steps replies ends =
-      (last : List (Entry U)) × AtMostOneRefused last
-      × HasOwnIds begins (run ++ (entries steps replies ++ last)) ends × NotesWhatEnded begins (run ++ (entries steps replies ++ last)) ends
+      (last : List (Entry U)) × IsWhereItStops steps (length replies) last
+      × Leads begins (run ++ (entries steps replies ++ last)) ends
+      × NotesWhatEnded begins (run ++ (entries steps replies ++ last)) ends

@@ -17,6 +17,7 @@ use Rattle.wl_link.specs.Script.{Script, ScriptSends, ScriptReceives}
 use Rattle.wl_link.specs.ScriptLaws.{script_sends_function, script_receives_function}
 use Rattle.wl_link.specs.Store.{Range, Store, client_range, IsLeastAbsent, IsFull}
 use Rattle.wl_link.specs.Branches.{both_bool, both_option, both_result}
+use Rattle.wl_link.specs.Puts.{lacked_memory}
 use Rattle.wl_client.specs.declared.error.FinishRefused.{FinishRefused}
 use Rattle.wl_client.specs.declared.error.FlushError.{FlushError}
 use Rattle.wl_client.specs.declared.error.RequestError.{RequestError}
@@ -32,7 +33,7 @@ use Rattle.wl_client.specs.Objects.{DataSet, DestroyedBy, destroyable}
 use Rattle.wl_client.specs.Reading.{event_content}
 use Rattle.wl_client.specs.ReadingLaws.{SameEnd, next_event_one, same_end}
 use Rattle.wl_client.specs.Replies.{SameReply, SameReplies}
-use Rattle.wl_client.specs.Requests.{Numbered, Requested, Sent, SentAs, SentWithChild, SessionMessage, Spec, Written, ended_by, error_after, id_of_new, lacked_memory, new_child, number_of_new, request_check, session_content, wire_message, with_born, with_ended}
+use Rattle.wl_client.specs.Requests.{Numbered, Requested, Sent, SentAs, SentWithChild, SessionMessage, Spec, Written, ended_by, error_after, id_of_new, new_child, number_of_new, request_check, session_content, wire_message, with_born, with_ended}
 use Rattle.wl_client.specs.Session.{SessionState, last_possible_serial, named}
 use Rattle.wl_client.specs.Steps.{ArrivesWith, Scripts, StepOf, Leads, entries, refused_arrive, refused_destroy, refused_finish, refused_flush, refused_request, refused_script}
 
@@ -201,7 +202,7 @@ module _ {T U : Type 0} where
           | inr (event, some, h', g') ↦
               elim (both_option (refusal event.created u) h' g') [
                 | inl (none, end, end') ↦ closes_one event end end'
-                | inr (e, refuses, (is, same), (is', same')) ↦ same_end is is' same same'
+                | inr (e, why, (is, same), (is', same')) ↦ same_end is is' same same'
               ]
         ]
 

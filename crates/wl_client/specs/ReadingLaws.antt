@@ -224,7 +224,7 @@ module _ {T U : Type 0} where
         | inr (event, some, g, again) ↦
             elim (both_option (refusal event.created u) g g) [
               | inl (fits, end, again) ↦ (event, some, fits, closes_as s after event u end)
-              | inr (e, refuses, (is, same), again) ↦ absurd (refused_not _ is)
+              | inr (e, why, (is, same), again) ↦ absurd (refused_not _ is)
             ]
       ]
 

@@ -9,7 +9,6 @@ use Rattle.wl_wire.specs.declared.argument.ArgumentType.{ArgumentType}
 use Rattle.wl_wire.specs.declared.argument.ArgumentType.TheVariants as kind
 use Rattle.wl_wire.specs.declared.argument.Token.{Token}
 use Rattle.wl_wire.specs.declared.error.IoFault.{IoFault}
-use Rattle.wl_wire.specs.declared.error.IoFault.TheVariants as fault
 use Rattle.wl_wire.specs.declared.interface.InterfaceId.{InterfaceId}
 use Rattle.wl_wire.specs.declared.message.Message.{Message}
 use Rattle.wl_wire.specs.Argument.{WireArgument}
@@ -18,6 +17,7 @@ use Rattle.wl_wire.specs.Table.{InterfaceRow, MessageRow}
 use Rattle.wl_link.specs.declared.object.Object.{Object}
 use Rattle.wl_link.specs.Exchange.{Queue}
 use Rattle.wl_link.specs.Link.{LinkState, Wrote}
+use Rattle.wl_link.specs.Puts.{lacked_memory}
 use Rattle.wl_link.specs.Refusals.{first_refusal, when}
 use Rattle.wl_link.specs.Store.{Store, client_range, stored, IsLeastAbsent, IsFull}
 use Rattle.wl_wire.specs.Asked.{creates, fits, left_after, matches, next_interface, request_row}
@@ -102,10 +102,10 @@ first_fault store (k ∷ kinds) asked (a ∷ args) =
 -- why a request that creates an object is refused for what it creates, in the order in which that is looked at
 abbrev pub child_refusals : List InterfaceRow → MessageRow → ℕ → Option Spec → Bool → List (Argument IdParts Token) → List (Option RequestError)
 child_refusals table row version spec has_data args =
-    when (is_none (child_of row version spec)) refused.MissingChildSpec
-    ∷ when (names_no_interface table spec) refused.UnknownInterface
+    when (names_no_interface table spec) refused.UnknownInterface
     ∷ when (differ row.child_interface spec) refused.WrongChild
     ∷ when (differ_in_version row.child_interface version spec) refused.WrongChildVersion
+    ∷ when (is_none (child_of row version spec)) refused.MissingChildSpec
     ∷ when (not has_data) refused.MissingObjectData
     ∷ when (not (list_all is_placeholder args)) refused.NotPlaceholder
     ∷ []
@@ -167,10 +167,6 @@ wire_message n m = record { sender = m.sender.number; opcode = m.opcode; args = 
 abbrev pub error_after : Option WaylandError → Result (Unit {0}) IoFault → Option WaylandError
 error_after error (Ok _) = error
 error_after error (Err e) = Some (Io e)
-
-abbrev pub lacked_memory : Result (Unit {0}) IoFault → Bool
-lacked_memory (Err fault.OutOfMemory) = true
-lacked_memory _ = false
 
 -- an object with its number
 abbrev pub Numbered : Type 0 → Type 0

@@ -7,6 +7,7 @@ use Rattle.wl_link.specs.declared.object.Object.{Object}
 use Rattle.wl_link.specs.Exchange.{Queue}
 use Rattle.wl_link.specs.Link.{LinkState, Wrote}
 use Rattle.wl_link.specs.Store.{Store, client_range, held, stored, is_free, IsLeastAbsent, IsFull}
+use Rattle.wl_link.specs.Puts.{lacked_memory}
 use Rattle.wl_client.specs.declared.error.RequestError.{RequestError}
 use Rattle.wl_client.specs.declared.error.RequestError.TheVariants as refused
 use Rattle.wl_client.specs.declared.error.WaylandError.{WaylandError}
@@ -15,7 +16,7 @@ use Rattle.wl_client.specs.declared.note.Note.{Note}
 use Rattle.wl_client.specs.declared.note.Note.TheVariants.{Destroyed}
 use Rattle.wl_client.specs.ObjectId.{IdParts}
 use Rattle.wl_client.specs.Objects.{given_up}
-use Rattle.wl_client.specs.Requests.{Spec, Numbered, error_after, lacked_memory, new_child}
+use Rattle.wl_client.specs.Requests.{Spec, Numbered, error_after, new_child}
 use Rattle.wl_client.specs.Session.{SessionState, last_possible_serial, id_at}
 
 module _ {U : Type 0} where

@@ -263,7 +263,7 @@ module _ {U : Type 0} where
         | inr (event, some, g, again) ↦
             elim (both_option (refusal event.created u) g g) [
               | inl (fits, end, _) ↦ closes_refused s mid event u e end
-              | inr (error, refuses, (is, same), _) ↦ same
+              | inr (error, why, (is, same), _) ↦ same
             ]
       ]
 

@@ -1,5 +1,5 @@
 -- What the functions of a reading say to each other.
-use Rattle.std.specs.Prelude.{◌≡◌, ◌≢◌, ◌⊎◌, ◌||◌, ◌<◌, ◌≤◌, ℕ, length, List, [], Bool, true, false, Option, None, Some, Result, Ok, Err}
+use Rattle.std.specs.Prelude.{◌≡◌, ◌⊎◌, ◌||◌, ◌≤◌, ℕ, length, List, [], Bool, true, false, Option, None, Some, Result, Ok, Err}
 use Rattle.std.specs.Borrow.{Bor}
 use Rattle.wl_wire.specs.declared.argument.Token.{Token}
 use Rattle.wl_wire.specs.declared.error.IoFault.{IoFault}
@@ -33,13 +33,9 @@ use Rattle.wl_client.specs.declared.turn.TurnEnd.TheVariants as came
 use Rattle.wl_client.specs.ObjectId.{IdParts}
 use Rattle.wl_client.specs.Events.{Outcome, Whole, Wrong, DisplayEvent, Fails, Deletes, Unreadable, error_of}
 use Rattle.wl_client.specs.Handling.{Handling, Swallows, HandsOut, Breaks, front_row, handling, row_in, signature_in}
-use Rattle.wl_client.specs.Reading.{Lacks, ReadsAs, answered, by_fault, client, handed_by, part_of, with_error, with_link}
+use Rattle.wl_client.specs.Reading.{Lacks, ReadsAs, answered, by_fault, client, handed_by, part_of, row_asks, with_error, with_link}
 use Rattle.wl_client.specs.Requests.{SessionMessage, session_content}
 use Rattle.wl_client.specs.Session.{SessionState, id_at, objects_of, with_objects}
-
--- an event asks for memory before it is read: for the object that it makes, or for arguments beyond four
-abbrev pub RowAsks : MessageRow → Type 0
-RowAsks row = (row.child_interface ≢ None) ⊎ (4 < length row.signature)
 
 -- what an event of the display tells, which the code keeps by reference
 abbrev pub told_by : DisplayMessage → DisplayEvent
@@ -70,9 +66,9 @@ module _ {U : Type 0} where
   ReadsIn table store before answer after = ReadOne (λ sender opcode found. found ≡ signature_in table store sender opcode) before answer after
 
   -- the message at the front, which is there whole, asks for memory before it is read
-  abbrev pub FrontAsks : List InterfaceRow → Store (Kept U) → Queue → Type 0
-  FrontAsks table store incoming =
-      (row : MessageRow) × (front_row table store incoming.bytes ≡ Some row) × RowAsks row × IsThere incoming.bytes row.signature incoming.tokens
+  abbrev pub EventAsks : List InterfaceRow → Store (Kept U) → Queue → Type 0
+  EventAsks table store incoming =
+      (row : MessageRow) × (front_row table store incoming.bytes ≡ Some row) × (row_asks (Some row) ≡ true) × IsThere incoming.bytes row.signature incoming.tokens
 
   -- the message at the front was taken, with what the table says of it; or it was not, and the link is as before
   abbrev pub TookWith : {T : Type 0} → List InterfaceRow → Store (Kept U) → LinkState T
@@ -83,7 +79,7 @@ module _ {U : Type 0} where
   TookWith table store before (Err e) m after =
       (after ≡ before)
       × (ReadsIn table store before (Err e) before
-      ⊎ ((e ≡ parse.OutOfMemory) × FrontAsks table store before.incoming))
+      ⊎ ((e ≡ parse.OutOfMemory) × EventAsks table store before.incoming))
 
 -- what a turn came to, with the event that it hands out
 pub data Turned : Type 0 where
@@ -136,7 +132,7 @@ module _ {T U : Type 0} where
 
   -- no message was taken, for this reason
   abbrev pub NotTaken : SessionState T U → MessageParseError → Type 0
-  NotTaken s e = ReadsAs s (Err e) s.link ⊎ ((e ≡ parse.OutOfMemory) × FrontAsks s.table s.store s.link.incoming)
+  NotTaken s e = ReadsAs s (Err e) s.link ⊎ ((e ≡ parse.OutOfMemory) × EventAsks s.table s.store s.link.incoming)
 
   -- no message was taken, and that comes to this
   abbrev pub NotTakenTo : SessionState T U → Turned → SessionState T U → Type 0

@@ -9,7 +9,7 @@ ghost use Rattle.wl_client.specs.Replies.{SameReplies};
 ghost use Rattle.wl_client.specs.Session.{IsConnected, SessionState};
 ghost use Rattle.wl_client.specs.Performing.{IsOfScript};
 ghost use Rattle.wl_client.specs.Steps.{Entry, Leads, StepOf, StopsAt, entries};
-ghost use Rattle.wl_client.specs.Stretches.{IsServed, IsStretch};
+ghost use Rattle.wl_client.specs.Stretches.{IsServed, IsStretch, IsStretchWithin};
 
 use crate::backend::Backend;
 use crate::step::{Reply, Step, Stopped};
@@ -110,6 +110,9 @@ impl<U: Drop> Backend<Memory, U> {
             NotesWhatEnded begun (run ++ entries steps.items replies.items) self.new.session) }
         ensures cutting { IfOk result (λ replies. (begun : SessionState Script U) (run : List (Entry U)) →
             Leads begun run self.old.session → IsStretch begun (run ++ entries steps.items replies.items) self.new.session →
+            IsServed begun (run ++ entries steps.items replies.items) self.new.session) }
+        ensures within { IfOk result (λ replies. (begun : SessionState Script U) (run : List (Entry U)) →
+            Leads begun run self.old.session → IsStretchWithin begun (run ++ entries steps.items replies.items) self.new.session →
             IsServed begun (run ++ entries steps.items replies.items) self.new.session) }
         ensures outcome { IfOk result (λ replies. (others : List (Reply U)) (other : SessionState Script U) →
             length others ≡ length steps.items → Leads self.old.session (entries steps.items others) other →

@@ -157,7 +157,6 @@ fn child_refusal(
     ensures { result ≡ first_refusal (child_refusals protocol.now (message_row desc.now) version spec has_data args.now) }
 {
     match (spec, desc.child_interface) {
-        (None, None) => return Some(RequestError::MissingChildSpec),
         (Some((interface, _)), _) if protocol.get(interface).is_none() => {
             return Some(RequestError::UnknownInterface);
         }
@@ -167,6 +166,7 @@ fn child_refusal(
         (Some((_, asked)), Some(_)) if version != asked => {
             return Some(RequestError::WrongChildVersion);
         }
+        (None, None) => return Some(RequestError::MissingChildSpec),
         _ => {}
     }
     if !has_data {

@@ -1,6 +1,6 @@
 //! One turn of a reading: the message at the front is taken off the link and handled.
 
-ghost use Rattle.std.specs.Prelude.{◌≡◌, ◌≢◌, ◌≤◌, ◌↔◌, IsTrue, [], true, false, None, Some, Ok, Err, MatchResult, length, IfOk, OnErr, OnOk, option_copied, option_map};
+ghost use Rattle.std.specs.Prelude.{◌≡◌, ◌≢◌, ◌≤◌, [], true, false, None, Some, Ok, Err, MatchResult, length, IfOk, OnErr, OnOk, option_copied, option_map};
 ghost use Rattle.smallvec.specs.SmallVec.{HasRoomFor};
 ghost use Rattle.wl_wire.specs.Message.{content};
 ghost use Rattle.wl_wire.specs.Parse.{IsThere};
@@ -12,12 +12,12 @@ ghost use Rattle.wl_client.specs.declared.error.EventError.TheVariants as no_eve
 ghost use Rattle.wl_client.specs.declared.error.WaylandError.TheVariants.{Io, Protocol as ProtocolFault};
 ghost use Rattle.wl_client.specs.Events.{error_of};
 ghost use Rattle.wl_client.specs.Handling.{Breaks, handling, row_in};
-ghost use Rattle.wl_client.specs.Reading.{with_error};
+ghost use Rattle.wl_client.specs.Reading.{row_asks, with_error};
 ghost use Rattle.wl_client.specs.Session.{objects_of};
 ghost use Rattle.wl_wire.specs.declared.argument.Token.{Token};
 ghost use Rattle.wl_wire.specs.declared.message.Message.{Message};
 ghost use Rattle.wl_client.specs.ObjectId.{IdParts};
-ghost use Rattle.wl_client.specs.Turns.{CarriedOut, Ended, HandledTo, IsHeader, NotTaken, NotTakenTo, RowAsks, TookWith, Turns, turned};
+ghost use Rattle.wl_client.specs.Turns.{CarriedOut, Ended, HandledTo, IsHeader, NotTaken, NotTakenTo, TookWith, Turns, turned};
 
 use crate::backend::{Backend, DISPLAY};
 use crate::display::{DisplayMessage, delete_id, display_event};
@@ -86,7 +86,7 @@ fn read_under<T>(
 
 /// Whether an event asks for memory before it is read: for the object that it makes, or for its arguments.
 fn asks_for_memory(desc: &MessageDesc) -> bool
-    ensures { IsTrue result ↔ RowAsks (message_row desc.now) }
+    ensures { result ≡ row_asks (Some (message_row desc.now)) }
 {
     desc.child_interface.is_some() || desc.signature.len() > INLINE_ARGS
 }
@@ -108,7 +108,7 @@ fn make_room<T: Drop, U: Drop>(
         → length desc.now.signature.items ≤ converted.new.capacity) }
     ensures can_make { OnOk result (IsThere socket.now.incoming.bytes desc.now.signature.items socket.now.incoming.tokens
         → desc.now.child_interface ≢ None → objects.new.reserved ≡ true) }
-    ensures asked { OnErr result (RowAsks (message_row desc.now)
+    ensures asked { OnErr result ((row_asks (Some (message_row desc.now)) ≡ true)
         × IsThere socket.now.incoming.bytes desc.now.signature.items socket.now.incoming.tokens) }
 {
     if !asks_for_memory(desc) || !socket.holds_message(desc.signature.as_slice()) {

@@ -7,7 +7,7 @@ use mathlib.Core.Logic.{inl, inr}
 use Rattle.wl_link.specs.declared.object.Object.{Object}
 use Rattle.wl_link.specs.Store.{empty_store, held, stored, removed, rewritten}
 use Rattle.wl_link.specs.StoreLaws.{stored_here, stored_other, removed_here, removed_other, rewritten_here, rewritten_other, held_empty}
-use Rattle.wl_link.specs.Identity.{Id, Objects, Change, Born, Gone, Wrote, Ended, Made, Changes, Owns, StepLeads, RunLeads, StepOwns, RunOwns, EndsOnceLaw, begun, counted_id, ended_in, ended_over}
+use Rattle.wl_link.specs.Identity.{Id, Objects, Change, Born, Gone, Wrote, Ended, Made, Changes, Owns, OwnsExactly, StepLeads, RunLeads, StepKeeps, RunKeeps, StepOwns, RunOwns, StepEnds, RunEnds, EndsOnceLaw, begun, counted_id, ended_in, ended_over}
 
 same_object : {A : Type 0} (x y : A) → Some x ≡ Some y → x ≡ y
 same_object x y e = ap (λ o. unwrap_or o x) e
@@ -50,31 +50,51 @@ apart_pairs [] apart i j d less lt = absurd (omega (arith, lt))
 apart_pairs (id ∷ ids) apart i j d less lt =
     AllPairs-cons (λ a b. a ≢ b) id ids (each_all (λ other. id ≢ other) ids apart.0) (apart_pairs ids apart.1) i j d less lt
 
-module _ {D : Type 0} (serial_of : D → ℕ) (is_over : D → Bool) where
-  -- ---- the changes are those of the identity law
+-- ---- the changes are those of the identity law
 
-  pub step_leads : (before after : Objects D) (changes : List (Change D)) → StepOwns serial_of is_over before changes after → StepLeads serial_of before changes after
+module _ {D : Type 0} (serial_of : D → ℕ) (allows : Objects D → Change D → Type 0) where
+  pub step_leads : (before after : Objects D) (changes : List (Change D)) → StepKeeps serial_of allows before changes after → StepLeads serial_of before changes after
   step_leads before after [] same = same
-  step_leads before after (change ∷ rest) (between, changes, owns, others) = (between, changes, step_leads between after rest others)
+  step_leads before after (change ∷ rest) (between, changes, allowed, others) = (between, changes, step_leads between after rest others)
 
-  pub run_leads : (before after : Objects D) (run : List (List (Change D))) → RunOwns serial_of is_over before run after → RunLeads serial_of before run after
+  pub run_leads : (before after : Objects D) (run : List (List (Change D))) → RunKeeps serial_of allows before run after → RunLeads serial_of before run after
   run_leads before after [] same = same
-  run_leads before after (step ∷ rest) (between, owns, others) = (between, step_leads before between step owns, run_leads between after rest others)
+  run_leads before after (step ∷ rest) (between, kept, others) = (between, step_leads before between step kept, run_leads between after rest others)
 
   -- the changes of a part of a step, and then those of the rest of it
-  pub owns_joins : (before between after : Objects D) (first others : List (Change D)) → StepOwns serial_of is_over before first between
-      → StepOwns serial_of is_over between others after → StepOwns serial_of is_over before (first ++ others) after
-  owns_joins before between after [] others same owns = subst (λ b. StepOwns serial_of is_over b others after) same owns
-  owns_joins before between after (change ∷ rest) others (next, changes, kept, leads) owns =
-      (next, changes, kept, owns_joins next between after rest others leads owns)
+  pub keeps_joins : (before between after : Objects D) (first others : List (Change D)) → StepKeeps serial_of allows before first between
+      → StepKeeps serial_of allows between others after → StepKeeps serial_of allows before (first ++ others) after
+  keeps_joins before between after [] others same kept = subst (λ b. StepKeeps serial_of allows b others after) same kept
+  keeps_joins before between after (change ∷ rest) others (next, changes, allowed, leads) kept =
+      (next, changes, allowed, keeps_joins next between after rest others leads kept)
 
   -- the steps of a run, and then those of another
-  pub run_owns_joins : (before between after : Objects D) (first others : List (List (Change D))) → RunOwns serial_of is_over before first between
-      → RunOwns serial_of is_over between others after → RunOwns serial_of is_over before (first ++ others) after
-  run_owns_joins before between after [] others same owns = subst (λ b. RunOwns serial_of is_over b others after) same owns
-  run_owns_joins before between after (step ∷ rest) others (next, first, leads) owns =
-      (next, first, run_owns_joins next between after rest others leads owns)
+  pub run_keeps_joins : (before between after : Objects D) (first others : List (List (Change D))) → RunKeeps serial_of allows before first between
+      → RunKeeps serial_of allows between others after → RunKeeps serial_of allows before (first ++ others) after
+  run_keeps_joins before between after [] others same kept = subst (λ b. RunKeeps serial_of allows b others after) same kept
+  run_keeps_joins before between after (step ∷ rest) others (next, first, leads) kept =
+      (next, first, run_keeps_joins next between after rest others leads kept)
 
+-- what ends exactly so, ends so
+module _ {D : Type 0} (serial_of : D → ℕ) (is_over : D → Bool) where
+  owns_exactly : (before : Objects D) (change : Change D) → OwnsExactly is_over before change → Owns is_over before change
+  owns_exactly before (Born n x) owns = tt
+  owns_exactly before (Gone n) owns = tt
+  owns_exactly before (Wrote n x) owns = λ y was over. owns y was ∙ over
+  owns_exactly before (Ended n x None) owns = owns
+  owns_exactly before (Ended n x (Some y)) owns = owns
+  owns_exactly before (Made id) owns = tt
+
+  step_owns : (before after : Objects D) (changes : List (Change D)) → StepEnds serial_of is_over before changes after → StepOwns serial_of is_over before changes after
+  step_owns before after [] same = same
+  step_owns before after (change ∷ rest) (between, changes, exactly, others) =
+      (between, changes, owns_exactly before change exactly, step_owns between after rest others)
+
+  pub run_owns : (before after : Objects D) (run : List (List (Change D))) → RunEnds serial_of is_over before run after → RunOwns serial_of is_over before run after
+  run_owns before after [] same = same
+  run_owns before after (step ∷ rest) (between, ends, others) = (between, step_owns before between step ends, run_owns between after rest others)
+
+module _ {D : Type 0} (serial_of : D → ℕ) (is_over : D → Bool) where
   -- ---- what is known of an id whose object ended
 
   -- its serial was given out, and the object that it names, if there is one, is over
@@ -163,10 +183,10 @@ module _ {D : Type 0} (serial_of : D → ℕ) (is_over : D → Bool) where
       now : (m : ℕ) (z : Object D) → m ≡ n → held (rewritten s.store n x) m ≡ Some z → x ≡ z
       now m z here is = same_object x z (sym (rewritten_here s.store n x m here) ∙ is)
 
-  keeps : (before after : Objects D) (change : Change D) → Changes serial_of before change after → Owns serial_of is_over before change → KeepsDone before after
+  keeps : (before after : Objects D) (change : Change D) → Changes serial_of before change after → Owns is_over before change → KeepsDone before after
   keeps before after (Born n x) (free, serial, is) owns = subst (λ s. KeepsDone before s) (sym is) (keeps_born before n x serial)
   keeps before after (Gone n) is owns = subst (λ s. KeepsDone before s) (sym is) (keeps_gone before n)
-  keeps before after (Wrote n x) ((y, was, serial), is) owns = subst (λ s. KeepsDone before s) (sym is) (keeps_wrote before n x y was serial (λ over. owns y was ∙ over))
+  keeps before after (Wrote n x) ((y, was, serial), is) owns = subst (λ s. KeepsDone before s) (sym is) (keeps_wrote before n x y was serial (owns y was))
   keeps before after (Ended n x None) (was, is) owns = subst (λ s. KeepsDone before s) (sym is) (keeps_gone before n)
   keeps before after (Ended n x (Some y)) (was, serial, is) owns =
       subst (λ s. KeepsDone before s) (sym is) (keeps_wrote before n y x was serial (λ over. owns.1))

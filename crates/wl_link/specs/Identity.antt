@@ -141,7 +141,7 @@ module _ {D : Type 0} (serial_of : D → ℕ) where
     pub kept : (n : ℕ) → IsSome ((births_of run).of_number n) ↔ IsSome (held after.store n)
     -- each id that was made has the birth of the object that it was made of
     pub made : (id : Id) → IsMadeIn run id → (birth : Birth) × Contains (births_of run).made (id, birth)
-    -- which was born in that step, where the step puts it in
+    -- one that is made in the step that puts its object in place has a birth of that step
     pub fresh : (done later : List (List (Change D))) (step : List (Change D)) → run ≡ done ++ step ∷ later → (id : Id)
         → IsMadeInStep step id → IsBornInStep serial_of step id
         → (birth : Birth) × (birth.step ≡ length done + 1) × Contains (births_of run).made (id, birth)
@@ -172,27 +172,49 @@ module _ {D : Type 0} (serial_of : D → ℕ) (counts : Object D → Bool) where
   ended_over [] = []
   ended_over (step ∷ rest) = ended_in step ++ ended_over rest
 
-module _ {D : Type 0} (serial_of : D → ℕ) (is_over : D → Bool) where
-  -- An object ends exactly where it turns over, or leaves its number and was not over: one that leaves otherwise is over,
-  -- and a write to an object leaves that as it was.
+module _ {D : Type 0} (serial_of : D → ℕ) (allows : Objects D → Change D → Type 0) where
+  -- the changes of a step, one after the other, each of which is allowed
+  abbrev pub StepKeeps : Objects D → List (Change D) → Objects D → Type 0
+  StepKeeps before [] after = after ≡ before
+  StepKeeps before (change ∷ rest) after =
+      (between : Objects D) × Changes serial_of before change between × allows before change × StepKeeps between rest after
+
+  -- and the steps of a run
+  abbrev pub RunKeeps : Objects D → List (List (Change D)) → Objects D → Type 0
+  RunKeeps before [] after = after ≡ before
+  RunKeeps before (step ∷ rest) after = (between : Objects D) × StepKeeps before step between × RunKeeps between rest after
+
+module _ {D : Type 0} (is_over : D → Bool) where
+  -- An object ends that is not over, and is over where it stays; it is not written to so that it would be the program's
+  -- again.
   abbrev pub Owns : Objects D → Change D → Type 0
   Owns before (Ended n x None) = is_over x.value ≡ false
   Owns before (Ended n x (Some y)) = (is_over x.value ≡ false) × (is_over y.value ≡ true)
-  Owns before (Gone n) = (y : Object D) → held before.store n ≡ Some y → is_over y.value ≡ true
-  Owns before (Wrote n x) = (y : Object D) → held before.store n ≡ Some y → is_over x.value ≡ is_over y.value
-  Owns before (Born n x) = Unit {0}
-  Owns before (Made id) = Unit {0}
+  Owns before (Wrote n x) = (y : Object D) → held before.store n ≡ Some y → is_over y.value ≡ true → is_over x.value ≡ true
+  Owns before _ = Unit {0}
 
-  -- the changes of a step, one after the other, each of which keeps to that
+  -- An object ends exactly where it becomes over, or leaves its number and was not over: one that leaves otherwise is over,
+  -- and a write to an object leaves that as it was.
+  abbrev pub OwnsExactly : Objects D → Change D → Type 0
+  OwnsExactly before (Ended n x None) = is_over x.value ≡ false
+  OwnsExactly before (Ended n x (Some y)) = (is_over x.value ≡ false) × (is_over y.value ≡ true)
+  OwnsExactly before (Gone n) = (y : Object D) → held before.store n ≡ Some y → is_over y.value ≡ true
+  OwnsExactly before (Wrote n x) = (y : Object D) → held before.store n ≡ Some y → is_over x.value ≡ is_over y.value
+  OwnsExactly before (Born n x) = Unit {0}
+  OwnsExactly before (Made id) = Unit {0}
+
+module _ {D : Type 0} (serial_of : D → ℕ) (is_over : D → Bool) where
   abbrev pub StepOwns : Objects D → List (Change D) → Objects D → Type 0
-  StepOwns before [] after = after ≡ before
-  StepOwns before (change ∷ rest) after =
-      (between : Objects D) × Changes serial_of before change between × Owns before change × StepOwns between rest after
+  StepOwns before changes after = StepKeeps serial_of (Owns is_over) before changes after
 
-  -- and the steps of a run
   abbrev pub RunOwns : Objects D → List (List (Change D)) → Objects D → Type 0
-  RunOwns before [] after = after ≡ before
-  RunOwns before (step ∷ rest) after = (between : Objects D) × StepOwns before step between × RunOwns between rest after
+  RunOwns before run after = RunKeeps serial_of (Owns is_over) before run after
+
+  abbrev pub StepEnds : Objects D → List (Change D) → Objects D → Type 0
+  StepEnds before changes after = StepKeeps serial_of (OwnsExactly is_over) before changes after
+
+  abbrev pub RunEnds : Objects D → List (List (Change D)) → Objects D → Type 0
+  RunEnds before run after = RunKeeps serial_of (OwnsExactly is_over) before run after
 
   -- over every run of a session no number and serial ends twice, whichever objects count
   abbrev pub EndsOnceLaw : (Object D → Bool) → Type 0

@@ -2,7 +2,7 @@
 use Rattle.std.proofs.Common.{◌≡◌, ℕ, ◌<◌, Bool, true, false, List, [], ◌∷◌, ◌++◌, append_assoc, append-nil, refl, sym, ap, subst, ◌∙◌, arith, length, length-append, reverse}
 use Rattle.std.proofs.lemmas.List.{reverse-reverse, reverse-append}
 use mathlib.Core.Logic.{inl, inr}
-use Rattle.wl_link.specs.Runs.{AllSame, AtMostOneRefused, Entry, HasOneOutcome, Leads, MadeSoFar, StopsAt, entries}
+use Rattle.wl_link.specs.Runs.{AllSame, Entry, HasOneOutcome, IsWhereItStops, Leads, MadeSoFar, StopsAt, entries}
 
 pub empty_of : {A : Type 0} (n : ℕ) (xs : List A) → n ≡ length xs → ¬ (0 < n) → xs ≡ []
 empty_of n [] counted none = refl
@@ -91,9 +91,9 @@ module _ {State Step Reply : Type 0} (makes : State → Step → Reply → Bool 
   stops start now after steps replies rest rest' x r split (done, whole, same, leads) made =
       inr (done, x, reverse rest', r, now, whole ∙ ap (λ l. done ++ l) (turned_rest rest rest' x split), sym same, refl, leads, made)
 
-  -- a run that stopped is one of the steps that have replies, and perhaps of one that met a want of memory
+  -- a run that stopped is one of the steps that have replies, and perhaps of the next, which met a want of memory
   pub stopped_leads : (start after : State) (steps : List Step) (n : ℕ) (replies : List Reply) → StopsAt makes start steps n replies after
-      → (last : List (Entry Step Reply)) × AtMostOneRefused last × Leads makes start (entries steps replies ++ last) after
+      → (last : List (Entry Step Reply)) × IsWhereItStops steps (length replies) last × Leads makes start (entries steps replies ++ last) after
   stopped_leads start after steps n replies (inl (zeroth, none, same)) = (
     [],
     tt,
@@ -103,7 +103,7 @@ module _ {State Step Reply : Type 0} (makes : State → Step → Reply → Bool 
   stopped_leads start after steps n replies (inr (done, next, left, answer, mid, whole, counted, as_many, leads, made)) =
       let e : Entry Step Reply = record { step = next; answer = answer; refused = true } in (
         e ∷ [],
-        refl,
+        (refl, (done, left, whole, sym counted ∙ as_many)),
         subst (λ (run : List (Entry Step Reply)). Leads makes start (run ++ e ∷ []) after)
             (sym (ap (λ (l : List Step). entries l replies) whole ∙ entries_done done (next ∷ left) replies (sym counted ∙ as_many)))
             (leads_more start mid after (entries done replies) e leads made),

@@ -18,11 +18,12 @@ module _ {Step Reply : Type 0} where
   entries (s ∷ steps) [] = []
   entries (s ∷ steps) (r ∷ replies) = record { step = s; answer = r; refused = false } ∷ entries steps replies
 
-  -- no step, or one that met a want of memory
-  abbrev pub AtMostOneRefused : List (Entry Step Reply) → Type 0
-  AtMostOneRefused [] = Unit {0}
-  AtMostOneRefused (e ∷ []) = e.refused ≡ true
-  AtMostOneRefused (e ∷ f ∷ run) = ⊥
+  -- nothing, or the step behind so many, which met a want of memory
+  abbrev pub IsWhereItStops : List Step → ℕ → List (Entry Step Reply) → Type 0
+  IsWhereItStops steps n [] = Unit {0}
+  IsWhereItStops steps n (e ∷ []) =
+      (e.refused ≡ true) × ((done : List Step) × (left : List Step) × (steps ≡ done ++ e.step ∷ left) × (length done ≡ n))
+  IsWhereItStops steps n (e ∷ f ∷ run) = ⊥
 
 -- as many replies, and each the same as the other's at its place
 abbrev pub AllSame : {Reply : Type 0} → (Reply → Reply → Type 0) → List Reply → List Reply → Type 0
