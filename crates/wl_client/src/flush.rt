@@ -10,8 +10,9 @@ use wl_link::Transport;
 use wl_wire::IoFault;
 
 impl<T: Transport + Drop, U: Drop> Backend<T, U> {
-    /// Sends what waits, as far as the transport takes it. `Ok` says that all was sent, or that the transport answered 0
-    /// to a send: the rest then still waits, but for the descriptors that this send was offered.
+    /// Sends what waits, as far as the transport takes it. `Ok` says that all bytes were sent, where tokens beyond 28 for
+    /// each byte still wait; or that the transport answered 0 to a send: then the rest still waits, but for the tokens
+    /// that this send was offered.
     ///
     /// `Failed` where the session has an error, or gets one now: a fault of the transport but `WouldBlock` and
     /// `OutOfMemory` is stored. After these two what was not sent still waits.

@@ -75,8 +75,8 @@ impl<T: Transport + Drop, U: Drop> Backend<T, U> {
     /// However bytes and tokens are cut into receives, the session before it goes on over all that comes as the session
     /// after it does over the rest, behind the event that was handed out.
     ///
-    /// A message that is no longer than the limit, or than 65536 bytes, and whose tokens come no later than its last
-    /// byte, does not end the session by a full storage.
+    /// A message that is no longer than the limit or 65536 bytes, whichever is less, and whose tokens come no later than
+    /// its last byte, does not end the session by a full storage.
     pub fn next_event(&mut self) -> Result<Message<ObjectId, Token>, EventError>
         ensures cutting { CutsReading T.sends T.receives self.old.session (event_content result) self.new.refused self.new.session }
         ensures read { NextEvent T.sends T.receives self.old.session (event_content result) self.new.refused self.new.session }

@@ -261,8 +261,8 @@ impl<T: Transport + Drop, U: Drop> Backend<T, U> {
     /// The refusals are those of `RequestError`, decided in the order of its variants, but that an unknown sender
     /// comes before an unknown opcode and a destroyed one after it; object arguments are looked at from left to
     /// right, before the new object is made. A refusal changes nothing, but that after `OutOfMemory` what a flush of the
-    /// write sent is gone from the link, and a storage that grew stays so. A fault of the transport is stored as the
-    /// session's error, and the answer is `Ok`; so is `TooBig`, where the request is too long.
+    /// write sent or dropped is gone from the link, and a storage that grew stays so. A fault of the transport is stored
+    /// as the session's error, and the answer is `Ok`; so is `TooBig`, where the request is too long.
     pub fn send_request(
         &mut self,
         message: Message<ObjectId, Token>,

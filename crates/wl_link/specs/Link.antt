@@ -249,7 +249,7 @@ grown_room l = if nat_le l.room (length l.incoming.bytes) && nat_lt l.room (inco
 abbrev pub free_room : {T : Type 0} → LinkState T → ℕ
 free_room l = grown_room l - length l.incoming.bytes
 
--- The storage grows, and one receive is offered its free part, and gives this.
+-- One receive is offered the free part of the storage, which is doubled first where no byte of it is free, and gives this.
 abbrev pub FilledBy : {T : Type 0} → (T → ℕ → Result Queue IoFault → T → Type 0)
     → LinkState T → Result Queue IoFault → Result (Unit {0}) IoFault → LinkState T → Type 0
 FilledBy receives before received answer after =

@@ -15,8 +15,7 @@ pub fn each_id_names_its_own_object<Data>()
 
 /// No object ends twice in a session whose objects carry a serial and whether they are over, and in which one counter
 /// gives the serials out: over every run of changes the objects that ended, or those of them that count, differ in number
-/// or serial. An object ends exactly where it turns over, or leaves its number and was not over. The call itself does
-/// nothing.
+/// or serial. The call itself does nothing.
 pub fn no_object_ends_twice<Data>()
     ensures { (serial_of : Data → ℕ) (is_over : Data → Bool) (counts : Kept Data → Bool) → EndsOnceLaw serial_of is_over counts }
 {}
