@@ -51,8 +51,8 @@ fn number_argument<Id, F: FnMut(Id) -> u32, G: FnMut(Id) -> u32>(
 
 /// Moves the arguments to `args`, each numbered by `number_argument`, from left to right.
 fn number_arguments<Id: Drop, F: FnMut(Id) -> u32 + Drop, G: FnMut(Id) -> u32 + Drop>(
-    object_id: F,
-    new_id: G,
+    mut object_id: F,
+    mut new_id: G,
     old: &mut SmallVec<Argument<Id, Token>, INLINE_ARGS>,
     args: &mut SmallVec<Argument<u32, Token>, INLINE_ARGS>,
 )
@@ -64,7 +64,6 @@ fn number_arguments<Id: Drop, F: FnMut(Id) -> u32 + Drop, G: FnMut(Id) -> u32 + 
 {
     // The first argument is then the last, which `pop` takes out without moving the others.
     old.reverse();
-    let (mut object_id, mut new_id) = (object_id, new_id);
     while let Some(arg) = old.pop() {
         let (object_ids, new_ids, numbered) = number_argument(object_id, new_id, arg);
         object_id = object_ids;

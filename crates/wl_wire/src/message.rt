@@ -58,7 +58,7 @@ pub(crate) fn room_for<Id, Fd, NewId: Drop, NewFd: Drop>(
 
 /// Moves the arguments to `args`, each mapped by `map_argument`, from left to right.
 fn map_arguments<Id: Drop, Fd: Drop, T: Drop, F: FnMut(Fd) -> T + Drop>(
-    f: F,
+    mut f: F,
     old: &mut SmallVec<Argument<Id, Fd>, INLINE_ARGS>,
     args: &mut SmallVec<Argument<Id, T>, INLINE_ARGS>,
 )
@@ -69,7 +69,6 @@ fn map_arguments<Id: Drop, Fd: Drop, T: Drop, F: FnMut(Fd) -> T + Drop>(
 {
     // The first argument is then the last, which `pop` takes out without moving the others.
     old.reverse();
-    let mut f = f;
     while let Some(arg) = old.pop() {
         let (next, mapped) = map_argument(f, arg);
         f = next;

@@ -422,8 +422,6 @@ pub fn parse_message<'a>(
         opcode: 0,
         args: SmallVec::new(alloc),
     };
-    match parse_into(alloc, raw, signature, fds, &mut message) {
-        Ok(rest) => Ok((message, rest)),
-        Err(error) => Err(error),
-    }
+    let rest = parse_into(alloc, raw, signature, fds, &mut message)?;
+    Ok((message, rest))
 }
