@@ -296,9 +296,6 @@ same_bound k at n len e =
     ]
 
 module _ {D : Type 0} (c s : List (Option (Object D))) (w : Within c s) where
-  pub free_nowhere : (n : ℕ) → n ≡ 0 → is_free (store_of c s) n ≡ false
-  free_nowhere n e = rw (held_zero c s w n e, e) refl
-
   pub free_client : (n at : ℕ) → n ≡ client_range.first + at → n < client_range.end → is_free (store_of c s) n ≡ is_free_place c at
   free_client n at e h =
       rw (held_client c s w n at e h, is_client n h, lt-ltb 0 n (omega arith), same_bound client_range.first at n (length c) e) refl

@@ -26,9 +26,6 @@ not_zero n e = grind arith
 pub is_zero : (n : ℕ) → is_set n ≡ false → n ≡ 0
 is_zero n e = grind arith
 
-set_of : (n : ℕ) → 0 < n → is_set n ≡ true
-set_of n l = ap not (ne_eqb n 0 (λ e. omega arith))
-
 within_words : (words : List ℕ) (w : ℕ) → is_set (word words w) ≡ true → w < length words
 within_words words w e =
     elim (cases_lt w (length words)) [
@@ -325,10 +322,6 @@ push_part [] flag count part t = absurd (part (ap (λ (n : ℕ). n % 64) t))
 push_part (words ∷ up) flag count part (c, t) = (more_in flag count words part c, t)
 
 module _ {Z : Type 0} where
-  pub length_words : (levels : List (Vec ℕ Z)) → length (words_of levels) ≡ length levels
-  length_words [] = refl
-  length_words (v ∷ up) = ap suc (length_words up)
-
   pub ready_some : (levels : List (Vec ℕ Z)) → is_ready levels ≡ true → 0 < length (words_of levels)
   ready_some [] e = absurd (true≢false (sym e))
   ready_some (v ∷ up) e = omega arith

@@ -21,9 +21,6 @@ module _ {T S : Type 0} (looks_up : ℕ → ℕ → Option (List ArgumentType) �
   bytes_is : other.incoming.bytes ≡ before.incoming.bytes ++ more.bytes
   bytes_is = ap (λ (q : Queue). q.bytes) is
 
-  tokens_is : other.incoming.tokens ≡ before.incoming.tokens ++ more.tokens
-  tokens_is = ap (λ (q : Queue). q.tokens) is
-
   -- where a header waits, it is that of all that waits on the other link
   module _ (header : 8 ≤ length before.incoming.bytes) where
     other_header : 8 ≤ length other.incoming.bytes

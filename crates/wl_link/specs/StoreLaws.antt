@@ -8,7 +8,7 @@ use Rattle.std.specs.Cmp.{unsigned_tied, nat_cmp_total, ranked}
 use Rattle.std.specs.FinMap.Entries.{below_all}
 use Rattle.std.specs.FinMap as map
 use Rattle.wl_link.specs.declared.object.Object.{Object}
-use Rattle.wl_link.specs.Store.{Store, Range, empty_store, held, stored, removed, rewritten, IsLeastAbsent, IsFull, IsWalk}
+use Rattle.wl_link.specs.Store.{Store, Range, empty_store, held, stored, removed, rewritten, IsLeastAbsent, IsWalk}
 
 module _ {D : Type 0} (store : Store D) (n : ℕ) where
   pub held_stored : (x : Object D) (m : ℕ) → held (stored store n x) m ≡ cond (eqb m n) (Some x) (held store m)
@@ -53,10 +53,6 @@ module _ {D : Type 0} {range : Range} {store : Store D} where
         | inr (inl h) ↦ absurd (absent_held p.absent (q.least n p.within h))
         | inr (inr h) ↦ absurd (absent_held q.absent (p.least m q.within h))
       ]
-
-  -- and there is one only where the range is not full
-  pub least_not_full : {n : ℕ} → IsLeastAbsent range store n → IsFull range store → ⊥
-  least_not_full {n} p full = absent_held p.absent (full.each n p.within p.below)
 
 -- ---- the walk over a store
 

@@ -109,13 +109,9 @@ impl Buffer {
         ensures message { OnOk result (IsMessage (numbered (N.object_number numbers.now) (N.new_number numbers.now) message.now)) }
     {
         let end = self.end;
-        match write_behind(message, numbers, &mut self.storage, self.start, end, fds) {
-            Ok(count) => {
-                self.end = end + count;
-                Ok(())
-            }
-            Err(error) => Err(error),
-        }
+        let count = write_behind(message, numbers, &mut self.storage, self.start, end, fds)?;
+        self.end = end + count;
+        Ok(())
     }
 
     /// Writes the message behind the bytes that wait, which are moved to the front, and puts its tokens behind those

@@ -170,10 +170,8 @@ impl<T> BufferedSocket<T> {
             opcode: 0,
             args: SmallVec::new(*self.fds_in.allocator()),
         };
-        match self.read_into(signature, &mut message) {
-            Ok(()) => Ok(message),
-            Err(error) => Err(error),
-        }
+        self.read_into(signature, &mut message)?;
+        Ok(message)
     }
 
     /// The same in a place for the message, whose arguments it replaces. After an error what is in that place is no
@@ -202,14 +200,10 @@ impl<T> BufferedSocket<T> {
         let Some(signature) = signature(header.sender_id, header.opcode) else {
             return Err(MessageParseError::Malformed);
         };
-        match parse_into(alloc, bytes, signature, &mut self.fds_in, message) {
-            Ok(rest) => {
-                let len = bytes.len() - rest.len();
-                self.incoming.consume(len);
-                Ok(())
-            }
-            Err(error) => Err(error),
-        }
+        let rest = parse_into(alloc, bytes, signature, &mut self.fds_in, message)?;
+        let len = bytes.len() - rest.len();
+        self.incoming.consume(len);
+        Ok(())
     }
 
     /// Whether the outgoing storage has room for that many bytes more.

@@ -1,10 +1,10 @@
 //! What follows from the definitions of a reader alone, whatever it makes of the messages that it reads. Each function
 //! has a law as its contract, and does nothing.
 
-ghost use Rattle.std.specs.Prelude.{◌≡◌, ◌≢◌, ◌∷◌, ℕ, Bool, true, false, IsTrue, List, Result, Err};
+ghost use Rattle.std.specs.Prelude.{◌≡◌, ◌≢◌, ◌∷◌, ℕ, Bool, false, IsTrue, List, Result, Err};
 ghost use Rattle.wl_wire.specs.declared.error.IoFault.{IoFault};
 ghost use Rattle.wl_wire.specs.declared.error.IoFault.TheVariants as fault;
-ghost use Rattle.wl_link.specs.Exchange.{Queue, Sending, nothing};
+ghost use Rattle.wl_link.specs.Exchange.{Sending, nothing};
 ghost use Rattle.wl_link.specs.Kept.{Kept};
 ghost use Rattle.wl_link.specs.Link.{LinkState};
 ghost use Rattle.wl_link.specs.OneLaws.{IsFunction, IsReceiveFunction};
