@@ -1,6 +1,6 @@
 -- What follows for a client from the laws of a reader: that its reading has one outcome, and that it does not matter to
 -- it how bytes and tokens are cut.
-use Rattle.std.proofs.Common.{◌≡◌, ℕ, suc, Bool, true, false, cond, List, [], ◌∷◌, ◌++◌, Option, None, Some, is_none, is_ok, Result, Ok, Err, ◌&&◌, map, MatchResult, refl, sym, ap, ap₂, subst, ◌∙◌, true≢false, arith}
+use Rattle.std.proofs.Common.{◌≡◌, ℕ, Bool, true, false, cond, List, [], ◌∷◌, ◌++◌, Option, None, Some, is_none, is_ok, Result, Ok, Err, ◌&&◌, map, MatchResult, refl, sym, ap, ap₂, subst, ◌∙◌, true≢false}
 use mathlib.Core.Logic.{inl, inr}
 use Rattle.std.proofs.lemmas.Option.{same_Some}
 use Rattle.wl_wire.specs.declared.error.IoFault.{IoFault}
@@ -37,9 +37,6 @@ use Rattle.wl_client.specs.Requests.{SessionMessage}
 use Rattle.wl_client.specs.Session.{SessionState, named}
 
 -- ---- one look at what two outcomes share
-
-pub suc_same : (n m : ℕ) → suc n ≡ suc m → n ≡ m
-suc_same n m same = omega (arith, same)
 
 -- the answers and the values of two outcomes are the same
 pub record SameEnd {A T U : Type 0} (a b : A) (x y : SessionState T U) : Type 0 where

@@ -1,4 +1,5 @@
--- That a reading which ends a session because no bytes came found a byte free for what lacked.
+-- That a reading which ends a session because no bytes came found a byte free for what lacked, and that none ends it so
+-- where each receive brings a byte or would block; nor does the end of an event.
 use Rattle.std.proofs.Common.{◌≡◌, ◌≢◌, ◌⊎◌, ℕ, Bool, false, List, [], ◌∷◌, Option, None, Some, is_none, Result, Ok, Err, MatchResult, refl, sym, ap, subst, ◌∙◌, true≢false, ◌&&◌, true, cond, is_ok}
 use mathlib.Core.Logic.{inl, inr}
 use Rattle.std.proofs.lemmas.Option.{same_Some}
@@ -26,15 +27,12 @@ use Rattle.wl_client.specs.Reading.{Core, EndsWithRoom, NextEvent, client, close
 use Rattle.wl_client.specs.Requests.{SessionMessage}
 use Rattle.wl_client.specs.Session.{SessionState, named}
 
-some_same : {e f : WaylandError} → Some e ≡ Some f → e ≡ f
-some_same same = cc
-
 none_ended : {e : Option WaylandError} → e ≡ None → e ≡ Some (Io fault.Pipe) → ⊥
 none_ended none is = true≢false (ap is_none (sym none ∙ is))
 
--- no bytes ended it
-abbrev pub NotPiped : {U : Type 0} → Core U → Type 0
-NotPiped c = c.error ≢ Some (Io fault.Pipe)
+-- its error is not that no bytes came
+abbrev pub NotEndedByPipe : {U : Type 0} → Core U → Type 0
+NotEndedByPipe c = c.error ≢ Some (Io fault.Pipe)
 
 none_stored : (e : Option WaylandError) (b : Bool) → is_none e && b ≡ true → e ≡ None
 none_stored None b on = refl
@@ -58,7 +56,7 @@ module _ {T U : Type 0} (sends : T → Queue → Result ℕ IoFault → T → Ty
   broken d e other is =
       inr (
         ap (λ (o : Option WaylandError). is_none o && is_none d.open_event) is,
-        λ same. other (some_same (sym is ∙ same)),
+        λ same. other (same_Some e (Io fault.Pipe) (sym is ∙ same)),
       )
 
   not_ended : (c : Core U) (h : Handling U) (before : LinkState T) (es : List Sending) (gave : List (Given SessionMessage)) (lacked : Bool) (mid : Part T (Core U))
@@ -120,31 +118,31 @@ module _ {T U : Type 0} (sends : T → Queue → Result ℕ IoFault → T → Ty
 
   -- ---- a reading that was fed, and the end of an event, do not end it so
 
-  not_piped : (c : Core U) → NotEnded c → NotPiped c
-  not_piped c (inl none) is = none_ended none is
-  not_piped c (inr (off, other)) is = other is
+  not_ended_by_pipe : (c : Core U) → NotEnded c → NotEndedByPipe c
+  not_ended_by_pipe c (inl none) is = none_ended none is
+  not_ended_by_pipe c (inr (off, other)) is = other is
 
   pub fed_keeps : (left : ℕ) (p after : Part T (Core U)) (turns : List Turn) (out : Gives SessionMessage) → Reads sends client receives left p turns out after → AllFed turns
-      → NotPiped p.core → NotPiped after.core
-  fed_keeps left p after [] out (same, ends) fed not = subst (λ (x : Part T (Core U)). NotPiped x.core) (sym same) not
+      → NotEndedByPipe p.core → NotEndedByPipe after.core
+  fed_keeps left p after [] out (same, ends) fed not = subst (λ (x : Part T (Core U)). NotEndedByPipe x.core) (sym same) not
   fed_keeps left p after (Received r ∷ turns) out (on, lacks, (n, is', (link, filled, finds, h))) (some, fed) not =
       go (counted_answer (count_of r)) refl h (λ more. fed_keeps n (with_link p link) after turns out more fed not)
     where
       go : (c : Result (Unit {0}) IoFault) → counted_answer (count_of r) ≡ c
           → MatchResult c (λ _. Reads sends client receives n (with_link p link) turns out after)
           (λ f. (turns ≡ []) × (out ≡ stops (Some f) (lacked_memory (Err f)) n) × (after ≡ record { core = client.faulted p.core f; link = link }))
-          → (Reads sends client receives n (with_link p link) turns out after → NotPiped after.core) → NotPiped after.core
+          → (Reads sends client receives n (with_link p link) turns out after → NotEndedByPipe after.core) → NotEndedByPipe after.core
       go (Ok u) was more goes = goes more
       go (Err f) was (last, ends, same) goes =
-          subst (λ (x : Part T (Core U)). NotPiped x.core) (sym same) (subst (λ (g : IoFault). NotPiped (client.faulted p.core g)) (sym (fed_blocks r f some was)) not)
+          subst (λ (x : Part T (Core U)). NotEndedByPipe x.core) (sym same) (subst (λ (g : IoFault). NotEndedByPipe (client.faulted p.core g)) (sym (fed_blocks r f some was)) not)
   fed_keeps left p after (Handled es ∷ turns) out (on, (v, link, first, lacked, mid, rest, (m, read, is'), carried, split, more)) fed not =
       fed_keeps left mid after turns rest more fed
-      (not_piped mid.core
+      (not_ended_by_pipe mid.core
       (not_ended p.core (handling p.core.table (objects_in p.core) m) link es first lacked mid (none_stored p.core.error (is_none p.core.open_event) on)
       (subst (λ (w : Verdict (Core U) SessionMessage). CarriesOut sends client w link es first lacked mid) is' carried)))
   fed_keeps left p after (Unread es ∷ turns) out (on, (v, link, first, lacked, mid, rest, (read, same, is'), carried, split, more)) fed not =
       fed_keeps left mid after turns rest more fed
-      (not_piped mid.core
+      (not_ended_by_pipe mid.core
       (not_ended p.core (Breaks (error_of p.core.table wrong.Malformed) (objects_in p.core)) link es first lacked mid (none_stored p.core.error (is_none p.core.open_event) on)
       (subst (λ (w : Verdict (Core U) SessionMessage). CarriesOut sends client w link es first lacked mid) is' carried)))
 
@@ -179,7 +177,7 @@ module _ {T U : Type 0} (sends : T → Queue → Result ℕ IoFault → T → Ty
       go false same = absurd (true≢false (ap is_none same))
 
   pub end_keeps : (p after : Part T (Core U)) (u : Option U) (es : List Sending) (gave : List (Given SessionMessage)) → Ends sends client p u es gave false after
-      → NotPiped p.core → NotPiped after.core
+      → NotEndedByPipe p.core → NotEndedByPipe after.core
   end_keeps p after u es gave (v, is, inr (asks, was, none, gives, same)) not =
       let kept = shut_error p.core p.core.error p.core.open_event u v is in
       subst (λ (e : Option WaylandError). e ≢ Some (Io fault.Pipe)) (sym (ap (λ (x : Part T (Core U)). x.core.error) same ∙ kept.2)) not

@@ -38,7 +38,7 @@ use Rattle.wl_client.specs.Handling.{Handling, Swallows, HandsOut, Breaks, handl
 use Rattle.wl_client.specs.Reading.{Core, NextEvent, answered, client, core_of, event_content, faulted, handed_by, objects_in, part_of, reads_on, receives_allowed, verdict}
 use Rattle.wl_client.specs.ReadingLaws.{finish_as, finish_ends}
 use Rattle.wl_client.specs.Requests.{SessionMessage}
-use Rattle.wl_client.specs.RoomLaws.{NotPiped, end_keeps, fed_keeps}
+use Rattle.wl_client.specs.RoomLaws.{NotEndedByPipe, end_keeps, fed_keeps}
 use Rattle.wl_client.specs.Session.{SessionState, named}
 use Rattle.wl_client.specs.Steps.{Entry, Leads, StepOf}
 use Rattle.wl_client.specs.Stretches.{AllHeard, EndsWaiting, IsHeard, IsServed, IsStretch, IsStretchWithin, SameLeft, arrived, arrived_by, events_by, events_of, finished, finished_by, if_accepted, left_in}
@@ -357,7 +357,7 @@ module _ {U : Type 0} where
         live = stretch.live;
         pieces = stretch.pieces;
         ends = stretch.ends;
-        roomy = acts_keep client ends_by_pipe NotPiped (fed_keeps ScriptSends ScriptReceives) (end_keeps ScriptSends ScriptReceives) (part_of before) (part_of after) r.acts r.does
+        roomy = acts_keep client ends_by_pipe NotEndedByPipe (fed_keeps ScriptSends ScriptReceives) (end_keeps ScriptSends ScriptReceives) (part_of before) (part_of after) r.acts r.does
             stretch.pieces (λ core is lacks. inr (fits, in_time core is)) (λ ended. true≢false (ap is_none (sym stretch.live ∙ ended)));
       }
     where

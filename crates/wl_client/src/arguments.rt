@@ -10,6 +10,7 @@ ghost use Rattle.wl_client.specs.Conversion.{CanMake, Converts, EndsWhole, Makes
 use crate::event_fault::EventFault;
 use crate::kept::Kept;
 use crate::object_id::ObjectId;
+use crate::objects::id_at;
 use smallvec::SmallVec;
 use wl_link::{InsertError, Object, ObjectMap, SERVER_ID_LIMIT};
 use wl_wire::{
@@ -53,7 +54,7 @@ fn object_argument<U: Drop>(
     if !same_interface_or_anonymous(asked, object.interface) {
         return Err(EventFault::WrongInterface(number, asked, object.interface));
     }
-    Ok(ObjectId::from_parts(number, object.value.serial, object.interface))
+    Ok(id_at(number, object))
 }
 
 /// Frees the number where the client destroyed its object.
@@ -148,10 +149,8 @@ fn convert_one<U: Drop>(
         Argument::Fd(token) => Ok(Argument::Fd(token)),
         Argument::Object(number) => {
             let asked = take_asked(progress);
-            match object_argument(objects, asked, number) {
-                Ok(id) => Ok(Argument::Object(id)),
-                Err(fault) => Err(fault),
-            }
+            let id = object_argument(objects, asked, number)?;
+            Ok(Argument::Object(id))
         }
         Argument::NewId(number) => {
             let Some(interface) = progress.child else {

@@ -14,6 +14,7 @@ use crate::arguments::{Progress, Receiver, convert};
 use crate::event_fault::EventFault;
 use crate::kept::Kept;
 use crate::object_id::ObjectId;
+use crate::objects::id_at;
 use crate::open_event::OpenEvent;
 use wl_link::ObjectMap;
 use wl_wire::{Message, MessageDesc, Token};
@@ -41,7 +42,7 @@ pub fn handle_event<U: Drop>(
     let Some(object) = objects.find(message.sender_id) else {
         return Ok(None);
     };
-    let sender = ObjectId::from_parts(message.sender_id, object.value.serial, object.interface);
+    let sender = id_at(message.sender_id, object);
     let receiver = Receiver {
         version: object.version,
         client_destroyed: object.value.client_destroyed,

@@ -60,6 +60,7 @@ impl<T: Drop, U: Drop> Backend<T, U> {
         ensures refused { self.new.refused ≡ self.old.refused }
     {
         if let (Some(id), Some(user_data)) = (created, user_data) {
+            // An object leaves the map in a reading only, and none is made while the event is open: it is still there.
             let _ = give_data(&mut self.objects, &id, user_data);
         }
     }

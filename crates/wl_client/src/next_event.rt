@@ -100,6 +100,7 @@ impl<T: Transport + Drop, U: Drop> Backend<T, U> {
                 Ok(event)
             }
             Err(end) => {
+                // No event: the arguments that were already put there are dropped.
                 drop(event);
                 self.refused = end.refused;
                 Err(end.error)

@@ -1,9 +1,11 @@
 //! The objects of a session: look-ups among them, and what a program asks and changes of one.
 
 ghost use Rattle.std.specs.Prelude.{◌≡◌, false, None, Some, IsSome, Ok, Err, MatchOption, MatchResult, option_copied};
+ghost use Rattle.wl_link.specs.Store.{held};
 ghost use Rattle.wl_client.specs.Session.{named, noted, alive, fresh_object as the_object, id_at as the_id};
 ghost use Rattle.wl_client.specs.Objects.{info_of, user_data_of, DataSet, DestroyedBy};
 ghost use Rattle.wl_client.specs.Finish.{data_given};
+ghost use Rattle.wl_client.specs.Sending.{given_up_at};
 ghost use Rattle.wl_client.specs.Steps.{refused_destroy};
 
 use crate::backend::{Backend, DISPLAY};
@@ -65,7 +67,7 @@ pub fn live_in<'a, U: Drop>(
 }
 
 /// The id of the object that a number holds.
-fn id_at<U>(number: u32, object: &Object<Kept<U>>) -> ObjectId
+pub fn id_at<U>(number: u32, object: &Object<Kept<U>>) -> ObjectId
     ensures { result ≡ the_id number object.now }
 {
     ObjectId::from_parts(number, object.value.serial, object.interface)
@@ -107,6 +109,15 @@ pub fn give_data<U: Drop>(
         object.value.user_data = Some(user_data);
     });
     Ok(())
+}
+
+/// Flags the object of this number, if it holds one, as destroyed by the client.
+pub fn give_up<U: Drop>(objects: &mut ObjectMap<Kept<U>>, number: u32)
+    ensures { objects.new.store ≡ given_up_at objects.old.store number (held objects.old.store number) }
+{
+    objects.with(number, |object| {
+        object.value.client_destroyed = true;
+    });
 }
 
 impl<T: Drop, U: Drop> Backend<T, U> {
@@ -172,9 +183,7 @@ impl<T: Drop, U: Drop> Backend<T, U> {
             self.refused = true;
             return Err(DestroyError::OutOfMemory);
         }
-        self.objects.with(number, |object| {
-            object.value.client_destroyed = true;
-        });
+        give_up(&mut self.objects, number);
         Ok(())
     }
 }

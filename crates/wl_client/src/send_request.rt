@@ -2,9 +2,8 @@
 
 ghost use Rattle.std.specs.Prelude.{◌≡◌, ◌<◌, ◌⊎◌, true, IfSome, IsSome, IsTrue, OnErr, OnOk, MatchResult, is_some, vec_len, vec_capacity};
 ghost use Rattle.wl_wire.specs.MapIds.{numbered};
-ghost use Rattle.wl_link.specs.Store.{held};
 ghost use Rattle.wl_client.specs.Requests.{Requested, Sent, SentAs, SentWithChild, ended_by, id_of_new, number_of_new, session_content};
-ghost use Rattle.wl_client.specs.Sending.{IsNext, IsNextObject, LacksNext, WrittenTo, ending, given_up_at, is_noted, notes_ending, serial_with, store_ending, store_with};
+ghost use Rattle.wl_client.specs.Sending.{IsNext, IsNextObject, LacksNext, WrittenTo, ending, is_noted, notes_ending, serial_with, store_ending, store_with};
 ghost use Rattle.wl_client.specs.Steps.{refused_request};
 
 use crate::backend::Backend;
@@ -12,7 +11,7 @@ use crate::error::{RequestError, WaylandError};
 use crate::kept::Kept;
 use crate::note::Note;
 use crate::object_id::ObjectId;
-use crate::objects::{fresh_object, named_in};
+use crate::objects::{fresh_object, give_up, id_at, named_in};
 use crate::request::{Granted, RequestNumbers, check_request};
 use wl_link::{BufferedSocket, Object, ObjectMap, Transport};
 use wl_wire::{InterfaceId, IoFault, Message, OutOfMemory, Token};
@@ -31,8 +30,7 @@ fn ended_sender<U: Drop>(
     match named_in(objects, &message.sender_id) {
         Some(object) => {
             let number = message.sender_id.protocol_id();
-            let id = ObjectId::from_parts(number, object.value.serial, object.interface);
-            Some((id, object.value.user_data.is_some()))
+            Some((id_at(number, object), object.value.user_data.is_some()))
         }
         None => None,
     }
@@ -124,15 +122,6 @@ fn put_new<U: Drop>(
         }
         Err(_) => unreachable!(),
     }
-}
-
-/// Flags the object of this number, if it holds one, as destroyed by the client.
-fn give_up<U: Drop>(objects: &mut ObjectMap<Kept<U>>, number: u32)
-    ensures { objects.new.store ≡ given_up_at objects.old.store number (held objects.old.store number) }
-{
-    objects.with(number, |object| {
-        object.value.client_destroyed = true;
-    });
 }
 
 /// Gives up the sender that the request ends, if it does, and notes it where it has user data.

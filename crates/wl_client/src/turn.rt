@@ -151,10 +151,8 @@ fn take<'p, T: Drop, U: Drop>(
     let Ok(()) = make_room(objects, converted, socket, desc) else {
         return Err(MessageParseError::OutOfMemory);
     };
-    match read_under(socket, signature, message) {
-        Ok(()) => Ok(desc),
-        Err(error) => Err(error),
-    }
+    read_under(socket, signature, message)?;
+    Ok(desc)
 }
 
 impl<T: Transport + Drop, U: Drop> Backend<T, U> {
@@ -225,7 +223,7 @@ impl<T: Transport + Drop, U: Drop> Backend<T, U> {
         }
     }
 
-    /// The same where this header waits. It is apart, so that a reading that waits does not pay for what it keeps.
+    /// The same where this header waits. It is apart, since the place for a message is made only where a header waits.
     #[inline(never)]
     fn turn_at_header(
         &mut self,
@@ -245,7 +243,7 @@ impl<T: Transport + Drop, U: Drop> Backend<T, U> {
         self.turn_with(header, &mut message, event)
     }
 
-    /// The same with a place for the message that is taken.
+    /// The same with a place for the message that is taken. It is lent, so that an early return has nothing to drop.
     fn turn_with(
         &mut self,
         header: (u32, u16),
