@@ -1,0 +1,82 @@
+-- What a call does with one client that the client's value does not keep.
+--
+-- Each call comes with its deeds, and what is told of a call to others hides them. No program stores them. The log of a
+-- client, what its transport took, what its registries announced and what was noted are read off them.
+use Rattle.std.specs.Prelude.{ℕ, List, [], ◌∷◌, ◌++◌, Bool, Option, None, Some, Result}
+use Rattle.wl_wire.specs.declared.argument.Argument.{Argument}
+use Rattle.wl_wire.specs.declared.argument.Token.{Token}
+use Rattle.wl_wire.specs.declared.error.IoFault.{IoFault}
+use Rattle.wl_link.specs.Exchange.{Queue, Sending}
+use Rattle.wl_link.specs.Identity.{Id}
+use Rattle.wl_link.specs.Puts.{Said}
+use Rattle.wl_server.specs.declared.action.Action.{Action}
+use Rattle.wl_server.specs.declared.action.Action.TheVariants as action
+use Rattle.wl_server.specs.declared.note.Happening.{Happening}
+use Rattle.wl_server.specs.Ids.{GlobalParts, IdParts}
+
+-- an action that is handed out, without where its arguments lie in memory
+pub data Handed : Type 0 where
+  Request : (sender : IdParts) (opcode : ℕ) (args : List (Argument IdParts Token)) (is_destructor : Bool) (created : Option IdParts) → Handed
+  Bind : (global : GlobalParts) (object : IdParts) → Handed
+
+abbrev pub handed : Action → Handed
+handed (action.Request sender opcode args is_destructor created) = Request sender opcode args.items is_destructor created
+handed (action.Bind global object) = Bind global object
+
+pub data Deed (U : Type 0) : Type 0 where
+  -- its transport was offered this, and answered; it received this
+  Sent : Sending → Deed U
+  Came : Result Queue IoFault → Deed U
+  -- a message was put behind what waits to be sent
+  Put : Said → Deed U
+  -- a registry was made for it, and is told of globals from then on
+  Remembered : Id → Deed U
+  -- an object that had user data left its store
+  Left : Id → Deed U
+  -- something was noted of it
+  Noted : Happening U → Deed U
+  -- an action was handed out
+  Acted : Handed → Deed U
+  -- the notes of it were handed out
+  NotesTaken : List (Happening U) → Deed U
+
+module _ {U : Type 0} where
+  -- the messages that were put
+  abbrev pub log_of : List (Deed U) → List Said
+  log_of [] = []
+  log_of (Put m ∷ did) = m ∷ log_of did
+  log_of (_ ∷ did) = log_of did
+
+  -- the sends that were made
+  abbrev pub sends_of : List (Deed U) → List Sending
+  sends_of [] = []
+  sends_of (Sent e ∷ did) = e ∷ sends_of did
+  sends_of (_ ∷ did) = sends_of did
+
+  -- the notes that were made
+  abbrev pub notes_in : List (Deed U) → List (Happening U)
+  notes_in [] = []
+  notes_in (Noted h ∷ did) = h ∷ notes_in did
+  notes_in (_ ∷ did) = notes_in did
+
+  -- the registries that were made
+  abbrev pub registries_in : List (Deed U) → List Id
+  registries_in [] = []
+  registries_in (Remembered r ∷ did) = r ∷ registries_in did
+  registries_in (_ ∷ did) = registries_in did
+
+  -- the objects with user data that left
+  abbrev pub left_in : List (Deed U) → List Id
+  left_in [] = []
+  left_in (Left id ∷ did) = id ∷ left_in did
+  left_in (_ ∷ did) = left_in did
+
+  -- the notes that were handed out
+  abbrev pub taken_in : List (Deed U) → List (Happening U)
+  taken_in [] = []
+  taken_in (NotesTaken notes ∷ did) = notes ++ taken_in did
+  taken_in (_ ∷ did) = taken_in did
+
+  abbrev pub left_if : Id → Option U → List (Deed U)
+  left_if id None = []
+  left_if id (Some u) = Left id ∷ []

@@ -1,0 +1,4 @@
+pub mod Ids
+pub mod Part
+pub mod Deeds
+pub mod Globals

@@ -1,0 +1,27 @@
+//! The server's session of the Wayland protocol: clients, their objects by id, globals, requests, events.
+//!
+//! So far it has the types that a server and its program speak in. What each call does to them stands in `specs`:
+//! `specs/Part` has what is held of one client, `specs/PartStep` what a call does to it, `specs/Steps` what it does to a
+//! server, and `specs/Runs` calls one after another.
+#![tactic(auto)]
+
+mod action;
+mod client_id;
+mod error;
+mod global_id;
+mod kept;
+mod note;
+mod object_id;
+mod request_fault;
+mod step;
+
+pub use action::{Action, Reading};
+pub use client_id::ClientId;
+pub use error::{
+    ActionError, CreateError, DestroyError, EventError, FinishError, FinishRefused, GlobalError,
+    InsertClientError, InvalidId, ScriptError,
+};
+pub use global_id::{GlobalId, GlobalInfo};
+pub use note::{DisconnectReason, Note};
+pub use object_id::ObjectId;
+pub use step::{Reply, Step, Stopped};
