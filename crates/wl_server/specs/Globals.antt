@@ -6,7 +6,7 @@ use Rattle.wl_wire.specs.declared.interface.InterfaceId.{InterfaceId}
 use Rattle.wl_wire.specs.Table.{InterfaceRow}
 use Rattle.wl_link.specs.declared.object.Object.{Object}
 use Rattle.wl_link.specs.Identity.{names}
-use Rattle.wl_link.specs.Store.{Range, Store, empty_store, stored, removed, rewritten, IsLeastAbsent, IsFull}
+use Rattle.wl_link.specs.Store.{Range, Store, empty_store, stored, removed, rewritten, first_unused, IsLeastAbsent, IsFull}
 use Rattle.wl_server.specs.declared.error.GlobalError.{GlobalError}
 use Rattle.wl_server.specs.declared.error.GlobalError.TheVariants as refused
 use Rattle.wl_server.specs.declared.kept.KeptGlobal.{KeptGlobal}
@@ -109,11 +109,12 @@ module _ {G : Type 0} where
   IsNextGlobal globals id =
       IsLeastAbsent name_range globals.store id.name × (globals.last_serial < last_possible_serial) × (id.serial ≡ globals.last_serial + 1)
 
-  -- A new global gets these, or there is no memory for it. It is refused where none are left.
+  -- A new global gets these, or there is no memory for a name that was never in use. It is refused where none are left.
   abbrev pub CreatesNext : Globals G → Result GlobalParts GlobalError → Type 0
   CreatesNext globals (Ok id) = IsNextGlobal globals id
   CreatesNext globals (Err refused.Full) = LacksName globals
-  CreatesNext globals (Err refused.OutOfMemory) = (id : GlobalParts) × IsNextGlobal globals id
+  CreatesNext globals (Err refused.OutOfMemory) =
+      (id : GlobalParts) × IsNextGlobal globals id × (id.name ≡ first_unused globals.store id.name)
   CreatesNext globals (Err other) = ⊥
 
   -- what the creation of a global answers: its interface is in the table, and its version not above that of the table

@@ -2,3 +2,8 @@ pub mod Ids
 pub mod Part
 pub mod Deeds
 pub mod Globals
+pub mod Telling
+pub mod Errors
+pub mod Objects
+pub mod Events
+pub mod Requests

@@ -1,0 +1,176 @@
+-- What is told to a client, and what becomes of it by that.
+--
+-- The messages of one call are put one after another, and none behind one that could not be put. A client to which one
+-- could not be put is killed: its connection is closed.
+use Rattle.std.specs.Prelude.{◌≡◌, ℕ, List, [], ◌∷◌, ◌++◌, map, Bool, true, false, if◌then◌else◌, Option, None, Some, Result}
+use Rattle.wl_wire.specs.declared.argument.Argument.TheVariants as arg
+use Rattle.wl_wire.specs.declared.error.IoFault.{IoFault}
+use Rattle.wl_wire.specs.Argument.{WireArgument}
+use Rattle.wl_wire.specs.Table.{InterfaceRow, name_of}
+use Rattle.wl_link.specs.Exchange.{Queue, Sending}
+use Rattle.wl_link.specs.Identity.{Id, Objects}
+use Rattle.wl_link.specs.Link.{LinkState}
+use Rattle.wl_link.specs.Puts.{Said}
+use Rattle.wl_link.specs.Reader.{CarriesOut, Given, HandedOut, Queued, Reader, Verdict}
+use Rattle.wl_link.specs.Reader.{Part as ReaderPart}
+use Rattle.wl_link.specs.Store.{Store, is_server_number}
+use Rattle.wl_server.specs.declared.action.OpenAction.{OpenAction}
+use Rattle.wl_server.specs.declared.kept.Kept.{Kept}
+use Rattle.wl_server.specs.declared.note.DisconnectReason.{DisconnectReason}
+use Rattle.wl_server.specs.declared.note.DisconnectReason.TheVariants.{ConnectionClosed}
+use Rattle.wl_server.specs.declared.note.Happening.{Happening}
+use Rattle.wl_server.specs.declared.note.Happening.TheVariants.{Disconnected}
+use Rattle.wl_server.specs.Deeds.{Deed, Noted, Put, Sent}
+use Rattle.wl_server.specs.Globals.{Shown}
+use Rattle.wl_server.specs.Part.{Part}
+
+-- ---- messages
+
+-- a message of the display, which is object 1 and has the serial 0
+abbrev pub by_display : ℕ → List WireArgument → Said
+by_display opcode args = record { serial = 0; message = record { sender = 1; opcode = opcode; args = args } }
+
+abbrev pub by_object : Id → ℕ → List WireArgument → Said
+by_object id opcode args = record { serial = id.serial; message = record { sender = id.number; opcode = opcode; args = args } }
+
+-- `wl_display.error`: the object that it is about, the code and the text
+abbrev pub error_message : ℕ → ℕ → List ℕ → Said
+error_message n code text = by_display 0 (arg.Object n ∷ arg.Uint code ∷ arg.Str (Some text) ∷ [])
+
+-- `wl_display.delete_id`
+abbrev pub delete_message : ℕ → Said
+delete_message n = by_display 1 (arg.Uint n ∷ [])
+
+-- a client is told only of its own numbers that they are free again
+abbrev pub deletions : ℕ → List Said
+deletions n = if is_server_number n then [] else (delete_message n ∷ [])
+
+-- `wl_callback.done`
+abbrev pub done_message : Id → Said
+done_message callback = by_object callback 0 (arg.Uint 0 ∷ [])
+
+-- `wl_registry.global`: the name, the interface's name and the version
+abbrev pub global_message : List InterfaceRow → Id → Shown → Said
+global_message table registry g =
+    by_object registry 0 (arg.Uint g.name ∷ arg.Str (Some (name_of table g.interface.0)) ∷ arg.Uint g.version ∷ [])
+
+-- `wl_registry.global_remove`
+abbrev pub removal_message : ℕ → Id → Said
+removal_message name registry = by_object registry 1 (arg.Uint name ∷ [])
+
+-- ---- all of a client's part but its link
+
+-- All of it that a call goes through, and why the client was killed in that call, if it was. Before a call that is none.
+pub record Core (U C : Type 0) : Type 0 where
+  pub info : C
+  pub store : Store (Kept U)
+  pub last_serial : ℕ
+  pub is_killed : Bool
+  pub action : Option OpenAction
+  pub registries : List Id
+  pub waiting : List (Happening U)
+  pub ended : Option DisconnectReason
+
+-- what is done beside what is put: a deed; or an answer, which is that nothing more is read
+pub data Told (U : Type 0) : Type 0 where
+  Did : Deed U → Told U
+  Stops : IoFault → Told U
+
+-- the data with which the program ends an action: a request or a bind
+pub data Finish (U : Type 0) : Type 0 where
+  OfRequest : Option U → Finish U
+  OfBind : U → Finish U
+
+-- ---- deeds
+
+module _ {U : Type 0} where
+  -- the end of the client is noted once, where it is killed
+  abbrev pub end_deeds : Option DisconnectReason → List (Deed U)
+  end_deeds None = []
+  end_deeds (Some reason) = Noted (Disconnected reason) ∷ []
+
+  abbrev pub deeds_in : List (Given (Told U)) → List (Deed U)
+  deeds_in [] = []
+  deeds_in (Queued m ∷ gave) = Put m ∷ deeds_in gave
+  deeds_in (HandedOut (Did d) ∷ gave) = d ∷ deeds_in gave
+  deeds_in (HandedOut (Stops f) ∷ gave) = deeds_in gave
+
+module _ {U C : Type 0} where
+  abbrev pub objects_in : Core U C → Objects (Kept U)
+  objects_in c = record { store = c.store; last_serial = c.last_serial }
+
+  abbrev pub with_objects : Core U C → Objects (Kept U) → Core U C
+  with_objects c objects = record c { store = objects.store; last_serial = objects.last_serial }
+
+  -- The client is killed, for this reason. Of one that is killed already only the first reason counts.
+  abbrev pub killed : Core U C → DisconnectReason → Core U C
+  killed c reason = record c { is_killed = true; ended = if c.is_killed then c.ended else Some reason }
+
+  abbrev pub closed_down : Core U C → Core U C
+  closed_down c = killed c ConnectionClosed
+
+  -- A client is told these messages. Where one could not be put it is closed down, also where there was no memory for it.
+  abbrev pub tells : Core U C → List Said → Verdict (Core U C) (Told U)
+  tells c puts = record {
+    core = c;
+    puts = puts;
+    flushes = false;
+    last = λ d. d;
+    asks = false;
+    starved = closed_down c;
+    events = λ d. [];
+  }
+
+  -- the messages of a client of which nothing is read: all that counts is that a write that fails closes it down
+  abbrev pub speaker : Reader (Core U C) (Told U) (Finish U)
+  speaker = record {
+    reads_on = λ c. false;
+    signature = λ c sender opcode. None;
+    asks = λ c sender opcode. false;
+    handles = λ c m. tells c [];
+    malformed = λ c. tells c [];
+    takes = λ c u. None;
+    broken = λ c f. closed_down c;
+    faulted = λ c f. c;
+  }
+
+  -- the sends, then what was put and done, and last the note of the client's end
+  abbrev pub deeds_of : List Sending → List (Given (Told U)) → Core U C → List (Deed U)
+  deeds_of es gave c = map Sent es ++ (deeds_in gave ++ end_deeds c.ended)
+
+module _ {T U C : Type 0} where
+  abbrev pub core_of : Part T U C → Core U C
+  core_of p = record {
+    info = p.info;
+    store = p.store;
+    last_serial = p.last_serial;
+    is_killed = p.is_killed;
+    action = p.action;
+    registries = p.registries;
+    waiting = p.waiting;
+    ended = None;
+  }
+
+  abbrev pub part_of : ReaderPart T (Core U C) → Part T U C
+  part_of p = record {
+    link = p.link;
+    info = p.core.info;
+    store = p.core.store;
+    last_serial = p.core.last_serial;
+    is_killed = p.core.is_killed;
+    action = p.core.action;
+    registries = p.core.registries;
+    waiting = p.core.waiting;
+  }
+
+  -- what comes of a client that this is said of, over the link; and whether memory was refused in it
+  abbrev pub Tells : (T → Queue → Result ℕ IoFault → T → Type 0) → Verdict (Core U C) (Told U) → LinkState T → Bool → List (Deed U)
+      → Part T U C → Type 0
+  Tells sends v link refused did after =
+      (es : List Sending) × (gave : List (Given (Told U))) × (end : ReaderPart T (Core U C))
+      × CarriesOut sends speaker v link es gave refused end × (did ≡ deeds_of es gave end.core) × (after ≡ part_of end)
+
+  -- the client is killed, and that is noted with its reason; a killed one stays as it is
+  abbrev pub Kills : Part T U C → DisconnectReason → List (Deed U) → Part T U C → Type 0
+  Kills before reason did after =
+      (did ≡ end_deeds (killed (core_of before) reason).ended) × (after ≡ record before { is_killed = true })
