@@ -1,5 +1,5 @@
 -- The globals that a server offers, by their names, and what a client sees of them.
-use Rattle.std.specs.Prelude.{◌≡◌, ℕ, ◌+◌, ◌<◌, ◌⊎◌, List, [], ◌∷◌, map, Bool, true, false, not, ◌&&◌, nat_le, Option, None, Some, Result, Ok, Err, slice_get, MatchOption, MatchBool}
+use Rattle.std.specs.Prelude.{◌≡◌, ℕ, ◌+◌, ◌<◌, ◌⊎◌, List, map, Bool, true, false, not, ◌&&◌, nat_le, Option, None, Some, Result, Ok, Err, slice_get, MatchOption, MatchBool}
 use Rattle.std.specs.List.{filter}
 use Rattle.std.specs.FinMap as finmap
 use Rattle.wl_wire.specs.declared.interface.InterfaceId.{InterfaceId}

@@ -7,3 +7,8 @@ pub mod Errors
 pub mod Objects
 pub mod Events
 pub mod Requests
+pub mod Finish
+pub mod Reading
+pub mod Felt
+pub mod Server
+pub mod Moves

@@ -1,5 +1,5 @@
 -- What the calls on a client's objects answer, and what they change.
-use Rattle.std.specs.Prelude.{◌≡◌, ℕ, ◌+◌, ◌⊎◌, List, [], ◌++◌, Bool, true, false, ◌==◌, if◌then◌else◌, Option, None, Some, is_some, Result, Ok, Err, MatchOption, MatchBool, map, slice_get}
+use Rattle.std.specs.Prelude.{◌≡◌, ℕ, ◌+◌, ◌⊎◌, List, [], ◌++◌, Bool, false, ◌==◌, if◌then◌else◌, Option, None, Some, is_some, Result, Ok, Err, MatchOption, MatchBool, map, slice_get}
 use Rattle.wl_wire.specs.declared.error.IoFault.{IoFault}
 use Rattle.wl_wire.specs.declared.interface.InterfaceId.{InterfaceId}
 use Rattle.wl_wire.specs.Table.{InterfaceRow}

@@ -134,9 +134,9 @@ module _ {U C : Type 0} where
     faulted = λ c f. c;
   }
 
-  -- the sends, then what was put and done, and last the note of the client's end
-  abbrev pub deeds_of : List Sending → List (Given (Told U)) → Core U C → List (Deed U)
-  deeds_of es gave c = map Sent es ++ (deeds_in gave ++ end_deeds c.ended)
+  -- the exchanges with the transport, then what was put and done, and last the note of the client's end
+  abbrev pub deeds_of : List (Deed U) → List (Given (Told U)) → Core U C → List (Deed U)
+  deeds_of exchanges gave c = exchanges ++ (deeds_in gave ++ end_deeds c.ended)
 
 module _ {T U C : Type 0} where
   abbrev pub core_of : Part T U C → Core U C
@@ -150,6 +150,10 @@ module _ {T U C : Type 0} where
     waiting = p.waiting;
     ended = None;
   }
+
+  -- a client as a part whose core goes through a call
+  abbrev pub reader_part : Part T U C → ReaderPart T (Core U C)
+  reader_part p = record { core = core_of p; link = p.link }
 
   abbrev pub part_of : ReaderPart T (Core U C) → Part T U C
   part_of p = record {
@@ -168,7 +172,7 @@ module _ {T U C : Type 0} where
       → Part T U C → Type 0
   Tells sends v link refused did after =
       (es : List Sending) × (gave : List (Given (Told U))) × (end : ReaderPart T (Core U C))
-      × CarriesOut sends speaker v link es gave refused end × (did ≡ deeds_of es gave end.core) × (after ≡ part_of end)
+      × CarriesOut sends speaker v link es gave refused end × (did ≡ deeds_of (map Sent es) gave end.core) × (after ≡ part_of end)
 
   -- the client is killed, and that is noted with its reason; a killed one stays as it is
   abbrev pub Kills : Part T U C → DisconnectReason → List (Deed U) → Part T U C → Type 0
