@@ -2,7 +2,7 @@
 --
 -- Each call comes with its deeds, and what is told of a call to others hides them. No program stores them. The log of a
 -- client, what its transport took, what its registries announced and what was noted are read off them.
-use Rattle.std.specs.Prelude.{ℕ, List, [], ◌∷◌, ◌++◌, Bool, Option, None, Some, Result}
+use Rattle.std.specs.Prelude.{ℕ, List, [], ◌∷◌, Bool, Option, None, Some, Result}
 use Rattle.wl_wire.specs.declared.argument.Argument.{Argument}
 use Rattle.wl_wire.specs.declared.argument.Token.{Token}
 use Rattle.wl_wire.specs.declared.error.IoFault.{IoFault}
@@ -37,8 +37,8 @@ pub data Deed (U : Type 0) : Type 0 where
   Noted : Happening U → Deed U
   -- an action was handed out
   Acted : Handed → Deed U
-  -- the notes of it were handed out
-  NotesTaken : List (Happening U) → Deed U
+  -- a note of it was handed out
+  NoteTaken : Happening U → Deed U
 
 module _ {U : Type 0} where
   -- the messages that were put
@@ -74,7 +74,7 @@ module _ {U : Type 0} where
   -- the notes that were handed out
   abbrev pub taken_in : List (Deed U) → List (Happening U)
   taken_in [] = []
-  taken_in (NotesTaken notes ∷ did) = notes ++ taken_in did
+  taken_in (NoteTaken h ∷ did) = h ∷ taken_in did
   taken_in (_ ∷ did) = taken_in did
 
   abbrev pub left_if : Id → Option U → List (Deed U)

@@ -12,3 +12,5 @@ pub mod Reading
 pub mod Felt
 pub mod Server
 pub mod Moves
+pub mod PartStep
+pub mod Steps

@@ -1,0 +1,118 @@
+-- What a call does to a server: to what all clients share, and to what is held of every client id.
+use Rattle.std.specs.Prelude.{◌≡◌, ℕ, ◌+◌, ◌<◌, ◌⊎◌, List, Bool, true, false, Option, None, IsSome, Result, Ok, Err, AllPairs, ◌↔◌}
+use Rattle.wl_wire.specs.declared.interface.InterfaceId.{InterfaceId}
+use Rattle.wl_server.specs.declared.error.GlobalError.TheVariants as global
+use Rattle.wl_server.specs.declared.error.InsertClientError.{InsertClientError}
+use Rattle.wl_server.specs.declared.error.InsertClientError.TheVariants as insert
+use Rattle.wl_server.specs.declared.step.Reply.{Reply}
+use Rattle.wl_server.specs.declared.step.Reply.TheVariants as reply
+use Rattle.wl_server.specs.declared.step.Step.{Step}
+use Rattle.wl_server.specs.declared.step.Step.TheVariants as step
+use Rattle.wl_server.specs.Deeds.{Deed}
+use Rattle.wl_server.specs.Globals.{Globals, Offer, CreatesGlobal, disabled, freed, with_created, with_globals}
+use Rattle.wl_server.specs.Ids.{ClientParts}
+use Rattle.wl_server.specs.Part.{last_possible_serial}
+use Rattle.wl_server.specs.PartStep.{Asked, Call, PartCall, World}
+use Rattle.wl_server.specs.Server.{ServerState, Stored, seen, stored_at}
+
+-- A call of a run, whether memory was refused in it, and of each client id whether it was refused to that client, and the
+-- deeds of the call with it: its sends and receives among them.
+pub record Entry (T U G C : Type 0) : Type 0 where
+  pub call : Call T U G C
+  pub refused : Bool
+  pub lacks : ClientParts → Bool
+  pub did : ClientParts → List (Deed U)
+
+-- ---- new clients
+
+module _ {T U C : Type 0} where
+  -- the least slot that no client has
+  pub record IsLeastFree (clients : List (Option (Stored T U C))) (slot : ℕ) : Type 0 where
+    pub below : slot < 0x100000000
+    pub free : stored_at slot clients ≡ None
+    pub least : (k : ℕ) → k < slot → IsSome (stored_at k clients)
+
+  -- each slot has a client, or each serial was given out
+  abbrev pub LacksSlot : ℕ → List (Option (Stored T U C)) → Type 0
+  LacksSlot last clients = ((k : ℕ) → k < 0x100000000 → IsSome (stored_at k clients)) ⊎ (last ≡ last_possible_serial)
+
+  abbrev pub IsNextClient : ℕ → List (Option (Stored T U C)) → ClientParts → Type 0
+  IsNextClient last clients id = IsLeastFree clients id.slot × (last < last_possible_serial) × (id.serial ≡ last + 1)
+
+  -- A new client gets the least free slot and the next serial, or there is no memory for it. It is refused where none are
+  -- left.
+  abbrev pub InsertsNext : ℕ → List (Option (Stored T U C)) → Result ClientParts InsertClientError → Type 0
+  InsertsNext last clients (Ok id) = IsNextClient last clients id
+  InsertsNext last clients (Err insert.Full) = LacksSlot last clients
+  InsertsNext last clients (Err insert.OutOfMemory) = (id : ClientParts) × IsNextClient last clients id
+
+module _ {T U G C : Type 0} where
+  abbrev pub NumbersClient : ServerState T U G C → Call T U G C → Type 0
+  NumbersClient before (Asked (step.InsertClient _ _) (reply.InsertClient r)) = InsertsNext before.last_client before.clients r
+  NumbersClient before _ = Unit {0}
+
+  -- how many clients a call inserts
+  abbrev pub inserted_by : Call T U G C → ℕ
+  inserted_by (Asked (step.InsertClient _ _) (reply.InsertClient (Ok id))) = 1
+  inserted_by _ = 0
+
+-- ---- what all clients share
+
+abbrev pub created_by : {T U G : Type 0} → Globals G → InterfaceId → ℕ → G → Reply T U → Globals G
+created_by globals i version handler (reply.CreateGlobal r) = with_created globals i version handler r
+created_by globals i version handler _ = globals
+
+module _ {T U G C : Type 0} where
+  -- the offer after a call, by its reply
+  abbrev pub offer_after : Offer G → Call T U G C → Offer G
+  offer_after offer (Asked (step.CreateGlobal i version handler) answer) =
+      with_globals offer (created_by offer.globals i version handler answer)
+  offer_after offer (Asked (step.DisableGlobal g) answer) = with_globals offer (disabled offer.globals g)
+  offer_after offer (Asked (step.RemoveGlobal g) answer) = with_globals offer (freed offer.globals g)
+  offer_after offer (Asked (step.SetDefaultMaxBufferSize limit) answer) = record offer { default_limit = limit }
+  offer_after offer _ = offer
+
+  -- a new global has the least free name and the next serial, and each refusal of one has its reason
+  abbrev pub NumbersGlobal : Offer G → Call T U G C → Type 0
+  NumbersGlobal offer (Asked (step.CreateGlobal i version handler) (reply.CreateGlobal r)) = CreatesGlobal offer.table offer.globals i version r
+  NumbersGlobal offer _ = Unit {0}
+
+  -- the clients that a cleanup takes out stand by slot
+  abbrev pub RisesBySlot : Call T U G C → Type 0
+  RisesBySlot (Asked step.Cleanup (reply.Cleanup (Ok out))) = AllPairs (λ a b. a.0.slot < b.0.slot) out.items
+  RisesBySlot _ = Unit {0}
+
+  -- ---- whether memory was refused
+
+  -- the call met a want of memory for what it makes of its own, and not of any client
+  abbrev pub lacks_growth : Call T U G C → Bool
+  lacks_growth (Asked _ (reply.InsertClient (Err insert.OutOfMemory))) = true
+  lacks_growth (Asked _ (reply.CreateGlobal (Err global.OutOfMemory))) = true
+  lacks_growth (Asked _ (reply.Cleanup (Err _))) = true
+  lacks_growth (Asked _ (reply.TakeNotes (Err _))) = true
+  lacks_growth _ = false
+
+  -- it was refused exactly where that was, or to some client
+  abbrev pub IsRefused : Entry T U G C → Type 0
+  IsRefused e = (e.refused ≡ true) ↔ ((lacks_growth e.call ≡ true) ⊎ ((id : ClientParts) × (e.lacks id ≡ true)))
+
+-- ---- a call
+
+-- a call of a server, with all that an entry says of it
+pub record OneStep {T U G C : Type 0} (w : World T G C) (before : ServerState T U G C) (e : Entry T U G C) (after : ServerState T U G C) : Type 0 where
+  pub offer : after.offer ≡ offer_after before.offer e.call
+  pub last : after.last_client ≡ before.last_client + inserted_by e.call
+  pub client : NumbersClient before e.call
+  pub global : NumbersGlobal before.offer e.call
+  pub order : RisesBySlot e.call
+  pub refused : IsRefused e
+  pub each : (id : ClientParts) → PartCall w id before.offer e.call (seen id before) (e.lacks id) (e.did id) (seen id after)
+
+module _ {T U G C : Type 0} (w : World T G C) where
+  -- a call, and whether memory was refused in it, by some deeds
+  abbrev pub Makes : ServerState T U G C → Call T U G C → Bool → ServerState T U G C → Type 0
+  Makes before call refused after = (e : Entry T U G C) × (e.call ≡ call) × (e.refused ≡ refused) × OneStep w before e after
+
+  -- a step, its reply, and whether memory was refused in it
+  abbrev pub StepOf : ServerState T U G C → Step T U G C → Reply T U → Bool → ServerState T U G C → Type 0
+  StepOf before s answer refused after = Makes before (Asked s answer) refused after
