@@ -34,8 +34,8 @@ module _ {T U C : Type 0} (sends : T → Queue → Result ℕ IoFault → T → 
       MatchBool before.is_killed (Stays before lacked did after) (Tells sends (tells (core_of before) messages) before.link lacked did after)
 
   -- what waits for the client is flushed
-  abbrev pub Flushes : Part T U C → Result (Unit {0}) IoFault → Bool → List (Deed U) → Part T U C → Type 0
-  Flushes before answer lacked did after =
+  abbrev pub FlushedTo : Part T U C → Result (Unit {0}) IoFault → Bool → List (Deed U) → Part T U C → Type 0
+  FlushedTo before answer lacked did after =
       (es : List Sending) × (link : LinkState T) × FlushedBy sends before.link es answer link
       × (lacked ≡ lacked_memory answer) × (did ≡ map Sent es) × (after ≡ with_link before link)
 
@@ -43,7 +43,7 @@ module _ {T U C : Type 0} (sends : T → Queue → Result ℕ IoFault → T → 
   abbrev pub FlushesLive : Part T U C → Bool → List (Deed U) → Part T U C → Type 0
   FlushesLive before lacked did after =
       MatchBool before.is_killed (Stays before lacked did after)
-      ((answer : Result (Unit {0}) IoFault) × Flushes before answer lacked did after)
+      ((answer : Result (Unit {0}) IoFault) × FlushedTo before answer lacked did after)
 
 -- ---- a cleanup
 
@@ -59,7 +59,7 @@ module _ {T U C : Type 0} (sends : T → Queue → Result ℕ IoFault → T → 
   abbrev pub Cleaned : Part T U C → Bool → List (Deed U) → List T → Option (Part T U C) → Type 0
   Cleaned before lacked did out after =
       MatchBool before.is_killed
-      ((sent : List (Deed U)) × (answer : Result (Unit {0}) IoFault) × (end : Part T U C) × Flushes sends before answer lacked sent end
+      ((sent : List (Deed U)) × (answer : Result (Unit {0}) IoFault) × (end : Part T U C) × FlushedTo sends before answer lacked sent end
       × (did ≡ map Noted before.waiting ++ (objects_leave client (finmap.entries before.store.objects) ++ sent))
       × (out ≡ end.link.transport ∷ []) × (after ≡ None))
       ((lacked ≡ false) × (did ≡ map Noted before.waiting) × (out ≡ []) × (after ≡ Some (record before { waiting = [] })))

@@ -14,3 +14,5 @@ pub mod Server
 pub mod Moves
 pub mod PartStep
 pub mod Steps
+pub mod Runs
+pub mod Lookups

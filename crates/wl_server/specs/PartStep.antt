@@ -32,7 +32,7 @@ use Rattle.wl_server.specs.declared.step.Step.TheVariants as step
 use Rattle.wl_server.specs.Deeds.{Deed, Handed, NoteTaken, Noted, notes_in}
 use Rattle.wl_server.specs.Errors.{PostsError}
 use Rattle.wl_server.specs.Events.{SendsEvent, session_content}
-use Rattle.wl_server.specs.Felt.{Cleaned, Flushes, FlushesLive, Hears, news, removals}
+use Rattle.wl_server.specs.Felt.{Cleaned, FlushedTo, FlushesLive, Hears, news, removals}
 use Rattle.wl_server.specs.Finish.{FinishesBind, FinishesRequest}
 use Rattle.wl_server.specs.Globals.{Offer, global_of, is_enabled}
 use Rattle.wl_server.specs.Ids.{ClientParts, GlobalParts, IdParts, same_client}
@@ -143,7 +143,7 @@ module _ {T U G C : Type 0} (w : World T G C) (id : ClientParts) (offer : Offer 
   FlushedFor None answer before lacked did after =
       (answer ≡ Ok tt) × Feels before (λ p q. FlushesLive w.sends p lacked did q) lacked did after
   FlushedFor (Some target) answer before lacked did after =
-      OfClient (same_client target id) before (λ p q. Flushes w.sends p answer lacked did q) (answer ≡ Ok tt) lacked did after
+      OfClient (same_client target id) before (λ p q. FlushedTo w.sends p answer lacked did q) (answer ≡ Ok tt) lacked did after
 
   -- a cleanup hands out the transports of the clients that it takes out, or changes nothing for want of memory
   abbrev pub CleanedAs : Result (Vec (ClientParts × T) Global) OutOfMemory → Seen T U C → Bool → List (Deed U) → Seen T U C → Type 0

@@ -1,0 +1,4 @@
+mod Rows
+mod ReadingRows
+mod CallRows
+mod ServerRows

@@ -1,0 +1,150 @@
+-- The calls of a server one after another, and one client's alone.
+use Rattle.std.specs.Prelude.{◌≡◌, ℕ, ◌+◌, ◌<◌, List, [], ◌∷◌, ◌++◌, Bool, true, false, if◌then◌else◌, None, Some, Ok}
+use Rattle.wl_wire.specs.Table.{InterfaceRow}
+use Rattle.wl_link.specs.Link.{LinkState, IsFresh}
+use Rattle.wl_link.specs.Runs.{Entry as RunEntry, Leads as RunLeads, StopsAt as RunStopsAt}
+use Rattle.wl_server.specs.declared.note.Happening.TheVariants.{Initialized}
+use Rattle.wl_server.specs.declared.step.Reply.{Reply}
+use Rattle.wl_server.specs.declared.step.Reply.TheVariants as reply
+use Rattle.wl_server.specs.declared.step.Step.{Step}
+use Rattle.wl_server.specs.declared.step.Step.TheVariants as step
+use Rattle.wl_server.specs.Deeds.{Deed}
+use Rattle.wl_server.specs.Globals.{Offer, new_offer}
+use Rattle.wl_server.specs.Ids.{ClientParts, same_client}
+use Rattle.wl_server.specs.Part.{fresh_part, last_possible_serial}
+use Rattle.wl_server.specs.PartStep.{Asked, Call, Changed, PartCall, World}
+use Rattle.wl_server.specs.Server.{Seen, ServerState, nothing_seen, seen}
+use Rattle.wl_server.specs.Steps.{Entry, NumbersGlobal, OneStep, StepOf, inserted_by, offer_after}
+
+-- ---- runs of a server
+
+module _ {T U G C : Type 0} (w : World T G C) where
+  -- the entries lead from one value of the server to another
+  abbrev pub Leads : ServerState T U G C → List (Entry T U G C) → ServerState T U G C → Type 0
+  Leads before [] after = after ≡ before
+  Leads before (e ∷ run) after = (mid : ServerState T U G C) × OneStep w before e mid × Leads mid run after
+
+  -- steps with these replies, and of each whether memory was refused in it, lead from one value to another, by some deeds
+  abbrev pub Performs : ServerState T U G C → List (RunEntry (Step T U G C) (Reply T U)) → ServerState T U G C → Type 0
+  Performs before run after = RunLeads (StepOf w) before run after
+
+  -- A run stopped in a step: there was no room for the replies, and nothing was done; or the steps before it were made with
+  -- these replies, and it met a want of memory.
+  abbrev pub StopsAt : ServerState T U G C → List (Step T U G C) → ℕ → List (Reply T U) → ServerState T U G C → Type 0
+  StopsAt before steps n replies after = RunStopsAt (StepOf w) before steps n replies after
+
+-- ---- one client's calls
+
+-- whether a step names the client, or is about none; the insertion of a client is not among another's steps
+abbrev pub is_about : {T U G C : Type 0} → ClientParts → Step T U G C → Bool
+is_about id (step.InsertClient _ _) = false
+is_about id (step.SetObjectData o _) = same_client o.client id
+is_about id (step.CreateObject target _ _ _) = same_client target id
+is_about id (step.DestroyObject o) = same_client o.client id
+is_about id (step.SendEvent m) = same_client m.sender_id.client id
+is_about id (step.PostError o _ _) = same_client o.client id
+is_about id (step.KillClient target _) = same_client target id
+is_about id (step.CreateGlobal _ _ _) = true
+is_about id (step.DisableGlobal _) = true
+is_about id (step.RemoveGlobal _) = true
+is_about id (step.Flush None) = true
+is_about id (step.Flush (Some target)) = same_client target id
+is_about id (step.SetDefaultMaxBufferSize _) = true
+is_about id (step.SetClientMaxBufferSize target _) = same_client target id
+is_about id (step.NextAction target) = same_client target id
+is_about id (step.NextActionWithin target _) = same_client target id
+is_about id (step.FinishRequest target _) = same_client target id
+is_about id (step.FinishBind target _) = same_client target id
+is_about id step.Cleanup = true
+is_about id step.TakeNotes = true
+is_about id (step.Arrive target _ _) = same_client target id
+is_about id (step.ArriveFault target _) = same_client target id
+is_about id (step.Accept target _) = same_client target id
+is_about id (step.AcceptFault target _) = same_client target id
+is_about id (step.TakeSent target) = same_client target id
+
+abbrev pub concerns : {T U G C : Type 0} → ClientParts → Call T U G C → Bool
+concerns id (Asked s answer) = is_about id s
+concerns id (Changed target t) = same_client target id
+
+-- what one client's run has of an entry: the call, whether memory was refused to this client, and the deeds with it
+pub record Own (T U G C : Type 0) : Type 0 where
+  pub call : Call T U G C
+  pub lacked : Bool
+  pub did : List (Deed U)
+
+-- what is held of a client that was just inserted
+abbrev pub begun : {T U C : Type 0} → LinkState T → C → Seen T U C
+begun link info = record { part = Some (fresh_part link info); made = Initialized ∷ [] }
+
+module _ {T U G C : Type 0} where
+  abbrev pub own_of : ClientParts → Entry T U G C → Own T U G C
+  own_of id e = record { call = e.call; lacked = e.lacks id; did = e.did id }
+
+  -- a client's own calls, and those that are about none
+  abbrev pub mine : ClientParts → List (Entry T U G C) → List (Own T U G C)
+  mine id [] = []
+  mine id (e ∷ run) = if concerns id e.call then (own_of id e ∷ mine id run) else mine id run
+
+  -- all deeds with the client, in order
+  abbrev pub history : List (Own T U G C) → List (Deed U)
+  history [] = []
+  history (e ∷ run) = e.did ++ history run
+
+  -- the offer after a run
+  abbrev pub offer_over : Offer G → List (Entry T U G C) → Offer G
+  offer_over offer [] = offer
+  offer_over offer (e ∷ run) = offer_over (offer_after offer e.call) run
+
+  -- From the offer and what is held of one client to what is then held of it, by its own calls and the shared ones alone: no
+  -- other client is there.
+  abbrev pub Alone : World T G C → ClientParts → Offer G → Seen T U C → List (Own T U G C) → Seen T U C → Type 0
+  Alone w id offer before [] after = after ≡ before
+  Alone w id offer before (e ∷ run) after =
+      (mid : Seen T U C) × PartCall w id offer e.call before e.lacked e.did mid × Alone w id (offer_after offer e.call) mid run after
+
+  -- ---- isolation
+
+  -- What is held of a client that was inserted in the run is what its own calls and the shared ones lead to alone, begun
+  -- with the id that it got and the offer of that moment.
+  abbrev pub EachAlone : World T G C → List InterfaceRow → List (Entry T U G C) → ServerState T U G C → Type 0
+  EachAlone w table run after =
+      (id : ClientParts) (transport : T) (info : C) (earlier later : List (Entry T U G C)) (e : Entry T U G C) →
+      run ≡ earlier ++ e ∷ later → e.call ≡ Asked (step.InsertClient transport info) (reply.InsertClient (Ok id)) →
+      (link : LinkState T) × IsFresh transport (Some (offer_over (new_offer table) earlier).default_limit) link
+      × Alone w id (offer_over (new_offer table) (earlier ++ e ∷ [])) (begun link info) (mine id later) (seen id after)
+
+  abbrev pub IsNotInserted : ClientParts → Call T U G C → Type 0
+  IsNotInserted id (Asked (step.InsertClient _ _) (reply.InsertClient (Ok new))) = same_client new id ≡ false
+  IsNotInserted id _ = Unit {0}
+
+  -- no call inserts the client
+  abbrev pub IsNeverInserted : ClientParts → List (Entry T U G C) → Type 0
+  IsNeverInserted id [] = Unit {0}
+  IsNeverInserted id (e ∷ run) = IsNotInserted id e.call × IsNeverInserted id run
+
+  -- Of a client that is not inserted nothing is held, and each reply to a call that names it is that to a client that is not
+  -- stored.
+  abbrev pub NoneUnseen : World T G C → List InterfaceRow → List (Entry T U G C) → ServerState T U G C → Type 0
+  NoneUnseen w table run after =
+      (id : ClientParts) → IsNeverInserted id run
+      → (seen id after ≡ nothing_seen) × Alone w id (new_offer table) nothing_seen (mine id run) nothing_seen
+
+  -- a new client has the next serial
+  abbrev pub HasNextSerial : ℕ → Call T U G C → Type 0
+  HasNextSerial last (Asked (step.InsertClient _ _) (reply.InsertClient (Ok id))) = (last < last_possible_serial) × (id.serial ≡ last + 1)
+  HasNextSerial last _ = Unit {0}
+
+  -- From the offer and the last serial before, each global and each client is numbered by these values alone, and the run
+  -- leads to those after.
+  abbrev pub SharedAlone : Offer G → ℕ → List (Entry T U G C) → Offer G → ℕ → Type 0
+  SharedAlone offer last [] offer' last' = (offer' ≡ offer) × (last' ≡ last)
+  SharedAlone offer last (e ∷ run) offer' last' =
+      NumbersGlobal offer e.call × HasNextSerial last e.call
+      × SharedAlone (offer_after offer e.call) (last + inserted_by e.call) run offer' last'
+
+-- What holds of a run of a new server: of each client that was inserted, of each that was not, and of what all share.
+pub record IsIsolated {T U G C : Type 0} (w : World T G C) (table : List InterfaceRow) (run : List (Entry T U G C)) (after : ServerState T U G C) : Type 0 where
+  pub each : EachAlone w table run after
+  pub unseen : NoneUnseen w table run after
+  pub shared : SharedAlone (new_offer table) 0 run after.offer after.last_client
