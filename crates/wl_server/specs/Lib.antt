@@ -16,3 +16,4 @@ pub mod PartStep
 pub mod Steps
 pub mod Runs
 pub mod Lookups
+pub mod IsolationLaw

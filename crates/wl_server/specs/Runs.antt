@@ -114,9 +114,12 @@ module _ {T U G C : Type 0} where
       (link : LinkState T) × IsFresh transport (Some (offer_over (new_offer table) earlier).default_limit) link
       × Alone w id (offer_over (new_offer table) (earlier ++ e ∷ [])) (begun link info) (mine id later) (seen id after)
 
+  -- a call inserts this client
+  abbrev pub Inserts : ClientParts → Call T U G C → Type 0
+  Inserts new call = (transport : T) × (info : C) × (call ≡ Asked (step.InsertClient transport info) (reply.InsertClient (Ok new)))
+
   abbrev pub IsNotInserted : ClientParts → Call T U G C → Type 0
-  IsNotInserted id (Asked (step.InsertClient _ _) (reply.InsertClient (Ok new))) = same_client new id ≡ false
-  IsNotInserted id _ = Unit {0}
+  IsNotInserted id call = (new : ClientParts) → Inserts new call → same_client new id ≡ false
 
   -- no call inserts the client
   abbrev pub IsNeverInserted : ClientParts → List (Entry T U G C) → Type 0
@@ -132,8 +135,7 @@ module _ {T U G C : Type 0} where
 
   -- a new client has the next serial
   abbrev pub HasNextSerial : ℕ → Call T U G C → Type 0
-  HasNextSerial last (Asked (step.InsertClient _ _) (reply.InsertClient (Ok id))) = (last < last_possible_serial) × (id.serial ≡ last + 1)
-  HasNextSerial last _ = Unit {0}
+  HasNextSerial last call = (new : ClientParts) → Inserts new call → (last < last_possible_serial) × (new.serial ≡ last + 1)
 
   -- From the offer and the last serial before, each global and each client is numbered by these values alone, and the run
   -- leads to those after.
