@@ -4,6 +4,7 @@ use Rattle.std.specs.Prelude.{MatchBool, if◌then◌else◌, ◌==◌, ◌&&◌
 use Rattle.std.proofs.lemmas.Bool.{eqb-true, eq-eqb, false≢true}
 use Rattle.wl_wire.specs.Table.{InterfaceRow}
 use Rattle.wl_link.specs.Link.{LinkState, IsFresh}
+use Rattle.wl_link.specs.Runs.{Entry as RunEntry}
 use Rattle.wl_server.specs.declared.error.InsertClientError.{InsertClientError}
 use Rattle.wl_server.specs.declared.error.InsertClientError.TheVariants as insert
 use Rattle.wl_server.specs.declared.note.Happening.TheVariants.{Initialized}
@@ -16,7 +17,7 @@ use Rattle.wl_server.specs.Globals.{Offer}
 use Rattle.wl_server.specs.Ids.{ClientParts, same_client}
 use Rattle.wl_server.specs.Part.{Part, fresh_part}
 use Rattle.wl_server.specs.PartStep.{Asked, Call, Changed, Inserted, InsertedAs, OfClient, PartCall, PartStep, Unfelt, World}
-use Rattle.wl_server.specs.Runs.{Alone, EachAlone, Inserts, IsIsolated, IsNeverInserted, IsNotInserted, Leads, SharedAlone, begun, concerns, is_about, mine, offer_over, own_of}
+use Rattle.wl_server.specs.Runs.{Alone, AreIsolated, AreOf, EachAlone, Inserts, IsIsolated, IsNeverInserted, IsNotInserted, Leads, Performs, SharedAlone, begun, concerns, is_about, mine, offer_over, own_of}
 use Rattle.wl_server.specs.Server.{Seen, ServerState, new_server, nothing_seen, seen}
 use Rattle.wl_server.specs.Steps.{Entry, InsertsNext, NumbersClient, OneStep, inserted_by, offer_after}
 
@@ -348,3 +349,15 @@ module _ {T U G C : Type 0} where
     unseen = λ id none. unseen_run w id (new_server table) after run refl none leads;
     shared = shared_run w (new_server table) after run leads;
   }
+
+  -- steps with their replies have deeds, of each client
+  performed : (w : World T G C) (before after : ServerState T U G C) (steps : List (RunEntry (Step T U G C) (Reply T U))) → Performs w before steps after
+      → (run : List (Entry T U G C)) × AreOf steps run × Leads w before run after
+  performed w before after [] same = ([], tt, same)
+  performed w before after (r ∷ steps) (mid, (e, call, refused, by), leads) =
+      let (run, are, rest) = performed w mid after steps leads in (e ∷ run, (call, refused, are), (mid, by, rest))
+
+  pub are_isolated : (w : World T G C) (table : List InterfaceRow) (steps : List (RunEntry (Step T U G C) (Reply T U))) (after : ServerState T U G C)
+      → Performs w (new_server table) steps after → AreIsolated w table steps after
+  are_isolated w table steps after performs =
+      let (run, are, leads) = performed w (new_server table) after steps performs in (run, are, leads, is_isolated w table run after leads)

@@ -12,6 +12,7 @@ use Rattle.wl_wire.specs.declared.error.OutOfMemory.{OutOfMemory}
 use Rattle.wl_wire.specs.declared.interface.InterfaceId.{InterfaceId}
 use Rattle.wl_link.specs.Exchange.{Queue}
 use Rattle.wl_link.specs.Link.{LinkState, IsFresh, LimitSet, with_transport}
+use Rattle.wl_link.specs.Script.{Script, ScriptReceives, ScriptSends}
 use Rattle.wl_server.specs.declared.action.Reading.{Reading}
 use Rattle.wl_server.specs.declared.error.ActionError.{ActionError}
 use Rattle.wl_server.specs.declared.error.ActionError.TheVariants.{Io}
@@ -36,7 +37,7 @@ use Rattle.wl_server.specs.Felt.{Cleaned, FlushedTo, FlushesLive, Hears, news, r
 use Rattle.wl_server.specs.Finish.{FinishesBind, FinishesRequest}
 use Rattle.wl_server.specs.Globals.{Offer, global_of, is_enabled}
 use Rattle.wl_server.specs.Ids.{ClientParts, GlobalParts, IdParts, same_client}
-use Rattle.wl_server.specs.Moves.{Accept, AcceptFault, Arrive, ArriveFault, Move, Moved, TakeSent, done, taken}
+use Rattle.wl_server.specs.Moves.{Accept, AcceptFault, Arrive, ArriveFault, Move, Moved, ScriptMoves, TakeSent, done, no_moves, taken}
 use Rattle.wl_server.specs.Objects.{Creates, DataSet, Destroys}
 use Rattle.wl_server.specs.Part.{Part, fresh_part, with_link}
 use Rattle.wl_server.specs.Reading.{Around, NextAction, action_content, new_reading}
@@ -50,6 +51,15 @@ pub record World (T G C : Type 0) : Type 1 where
   pub receives : T → ℕ → Result Queue IoFault → T → Type 0
   pub moves : T → Move → Moved → T → Type 0
   pub views : G → ClientParts → C → GlobalParts → Bool
+
+-- over any transport, which its program may change as it likes
+abbrev pub over : {T G C : Type 0} → (T → Queue → Result ℕ IoFault → T → Type 0) → (T → ℕ → Result Queue IoFault → T → Type 0)
+    → (G → ClientParts → C → GlobalParts → Bool) → World T G C
+over sends receives views = record { sends = sends; receives = receives; moves = no_moves; views = views }
+
+-- over the transport by script
+abbrev pub over_scripts : {G C : Type 0} → (G → ClientParts → C → GlobalParts → Bool) → World Script G C
+over_scripts views = record { sends = ScriptSends; receives = ScriptReceives; moves = ScriptMoves; views = views }
 
 -- A call of a server: a step with its reply; or the program changed the transport of a client, to this value.
 pub data Call (T U G C : Type 0) : Type 0 where

@@ -9,7 +9,9 @@ mod action;
 mod client_id;
 mod error;
 mod global_id;
+mod handler;
 mod kept;
+mod laws;
 mod note;
 mod object_id;
 mod request_fault;
@@ -22,6 +24,8 @@ pub use error::{
     InsertClientError, InvalidId, ScriptError,
 };
 pub use global_id::{GlobalId, GlobalInfo};
+pub use handler::GlobalHandler;
+pub use laws::{each_client_is_alone, each_client_of_a_script_is_alone};
 pub use note::{DisconnectReason, Note};
 pub use object_id::ObjectId;
 pub use step::{Reply, Step, Stopped};

@@ -1,0 +1,20 @@
+//! What a program says of its globals.
+
+ghost use Rattle.std.specs.Prelude.{◌≡◌, Bool};
+
+use crate::client_id::ClientId;
+use crate::global_id::GlobalId;
+
+/// Which clients may see a global.
+///
+/// The answer is a function of the handler, the client's id and data, and the global's id: a server asks as often as it
+/// likes, and rests on the same answer each time.
+pub trait GlobalHandler<C> {
+    ghost use Rattle.wl_server.specs.Ids.{ClientParts, GlobalParts};
+
+    ghost views: { Self → ClientParts → C → GlobalParts → Bool };
+
+    /// Whether the client may see the global.
+    fn can_view(&self, client: &ClientId, info: &C, global: &GlobalId) -> bool
+        ensures { result ≡ views self.now client.now info.now global.now };
+}
