@@ -2,3 +2,4 @@ mod Rows
 mod ReadingRows
 mod CallRows
 mod ServerRows
+mod HoleRows
