@@ -17,3 +17,4 @@ pub mod Steps
 pub mod Runs
 pub mod Lookups
 pub mod IsolationLaw
+pub mod ReaderLaws
