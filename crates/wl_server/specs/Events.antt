@@ -1,5 +1,5 @@
 -- What an event does that the program sends.
-use Rattle.std.specs.Prelude.{◌≡◌, ℕ, ◌<◌, ◌⊎◌, length, List, [], ◌∷◌, ◌++◌, map, Bool, true, false, not, ◌==◌, if◌then◌else◌, Option, None, Some, IsSome, Result, Ok, Err, MatchResult, MatchBool}
+use Rattle.std.specs.Prelude.{◌≡◌, ℕ, ◌⊎◌, List, [], ◌∷◌, ◌++◌, map, Bool, true, false, not, ◌==◌, if◌then◌else◌, Option, None, Some, IsSome, Result, Ok, Err, MatchResult, MatchBool}
 use Rattle.wl_wire.specs.declared.argument.AllowNull.{AllowNull}
 use Rattle.wl_wire.specs.declared.argument.AllowNull.TheVariants.{Yes, No}
 use Rattle.wl_wire.specs.declared.argument.Argument.{Argument}
@@ -115,9 +115,9 @@ wire_message m = record { sender = m.sender.number; opcode = m.opcode; args = ma
 abbrev pub said : SessionMessage → Said
 said m = record { serial = m.sender.serial; message = wire_message m }
 
--- what asks for memory before the write: the note of a sender that ends, and arguments beyond four
-abbrev pub AsksForMemory : {U : Type 0} → SessionMessage → Object (Kept U) → Bool → Type 0
-AsksForMemory m sender ends = ((ends ≡ true) × IsSome sender.value.user_data) ⊎ (4 < length m.args)
+-- the note of a sender that ends asks for memory before the write
+abbrev pub AsksForMemory : {U : Type 0} → Object (Kept U) → Bool → Type 0
+AsksForMemory sender ends = (ends ≡ true) × IsSome sender.value.user_data
 
 module _ {U C : Type 0} where
   -- A destructor event ends its sender, which is told where the event was put.
@@ -148,7 +148,7 @@ module _ {T U C : Type 0} (sends : T → Queue → Result ℕ IoFault → T → 
   abbrev pub SendsGranted : Part T U C → SessionMessage → Object (Kept U) → Bool → Result (Unit {0}) EventError → Bool → List (Deed U)
       → Part T U C → Type 0
   SendsGranted before m sender ends answer lacked did after =
-      (AsksForMemory m sender ends × (answer ≡ Err refused.OutOfMemory) × (lacked ≡ true) × (did ≡ []) × (after ≡ before))
+      (AsksForMemory sender ends × (answer ≡ Err refused.OutOfMemory) × (lacked ≡ true) × (did ≡ []) × (after ≡ before))
       ⊎ ((es : List Sending) × (rest : List (Deed U)) × (wrote : Result (Unit {0}) IoFault) × (link : LinkState T)
       × WroteBy sends before.link (wire_message m) es wrote link
       × SentAs before m sender ends wrote link answer lacked rest after × (did ≡ map Sent es ++ rest))

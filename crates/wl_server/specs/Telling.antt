@@ -60,7 +60,8 @@ removal_message name registry = by_object registry 1 (arg.Uint name ∷ [])
 
 -- ---- all of a client's part but its link
 
--- All of it that a call goes through, and why the client was killed in that call, if it was. Before a call that is none.
+-- What a call changes of a client beside its link; and why it was killed in that call, if it was. Before a call that is
+-- none.
 pub record Core (U C : Type 0) : Type 0 where
   pub info : C
   pub store : Store (Kept U)
@@ -121,7 +122,7 @@ module _ {U C : Type 0} where
     events = λ d. [];
   }
 
-  -- the messages of a client of which nothing is read: all that counts is that a write that fails closes it down
+  -- A client to which is only spoken: all that it has of a reader is that a write which fails closes it down.
   abbrev pub speaker : Reader (Core U C) (Told U) (Finish U)
   speaker = record {
     reads_on = λ c. false;
@@ -167,7 +168,7 @@ module _ {T U C : Type 0} where
     waiting = p.core.waiting;
   }
 
-  -- what comes of a client that this is said of, over the link; and whether memory was refused in it
+  -- a verdict is carried out over the link: whether memory was refused in that, the deeds, and the client after it
   abbrev pub Tells : (T → Queue → Result ℕ IoFault → T → Type 0) → Verdict (Core U C) (Told U) → LinkState T → Bool → List (Deed U)
       → Part T U C → Type 0
   Tells sends v link refused did after =
