@@ -3,11 +3,11 @@
 -- A session's changes are told step by step: an object is put at a number, leaves its number, is written to, ends, or an
 -- id is made of it, which then names it. Each id that a reply hands out is one of these; and what an id names follows from
 -- the changes alone. No program stores them.
-use Rattle.std.specs.Prelude.{◌≡◌, ◌≢◌, List, [], ◌∷◌, ◌++◌, map, All, Bool, Result, Ok, Err}
+use Rattle.std.specs.Prelude.{◌≡◌, ◌≢◌, List, [], ◌∷◌, ◌++◌, map, All, Bool, Some, IsSome, Contains, Result, Ok, Err}
 use Rattle.wl_wire.specs.declared.argument.Argument.{Argument}
 use Rattle.wl_wire.specs.declared.argument.Argument.TheVariants as arg
 use Rattle.wl_wire.specs.declared.argument.Token.{Token}
-use Rattle.wl_link.specs.Identity.{Change, Ended, IsBornInStep, IsMadeInStep, HasIdentity, RunEnds, StepEnds, begun}
+use Rattle.wl_link.specs.Identity.{Birth, Change, Ended, IsBornInStep, IsMadeInStep, HasIdentity, births_of, RunEnds, StepEnds, begun}
 use Rattle.wl_link.specs.Script.{Script}
 use Rattle.wl_client.specs.declared.error.EventError.{EventError}
 use Rattle.wl_client.specs.declared.error.RequestError.{RequestError}
@@ -17,6 +17,7 @@ use Rattle.wl_client.specs.declared.note.Note.TheVariants.{Destroyed}
 use Rattle.wl_client.specs.declared.step.Reply.{Reply}
 use Rattle.wl_client.specs.declared.step.Reply.TheVariants as reply
 use Rattle.wl_client.specs.ObjectId.{IdParts}
+use Rattle.wl_client.specs.Objects.{info_of}
 use Rattle.wl_client.specs.Reading.{event_content}
 use Rattle.wl_client.specs.Requests.{SessionMessage}
 use Rattle.wl_client.specs.Session.{SessionState, id_at, id_of, serial_of, display_object, noted, objects_of}
@@ -103,9 +104,11 @@ module _ {U : Type 0} where
 
   -- A run from the connecting on has changes, a list of them for each entry, by which its objects come to what they are.
   -- Each kept serial is one object's, and each id that was handed out names the object that it was made of exactly
-  -- while that is kept, and afterwards none.
+  -- while that is kept, and afterwards none. So `info` knows something of an id only while its own object is kept.
   pub record HasOwnIds (begins : SessionState Script U) (run : List (Entry U)) (ends : SessionState Script U) : Type 0 where
     pub changes : List (List (Change (Kept U)))
     pub follows : Follows begins run changes ends
     pub ends_so : RunEnds serial_of is_over (begun display_object) changes (objects_of ends)
     pub identity : HasIdentity serial_of changes (objects_of ends)
+    pub info : (id : IdParts) (birth : Birth) → Contains (births_of changes).made (id_of id, birth) → IsSome (info_of ends id)
+        → (births_of changes).of_number id.number ≡ Some birth

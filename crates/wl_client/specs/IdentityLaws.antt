@@ -1,5 +1,5 @@
 -- What holds of the ids and the notes of every run: laws over the changes of its steps.
-use Rattle.std.proofs.Common.{◌≡◌, ◌≢◌, ℕ, Bool, List, [], ◌∷◌, ◌++◌, Option, None, Some, is_some, AllPairs, refl, sym, ap, subst, ◌∙◌, append-nil, append_assoc, cond, map}
+use Rattle.std.proofs.Common.{◌≡◌, ◌≢◌, ℕ, Bool, List, [], ◌∷◌, ◌++◌, Option, None, Some, is_some, IsSome, AllPairs, refl, sym, ap, subst, ◌∙◌, append-nil, append_assoc, cond, map}
 use Rattle.wl_wire.specs.Table.{InterfaceRow}
 use Rattle.wl_link.specs.declared.object.Object.{Object}
 use Rattle.wl_link.specs.EndsLaw.{ends_once_law, run_leads, run_owns}
@@ -14,8 +14,9 @@ use Rattle.wl_client.specs.declared.step.Step.{Step}
 use Rattle.wl_client.specs.ObjectId.{IdParts}
 use Rattle.wl_client.specs.ChangeLaws.{each_all, note_ids_both, step_moves}
 use Rattle.wl_client.specs.Handed.{Follows, HasOwnIds, ended_notes, is_over, note_ids, notes_in}
+use Rattle.wl_client.specs.Objects.{info_in, info_of}
 use Rattle.wl_client.specs.Noted.{AccountsForStopped, NotesWhatEnded, all_ended_notes, notes_of}
-use Rattle.wl_client.specs.Session.{IsConnected, SessionState, display_object, id_at, id_of, noted, objects_of, serial_of}
+use Rattle.wl_client.specs.Session.{IsConnected, SessionState, alive, display_object, id_at, id_of, named, noted, objects_of, serial_of}
 use Rattle.wl_client.specs.Steps.{Entry, Leads, StepOf, StopsAt, entries}
 
 -- ---- the numbers and serials of notes
@@ -57,18 +58,28 @@ module _ {U : Type 0} where
   from_display table transport before after (link, fresh, same) changes owns =
       subst (λ o. RunEnds serial_of is_over o changes (objects_of after)) (ap objects_of same) owns
 
+  -- where something is known of an id, it names an object
+  known_named : (s : SessionState Script U) (id : IdParts) → IsSome (info_of s id) → IsSome (named s.store id)
+  known_named s id known = go (named s.store id) known
+    where
+      go : (o : Option (Object (Kept U))) → IsSome (info_in id.number (alive o)) → IsSome o
+      go None known = known
+      go (Some x) known = refl
+
   -- every run from the connecting on has ids of its own
   pub own_ids : (table : List InterfaceRow) (transport : Script) (before after : SessionState Script U) (run : List (Entry U))
       → IsConnected table transport before → Leads before run after → HasOwnIds before run after
   own_ids table transport before after run connected leads =
       let moves = run_moves before run after leads in
       let owns = from_display table transport before after connected moves.changes moves.owns in
+      let identity = identity_law serial_of display_object refl moves.changes (objects_of after)
+      (run_leads serial_of (OwnsExactly is_over) (begun display_object) (objects_of after) moves.changes owns) in
       record {
         changes = moves.changes;
         follows = moves.follows;
         ends_so = owns;
-        identity = identity_law serial_of display_object refl moves.changes (objects_of after)
-            (run_leads serial_of (OwnsExactly is_over) (begun display_object) (objects_of after) moves.changes owns);
+        identity = identity;
+        info = λ id birth made known. (identity.own (id_of id) birth made).0 (known_named after id known);
       }
 
   -- ---- notes
