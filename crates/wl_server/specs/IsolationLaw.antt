@@ -308,7 +308,7 @@ module _ {T U G C : Type 0} where
         subst (λ (o : Offer G). IsFresh transport (Some o.default_limit) link) offered fresh,
         subst (λ (o : Offer G). Alone w id o (begun link info) (mine id later) (seen id after))
             (by.offer ∙ ap (λ (o : Offer G). offer_after o e.call) offered ∙ sym (offer_over_one (new_server {T = T} {U = U} {C = C} table).offer earlier e))
-            (subst (λ (s : Seen T U C). Alone w id next.offer s (mine id later) (seen id after)) begun_so
+            (subst (λ (s : Seen T U C). Alone w id next.offer s (mine id later) (seen id after)) {y = begun link info} begun_so
             (alone_run w id next after later (omega (arith, number, grown, one)) rest)),
       )
 
