@@ -11,6 +11,7 @@ use Rattle.wl_link.specs.Exchange.{Queue, Sending, nothing, joined}
 use Rattle.wl_link.specs.Identity.{named_in}
 use Rattle.wl_link.specs.Link.{LinkState, Wrote, Flushed, FlushedBy, spelled, with_outgoing, offer_of, left_of}
 use Rattle.wl_link.specs.OneLaws.{one_flush_lem, one_write_lem}
+use Rattle.wl_link.specs.Puts.{lacked_memory}
 use Rattle.wl_link.specs.Script.{Script, ScriptSends, script_after_send}
 use Rattle.wl_link.specs.ScriptLaws.{script_sends_function}
 use Rattle.wl_link.specs.Store.{Store, client_range, empty_store, stored, IsLeastAbsent}
@@ -25,7 +26,7 @@ use Rattle.wl_client.specs.declared.kept.Kept.{Kept}
 use Rattle.wl_client.specs.declared.request.Granted.{Granted}
 use Rattle.wl_client.specs.Finish.{SessionFlushed, FlushEnds}
 use Rattle.wl_client.specs.ObjectId.{IdParts}
-use Rattle.wl_client.specs.Requests.{SessionMessage, Numbered, Requested, SentAs, SentWithChild, Sent, Written, checked_sender, request_check, ended_by, wire_message, new_child, lacked_memory, error_after, with_born, with_ended, id_of_new}
+use Rattle.wl_client.specs.Requests.{SessionMessage, Numbered, Requested, SentAs, SentWithChild, Sent, Written, checked_sender, request_check, ended_by, wire_message, new_child, error_after, with_born, with_ended, id_of_new}
 use Rattle.wl_client.specs.Session.{SessionState, IsConnected, serial_of, id_of, named, display_object, null_parts}
 use Rattle.wl_bench.specs.Sync.{one_argument, all_bytes, request_bytes}
 
