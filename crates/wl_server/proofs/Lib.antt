@@ -3,3 +3,7 @@ mod ReadingRows
 mod CallRows
 mod ServerRows
 mod HoleRows
+mod Slots
+mod Calls
+mod Notes
+mod Putting

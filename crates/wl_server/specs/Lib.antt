@@ -15,6 +15,9 @@ pub mod Moves
 pub mod PartStep
 pub mod Steps
 pub mod Runs
+pub mod Client
+pub mod Puts
+pub mod Backend
 pub mod Lookups
 pub mod IsolationLaw
 pub mod ReaderLaws

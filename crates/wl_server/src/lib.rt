@@ -6,18 +6,25 @@
 #![tactic(auto)]
 
 mod action;
+mod backend;
+mod client;
 mod client_id;
 mod error;
 mod global_id;
 mod handler;
 mod kept;
+mod kill;
 mod laws;
 mod note;
+mod note_numbers;
 mod object_id;
+mod registry;
 mod request_fault;
 mod step;
+mod telling;
 
 pub use action::{Action, Reading};
+pub use backend::Backend;
 pub use client_id::ClientId;
 pub use error::{
     ActionError, CreateError, DestroyError, EventError, FinishError, FinishRefused, GlobalError,

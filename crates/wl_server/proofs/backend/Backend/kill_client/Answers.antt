@@ -1,0 +1,35 @@
+use Rattle.std.proofs.Common.{◌≡◌, ◌∙◌, false, refl, sym}
+use Rattle.wl_server.specs.declared.note.DisconnectReason.{DisconnectReason}
+use Rattle.wl_server.specs.Client.{Does}
+use Rattle.wl_server.specs.Ids.{ClientParts}
+use Rattle.wl_server.specs.PartStep.{Asked}
+use Rattle.wl_server.specs.Server.{Stored}
+use Rattle.wl_server.specs.Telling.{Kills}
+use Rattle.wl_server.specs.declared.step.Reply.TheVariants as reply
+use Rattle.wl_server.specs.declared.step.Step.TheVariants as step
+use Rattle.wl_server.proofs.Calls.{IsOwn, done_at, not_stored}
+use Rattle.wl_server.proofs.Slots.{Kind, slot_not_empty}
+use Rattle.wl_server.proofs.backend.Backend.kill_client.Goals as goal
+
+abbrev kills : {T U C : Type 0} → DisconnectReason → Kind T U C
+kills reason id p lacked did q = (lacked ≡ false) × Kills p reason did q
+
+own : {T U G C : Type 0} (id : ClientParts) (reason : DisconnectReason) → IsOwn {T = T} {U = U} {G = G} {C = C} (Asked (step.KillClient id reason) reply.KillClient)
+own id reason = record { offer = λ o. refl; last = refl; client = λ b. tt; global = λ o. tt; order = tt; growth = refl }
+
+kill_does : {T U C : Type 0} (before : Stored T U C) (reason : DisconnectReason) (after : Stored T U C) → Does before (λ p did q. Kills p reason did q) after
+    → Does before (λ p did q. (false ≡ false) × Kills p reason did q) after
+kill_does before reason after (did, q, does, is) = (did, q, (refl, does), is)
+
+pub returns-then-not-is_stored : goal.returns-then-not-is_stored
+returns-then-not-is_stored g c = rw (← c.self.view_is)
+    (not_stored _ _ _ _ (own _ _) c.args.id.now (kills c.args.reason) (Unit {0}) (λ i l d b a h. (refl, h)) (sym c.is_stored.ensures.stored ∙ c.if-not-is_stored.true) tt)
+
+pub unreachable-requires : goal.unreachable-requires
+unreachable-requires g c =
+    slot_not_empty c.self.inside.clients.items c.args.id.now c.slot.result _ (sym c.is_stored.ensures.stored ∙ c.if-not-is_stored.false) c.slot.ensures c.index_mut.ensures.value c.in-None.is
+
+pub returns : goal.returns
+returns g c = rw (← c.self.view_is)
+    (done_at _ _ _ _ (own _ _) c.args.id.now (kills c.args.reason) (Unit {0}) (λ i l d b a h. (refl, h))
+    c.slot.result c.index_mut.result.now c.in-Some.client c.kill.new.self false (sym c.is_stored.ensures.stored ∙ c.if-not-is_stored.false) c.slot.ensures c.index_mut.ensures.value c.in-Some.is (kill_does _ _ _ c.kill.ensures))

@@ -1,0 +1,19 @@
+use Rattle.std.proofs.Common.{◌≡◌, ◌∙◌, List, refl, sym, ap, append-nil, [], map}
+use Rattle.std.proofs.lemmas.List.{map-append}
+use Rattle.wl_server.specs.declared.note.Happening.{Happening}
+use Rattle.wl_server.specs.Part.{Part}
+use Rattle.wl_server.specs.Server.{Stored}
+use Rattle.wl_server.proofs.client.Client.kill.Goals as goal
+
+with_made : {T U C : Type 0} (p : Part T U C) (serial : _) (made made' : List (Happening U)) → made ≡ made'
+    → ◌≡◌ {A = Stored T U C} (record { serial = serial; part = p; made = made }) (record { serial = serial; part = p; made = made' })
+with_made p serial made made' same = ap (λ (m : List (Happening _)). let s : Stored _ _ _ = record { serial = serial; part = p; made = m } in s) same
+
+pub returns-then-self : goal.returns-then-self
+returns-then-self g c =
+    rw (← c.self.view_is, c.if-self.true) ([], _, (refl, refl), with_made _ _ _ _ (sym (append-nil _)))
+
+pub returns : goal.returns
+returns g c =
+    rw (← c.self.view_is, c.if-self.false)
+    (_, _, (refl, refl), with_made _ _ _ _ (ap (map (λ m. m.1)) c.push_back_reserved.ensures.items ∙ map-append _ _ _))

@@ -1,0 +1,100 @@
+//! The server as a program uses it: what it holds.
+
+ghost use Rattle.std.specs.Prelude.{◌≡◌, ◌<◌, IsTrue, false, is_some, length};
+ghost use Rattle.wl_server.specs.Server.{client_at, new_server};
+
+use crate::client::Client;
+use crate::client_id::ClientId;
+use crate::kept::KeptGlobal;
+use crate::note::Note;
+use crate::note_numbers::NoteNumbers;
+use std::alloc::Global;
+use std::marker::Model;
+use wl_link::{DEFAULT_MAX_BUFFER_SIZE, ObjectMap};
+use wl_wire::Protocol;
+
+/// A server's session with its clients, over transports `T`, with the program's data `U` of each object, its handler `G`
+/// of each global, and its data `C` of each client.
+///
+/// It stands for `wayland_backend::server::Backend` and `Handle`. The session does nothing by itself.
+#[derive(Drop)]
+pub struct Backend<T, U, G, C> {
+    pub(crate) protocol: Protocol,
+    pub(crate) globals: ObjectMap<KeptGlobal<G>>,
+    pub(crate) last_global: u64,
+    pub(crate) default_limit: usize,
+    pub(crate) last_client: u64,
+    pub(crate) clients: Vec<Option<Client<T, U, C>>>,
+    pub(crate) notes: Vec<Note<U>>,
+    pub(crate) numbers: NoteNumbers,
+    pub(crate) refused: bool,
+}
+
+impl<T, U, G, C> Model for Backend<T, U, G, C> {
+    ghost use Rattle.std.specs.Coded.{codes};
+    ghost use Rattle.wl_link.specs.ObjectMap.{store_code};
+    ghost use Rattle.wl_server.specs.Backend.{BackendState};
+
+    ghost Value = { BackendState T U G C };
+
+    ghost coded = { Prim.hlevel (codes, store_code) };
+
+    ghost view = { λ b. record {
+      server = record {
+        offer = record {
+          table = b.protocol;
+          globals = record { store = b.globals.store; last_serial = b.last_global };
+          default_limit = b.default_limit;
+        };
+        last_client = b.last_client;
+        clients = b.clients.items;
+        notes = b.notes.items;
+      };
+      refused = b.refused;
+    } };
+}
+
+impl<T: Drop, U: Drop, G: Drop, C: Drop> Backend<T, U, G, C> {
+    /// A server without clients and globals.
+    pub fn new(alloc: Global, protocol: Protocol) -> Self
+        ensures server { result.server ≡ new_server protocol }
+        ensures refused { result.refused ≡ false }
+    {
+        Backend {
+            protocol,
+            globals: ObjectMap::new(alloc),
+            last_global: 0,
+            default_limit: DEFAULT_MAX_BUFFER_SIZE,
+            last_client: 0,
+            clients: Vec::new(alloc),
+            notes: Vec::new(alloc),
+            numbers: NoteNumbers::new(),
+            refused: false,
+        }
+    }
+
+    /// Whether the client is stored.
+    pub(crate) fn is_stored(&self, id: &ClientId) -> bool
+        ensures stored { result ≡ is_some (client_at id.now self.now.server.clients) }
+        ensures within { IsTrue result → id.now.slot < length self.now.server.clients }
+    {
+        match self.clients.get(id.slot() as usize) {
+            Some(Some(client)) => client.serial == id.serial(),
+            _ => false,
+        }
+    }
+
+    /// The table of interfaces.
+    pub fn protocol(&self) -> &Protocol
+        ensures { result.now ≡ self.now.server.offer.table }
+    {
+        &self.protocol
+    }
+
+    /// Whether the last call through `&mut self` but `transport_mut` met a want of memory, its transports' included.
+    pub fn memory_refused(&self) -> bool
+        ensures { result ≡ self.now.refused }
+    {
+        self.refused
+    }
+}

@@ -1,0 +1,62 @@
+//! What a server keeps of one client.
+//!
+//! A client's methods are the calls that are about it, without the look-up of the client: `objects`, `event`, `errors`,
+//! `next_action`, `finish`, `flush`.
+
+use crate::action::OpenAction;
+use crate::kept::Kept;
+use crate::note::Happening;
+use crate::registry::Registry;
+use std::collections::VecDeque;
+use std::marker::Model;
+use wl_link::{BufferedSocket, ObjectMap};
+
+/// A client of a server.
+#[derive(Drop)]
+pub struct Client<T, U, C> {
+    /// The serial in its id.
+    pub serial: u64,
+    pub socket: BufferedSocket<T>,
+    /// The program's data of it.
+    pub info: C,
+    pub objects: ObjectMap<Kept<U>>,
+    pub last_serial: u64,
+    pub is_killed: bool,
+    /// The action that was handed out and not finished yet.
+    pub action: Option<OpenAction>,
+    /// The kept registries that were made for it, in order.
+    pub registries: Vec<Registry>,
+    /// The notes that wait for the next cleanup, in order, each with its number.
+    pub waiting: VecDeque<(u128, Happening<U>)>,
+    /// The notes that were made and not gathered yet, likewise. A live client has room for one more, that of its end.
+    pub made: VecDeque<(u128, Happening<U>)>,
+}
+
+impl<T, U, C> Model for Client<T, U, C> {
+    ghost use Rattle.std.specs.Coded.{codes};
+    ghost use Rattle.std.specs.Prelude.{◌≡◌, ◌<◌, false, map};
+    ghost use Rattle.std.specs.VecDeque.{deque_capacity, deque_len};
+    ghost use Rattle.wl_link.specs.ObjectMap.{store_code};
+    ghost use Rattle.wl_server.specs.Server.{Stored};
+
+    ghost Value = { Stored T U C };
+
+    ghost coded = { Prim.hlevel (codes, store_code) };
+
+    ghost view = { λ c. record {
+      serial = c.serial;
+      part = record {
+        link = c.socket;
+        info = c.info;
+        store = c.objects.store;
+        last_serial = c.last_serial;
+        is_killed = c.is_killed;
+        action = c.action;
+        registries = c.registries.items;
+        waiting = map (λ w. w.1) c.waiting.items;
+      };
+      made = map (λ m. m.1) c.made.items;
+    } };
+
+    ghost invariant = { λ c. c.is_killed ≡ false → deque_len c.made < deque_capacity c.made };
+}

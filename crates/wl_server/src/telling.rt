@@ -1,0 +1,60 @@
+//! The messages that the server sends of itself.
+
+ghost use Rattle.std.specs.Prelude.{◌≡◌, ◌∷◌, []};
+ghost use Rattle.wl_wire.specs.declared.argument.Argument.TheVariants as arg;
+ghost use Rattle.wl_wire.specs.Message.{content};
+ghost use Rattle.wl_link.specs.Link.{Wrote};
+ghost use Rattle.wl_server.specs.Puts.{Puts};
+ghost use Rattle.wl_server.specs.Telling.{deletions};
+
+use smallvec::SmallVec;
+use std::alloc::Global;
+use wl_link::{BufferedSocket, SERVER_ID_LIMIT, Transport};
+use wl_wire::{Argument, IoFault, Message, Token};
+
+/// The number of the display.
+pub const DISPLAY: u32 = 1;
+
+/// The opcode of `wl_display.delete_id`.
+const DELETE_ID: u16 = 1;
+
+/// A message whose argument is one number.
+fn message_of_number(alloc: Global, sender_id: u32, opcode: u16, number: u32) -> Message<u32, Token>
+    ensures { content result ≡ record { sender = sender_id; opcode = opcode; args = arg.Uint number ∷ [] } }
+{
+    let mut args = SmallVec::new(alloc);
+    args.push_reserved(Argument::Uint(number));
+    Message {
+        sender_id,
+        opcode,
+        args,
+    }
+}
+
+/// Writes a message whose argument is one number.
+pub fn put_number<T: Transport>(
+    alloc: Global,
+    socket: &mut BufferedSocket<T>,
+    sender_id: u32,
+    opcode: u16,
+    number: u32,
+) -> Result<(), IoFault>
+    ensures { Wrote T.sends socket.old (record { sender = sender_id; opcode = opcode; args = arg.Uint number ∷ [] }) result socket.new }
+{
+    let message = message_of_number(alloc, sender_id, opcode, number);
+    socket.write_message(&message)
+}
+
+/// Tells a client that a number of its own is free again. Of one of the server's numbers it is told nothing.
+pub fn put_delete_id<T: Transport>(
+    alloc: Global,
+    socket: &mut BufferedSocket<T>,
+    number: u32,
+) -> Result<(), IoFault>
+    ensures { Puts T.sends socket.old (deletions number) result socket.new }
+{
+    if number >= SERVER_ID_LIMIT {
+        return Ok(());
+    }
+    put_number(alloc, socket, DISPLAY, DELETE_ID, number)
+}
