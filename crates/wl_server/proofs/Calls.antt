@@ -3,6 +3,10 @@ use Rattle.std.proofs.Common.{◌≡◌, ℕ, ◌+◌, Bool, true, false, List, 
 use mathlib.Core.Logic.{inl, inr}
 use Rattle.std.specs.Prelude.{◌⊎◌, slice_get, slice_index_or, slice_set}
 use Rattle.std.proofs.lemmas.Bool.{false≢true}
+use Rattle.wl_wire.specs.Table.{InterfaceRow}
+use Rattle.wl_link.specs.Store.{Store}
+use Rattle.wl_server.specs.declared.kept.KeptGlobal.{KeptGlobal}
+use Rattle.wl_server.specs.declared.note.Note.{Note}
 use Rattle.wl_server.specs.declared.step.Reply.{Reply}
 use Rattle.wl_server.specs.declared.step.Step.{Step}
 use Rattle.wl_server.specs.Client.{Does}
@@ -22,6 +26,15 @@ pub record IsOwn {T U G C : Type 0} (call : Call T U G C) : Type 0 where
   pub global : (offer : Offer G) → NumbersGlobal offer call
   pub order : RisesBySlot call
   pub growth : lacks_growth call ≡ false
+
+-- a server of these values
+abbrev pub held_by : {T U G C : Type 0} → List InterfaceRow → Store (KeptGlobal G) → ℕ → ℕ → ℕ → List (Option (Stored T U C)) → List (Note U) → ServerState T U G C
+held_by table globals last_global default_limit last_client clients notes = record {
+  offer = record { table = table; globals = record { store = globals; last_serial = last_global }; default_limit = default_limit };
+  last_client = last_client;
+  clients = clients;
+  notes = notes;
+}
 
 module _ {T U G C : Type 0} (w : World T G C) (before : ServerState T U G C) (s : Step T U G C) (answer : Reply T U) (own : IsOwn (Asked s answer)) (target : ClientParts)
     (R : Kind T U C) (missing : Type 0)

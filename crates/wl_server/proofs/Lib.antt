@@ -7,3 +7,4 @@ mod Slots
 mod Calls
 mod Notes
 mod Putting
+mod Moved

@@ -17,6 +17,7 @@ pub mod Steps
 pub mod Runs
 pub mod Client
 pub mod Puts
+pub mod Scripting
 pub mod Backend
 pub mod Lookups
 pub mod IsolationLaw

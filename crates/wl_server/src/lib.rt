@@ -20,6 +20,7 @@ mod note_numbers;
 mod object_id;
 mod registry;
 mod request_fault;
+mod script;
 mod step;
 mod telling;
 

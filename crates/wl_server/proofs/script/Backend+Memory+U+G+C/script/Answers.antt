@@ -1,0 +1,65 @@
+use Rattle.std.proofs.Common.{◌≡◌, ◌∙◌, Bool, Err, Result, List, [], refl, sym}
+use Rattle.wl_link.specs.Script.{Script}
+use Rattle.wl_server.specs.declared.error.ScriptError.{ScriptError}
+use Rattle.wl_server.specs.declared.error.ScriptError.TheVariants as refused
+use Rattle.wl_server.specs.declared.script.ScriptCall.{ScriptCall}
+use Rattle.wl_server.specs.declared.script.ScriptCall.TheVariants as call
+use Rattle.wl_server.specs.Client.{Does}
+use Rattle.wl_server.specs.Deeds.{Deed}
+use Rattle.wl_server.specs.Ids.{ClientParts, same_client}
+use Rattle.wl_server.specs.Moves.{ScriptMoves, done}
+use Rattle.wl_server.specs.PartStep.{Asked, OfClient, PartStep, WithTransport, lacks_move, over_scripts}
+use Rattle.wl_server.specs.Scripting.{Scripts, move_of, reply_to, step_of}
+use Rattle.wl_server.specs.Server.{Seen, ServerState, Stored}
+use Rattle.wl_server.proofs.Calls.{IsOwn, done_at, held_by, not_stored}
+use Rattle.wl_server.proofs.Slots.{Kind, slot_not_empty}
+use Rattle.wl_server.proofs.script.Backend+Memory+U+G+C.script.Goals as goal
+
+abbrev scripts : {U C : Type 0} → ScriptCall → Result (Unit {0}) ScriptError → Kind Script U C
+scripts x answer id p lacked did q = (lacked ≡ lacks_move (done answer)) × (did ≡ []) × WithTransport (λ t t'. ScriptMoves t (move_of x) (done answer) t') p q
+
+own : {T U G C : Type 0} (id : ClientParts) (x : ScriptCall) (answer : Result (Unit {0}) ScriptError)
+    → IsOwn {T = T} {U = U} {G = G} {C = C} (Asked (step_of id x) (reply_to x answer))
+own id (call.Arrive bytes tokens) answer = record { offer = λ o. refl; last = refl; client = λ b. tt; global = λ o. tt; order = tt; growth = refl }
+own id (call.ArriveFault f) answer = record { offer = λ o. refl; last = refl; client = λ b. tt; global = λ o. tt; order = tt; growth = refl }
+own id (call.Accept n) answer = record { offer = λ o. refl; last = refl; client = λ b. tt; global = λ o. tt; order = tt; growth = refl }
+own id (call.AcceptFault f) answer = record { offer = λ o. refl; last = refl; client = λ b. tt; global = λ o. tt; order = tt; growth = refl }
+
+-- the step is that of its script's call, whichever it is
+to : {U G C : Type 0} (views : _) (before : ServerState Script U G C) (target : ClientParts) (x : ScriptCall) (answer : Result (Unit {0}) ScriptError) (id : ClientParts) (lacked : Bool)
+    (did : List (Deed U)) (b a : Seen Script U C)
+    → OfClient (same_client target id) b (λ p q. scripts x answer id p lacked did q) (done answer ≡ Err refused.InvalidId) lacked did a
+    → PartStep (over_scripts views) id before.offer (step_of target x) (reply_to x answer) b lacked did a
+to views before target (call.Arrive bytes tokens) answer id lacked did b a h = (answer, refl, h)
+to views before target (call.ArriveFault f) answer id lacked did b a h = (answer, refl, h)
+to views before target (call.Accept n) answer id lacked did b a h = (answer, refl, h)
+to views before target (call.AcceptFault f) answer id lacked did b a h = (answer, refl, h)
+
+does : {U C : Type 0} (id : ClientParts) (x : ScriptCall) (before after : Stored Script U C) (answer : Result (Unit {0}) ScriptError)
+    → Does before (λ p did q. (did ≡ []) × Scripts p (move_of x) (done answer) q) after → Does before (λ p did q. scripts x answer id p (lacks_move (done answer)) did q) after
+does id x before after answer (did, q, (none, moves), is) = (did, q, (refl, none, moves), is)
+
+pub returns-then-not-is_stored : goal.returns-then-not-is_stored
+returns-then-not-is_stored g c =
+    let i = c.self.inside in
+    let before = held_by i.protocol i.globals.store i.last_global i.default_limit i.last_client i.clients.items i.notes.items in
+    rw (← c.self.view_is)
+    (not_stored (over_scripts g.G.GlobalHandler.views) before (step_of c.args.id.now c.args.call) (reply_to c.args.call (Err refused.InvalidId)) (own _ _ _) c.args.id.now
+    (scripts c.args.call (Err refused.InvalidId)) (done (Err refused.InvalidId) ≡ Err refused.InvalidId) (to g.G.GlobalHandler.views before c.args.id.now c.args.call (Err refused.InvalidId))
+    (sym c.is_stored.ensures.stored ∙ c.if-not-is_stored.true) refl)
+
+pub unreachable-requires : goal.unreachable-requires
+unreachable-requires g c =
+    slot_not_empty c.self.inside.clients.items c.args.id.now c.slot.result _ (sym c.is_stored.ensures.stored ∙ c.if-not-is_stored.false) c.slot.ensures
+    c.index_mut.ensures.value c.in-None.is
+
+pub returns : goal.returns
+returns g c =
+    let i = c.self.inside in
+    let before = held_by i.protocol i.globals.store i.last_global i.default_limit i.last_client i.clients.items i.notes.items in
+    let answer = c.script-answer.result in
+    rw (← c.self.view_is, c.lacks_memory-self-inside.ensures)
+    (done_at (over_scripts g.G.GlobalHandler.views) before (step_of c.args.id.now c.args.call) (reply_to c.args.call answer) (own _ _ _) c.args.id.now (scripts c.args.call answer)
+    (done answer ≡ Err refused.InvalidId) (to g.G.GlobalHandler.views before c.args.id.now c.args.call answer)
+    c.slot.result c.index_mut.result.now c.in-Some.client c.script-answer.new.self (lacks_move (done answer)) (sym c.is_stored.ensures.stored ∙ c.if-not-is_stored.false) c.slot.ensures
+    c.index_mut.ensures.value c.in-Some.is (does c.args.id.now c.args.call _ _ answer c.script-answer.ensures))
