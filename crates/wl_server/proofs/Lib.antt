@@ -8,3 +8,4 @@ mod Calls
 mod Notes
 mod Putting
 mod Moved
+mod WholeRows
