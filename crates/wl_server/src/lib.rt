@@ -18,6 +18,7 @@ mod laws;
 mod note;
 mod note_numbers;
 mod object_id;
+mod objects;
 mod registry;
 mod request_fault;
 mod script;
