@@ -8,4 +8,5 @@ mod Calls
 mod Notes
 mod Putting
 mod Moved
+mod OverScripts
 mod WholeRows
