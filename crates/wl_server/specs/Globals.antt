@@ -55,7 +55,7 @@ module _ {G : Type 0} where
   abbrev pub global_of : Globals G → GlobalParts → Option (Object (KeptGlobal G))
   global_of globals id = names global_serial (record { number = id.name; serial = id.serial }) globals.store
 
-  -- it is announced, and not disabled
+  -- it is kept, and not disabled
   abbrev pub is_enabled : Option (Object (KeptGlobal G)) → Bool
   is_enabled None = false
   is_enabled (Some x) = not x.value.is_disabled

@@ -33,7 +33,7 @@ pub use error::{
     InsertClientError, InvalidId, ScriptError,
 };
 pub use global_id::{GlobalId, GlobalInfo};
-pub use handler::GlobalHandler;
+pub use handler::{GlobalHandler, ShownToAll};
 pub use laws::{each_client_is_alone, each_client_of_a_script_is_alone};
 pub use note::{DisconnectReason, Note};
 pub use object_id::ObjectId;
