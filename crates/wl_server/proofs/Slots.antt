@@ -97,6 +97,11 @@ module _ {T U C : Type 0} where
       at None none = absurd (false≢true (sym (ap is_some (client_past id clients none)) ∙ some))
       at (Some x) here = slice_get_within clients id.slot x here
 
+  -- an id that was read is the id
+  pub stored_by : (clients : List (Option (Stored T U C))) (read id : ClientParts) (b : Bool) → read ≡ id → b ≡ is_some (client_at read clients)
+      → is_some (client_at id clients) ≡ b
+  stored_by clients read id b same is = subst (λ (i : ClientParts). is_some (client_at i clients) ≡ b) same (sym is)
+
   slot_holds : (clients : List (Option (Stored T U C))) (id : ClientParts) (x : Option (Stored T U C)) → is_some (client_at id clients) ≡ true
       → x ≡ slice_index_or clients id.slot x → slice_get clients id.slot ≡ Some x
   slot_holds clients id x some value = slice_get_read clients (length clients) id.slot x refl (slot_within clients id some) value

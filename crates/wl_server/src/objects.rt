@@ -1,13 +1,31 @@
 //! The objects of a client: look-ups among them, and what a program asks and changes of one.
 
-ghost use Rattle.std.specs.Prelude.{◌≡◌, option_copied};
-ghost use Rattle.wl_server.specs.Part.{named, fresh_object as the_object, id_at as the_id};
+ghost use Rattle.std.specs.Prelude.{◌≡◌, ◌<◌, ◌++◌, false, Err, IsSome, Ok, MatchOption, map, not, option_copied};
+ghost use Rattle.std.specs.List.{filter};
+ghost use Rattle.std.specs.VecDeque.{deque_capacity, deque_len};
+ghost use Rattle.wl_link.specs.Store.{held, removed};
+ghost use Rattle.wl_server.specs.Backend.{Calls};
+ghost use Rattle.wl_server.specs.Client.{Does};
+ghost use Rattle.wl_server.specs.Finish.{data_given};
+ghost use Rattle.wl_server.specs.Objects.{DataSet};
+ghost use Rattle.wl_server.specs.Part.{end_note, named, registries_without, same_id, fresh_object as the_object, id_at as the_id};
+ghost use Rattle.wl_server.specs.PartStep.{Quietly, over};
+ghost use Rattle.wl_server.specs.declared.step.Reply.TheVariants as reply;
+ghost use Rattle.wl_server.specs.declared.step.Step.TheVariants as step;
 
+use crate::backend::Backend;
+use crate::client::Client;
 use crate::client_id::ClientId;
+use crate::error::InvalidId;
+use crate::handler::GlobalHandler;
 use crate::kept::Kept;
+use crate::note::Happening;
+use crate::note_numbers::NoteNumbers;
 use crate::object_id::ObjectId;
-use wl_link::{Object, ObjectMap};
-use wl_wire::InterfaceId;
+use crate::registry::Registry;
+use std::collections::VecDeque;
+use wl_link::{Object, ObjectMap, Transport};
+use wl_wire::{InterfaceId, WL_REGISTRY_INTERFACE};
 
 /// A new object.
 pub fn fresh_object<U>(
@@ -46,4 +64,89 @@ pub fn id_at<U>(client: &ClientId, number: u32, object: &Object<Kept<U>>) -> Obj
     ensures { result ≡ the_id client.now number object.now }
 {
     ObjectId::from_parts(number, object.value.serial, *client, object.interface)
+}
+
+/// The object of this number and serial is no registry any more.
+fn forget(registries: &mut Vec<Registry>, number: u32, serial: u64)
+    ensures { registries.new.items ≡ filter (λ r. not (same_id r (record { number = number; serial = serial }))) registries.old.items }
+{
+    registries.retain(|registry| registry.number != number || registry.serial != serial);
+}
+
+/// Takes the object of this number out: it leaves the map, and is no registry any more. It takes no memory.
+pub fn take_out<U: Drop>(
+    objects: &mut ObjectMap<Kept<U>>,
+    registries: &mut Vec<Registry>,
+    number: u32,
+) -> Option<Object<Kept<U>>>
+    ensures found { result ≡ held objects.old.store number }
+    ensures removed { objects.new.store ≡ removed objects.old.store number }
+    ensures registries { MatchOption result (registries.new.items ≡ registries.old.items)
+        (λ x. registries.new.items ≡ registries_without registries.old.items number x) }
+{
+    let object = objects.remove(number)?;
+    if object.interface == WL_REGISTRY_INTERFACE {
+        forget(registries, number, object.value.serial);
+    }
+    Some(object)
+}
+
+/// Notes for the next cleanup that this object is gone, where it had user data. There is room for that.
+pub fn note_waiting<U: Drop>(
+    waiting: &mut VecDeque<(u128, Happening<U>)>,
+    numbers: &mut NoteNumbers,
+    id: ObjectId,
+    user_data: Option<U>,
+)
+    requires { IsSome user_data → deque_len waiting.old < deque_capacity waiting.old }
+    ensures { map (λ w. w.1) waiting.new.items ≡ map (λ w. w.1) waiting.old.items ++ end_note id user_data }
+{
+    if let Some(user_data) = user_data {
+        waiting.push_back_reserved((numbers.next_waiting(), Happening::Destroyed(id, user_data)));
+    }
+}
+
+/// Gives the object that the id names these user data, in place of what it had.
+pub fn give_data<U: Drop>(
+    objects: &mut ObjectMap<Kept<U>>,
+    id: &ObjectId,
+    user_data: U,
+) -> Result<(), InvalidId>
+    ensures answer { MatchOption (named objects.old.store id.now) (result ≡ Err _) (λ _. result ≡ Ok tt) }
+    ensures given { objects.new.store ≡ data_given objects.old.store id.now.number (named objects.old.store id.now) user_data }
+{
+    if named_in(objects, id).is_none() {
+        return Err(InvalidId);
+    }
+    objects.with(id.protocol_id(), |object| {
+        object.value.user_data = Some(user_data);
+    });
+    Ok(())
+}
+
+impl<T: Drop, U: Drop, C: Drop> Client<T, U, C> {
+    /// Gives the object that the id names this user data; what it had is dropped. It takes no memory.
+    pub fn set_object_data(&mut self, id: &ObjectId, user_data: U) -> Result<(), InvalidId>
+        ensures { Does self.old (λ p did q. Quietly false did (DataSet p id.now user_data result q)) self.new }
+    {
+        give_data(&mut self.objects, id, user_data)
+    }
+}
+
+impl<T: Transport + Drop, U: Drop, G: GlobalHandler<C> + Drop, C: Drop> Backend<T, U, G, C> {
+    /// Gives the object that the id names this user data; what it had is dropped. `InvalidId` where its client is not
+    /// stored, or the id names none. It takes no memory.
+    pub fn set_object_data(&mut self, id: &ObjectId, user_data: U) -> Result<(), InvalidId>
+        ensures { Calls (over T.sends T.receives G.views) self.old (step.SetObjectData id.now user_data) (reply.SetObjectData result) self.new }
+    {
+        self.refused = false;
+        let client = id.client();
+        if !self.is_stored(&client) {
+            return Err(InvalidId);
+        }
+        match &mut self.clients[client.slot() as usize] {
+            Some(client) => client.set_object_data(id, user_data),
+            None => unreachable!(),
+        }
+    }
 }
