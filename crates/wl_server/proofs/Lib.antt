@@ -11,3 +11,4 @@ mod Putting
 mod Moved
 mod OverScripts
 mod WholeRows
+mod Posting

@@ -18,6 +18,7 @@ pub mod Runs
 pub mod Client
 pub mod Puts
 pub mod Scripting
+pub mod Carried
 pub mod Backend
 pub mod Lookups
 pub mod IsolationLaw

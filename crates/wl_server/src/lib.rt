@@ -19,6 +19,8 @@ mod note;
 mod note_numbers;
 mod object_id;
 mod objects;
+mod post_error;
+mod protocol_error;
 mod registry;
 mod request_fault;
 mod script;

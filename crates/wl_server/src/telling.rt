@@ -1,22 +1,33 @@
 //! The messages that the server sends of itself.
 
-ghost use Rattle.std.specs.Prelude.{◌≡◌, ◌∷◌, []};
+ghost use Rattle.std.specs.Prelude.{◌≡◌, ◌∷◌, [], Some};
 ghost use Rattle.wl_wire.specs.declared.argument.Argument.TheVariants as arg;
 ghost use Rattle.wl_wire.specs.Message.{content};
 ghost use Rattle.wl_link.specs.Link.{Wrote};
+ghost use Rattle.wl_link.specs.Puts.{lacked_memory};
 ghost use Rattle.wl_server.specs.Puts.{Puts};
-ghost use Rattle.wl_server.specs.Telling.{deletions};
+ghost use Rattle.wl_server.specs.Telling.{deletions, error_message};
 
 use smallvec::SmallVec;
 use std::alloc::Global;
 use wl_link::{BufferedSocket, SERVER_ID_LIMIT, Transport};
-use wl_wire::{Argument, IoFault, Message, Token};
+use wl_wire::{Argument, CString, IoFault, Message, Token};
 
 /// The number of the display.
 pub const DISPLAY: u32 = 1;
 
+/// The opcode of `wl_display.error`.
+const ERROR: u16 = 0;
+
 /// The opcode of `wl_display.delete_id`.
 const DELETE_ID: u16 = 1;
+
+/// Whether memory was refused to a write or a flush that was answered so.
+pub fn lacks_memory(answer: Result<(), IoFault>) -> bool
+    ensures { result ≡ lacked_memory answer }
+{
+    matches!(answer, Err(IoFault::OutOfMemory))
+}
 
 /// A message whose argument is one number.
 fn message_of_number(alloc: Global, sender_id: u32, opcode: u16, number: u32) -> Message<u32, Token>
@@ -57,4 +68,33 @@ pub fn put_delete_id<T: Transport>(
         return Ok(());
     }
     put_number(alloc, socket, DISPLAY, DELETE_ID, number)
+}
+
+/// The message of an error on an object.
+fn message_of_error(alloc: Global, number: u32, code: u32, text: CString) -> Message<u32, Token>
+    ensures { content result ≡ (error_message number code text).message }
+{
+    let mut args = SmallVec::new(alloc);
+    args.push_reserved(Argument::Object(number));
+    args.push_reserved(Argument::Uint(code));
+    args.push_reserved(Argument::Str(Some(text)));
+    Message {
+        sender_id: DISPLAY,
+        opcode: ERROR,
+        args,
+    }
+}
+
+/// Tells a client of an error on the object of that number.
+pub fn put_error<T: Transport>(
+    alloc: Global,
+    socket: &mut BufferedSocket<T>,
+    number: u32,
+    code: u32,
+    text: CString,
+) -> Result<(), IoFault>
+    ensures { Puts T.sends socket.old (error_message number code text ∷ []) result socket.new }
+{
+    let message = message_of_error(alloc, number, code, text);
+    socket.write_message(&message)
 }
