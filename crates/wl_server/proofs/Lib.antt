@@ -12,3 +12,4 @@ mod Moved
 mod OverScripts
 mod WholeRows
 mod Posting
+mod EventFaults

@@ -23,3 +23,4 @@ pub mod Backend
 pub mod Lookups
 pub mod IsolationLaw
 pub mod ReaderLaws
+pub mod EventChecks

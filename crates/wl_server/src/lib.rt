@@ -10,6 +10,7 @@ mod backend;
 mod client;
 mod client_id;
 mod error;
+mod event_check;
 mod global_id;
 mod handler;
 mod kept;
