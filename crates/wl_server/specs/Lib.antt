@@ -7,6 +7,7 @@ pub mod Errors
 pub mod Objects
 pub mod Events
 pub mod Requests
+pub mod Conversion
 pub mod Finish
 pub mod Reading
 pub mod Felt

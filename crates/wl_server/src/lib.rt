@@ -6,6 +6,7 @@
 #![tactic(auto)]
 
 mod action;
+mod arguments;
 mod backend;
 mod client;
 mod client_id;
