@@ -13,3 +13,5 @@ mod OverScripts
 mod WholeRows
 mod Posting
 mod EventFaults
+mod Feeling
+mod Flushing

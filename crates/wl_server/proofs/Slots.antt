@@ -141,7 +141,7 @@ module _ {T U C : Type 0} where
   as_meant true id before after R missing lacked did meant on = on
   as_meant false id before after R missing lacked did meant on = absurd (false≢true meant)
 
-  on_part : (gathered : List (Happening U)) (s s' : Stored T U C) (R : Part T U C → List (Deed U) → Part T U C → Type 0) (missing : Type 0) (lacked : Bool)
+  pub on_part : (gathered : List (Happening U)) (s s' : Stored T U C) (R : Part T U C → List (Deed U) → Part T U C → Type 0) (missing : Type 0) (lacked : Bool)
       (did : List (Deed U)) (q : Part T U C) → R s.part did q → s' ≡ record { serial = s.serial; part = q; made = s.made ++ notes_in did }
       → OnPart (seen_as gathered (Some s)) (λ p q. R p did q) missing lacked did (seen_as gathered (Some s'))
   on_part gathered s s' R missing lacked did q does is = (

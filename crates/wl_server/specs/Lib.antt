@@ -20,6 +20,7 @@ pub mod Client
 pub mod Puts
 pub mod Scripting
 pub mod Carried
+pub mod Places
 pub mod Backend
 pub mod Lookups
 pub mod IsolationLaw

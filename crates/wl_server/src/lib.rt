@@ -12,6 +12,7 @@ mod client;
 mod client_id;
 mod error;
 mod event_check;
+mod flush;
 mod global_id;
 mod handler;
 mod kept;

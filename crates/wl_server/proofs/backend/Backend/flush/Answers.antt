@@ -1,0 +1,49 @@
+use Rattle.std.proofs.Common.{◌≡◌, ◌∙◌, Bool, List, Option, Ok, length, refl, subst, sym}
+use Rattle.std.specs.Prelude.{vec_len}
+use Rattle.std.proofs.lemmas.List.{with_items_is}
+use Rattle.wl_server.specs.Client.{Does}
+use Rattle.wl_server.specs.Felt.{FlushedTo, FlushesLive}
+use Rattle.wl_server.specs.Ids.{ClientParts}
+use Rattle.wl_server.specs.PartStep.{Asked}
+use Rattle.wl_server.specs.Places.{AllFeel}
+use Rattle.wl_server.specs.Server.{Stored}
+use Rattle.wl_server.specs.declared.step.Reply.TheVariants as reply
+use Rattle.wl_server.specs.declared.step.Step.TheVariants as step
+use Rattle.wl_server.proofs.Calls.{IsOwn, done_at, not_stored}
+use Rattle.wl_server.proofs.Feeling.{IsFelt, felt_call}
+use Rattle.wl_server.proofs.Slots.{slot_not_empty}
+use Rattle.wl_server.proofs.backend.Backend.flush.Goals as goal
+
+own : {T U G C : Type 0} (client : Option ClientParts) (answer : _) → IsOwn {T = T} {U = U} {G = G} {C = C} (Asked (step.Flush client) (reply.Flush answer))
+own client answer = record { offer = λ o. refl; last = refl; client = λ b. tt; global = λ o. tt; order = tt; growth = refl }
+
+felt : {T U G C : Type 0} (client : Option ClientParts) (answer : _) → IsFelt {T = T} {U = U} {G = G} {C = C} (Asked (step.Flush client) (reply.Flush answer))
+felt client answer = record { last = refl; client = λ b. tt; order = tt }
+
+pub returns-in_default : goal.returns-in_default
+returns-in_default g c =
+    let len : length c.flush_all-self-inside.new.clients ≡ vec_len c.self.inside.clients = c.flush_all-self-inside.ensures.len ∙ c.deref_mut.ensures.len in
+    let all = subst (λ (xs : List (Option (Stored _ _ _))). AllFeel (λ id p lacked did q. FlushesLive g.T.Transport.sends p lacked did q) c.flush_all-self-inside.result (length xs) xs
+    c.flush_all-self-inside.new.clients) c.deref_mut.ensures.value c.flush_all-self-inside.ensures in
+    rw (← c.self.view_is, c.in_default.is, with_items_is c.self.inside.clients c.flush_all-self-inside.new.clients len)
+    (felt_call _ _ _ _ (felt _ _) (λ id p lacked did q. FlushesLive g.T.Transport.sends p lacked did q) c.flush_all-self-inside.result _ c.flush_all-self-inside.new.clients
+    refl tt refl (λ i l d b a h. (_, refl, (refl, h))) all)
+
+pub returns-then-not-is_stored : goal.returns-then-not-is_stored
+returns-then-not-is_stored g c = rw (← c.self.view_is, c.in-Some.is)
+    (not_stored _ _ _ _ (own _ _) c.in-Some.id (λ i p lacked did q. FlushedTo g.T.Transport.sends p (Ok tt) lacked did q) (Ok tt ≡ Ok tt) (λ i l d b a h. (_, refl, h))
+    (sym c.is_stored.ensures.stored ∙ c.if-not-is_stored.true) refl)
+
+pub unreachable-requires : goal.unreachable-requires
+unreachable-requires g c =
+    slot_not_empty c.self.inside.clients.items c.in-Some.id c.slot.result _ (sym c.is_stored.ensures.stored ∙ c.if-not-is_stored.false) c.slot.ensures c.index_mut.ensures.value c.in-None.is
+
+pub returns : goal.returns
+returns g c =
+    let does : Does c.in-Some-index_mut.client (λ p did q. FlushedTo g.T.Transport.sends p c.flush-answer.result c.lacks_memory-self-inside.result did q) c.flush-answer.new.self =
+    subst (λ (l : Bool). Does c.in-Some-index_mut.client (λ p did q. FlushedTo g.T.Transport.sends p c.flush-answer.result l did q) c.flush-answer.new.self)
+    (sym c.lacks_memory-self-inside.ensures) c.flush-answer.ensures in
+    rw (← c.self.view_is, c.in-Some.is)
+    (done_at _ _ _ _ (own _ _) c.in-Some.id (λ i p lacked did q. FlushedTo g.T.Transport.sends p c.flush-answer.result lacked did q) (c.flush-answer.result ≡ Ok tt) (λ i l d b a h. (_, refl, h))
+    c.slot.result c.index_mut.result.now c.in-Some-index_mut.client c.flush-answer.new.self c.lacks_memory-self-inside.result (sym c.is_stored.ensures.stored ∙ c.if-not-is_stored.false) c.slot.ensures c.index_mut.ensures.value
+    c.in-Some-index_mut.is does)

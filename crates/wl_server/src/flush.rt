@@ -1,0 +1,95 @@
+//! The sending of what waits.
+
+ghost use Rattle.std.specs.Prelude.{◌≡◌, ℕ, length};
+ghost use Rattle.wl_link.specs.Puts.{lacked_memory};
+ghost use Rattle.wl_server.specs.Backend.{Calls};
+ghost use Rattle.wl_server.specs.Client.{Does};
+ghost use Rattle.wl_server.specs.Felt.{FlushedTo, FlushesLive};
+ghost use Rattle.wl_server.specs.PartStep.{over};
+ghost use Rattle.wl_server.specs.Places.{AllFeel, PlaceFeels};
+ghost use Rattle.wl_server.specs.declared.step.Reply.TheVariants as reply;
+ghost use Rattle.wl_server.specs.declared.step.Step.TheVariants as step;
+
+use crate::backend::Backend;
+use crate::client::Client;
+use crate::client_id::ClientId;
+use crate::handler::GlobalHandler;
+use wl_link::Transport;
+use wl_wire::IoFault;
+
+/// Whether memory was refused.
+fn lacks_memory(answer: &Result<(), IoFault>) -> bool
+    ensures { result ≡ lacked_memory answer.now }
+{
+    matches!(answer, Err(IoFault::OutOfMemory))
+}
+
+impl<T: Transport + Drop, U: Drop, C: Drop> Client<T, U, C> {
+    /// Sends what waits for the client, as far as its transport takes it.
+    pub fn flush(&mut self) -> Result<(), IoFault>
+        ensures { Does self.old (λ p did q. FlushedTo T.sends p result (lacked_memory result) did q) self.new }
+    {
+        self.socket.flush()
+    }
+
+    /// Sends what waits for a live client; a fault is dropped. The answer is whether memory was refused.
+    pub fn flush_live(&mut self) -> bool
+        ensures { Does self.old (λ p did q. FlushesLive T.sends p result did q) self.new }
+    {
+        if self.is_killed {
+            return false;
+        }
+        let answer = self.flush();
+        lacks_memory(&answer)
+    }
+}
+
+/// Sends what waits for the client of a slot, if it is live. The answer is whether memory was refused.
+fn flush_at<T: Transport + Drop, U: Drop, C: Drop>(client: &mut Option<Client<T, U, C>>) -> bool
+    ensures { (slot : ℕ) → PlaceFeels (λ id p lacked did q. FlushesLive T.sends p lacked did q) slot client.old result client.new }
+{
+    match client {
+        Some(client) => client.flush_live(),
+        None => false,
+    }
+}
+
+/// Sends what waits for each live client. The answer is whether memory was refused.
+fn flush_all<T: Transport + Drop, U: Drop, C: Drop>(clients: &mut [Option<Client<T, U, C>>]) -> bool
+    ensures { AllFeel (λ id p lacked did q. FlushesLive T.sends p lacked did q) result (length clients.old) clients.old clients.new }
+{
+    let mut refused = false;
+    for slot in 0..clients.len() {
+        refused |= flush_at(&mut clients[slot]);
+    }
+    refused
+}
+
+impl<T: Transport + Drop, U: Drop, G: GlobalHandler<C> + Drop, C: Drop> Backend<T, U, G, C> {
+    /// Sends what waits for the client, killed or not, as far as its transport takes it: `Ok` says that all bytes were
+    /// sent, where tokens beyond 28 for each byte still wait; or that the transport answered 0 to a send: then the rest
+    /// still waits, but for the tokens that this send was offered. After a fault what was not sent still waits. A client
+    /// that is not stored has nothing to send.
+    ///
+    /// Without a client it does so for each live one. A fault of one of them is dropped, and the answer is `Ok`.
+    pub fn flush(&mut self, client: Option<ClientId>) -> Result<(), IoFault>
+        ensures { Calls (over T.sends T.receives G.views) self.old (step.Flush client) (reply.Flush result) self.new }
+    {
+        let Some(id) = client else {
+            self.refused = flush_all(&mut self.clients);
+            return Ok(());
+        };
+        self.refused = false;
+        if !self.is_stored(&id) {
+            return Ok(());
+        }
+        match &mut self.clients[id.slot() as usize] {
+            Some(client) => {
+                let answer = client.flush();
+                self.refused = lacks_memory(&answer);
+                answer
+            }
+            None => unreachable!(),
+        }
+    }
+}
