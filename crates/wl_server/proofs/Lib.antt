@@ -3,6 +3,7 @@ mod ReadingRows
 mod CallRows
 mod ServerRows
 mod HoleRows
+mod Creation
 mod Doing
 mod Slots
 mod Calls

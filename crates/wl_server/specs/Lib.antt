@@ -21,6 +21,7 @@ pub mod Puts
 pub mod Scripting
 pub mod Carried
 pub mod Places
+pub mod Creation
 pub mod Backend
 pub mod Lookups
 pub mod IsolationLaw

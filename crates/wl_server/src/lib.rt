@@ -10,6 +10,7 @@ mod arguments;
 mod backend;
 mod client;
 mod client_id;
+mod create;
 mod error;
 mod event_check;
 mod flush;

@@ -1,0 +1,44 @@
+use Rattle.std.proofs.Common.{◌≡◌, ◌∙◌, [], false, Bool, List, Result, Err, ℕ, refl, sym}
+use Rattle.wl_wire.specs.declared.interface.InterfaceId.{InterfaceId}
+use Rattle.wl_wire.specs.Table.{InterfaceRow}
+use Rattle.wl_server.specs.declared.error.CreateError.{CreateError}
+use Rattle.wl_server.specs.declared.error.CreateError.TheVariants as create
+use Rattle.wl_server.specs.Client.{Does}
+use Rattle.wl_server.specs.Ids.{ClientParts, IdParts}
+use Rattle.wl_server.specs.Objects.{Creates}
+use Rattle.wl_server.specs.PartStep.{Asked, lacks_create}
+use Rattle.wl_server.specs.Server.{Stored}
+use Rattle.wl_server.specs.declared.step.Reply.TheVariants as reply
+use Rattle.wl_server.specs.declared.step.Step.TheVariants as step
+use Rattle.wl_server.proofs.Calls.{IsOwn, done_at, not_stored}
+use Rattle.wl_server.proofs.Slots.{Kind, slot_not_empty}
+use Rattle.wl_server.proofs.backend.Backend.create_object.Goals as goal
+
+abbrev creates : {T U C : Type 0} → List InterfaceRow → InterfaceId → ℕ → U → Result IdParts CreateError → Kind T U C
+creates table i version u answer id p lacked did q = (lacked ≡ lacks_create answer) × (did ≡ []) × Creates table id p i version u answer q
+
+own : {T U G C : Type 0} (id : ClientParts) (i : InterfaceId) (version : ℕ) (u : U) (answer : Result IdParts CreateError)
+    → IsOwn {T = T} {U = U} {G = G} {C = C} (Asked (step.CreateObject id i version u) (reply.CreateObject answer))
+own id i version u answer = record { offer = λ o. refl; last = refl; client = λ b. tt; global = λ o. tt; order = tt; growth = refl }
+
+-- with whether memory was refused
+does : {T U C : Type 0} (table : List InterfaceRow) (id : ClientParts) (before after : Stored T U C) (i : InterfaceId) (version : ℕ) (u : U) (answer : Result IdParts CreateError)
+    (lacked : Bool) → lacked ≡ lacks_create answer → Does before (λ p did q. (did ≡ []) × Creates table id p i version u answer q) after
+    → Does before (λ p did q. creates table i version u answer id p lacked did q) after
+does table id before after i version u answer lacked refused (did, q, (none, makes), is) = (did, q, (refused, none, makes), is)
+
+pub returns-then-not-is_stored : goal.returns-then-not-is_stored
+returns-then-not-is_stored g c = rw (← c.self.view_is)
+    (not_stored _ _ _ _ (own _ _ _ _ _) c.args.client.now (creates _ c.args.interface c.args.version c.args.user_data (Err create.InvalidId))
+    (◌≡◌ {A = Result IdParts CreateError} (Err create.InvalidId) (Err create.InvalidId)) (λ i l d b a h. (_, refl, h)) (sym c.is_stored.ensures.stored ∙ c.if-not-is_stored.true) refl)
+
+pub unreachable-requires : goal.unreachable-requires
+unreachable-requires g c =
+    slot_not_empty c.self.inside.clients.items c.args.client.now c.slot.result _ (sym c.is_stored.ensures.stored ∙ c.if-not-is_stored.false) c.slot.ensures c.index_mut.ensures.value c.in-None.is
+
+pub returns : goal.returns
+returns g c = rw (← c.self.view_is)
+    (done_at _ _ _ _ (own _ _ _ _ _) c.args.client.now (creates _ c.args.interface c.args.version c.args.user_data c.create_object-answer.result)
+    (c.create_object-answer.result ≡ Err create.InvalidId) (λ i l d b a h. (_, refl, h)) c.slot.result c.index_mut.result.now c.in-Some.stored c.create_object-answer.new.self
+    c.lacks_memory-self-inside.result (sym c.is_stored.ensures.stored ∙ c.if-not-is_stored.false) c.slot.ensures c.index_mut.ensures.value c.in-Some.is
+    (does c.self.inside.protocol c.args.client.now _ _ c.args.interface c.args.version c.args.user_data c.create_object-answer.result _ c.lacks_memory-self-inside.ensures c.create_object-answer.ensures))
