@@ -1,5 +1,5 @@
 -- How a verdict that was carried out is told: what was put, the deeds, and the notes among them.
-use Rattle.std.proofs.Common.{◌≡◌, ◌∙◌, ℕ, Bool, true, ◌||◌, List, [], ◌∷◌, ◌++◌, map, Result, refl, ap, inl, inr}
+use Rattle.std.proofs.Common.{◌≡◌, ◌∙◌, ℕ, Bool, true, ◌||◌, List, [], ◌∷◌, ◌++◌, map, Result, refl, sym, ap, subst, inl, inr}
 use Rattle.wl_wire.specs.declared.error.IoFault.{IoFault}
 use Rattle.wl_link.specs.Exchange.{Queue, Sending}
 use Rattle.wl_link.specs.Link.{LinkState}
@@ -7,17 +7,16 @@ use Rattle.wl_link.specs.Puts.{FlushesOut, Said, lacked_memory}
 use Rattle.wl_link.specs.Reader.{Given, HandedOut, Queued, Verdict, came_to, put_and_gave}
 use Rattle.wl_link.specs.Reader.{Part as ReaderPart}
 use Rattle.wl_server.specs.declared.note.Happening.{Happening}
+use Rattle.wl_server.specs.Carried.{IsCarried, told_notes}
 use Rattle.wl_server.specs.Deeds.{Acted, Came, Deed, Left, Noted, NoteTaken, Put, Remembered, Sent, notes_in}
 use Rattle.wl_server.specs.Puts.{Puts}
+use Rattle.wl_server.specs.Part.{Part}
+use Rattle.wl_server.specs.Server.{Stored}
 use Rattle.wl_server.specs.Telling.{Core, Tells, Told, deeds_in, deeds_of, end_deeds, part_of, speaker}
 
 -- ---- the notes among deeds
 
 module _ {U : Type 0} where
-  -- the notes among what is handed out
-  abbrev pub told_notes : List (Told U) → List (Happening U)
-  told_notes events = notes_in (deeds_in (map HandedOut events))
-
   pub notes_append : (a b : List (Deed U)) → notes_in (a ++ b) ≡ notes_in a ++ notes_in b
   notes_append [] b = refl
   notes_append (Noted h ∷ a) b = ap (λ (l : List (Happening U)). h ∷ l) (notes_append a b)
@@ -71,3 +70,31 @@ module _ {U C : Type 0} where
         ([], map HandedOut (v.events v.starved), end, inr (asks, refl, refl, refl, refl), refl, refl),
         notes_told [] [] (v.events v.starved) v.starved,
       )
+
+  module _ {T : Type 0} (sends : T → Queue → Result ℕ IoFault → T → Type 0) (v : Verdict (Core U C) (Told U)) (s after : Stored T U C) (refused : Bool) where
+    abbrev noted_at : Part T U C → List (Happening U) → Stored T U C
+    noted_at q notes = record { serial = s.serial; part = q; made = s.made ++ notes }
+
+    abbrev came_at : Core U C → LinkState T → Stored T U C
+    came_at core link = noted_at (part_of (record { core = core; link = link })) (told_notes (v.events core) ++ notes_in (end_deeds core.ended))
+
+    -- a verdict that was carried out over a client is told to it
+    pub tells_carried : IsCarried sends v s refused after
+        → (did : List (Deed U)) × (q : Part T U C) × Tells sends v s.part.link refused did q
+        × (after ≡ record { serial = s.serial; part = q; made = s.made ++ notes_in did })
+    tells_carried (core, link, inl (wrote, mid, others, lacked, puts, flushes, core-is, refused-is), is) =
+        let t = tells_put sends v s.part.link mid link wrote others lacked puts flushes in (
+          t.0,
+          part_of (record { core = came_to speaker v wrote; link = link }),
+          subst (λ (b : Bool). Tells sends v s.part.link b t.0 (part_of (record { core = came_to speaker v wrote; link = link }))) (sym refused-is) t.1,
+          is ∙ ap (λ (c : Core U C). came_at c link) core-is
+              ∙ ap (noted_at (part_of (record { core = came_to speaker v wrote; link = link }))) (sym t.2),
+        )
+    tells_carried (core, link, inr (asks, refused-is, core-is, link-is), is) =
+        let t = tells_starved sends v s.part.link asks in (
+          t.0,
+          part_of (record { core = v.starved; link = s.part.link }),
+          subst (λ (b : Bool). Tells sends v s.part.link b t.0 (part_of (record { core = v.starved; link = s.part.link }))) (sym refused-is) t.1,
+          is ∙ ap (λ (c : Core U C). came_at c link) core-is ∙ ap (came_at v.starved) link-is
+              ∙ ap (noted_at (part_of (record { core = v.starved; link = s.part.link }))) (sym t.2),
+        )

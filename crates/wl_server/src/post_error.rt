@@ -2,13 +2,20 @@
 
 ghost use Rattle.std.specs.Prelude.{◌≡◌, true, false};
 ghost use Rattle.wl_link.specs.Puts.{FlushesOut};
+ghost use Rattle.wl_server.specs.Backend.{Calls};
 ghost use Rattle.wl_server.specs.Carried.{IsCarried};
-ghost use Rattle.wl_server.specs.Errors.{error_messages, posts};
+ghost use Rattle.wl_server.specs.Client.{Does};
+ghost use Rattle.wl_server.specs.Errors.{error_messages, posts, PostsError};
 ghost use Rattle.wl_server.specs.Part.{with_link};
+ghost use Rattle.wl_server.specs.PartStep.{over};
 ghost use Rattle.wl_server.specs.Puts.{Puts};
 ghost use Rattle.wl_server.specs.Telling.{core_of};
+ghost use Rattle.wl_server.specs.declared.step.Reply.TheVariants as reply;
+ghost use Rattle.wl_server.specs.declared.step.Step.TheVariants as step;
 
+use crate::backend::Backend;
 use crate::client::Client;
+use crate::handler::GlobalHandler;
 use crate::note::DisconnectReason;
 use crate::note_numbers::NoteNumbers;
 use crate::object_id::ObjectId;
@@ -47,6 +54,24 @@ impl<T: Transport + Drop, U: Drop, C: Drop> Client<T, U, C> {
         refused || lacked
     }
 
+    /// Posts an error on an object, as the program asks. A null id is of none, and nothing is done. The answer is whether
+    /// memory was refused.
+    pub fn post_error(
+        &mut self,
+        protocol: &Protocol,
+        numbers: &mut NoteNumbers,
+        id: &ObjectId,
+        code: u32,
+        text: CString,
+    ) -> bool
+        ensures { Does self.old (λ p did q. PostsError T.sends protocol.now p id.now code text result did q) self.new }
+    {
+        if id.is_null() {
+            return false;
+        }
+        self.posts(protocol, numbers, id, code, text)
+    }
+
     /// Tells the live client of an error on the object, where that is kept.
     fn put_posted(&mut self, id: &ObjectId, code: u32, text: CString) -> Result<(), IoFault>
         requires { self.old.part.is_killed ≡ false }
@@ -66,5 +91,30 @@ impl<T: Transport + Drop, U: Drop, C: Drop> Client<T, U, C> {
         ensures rest { self.new ≡ record self.old { part = with_link self.old.part self.new.part.link } }
     {
         lacks_memory(self.socket.flush())
+    }
+}
+
+impl<T: Transport + Drop, U: Drop, G: GlobalHandler<C> + Drop, C: Drop> Backend<T, U, G, C> {
+    /// Posts an error on an object: its client is told of it, what waits for the client is flushed, and the client is
+    /// killed. It is noted as disconnected for this error, or as closed where the error could not be told or memory was
+    /// refused for its texts.
+    ///
+    /// The error is told where the client is not killed and the id names an object. An error on another object of a stored
+    /// client is told to nobody, and kills the client all the same. To a killed client nothing is told; what waits is
+    /// flushed. A null id, or one of a client that is not stored, is nothing.
+    pub fn post_error(&mut self, id: &ObjectId, code: u32, text: CString)
+        ensures { Calls (over T.sends T.receives G.views) self.old (step.PostError id.now code text) reply.PostError self.new }
+    {
+        self.refused = false;
+        let client = id.client();
+        if !self.is_stored(&client) {
+            return;
+        }
+        match &mut self.clients[client.slot() as usize] {
+            Some(client) => {
+                self.refused = client.post_error(&self.protocol, &mut self.numbers, id, code, text);
+            }
+            None => unreachable!(),
+        }
     }
 }

@@ -1,0 +1,36 @@
+use Rattle.std.proofs.Common.{◌∙◌, ℕ, List, Result, refl, ap}
+use Rattle.wl_wire.specs.declared.error.IoFault.{IoFault}
+use Rattle.wl_wire.specs.Table.{InterfaceRow}
+use Rattle.wl_link.specs.Exchange.{Queue}
+use Rattle.wl_server.specs.Errors.{PostsError}
+use Rattle.wl_server.specs.Ids.{IdParts}
+use Rattle.wl_server.specs.PartStep.{Asked}
+use Rattle.wl_server.specs.declared.step.Reply.TheVariants as reply
+use Rattle.wl_server.specs.declared.step.Step.TheVariants as step
+use Rattle.wl_server.proofs.Calls.{IsOwn, done_at, not_stored}
+use Rattle.wl_server.proofs.Slots.{Kind, slot_not_empty, stored_by}
+use Rattle.wl_server.proofs.backend.Backend.post_error.Goals as goal
+
+abbrev posts : {T U C : Type 0} → (T → Queue → Result ℕ IoFault → T → Type 0) → List InterfaceRow → IdParts → ℕ → List ℕ → Kind T U C
+posts sends table o code text id p lacked did q = PostsError sends table p o code text lacked did q
+
+own : {T U G C : Type 0} (o : IdParts) (code : ℕ) (text : List ℕ) → IsOwn {T = T} {U = U} {G = G} {C = C} (Asked (step.PostError o code text) reply.PostError)
+own o code text = record { offer = λ o. refl; last = refl; client = λ b. tt; global = λ o. tt; order = tt; growth = refl }
+
+pub returns-then-not-is_stored : goal.returns-then-not-is_stored
+returns-then-not-is_stored g c = rw (← c.self.view_is)
+    (not_stored _ _ _ _ (own _ _ _) c.args.id.now.client (posts g.T.Transport.sends c.self.inside.protocol c.args.id.now c.args.code c.args.text) (Unit {0})
+    (λ i l d b a h. (refl, h)) (stored_by _ _ _ _ c.client-client.ensures c.is_stored.ensures.stored ∙ c.if-not-is_stored.true) tt)
+
+pub unreachable-requires : goal.unreachable-requires
+unreachable-requires g c =
+    slot_not_empty c.self.inside.clients.items c.args.id.now.client c.slot.result _
+    (stored_by _ _ _ _ c.client-client.ensures c.is_stored.ensures.stored ∙ c.if-not-is_stored.false) (c.slot.ensures ∙ ap (λ t. t.slot) c.client-client.ensures)
+    c.index_mut.ensures.value c.in-None.is
+
+pub returns : goal.returns
+returns g c = rw (← c.self.view_is)
+    (done_at _ _ _ _ (own _ _ _) c.args.id.now.client (posts g.T.Transport.sends c.self.inside.protocol c.args.id.now c.args.code c.args.text) (Unit {0})
+    (λ i l d b a h. (refl, h)) c.slot.result c.index_mut.result.now c.in-Some.client c.post_error-self-inside.new.self c.post_error-self-inside.result
+    (stored_by _ _ _ _ c.client-client.ensures c.is_stored.ensures.stored ∙ c.if-not-is_stored.false) (c.slot.ensures ∙ ap (λ t. t.slot) c.client-client.ensures)
+    c.index_mut.ensures.value c.in-Some.is c.post_error-self-inside.ensures)
