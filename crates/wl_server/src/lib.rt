@@ -19,6 +19,7 @@ mod handler;
 mod kept;
 mod kill;
 mod laws;
+mod limits;
 mod note;
 mod note_numbers;
 mod object_id;
