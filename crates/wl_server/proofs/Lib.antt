@@ -16,3 +16,4 @@ mod Posting
 mod EventFaults
 mod Feeling
 mod Flushing
+mod AtName

@@ -15,6 +15,7 @@ mod error;
 mod event_check;
 mod flush;
 mod global_id;
+mod globals;
 mod handler;
 mod kept;
 mod kill;

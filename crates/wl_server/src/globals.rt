@@ -1,0 +1,169 @@
+//! The globals of a server.
+
+ghost use Rattle.std.specs.Prelude.{◌≡◌, ℕ, MatchOption, MatchResult, option_copied};
+ghost use Rattle.wl_link.specs.Identity.{names};
+ghost use Rattle.wl_link.specs.ObjectMap.{InsertsNew};
+ghost use Rattle.wl_link.specs.Store.{held, rewritten};
+ghost use Rattle.wl_server.specs.Globals.{CreatesGlobal, as_disabled, disabled, freed, global_serial, name_range, with_created};
+ghost use Rattle.wl_server.specs.Lookups.{global_info_by, handler_of, name_for};
+
+use crate::backend::Backend;
+use crate::client_id::ClientId;
+use crate::error::{GlobalError, InvalidId};
+use crate::global_id::{GlobalId, GlobalInfo};
+use crate::handler::GlobalHandler;
+use crate::kept::KeptGlobal;
+use wl_link::{NewError, Object, ObjectMap};
+use wl_wire::{InterfaceId, Protocol};
+
+/// The global that the id names.
+pub fn global_in<'a, G: Drop>(
+    globals: &'a ObjectMap<KeptGlobal<G>>,
+    id: &GlobalId,
+) -> Option<&'a Object<KeptGlobal<G>>>
+    ensures { option_copied result ≡ names global_serial (record { number = id.now.name; serial = id.now.serial }) globals.now.store }
+{
+    if id.name() == 0 {
+        return None;
+    }
+    match globals.find(id.name()) {
+        Some(global) if global.value.serial == id.serial() => Some(global),
+        _ => None,
+    }
+}
+
+/// Puts a global at the least name that no other has.
+fn insert<G: Drop>(
+    globals: &mut ObjectMap<KeptGlobal<G>>,
+    global: Object<KeptGlobal<G>>,
+) -> Result<u32, NewError>
+    ensures { InsertsNew name_range globals.old.store global result globals.new.store }
+{
+    match globals.next_client() {
+        Some(_) => globals.client_insert_new(global),
+        None => globals.server_insert_new(global),
+    }
+}
+
+/// A new global, which has the least name that no other has and the next serial. Refused, nothing is changed.
+pub fn create<G: Drop>(
+    protocol: &Protocol,
+    globals: &mut ObjectMap<KeptGlobal<G>>,
+    last_serial: &mut u64,
+    interface: InterfaceId,
+    version: u32,
+    handler: G,
+) -> Result<GlobalId, GlobalError>
+    ensures answer { CreatesGlobal protocol.now (record { store = globals.old.store; last_serial = last_serial.old }) interface version result }
+    ensures globals { record { store = globals.new.store; last_serial = last_serial.new }
+        ≡ with_created (record { store = globals.old.store; last_serial = last_serial.old }) interface version handler result }
+{
+    match protocol.get(interface) {
+        None => return Err(GlobalError::UnknownInterface),
+        Some(known) if version > known.version => return Err(GlobalError::VersionTooHigh),
+        Some(_) => {}
+    }
+    if *last_serial == u64::MAX {
+        return Err(GlobalError::Full);
+    }
+    let serial = *last_serial + 1;
+    let global = Object {
+        interface,
+        version,
+        value: KeptGlobal {
+            serial,
+            handler,
+            is_disabled: false,
+        },
+    };
+    match insert(globals, global) {
+        Ok(name) => {
+            *last_serial = serial;
+            Ok(GlobalId::from_parts(name, serial))
+        }
+        Err(NewError::IdsExhausted) => Err(GlobalError::Full),
+        Err(NewError::OutOfMemory) => Err(GlobalError::OutOfMemory),
+    }
+}
+
+/// The global of this name, if it has one, is announced no more.
+fn disable_at<G: Drop>(globals: &mut ObjectMap<KeptGlobal<G>>, name: u32)
+    ensures { MatchOption (held globals.old.store name) (globals.new.store ≡ globals.old.store)
+        (λ global. globals.new.store ≡ rewritten globals.old.store name (as_disabled global)) }
+{
+    globals.with(name, |global| {
+        global.value.is_disabled = true;
+    });
+}
+
+/// The global that the id names is announced no more.
+pub fn disable<G: Drop>(globals: &mut ObjectMap<KeptGlobal<G>>, id: &GlobalId)
+    ensures { (last : ℕ) → record { store = globals.new.store; last_serial = last }
+        ≡ disabled (record { store = globals.old.store; last_serial = last }) id.now }
+{
+    if global_in(globals, id).is_none() {
+        return;
+    }
+    disable_at(globals, id.name());
+}
+
+/// The global that the id names is kept no more, and its name is free.
+pub fn remove<G: Drop>(globals: &mut ObjectMap<KeptGlobal<G>>, id: &GlobalId)
+    ensures { (last : ℕ) → record { store = globals.new.store; last_serial = last }
+        ≡ freed (record { store = globals.old.store; last_serial = last }) id.now }
+{
+    if global_in(globals, id).is_none() {
+        return;
+    }
+    globals.remove(id.name());
+}
+
+impl<T: Drop, U: Drop, G: Drop, C: Drop> Backend<T, U, G, C> {
+    /// What the global offers, also where it is disabled. `InvalidId` where it is not kept.
+    pub fn global_info(&self, id: &GlobalId) -> Result<GlobalInfo, InvalidId>
+        ensures { MatchResult result (λ info. global_info_by self.now.server id.now ≡ Some info)
+            (λ _. global_info_by self.now.server id.now ≡ None) }
+    {
+        match global_in(&self.globals, id) {
+            Some(global) => Ok(GlobalInfo {
+                interface: global.interface,
+                version: global.version,
+                disabled: global.value.is_disabled,
+            }),
+            None => Err(InvalidId),
+        }
+    }
+
+    /// The global's handler, also where it is disabled. `InvalidId` where it is not kept.
+    pub fn get_global_handler(&self, id: &GlobalId) -> Result<&G, InvalidId>
+        ensures { MatchResult result (λ handler. handler_of self.now.server id.now ≡ Some handler.now)
+            (λ _. handler_of self.now.server id.now ≡ None) }
+    {
+        match global_in(&self.globals, id) {
+            Some(global) => Ok(&global.value.handler),
+            None => Err(InvalidId),
+        }
+    }
+}
+
+impl<T: Drop, U: Drop, G: GlobalHandler<C> + Drop, C: Drop> Backend<T, U, G, C> {
+    /// The name of the global for a client: where the client is stored and may see the global, and this is kept, disabled
+    /// or not.
+    pub fn global_name(&self, id: &GlobalId, client: &ClientId) -> Option<u32>
+        ensures { result ≡ name_for self.now.server G.views id.now client.now }
+    {
+        if !self.is_stored(client) {
+            return None;
+        }
+        let info = match &self.clients[client.slot() as usize] {
+            Some(stored) => &stored.info,
+            None => return None,
+        };
+        let global = global_in(&self.globals, id)?;
+        global
+            .value
+            .handler
+            .can_view(client, info, id)
+            .then_some(id.name())
+    }
+}
