@@ -17,3 +17,4 @@ mod EventFaults
 mod Feeling
 mod Flushing
 mod AtName
+mod Inserting

@@ -22,6 +22,7 @@ pub mod Scripting
 pub mod Carried
 pub mod Places
 pub mod Creation
+pub mod Inserting
 pub mod Backend
 pub mod Lookups
 pub mod IsolationLaw

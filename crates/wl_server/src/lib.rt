@@ -17,6 +17,7 @@ mod flush;
 mod global_id;
 mod globals;
 mod handler;
+mod insert_client;
 mod kept;
 mod kill;
 mod laws;

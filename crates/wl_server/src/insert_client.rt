@@ -1,0 +1,163 @@
+//! New clients.
+
+ghost use Rattle.std.specs.Prelude.{◌≡◌, ℕ, ◌<◌, ◌≤◌, None, Some, IfOk, OnErr, IsSome, MatchOption, length};
+ghost use Rattle.wl_link.specs.Store.{empty_store, stored};
+ghost use Rattle.wl_server.specs.Backend.{Calls};
+ghost use Rattle.wl_server.specs.Client.{IsInserted};
+ghost use Rattle.wl_server.specs.Inserting.{IsPut};
+ghost use Rattle.wl_server.specs.Part.{display_object};
+ghost use Rattle.wl_server.specs.PartStep.{over};
+ghost use Rattle.wl_server.specs.Server.{Stored, stored_at};
+ghost use Rattle.wl_server.specs.Steps.{IsLeastFree};
+ghost use Rattle.wl_server.specs.declared.step.Reply.TheVariants as reply;
+ghost use Rattle.wl_server.specs.declared.step.Step.TheVariants as step;
+
+use crate::backend::Backend;
+use crate::client::Client;
+use crate::client_id::ClientId;
+use crate::error::InsertClientError;
+use crate::handler::GlobalHandler;
+use crate::kept::Kept;
+use crate::note::Happening;
+use crate::note_numbers::NoteNumbers;
+use crate::objects::fresh_object;
+use crate::telling::DISPLAY;
+use std::alloc::Global;
+use std::collections::VecDeque;
+use wl_link::{BufferedSocket, ObjectMap, Transport};
+use wl_wire::{OutOfMemory, WL_DISPLAY_INTERFACE};
+
+/// The objects of a client in which nothing has happened: the display alone.
+fn first_objects<U: Drop>(alloc: Global) -> Result<ObjectMap<Kept<U>>, OutOfMemory>
+    ensures { IfOk result (λ objects. objects.store ≡ stored empty_store 1 display_object) }
+{
+    let mut objects = ObjectMap::new(alloc);
+    let display = fresh_object(WL_DISPLAY_INTERFACE, 1, 0, None);
+    match objects.insert_at(DISPLAY, display) {
+        Ok(()) => Ok(objects),
+        Err(_) => Err(OutOfMemory),
+    }
+}
+
+impl<T: Drop, U: Drop, C: Drop> Client<T, U, C> {
+    /// A client in which nothing has happened but that it was inserted, which is noted.
+    pub fn new(
+        alloc: Global,
+        serial: u64,
+        transport: T,
+        max_buffer_size: usize,
+        info: C,
+        numbers: &mut NoteNumbers,
+    ) -> Result<Self, OutOfMemory>
+        ensures { IfOk result (IsInserted serial transport (Some max_buffer_size) info) }
+    {
+        let objects = first_objects(alloc)?;
+        let socket = BufferedSocket::new(alloc, transport, Some(max_buffer_size))?;
+        // Room for this note, and for that of the client's end.
+        let mut made = VecDeque::with_capacity(alloc, 2)?;
+        made.push_back_reserved((numbers.next_made(), Happening::Initialized));
+        Ok(Client {
+            serial,
+            socket,
+            info,
+            objects,
+            last_serial: 0,
+            is_killed: false,
+            action: None,
+            registries: Vec::new(alloc),
+            waiting: VecDeque::new(alloc),
+            made,
+        })
+    }
+}
+
+/// The first place without a client, or the one behind all.
+fn first_free<T, U, C>(clients: &[Option<Client<T, U, C>>]) -> usize
+    ensures free { stored_at result clients.now ≡ None }
+    ensures taken { (k : ℕ) → k < result → IsSome (stored_at k clients.now) }
+{
+    for (slot, place) in clients.iter().enumerate() {
+        if place.is_none() {
+            return slot;
+        }
+    }
+    clients.len()
+}
+
+/// The least slot that no client has; `None` where each has one.
+fn free_slot<T, U, C>(clients: &[Option<Client<T, U, C>>]) -> Option<u32>
+    ensures { MatchOption result ((k : ℕ) → k < 0x100000000 → IsSome (stored_at k clients.now)) (IsLeastFree clients.now) }
+{
+    u32::try_from(first_free(clients)).ok()
+}
+
+/// Puts a new client at a slot that no client has, and that is not past the first one that was never in use. Where there
+/// is no memory, nothing changes.
+fn put_new<T: Drop, U: Drop, C: Drop>(
+    clients: &mut Vec<Option<Client<T, U, C>>>,
+    numbers: &mut NoteNumbers,
+    id: &ClientId,
+    transport: T,
+    max_buffer_size: usize,
+    info: C,
+) -> Result<(), OutOfMemory>
+    requires { id.now.slot ≤ length clients.old.items }
+    ensures put { IfOk result (λ _. (s : Stored T U C) × IsInserted id.now.serial transport (Some max_buffer_size) info s
+        × IsPut clients.old.items id.now.slot s clients.new.items) }
+    ensures unchanged { OnErr result (clients.new.items ≡ clients.old.items) }
+{
+    let slot = id.slot() as usize;
+    let alloc = *clients.allocator();
+    let client = Client::new(
+        alloc,
+        id.serial(),
+        transport,
+        max_buffer_size,
+        info,
+        numbers,
+    )?;
+    if slot < clients.len() {
+        clients[slot] = Some(client);
+    } else if clients.push(Some(client)).is_err() {
+        return Err(OutOfMemory);
+    }
+    Ok(())
+}
+
+impl<T: Transport + Drop, U: Drop, G: GlobalHandler<C> + Drop, C: Drop> Backend<T, U, G, C> {
+    /// Takes a new client over this transport, with the program's data of it. It keeps its display, object 1, and its
+    /// storages may grow up to the limit that new clients have. It gets the least free slot and the next serial, and that
+    /// it was inserted is noted.
+    ///
+    /// The answer is `Full` where each slot has a client or no serial is left, and else `OutOfMemory` where there is no
+    /// memory for it. Both change nothing, and the transport and the data are dropped.
+    pub fn insert_client(&mut self, transport: T, info: C) -> Result<ClientId, InsertClientError>
+        ensures { Calls (over T.sends T.receives G.views) self.old (step.InsertClient transport info) (reply.InsertClient result) self.new }
+    {
+        self.refused = false;
+        let Some(slot) = free_slot(&self.clients) else {
+            return Err(InsertClientError::Full);
+        };
+        if self.last_client == u64::MAX {
+            return Err(InsertClientError::Full);
+        }
+        let id = ClientId::from_parts(slot, self.last_client + 1);
+        match put_new(
+            &mut self.clients,
+            &mut self.numbers,
+            &id,
+            transport,
+            self.default_limit,
+            info,
+        ) {
+            Ok(()) => {
+                self.last_client += 1;
+                Ok(id)
+            }
+            Err(OutOfMemory) => {
+                self.refused = true;
+                Err(InsertClientError::OutOfMemory)
+            }
+        }
+    }
+}
