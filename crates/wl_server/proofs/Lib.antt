@@ -18,3 +18,4 @@ mod Feeling
 mod Flushing
 mod AtName
 mod Inserting
+mod NewIds

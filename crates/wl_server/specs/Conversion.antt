@@ -1,9 +1,12 @@
 -- What the functions that go through the arguments of a request say to each other.
-use Rattle.std.specs.Prelude.{◌≡◌, ◌≢◌, ℕ, true, false, List, Option, None, Some, Result, Ok, Err}
+use Rattle.std.specs.Prelude.{◌≡◌, ◌≢◌, ℕ, true, false, List, [], ◌∷◌, Option, None, Some, Result, Ok, Err}
+use Rattle.std.specs.List.{list_any}
 use Rattle.wl_wire.specs.declared.argument.Argument.{Argument}
+use Rattle.wl_wire.specs.declared.argument.ArgumentType.{ArgumentType}
 use Rattle.wl_wire.specs.declared.argument.Token.{Token}
 use Rattle.wl_wire.specs.declared.interface.InterfaceId.{InterfaceId}
-use Rattle.wl_wire.specs.Argument.{WireArgument}
+use Rattle.wl_wire.specs.Argument.{WireArgument, kind_of, type_of}
+use Rattle.wl_wire.specs.Table.{is_new_id}
 use Rattle.wl_link.specs.Identity.{Objects}
 use Rattle.wl_link.specs.ObjectMap.{MapState}
 use Rattle.wl_server.specs.declared.arguments.Progress.{Progress}
@@ -11,6 +14,11 @@ use Rattle.wl_server.specs.declared.kept.Kept.{Kept}
 use Rattle.wl_server.specs.declared.request_fault.RequestFault.{RequestFault}
 use Rattle.wl_server.specs.Ids.{ClientParts, IdParts}
 use Rattle.wl_server.specs.Requests.{Converting, Outcome, Whole, Wrong, convert_one, is_valid_new, made_id, with_made}
+
+-- the argument is of the next type
+abbrev pub IsNextKind : List ArgumentType → WireArgument → Type 0
+IsNextKind [] a = ⊥
+IsNextKind (k ∷ _) a = kind_of k ≡ type_of a
 
 module _ {U : Type 0} where
   abbrev pub objects_of_map : MapState (Kept U) → ℕ → Objects (Kept U)
@@ -27,7 +35,7 @@ module _ {U : Type 0} where
 
   -- there is room for the object that the request may yet make
   abbrev pub CanMake : Progress → MapState (Kept U) → Type 0
-  CanMake progress map = progress.child ≢ None → map.reserved ≡ true
+  CanMake progress map = progress.child ≢ None → list_any is_new_id progress.kinds.now ≡ true → map.reserved ≡ true
 
   -- an object is made at that number, or none may be made there and nothing is changed
   abbrev pub Makes : ClientParts → Objects (Kept U) → InterfaceId → ℕ → ℕ → Option IdParts → Objects (Kept U) → Type 0

@@ -2,9 +2,10 @@
 
 ghost use Rattle.std.specs.Prelude.{◌≡◌, ◌+◌, ◌<◌, false, true, Ok, Err, IfOk, MatchResult, length, reverse};
 ghost use Rattle.smallvec.specs.SmallVec.{HasRoomFor};
+ghost use Rattle.wl_wire.specs.Argument.{Matches};
 ghost use Rattle.wl_wire.specs.Asked.{next_interface, rest_of};
 ghost use Rattle.wl_server.specs.Requests.{Wrong, allows_null as null_allowed, convert, kinds_after, object_argument};
-ghost use Rattle.wl_server.specs.Conversion.{CanMake, Converts, EndsWhole, Makes, objects_of_map, state};
+ghost use Rattle.wl_server.specs.Conversion.{CanMake, Converts, EndsWhole, IsNextKind, Makes, objects_of_map, state};
 
 use crate::client_id::ClientId;
 use crate::kept::Kept;
@@ -127,10 +128,12 @@ fn convert_one<U: Drop>(
     progress: &mut Progress<'_>,
     arg: Argument<u32, Token>,
 ) -> Result<Argument<ObjectId, Token>, RequestFault>
-    requires { CanMake progress.old objects.old }
+    requires can_make { CanMake progress.old objects.old }
+    requires kind { IsNextKind progress.old.kinds.now arg }
     ensures converts { Converts client version (state objects.old last_serial.old progress.old) arg result
         (state objects.new last_serial.new progress.new) }
     ensures can_make { IfOk result (λ _. CanMake progress.new objects.new) }
+    ensures kinds { progress.new.kinds.now ≡ kinds_after progress.old.kinds.now }
 {
     let allows_null = take_kind(progress);
     match arg {
@@ -173,6 +176,7 @@ pub fn convert<U: Drop>(
     converted: &mut SmallVec<Argument<ObjectId, Token>, INLINE_ARGS>,
 ) -> Result<Option<ObjectId>, RequestFault>
     requires can_make { CanMake progress.old objects.old }
+    requires kinds { Matches progress.old.kinds.now (reverse args.old.items) }
     requires room { HasRoomFor converted.old (length args.old.items) }
     ensures capacity { converted.new.capacity ≡ converted.old.capacity }
     ensures converts { MatchResult result

@@ -1,5 +1,6 @@
 use Rattle.std.proofs.Common.{◌≡◌, length, reverse}
 use Rattle.smallvec.specs.SmallVec.{HasRoomFor}
+use Rattle.wl_wire.specs.Argument.{Matches}
 use Rattle.wl_server.specs.Requests.{convert}
 use Rattle.wl_server.specs.Conversion.{CanMake, state}
 use Rattle.wl_server.proofs.arguments.convert.Given as goal
@@ -8,6 +9,7 @@ use Rattle.wl_server.proofs.arguments.convert.Given as goal
 abbrev pub invariant-loop-arg : goal.invariant-loop-arg
 invariant-loop-arg g l = record {
   can_make : CanMake l.progress l.objects;
+  kinds : Matches l.progress.kinds.now (reverse l.args.items);
   capacity : l.converted.capacity ≡ l.fn.converted.capacity;
   room : HasRoomFor l.converted (length l.args.items);
   left : convert l.fn.client l.fn.version (state l.objects l.last_serial l.progress) l.converted.items (reverse l.args.items)
