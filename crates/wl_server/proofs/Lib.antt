@@ -19,3 +19,4 @@ mod Flushing
 mod AtName
 mod Inserting
 mod NewIds
+mod Taking

@@ -12,6 +12,7 @@ pub mod Finish
 pub mod Reading
 pub mod Felt
 pub mod Server
+pub mod Turns
 pub mod Moves
 pub mod PartStep
 pub mod Steps

@@ -32,7 +32,9 @@ mod registry;
 mod request_fault;
 mod script;
 mod step;
+mod surroundings;
 mod telling;
+mod turn;
 
 pub use action::{Action, Reading};
 pub use backend::Backend;

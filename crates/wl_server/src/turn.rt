@@ -1,0 +1,174 @@
+//! One turn of a reading: the message at the front is taken off the link and handled.
+
+ghost use Rattle.std.specs.Prelude.{◌≡◌, ◌≢◌, ◌≤◌, ◌<◌, [], true, false, None, Some, Ok, Err, length, vec_len, vec_capacity, IfOk, OnErr, OnOk, option_copied, option_map};
+ghost use Rattle.smallvec.specs.SmallVec.{HasRoomFor};
+ghost use Rattle.wl_wire.specs.Argument.{Matches};
+ghost use Rattle.wl_wire.specs.Asked.{creates as row_creates};
+ghost use Rattle.wl_wire.specs.Message.{content};
+ghost use Rattle.wl_wire.specs.Parse.{IsThere};
+ghost use Rattle.wl_wire.specs.Table.{message_row};
+ghost use Rattle.wl_link.specs.Link.{ReadOne, read_into};
+ghost use Rattle.wl_link.specs.Store.{held};
+ghost use Rattle.wl_server.specs.Reading.{row_asks, row_in};
+ghost use Rattle.wl_server.specs.Turns.{IsHeader, TookWith};
+
+use crate::global_id::GlobalId;
+use crate::kept::Kept;
+use crate::object_id::ObjectId;
+use crate::registry::Registry;
+use smallvec::SmallVec;
+use wl_link::{BufferedSocket, ObjectMap};
+use wl_wire::{
+    Argument, ArgumentType, INLINE_ARGS, IoFault, Message, MessageDesc, MessageParseError,
+    OutOfMemory, Protocol, Token,
+};
+
+/// Why a reading ends without an action.
+#[derive(Clone, Copy)]
+pub struct NoAction {
+    /// The answer of the reading.
+    pub fault: IoFault,
+    /// Whether memory was refused.
+    pub refused: bool,
+}
+
+/// An action that is handed out, without the arguments of a request.
+#[derive(Clone, Copy)]
+pub enum Found {
+    /// A request: its object, its opcode, whether it ends the object, and the object that it made.
+    Request(ObjectId, u16, bool, Option<ObjectId>),
+    /// A new object was bound to a global.
+    Bind(GlobalId, ObjectId),
+}
+
+/// What a turn came to.
+#[derive(Clone, Copy)]
+pub enum TurnEnd {
+    /// An action is there to hand out.
+    Acts(Found),
+    /// A message was handled, and the reading goes on.
+    GoesOn,
+    /// No message waits whole.
+    Lacks,
+    /// The reading ends without an action.
+    Ends(NoAction),
+}
+
+/// The request of that opcode of the object that the number holds.
+fn request_desc<'p, U: Drop>(
+    protocol: &'p Protocol,
+    objects: &ObjectMap<Kept<U>>,
+    sender: u32,
+    opcode: u16,
+) -> Option<&'p MessageDesc>
+    ensures { option_map message_row (option_copied result) ≡ row_in protocol.now (held objects.now.store sender) opcode }
+{
+    let object = objects.find(sender)?;
+    let interface = protocol.get(object.interface)?;
+    interface.requests.get(opcode as usize)
+}
+
+/// Reads the message at the front under the signature.
+fn read_under<T>(
+    socket: &mut BufferedSocket<T>,
+    signature: &[ArgumentType],
+    message: &mut Message<u32, Token>,
+) -> Result<(), MessageParseError>
+    requires { INLINE_ARGS ≤ message.old.args.capacity }
+    ensures read { ReadOne (λ _ _ found. found ≡ Some signature.now) socket.old (read_into result message.new) socket.new }
+    ensures matches { OnOk result (Matches signature.now message.new.args.items) }
+    ensures fewer { OnOk result (length socket.new.incoming.bytes < length socket.old.incoming.bytes) }
+    ensures inline { INLINE_ARGS ≤ message.new.args.capacity }
+{
+    socket.read_into(|_, _| Some(signature), message)
+}
+
+/// Whether the request makes an object.
+fn creates(desc: &MessageDesc) -> bool
+    ensures { result ≡ row_creates (message_row desc.now) }
+{
+    desc.signature
+        .iter()
+        .any(|kind| matches!(kind, ArgumentType::NewId))
+}
+
+/// Whether a request asks for memory before it is read: for the object that it makes, or for its arguments.
+fn asks_for_memory(desc: &MessageDesc) -> bool
+    ensures { result ≡ row_asks (Some (message_row desc.now)) }
+{
+    creates(desc) || desc.signature.len() > INLINE_ARGS
+}
+
+/// Makes room for what the message at the front becomes, where it is there whole: for its arguments, and for the object
+/// that it may make, which may be a registry. Of a message that is not there nothing is asked for.
+fn make_room<T: Drop, U: Drop>(
+    objects: &mut ObjectMap<Kept<U>>,
+    registries: &mut Vec<Registry>,
+    converted: &mut SmallVec<Argument<ObjectId, Token>, INLINE_ARGS>,
+    socket: &BufferedSocket<T>,
+    desc: &MessageDesc,
+) -> Result<(), OutOfMemory>
+    requires empty { converted.old.items ≡ [] }
+    requires inline { INLINE_ARGS ≤ converted.old.capacity }
+    ensures store { objects.new.store ≡ objects.old.store }
+    ensures registries { registries.new.items ≡ registries.old.items }
+    ensures empty { converted.new.items ≡ [] }
+    ensures inline { INLINE_ARGS ≤ converted.new.capacity }
+    ensures room { OnOk result (IsThere socket.now.incoming.bytes desc.now.signature.items socket.now.incoming.tokens
+        → length desc.now.signature.items ≤ converted.new.capacity) }
+    ensures can_make { OnOk result (IsThere socket.now.incoming.bytes desc.now.signature.items socket.now.incoming.tokens
+        → row_creates (message_row desc.now) ≡ true → objects.new.reserved ≡ true) }
+    ensures can_register { OnOk result (IsThere socket.now.incoming.bytes desc.now.signature.items socket.now.incoming.tokens
+        → row_creates (message_row desc.now) ≡ true → vec_len registries.new < vec_capacity registries.new) }
+    ensures asked { OnErr result ((row_asks (Some (message_row desc.now)) ≡ true)
+        × IsThere socket.now.incoming.bytes desc.now.signature.items socket.now.incoming.tokens) }
+{
+    if !asks_for_memory(desc) || !socket.holds_message(desc.signature.as_slice()) {
+        return Ok(());
+    }
+    converted.reserve(desc.signature.len())?;
+    if creates(desc) {
+        registries.reserve(1)?;
+        objects.reserve()?;
+    }
+    Ok(())
+}
+
+/// Takes the message at the front, of that sender and opcode, off the link, with room for what it becomes: for its
+/// arguments in `converted`, which is emptied, and for the object that it may make in the map and among the registries.
+/// The answer is what the table says of it.
+pub fn take<'p, T: Drop, U: Drop>(
+    protocol: &'p Protocol,
+    objects: &mut ObjectMap<Kept<U>>,
+    registries: &mut Vec<Registry>,
+    socket: &mut BufferedSocket<T>,
+    header: (u32, u16),
+    message: &mut Message<u32, Token>,
+    converted: &mut SmallVec<Argument<ObjectId, Token>, INLINE_ARGS>,
+) -> Result<&'p MessageDesc, MessageParseError>
+    requires header { IsHeader socket.old header }
+    requires inline { INLINE_ARGS ≤ converted.old.capacity }
+    requires place { INLINE_ARGS ≤ message.old.args.capacity }
+    ensures took { TookWith protocol.now objects.old.store socket.old result (content message.new) socket.new }
+    ensures matches { IfOk result (λ desc. Matches desc.now.signature.items message.new.args.items) }
+    ensures fewer { OnOk result (length socket.new.incoming.bytes < length socket.old.incoming.bytes) }
+    ensures store { objects.new.store ≡ objects.old.store }
+    ensures registries { registries.new.items ≡ registries.old.items }
+    ensures room { OnOk result (HasRoomFor converted.new (length message.new.args.items)) }
+    ensures inline { INLINE_ARGS ≤ converted.new.capacity }
+    ensures empty { converted.new.items ≡ [] }
+    ensures can_make { IfOk result (λ desc. row_creates (message_row desc.now) ≡ true → objects.new.reserved ≡ true) }
+    ensures can_register { IfOk result (λ desc. row_creates (message_row desc.now) ≡ true → vec_len registries.new < vec_capacity registries.new) }
+{
+    converted.clear();
+    let (sender, opcode) = header;
+    let Some(desc) = request_desc(protocol, objects, sender, opcode) else {
+        return Err(MessageParseError::Malformed);
+    };
+    let signature = desc.signature.as_slice();
+    let Ok(()) = make_room(objects, registries, converted, socket, desc) else {
+        return Err(MessageParseError::OutOfMemory);
+    };
+    read_under(socket, signature, message)?;
+    Ok(desc)
+}
