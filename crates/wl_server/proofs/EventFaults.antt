@@ -1,5 +1,5 @@
 -- The checks of an event's arguments.
-use Rattle.std.proofs.Common.{◌≡◌, ℕ, ◌<◌, ◌≤◌, ◌∷◌, [], List, length, drop, Option, None, refl, sym, ap, ◌∙◌, arith, inl, inr}
+use Rattle.std.proofs.Common.{◌≡◌, ℕ, ◌<◌, ◌≤◌, ◌∷◌, [], List, length, drop, None, refl, sym, ap, arith, inl, inr}
 use Rattle.std.proofs.lemmas.List.{drop_all}
 use Rattle.std.proofs.lemmas.Bool.{cases_lt}
 use Rattle.wl_wire.specs.declared.argument.Argument.{Argument}
@@ -9,7 +9,6 @@ use Rattle.wl_wire.specs.declared.interface.InterfaceId.{InterfaceId}
 use Rattle.wl_wire.specs.Table.{MessageRow}
 use Rattle.wl_link.specs.Refusals.{first_refusal}
 use Rattle.wl_link.specs.Store.{Store}
-use Rattle.wl_server.specs.declared.error.EventError.{EventError}
 use Rattle.wl_server.specs.declared.kept.Kept.{Kept}
 use Rattle.wl_server.specs.Events.{argument_faults}
 use Rattle.wl_server.specs.Ids.{ClientParts, IdParts}
@@ -28,8 +27,8 @@ module _ {U : Type 0} (client : ClientParts) (store : Store (Kept U)) (row : Mes
         | inr past ↦ rw (drop_all i kinds past) refl
       ]
 
-  -- so what was found so far is all
-  pub no_fault : (kinds : List ArgumentType) (asked : List InterfaceId) (args : List (Argument IdParts Token)) (i : ℕ) (total : Option EventError)
+  -- so there is none behind what was looked at
+  pub no_fault : (kinds : List ArgumentType) (asked : List InterfaceId) (args : List (Argument IdParts Token)) (i : ℕ)
       → (i < length kinds → i < length args → ⊥)
-      → first_refusal (argument_faults client store row (drop i kinds) asked (drop i args)) ≡ total → None ≡ total
-  no_fault kinds asked args i total none so_far = sym (ap first_refusal (no_faults_left kinds asked args i none)) ∙ so_far
+      → None ≡ first_refusal (argument_faults client store row (drop i kinds) asked (drop i args))
+  no_fault kinds asked args i none = sym (ap first_refusal (no_faults_left kinds asked args i none))

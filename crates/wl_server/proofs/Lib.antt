@@ -20,3 +20,5 @@ mod AtName
 mod Inserting
 mod NewIds
 mod Taking
+mod SendingEvents
+mod Closing

@@ -29,3 +29,4 @@ pub mod Lookups
 pub mod IsolationLaw
 pub mod ReaderLaws
 pub mod EventChecks
+pub mod Ending

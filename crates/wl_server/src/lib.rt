@@ -31,6 +31,7 @@ mod protocol_error;
 mod registry;
 mod request_fault;
 mod script;
+mod send_event;
 mod step;
 mod surroundings;
 mod telling;

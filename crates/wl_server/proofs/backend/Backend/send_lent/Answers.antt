@@ -1,0 +1,44 @@
+use Rattle.std.proofs.Common.{◌≡◌, ◌∙◌, ℕ, Err, List, Result, refl, sym, ap, subst}
+use Rattle.wl_wire.specs.declared.argument.Token.{Token}
+use Rattle.wl_wire.specs.declared.error.IoFault.{IoFault}
+use Rattle.wl_wire.specs.declared.message.Message.{Message}
+use Rattle.wl_wire.specs.Table.{InterfaceRow}
+use Rattle.wl_link.specs.Exchange.{Queue}
+use Rattle.wl_server.specs.declared.error.EventError.{EventError}
+use Rattle.wl_server.specs.declared.error.EventError.TheVariants as refused
+use Rattle.wl_server.specs.declared.step.Reply.TheVariants as reply
+use Rattle.wl_server.specs.declared.step.Step.TheVariants as step
+use Rattle.wl_server.specs.Client.{Does}
+use Rattle.wl_server.specs.Events.{SendsEvent, session_content}
+use Rattle.wl_server.specs.Ids.{ClientParts, IdParts}
+use Rattle.wl_server.specs.PartStep.{Asked}
+use Rattle.wl_server.proofs.Calls.{IsOwn, done_at, not_stored}
+use Rattle.wl_server.proofs.Slots.{Kind, slot_not_empty}
+use Rattle.wl_server.proofs.backend.Backend.send_lent.Goals as goal
+
+abbrev sends_event : {T U C : Type 0} → (T → Queue → Result ℕ IoFault → T → Type 0) → List InterfaceRow → Message IdParts Token → Result (Unit {0}) EventError → Kind T U C
+sends_event sends table m answer id p lacked did q = SendsEvent sends id table p (session_content m) answer lacked did q
+
+own : {T U G C : Type 0} (m : Message IdParts Token) (answer : Result (Unit {0}) EventError) → IsOwn {T = T} {U = U} {G = G} {C = C} (Asked (step.SendEvent m) (reply.SendEvent answer))
+own m answer = record { offer = λ o. refl; last = refl; client = λ b. tt; global = λ o. tt; order = tt; growth = refl }
+
+abbrev unknown : Result (Unit {0}) EventError
+unknown = Err refused.InvalidId
+
+pub returns-then-not-is_stored : goal.returns-then-not-is_stored
+returns-then-not-is_stored g c = rw (← c.self.view_is)
+    (not_stored _ _ _ _ (own _ _) c.args.message.now.sender_id.client (sends_event g.T.Transport.sends c.self.inside.protocol c.args.message.now unknown) (unknown ≡ unknown)
+    (λ i l d b a h. (unknown, refl, h)) (rw (← c.client-id.ensures) (sym c.is_stored.ensures.stored ∙ c.if-not-is_stored.true)) refl)
+
+pub unreachable-requires : goal.unreachable-requires
+unreachable-requires g c =
+    slot_not_empty c.self.inside.clients.items c.client-id.result c.slot.result _ (sym c.is_stored.ensures.stored ∙ c.if-not-is_stored.false) c.slot.ensures c.index_mut.ensures.value c.in-None.is
+
+pub returns : goal.returns
+returns g c = rw (← c.self.view_is)
+    (done_at _ _ _ _ (own _ _) c.args.message.now.sender_id.client (sends_event g.T.Transport.sends c.self.inside.protocol c.args.message.now c.send_event-answer.result.0)
+    (c.send_event-answer.result.0 ≡ unknown) (λ i l d b a h. (c.send_event-answer.result.0, refl, h))
+    c.slot.result c.index_mut.result.now c.in-Some.client c.send_event-answer.new.self c.send_event-answer.result.1
+    (rw (← c.client-id.ensures) (sym c.is_stored.ensures.stored ∙ c.if-not-is_stored.false)) (c.slot.ensures ∙ ap (λ i. i.slot) c.client-id.ensures) c.index_mut.ensures.value c.in-Some.is
+    (subst (λ (i : ClientParts). Does c.in-Some.client (λ p did q. SendsEvent g.T.Transport.sends i c.self.inside.protocol p (session_content c.args.message.now) c.send_event-answer.result.0 c.send_event-answer.result.1 did q) c.send_event-answer.new.self)
+    c.client-id.ensures c.send_event-answer.ensures))

@@ -1,0 +1,5 @@
+use Rattle.wl_server.proofs.client.Client.tell_end.Goals as goal
+
+pub returns : goal.returns
+returns g c = rw (← c.self.view_is)
+    (c.put_end-answer.result, c.put_end-answer.new.socket, c.put_end-answer.ensures, c.told.ensures.refused, c.told.ensures.closed)

@@ -1,0 +1,220 @@
+//! The sending of an event.
+
+ghost use Rattle.std.specs.Prelude.{◌≡◌, ◌<◌, ◌++◌, IsTrue, OnErr, OnOk, Some, map};
+ghost use Rattle.std.specs.VecDeque.{deque_capacity, deque_len};
+ghost use Rattle.wl_link.specs.declared.object.Object.{Object};
+ghost use Rattle.wl_link.specs.Puts.{lacked_memory};
+ghost use Rattle.wl_server.specs.declared.kept.Kept.{Kept};
+ghost use Rattle.wl_server.specs.declared.step.Reply.TheVariants as reply;
+ghost use Rattle.wl_server.specs.declared.step.Step.TheVariants as step;
+ghost use Rattle.wl_server.specs.Backend.{Calls};
+ghost use Rattle.wl_server.specs.Client.{Does};
+ghost use Rattle.wl_server.specs.Ending.{ending, has_data, notes_ending, registries_ending, store_ending, PutsEnd, TellsEnd};
+ghost use Rattle.wl_server.specs.Events.{SendsEvent, SendsGranted, session_content};
+ghost use Rattle.wl_server.specs.Part.{named};
+ghost use Rattle.wl_server.specs.PartStep.{over};
+
+use crate::backend::Backend;
+use crate::client::Client;
+use crate::client_id::ClientId;
+use crate::error::EventError;
+use crate::event_check::{OwnNumbers, check_event};
+use crate::handler::GlobalHandler;
+use crate::kept::Kept;
+use crate::note::Happening;
+use crate::note_numbers::NoteNumbers;
+use crate::object_id::ObjectId;
+use crate::objects::{id_at, note_waiting, take_out};
+use crate::registry::Registry;
+use crate::telling::put_delete_id;
+use std::alloc::Global;
+use std::collections::VecDeque;
+use wl_link::{BufferedSocket, ObjectMap, Transport};
+use wl_wire::{IoFault, Message, OutOfMemory, Protocol, Token};
+
+/// Makes room for the note of the object of this number, where it has user data and the event ends it.
+fn make_room<U: Drop>(
+    objects: &ObjectMap<Kept<U>>,
+    waiting: &mut VecDeque<(u128, Happening<U>)>,
+    number: u32,
+    ends: bool,
+) -> Result<(), OutOfMemory>
+    ensures items { waiting.new.items ≡ waiting.old.items }
+    ensures asked { OnErr result (IsTrue (has_data (ending ends objects.now.store number))) }
+    ensures room { OnOk result (IsTrue (has_data (ending ends objects.now.store number)) → deque_len waiting.new < deque_capacity waiting.new) }
+{
+    if !ends {
+        return Ok(());
+    }
+    let Some(object) = objects.find(number) else {
+        return Ok(());
+    };
+    if object.value.user_data.is_some() {
+        waiting.reserve(1)?;
+    }
+    Ok(())
+}
+
+/// Takes the object of this number out, where the event ends it. If it had user data, its note waits for the next cleanup.
+fn end_sender<U: Drop>(
+    objects: &mut ObjectMap<Kept<U>>,
+    registries: &mut Vec<Registry>,
+    waiting: &mut VecDeque<(u128, Happening<U>)>,
+    numbers: &mut NoteNumbers,
+    client: &ClientId,
+    number: u32,
+    ends: bool,
+)
+    requires { IsTrue (has_data (ending ends objects.old.store number)) → deque_len waiting.old < deque_capacity waiting.old }
+    ensures store { objects.new.store ≡ store_ending ends objects.old.store number }
+    ensures registries { registries.new.items ≡ registries_ending registries.old.items number (ending ends objects.old.store number) }
+    ensures waiting { map (λ w. w.1) waiting.new.items ≡ map (λ w. w.1) waiting.old.items ++ notes_ending client.now number (ending ends objects.old.store number) }
+{
+    if !ends {
+        return;
+    }
+    let Some(object) = take_out(objects, registries, number) else {
+        return;
+    };
+    let id = id_at(client, number, &object);
+    note_waiting(waiting, numbers, id, object.value.user_data);
+}
+
+/// Whether a write met a want of memory.
+fn lacked_memory(written: &Result<(), IoFault>) -> bool
+    ensures { result ≡ lacked_memory written.now }
+{
+    matches!(written, Err(IoFault::OutOfMemory))
+}
+
+/// Tells the client that the number is free again, where an event was written that ends the number's object. The answer is
+/// that of the write which failed, if one did.
+fn put_end<T: Transport>(
+    alloc: Global,
+    socket: &mut BufferedSocket<T>,
+    number: u32,
+    ends: bool,
+    written: Result<(), IoFault>,
+) -> Result<(), IoFault>
+    ensures { PutsEnd T.sends socket.old number ends written result socket.new }
+{
+    written?;
+    if !ends {
+        return Ok(());
+    }
+    put_delete_id(alloc, socket, number)
+}
+
+impl<T: Transport + Drop, U: Drop, C: Drop> Client<T, U, C> {
+    /// Tells the client of the end of the number's object, where the event that was written ends it. Where the event could
+    /// not be written, or the client could not be told, it is closed down. The answer is whether memory was refused.
+    fn tell_end(
+        &mut self,
+        numbers: &mut NoteNumbers,
+        number: u32,
+        ends: bool,
+        written: Result<(), IoFault>,
+    ) -> bool
+        ensures { TellsEnd T.sends self.old number ends written result self.new }
+    {
+        let alloc = *self.waiting.allocator();
+        let answer = put_end(alloc, &mut self.socket, number, ends, written);
+        self.told(numbers, answer)
+    }
+
+    /// Writes an event that is not refused, and answers whether memory was refused, too. One that ends its sender takes it
+    /// out, also where it could not be written; without memory nothing is done.
+    fn send_granted(
+        &mut self,
+        id: &ClientId,
+        numbers: &mut NoteNumbers,
+        message: &Message<ObjectId, Token>,
+        ends: bool,
+    ) -> (Result<(), EventError>, bool)
+        ensures { (sender : Object (Kept U)) → named self.old.part.store message.now.sender_id ≡ Some sender
+            → Does self.old (λ p did q. SendsGranted T.sends id.now p (session_content message.now) sender ends result.0 result.1 did q) self.new }
+    {
+        let number = message.sender_id.protocol_id();
+        let room = make_room(&self.objects, &mut self.waiting, number, ends);
+        if room.is_err() {
+            return (Err(EventError::OutOfMemory), true);
+        }
+        let written = self.socket.write_numbered(message, &OwnNumbers);
+        if lacked_memory(&written) {
+            return (Err(EventError::OutOfMemory), true);
+        }
+        end_sender(
+            &mut self.objects,
+            &mut self.registries,
+            &mut self.waiting,
+            numbers,
+            id,
+            number,
+            ends,
+        );
+        (Ok(()), self.tell_end(numbers, number, ends, written))
+    }
+
+    /// Sends an event of one of the client's objects, and answers whether memory was refused, too. To a killed client
+    /// nothing is sent.
+    pub fn send_event(
+        &mut self,
+        protocol: &Protocol,
+        id: &ClientId,
+        numbers: &mut NoteNumbers,
+        message: &Message<ObjectId, Token>,
+    ) -> (Result<(), EventError>, bool)
+        ensures { Does self.old (λ p did q. SendsEvent T.sends id.now protocol.now p (session_content message.now) result.0 result.1 did q) self.new }
+    {
+        if self.is_killed {
+            return (Ok(()), false);
+        }
+        match check_event(protocol, id, &self.objects, message) {
+            Ok(ends) => self.send_granted(id, numbers, message, ends),
+            Err(error) => (Err(error), false),
+        }
+    }
+}
+
+impl<T: Transport + Drop, U: Drop, G: GlobalHandler<C> + Drop, C: Drop> Backend<T, U, G, C> {
+    /// Sends an event that is lent.
+    fn send_lent(&mut self, message: &Message<ObjectId, Token>) -> Result<(), EventError>
+        ensures { Calls (over T.sends T.receives G.views) self.old (step.SendEvent message.now) (reply.SendEvent result) self.new }
+    {
+        self.refused = false;
+        let id = message.sender_id.client();
+        if !self.is_stored(&id) {
+            return Err(EventError::InvalidId);
+        }
+        match &mut self.clients[id.slot() as usize] {
+            Some(client) => {
+                let (answer, lacked) = client.send_event(
+                    &self.protocol,
+                    &id,
+                    &mut self.numbers,
+                    message,
+                );
+                self.refused = lacked;
+                answer
+            }
+            None => unreachable!(),
+        }
+    }
+
+    /// Writes the event behind what waits to be sent to its sender's client.
+    ///
+    /// The refusals are those of `EventError`, looked at in the order that is told there. To a killed client nothing is
+    /// sent, and the answer is `Ok`, whatever the event. A destructor event ends its sender: the object leaves, a note of
+    /// it waits for the next cleanup where it had user data, and where its number is one of the client's own the client is
+    /// told that this is free again.
+    ///
+    /// A refusal changes nothing, but that after `OutOfMemory` what a flush of the write sent or dropped is gone from the
+    /// link, and a storage that grew stays so. Where the write fails for another reason (`TooBig`, where the event is too
+    /// long), or the client cannot be told of the free number, the answer is `Ok` and the client is killed, as one whose
+    /// connection is closed; a sender that the event ends is gone then, too.
+    pub fn send_event(&mut self, message: Message<ObjectId, Token>) -> Result<(), EventError>
+        ensures { Calls (over T.sends T.receives G.views) self.old (step.SendEvent message) (reply.SendEvent result) self.new }
+    {
+        self.send_lent(&message)
+    }
+}
