@@ -22,3 +22,4 @@ mod NewIds
 mod Taking
 mod SendingEvents
 mod Closing
+mod Texts
