@@ -1,12 +1,12 @@
 //! Errors that are posted on objects.
 
-ghost use Rattle.std.specs.Prelude.{◌≡◌, true, false};
+ghost use Rattle.std.specs.Prelude.{◌≡◌, ℕ, List, IfOk, true, false};
 ghost use Rattle.wl_link.specs.Puts.{FlushesOut};
 ghost use Rattle.wl_server.specs.Backend.{Calls};
 ghost use Rattle.wl_server.specs.Carried.{IsCarried};
 ghost use Rattle.wl_server.specs.Client.{Does};
 ghost use Rattle.wl_server.specs.Errors.{error_messages, posts, PostsError};
-ghost use Rattle.wl_server.specs.Part.{with_link};
+ghost use Rattle.wl_server.specs.Part.{display_of, with_link};
 ghost use Rattle.wl_server.specs.PartStep.{over};
 ghost use Rattle.wl_server.specs.Puts.{Puts};
 ghost use Rattle.wl_server.specs.Telling.{core_of};
@@ -15,15 +15,16 @@ ghost use Rattle.wl_server.specs.declared.step.Step.TheVariants as step;
 
 use crate::backend::Backend;
 use crate::client::Client;
+use crate::client_id::ClientId;
 use crate::handler::GlobalHandler;
 use crate::note::DisconnectReason;
 use crate::note_numbers::NoteNumbers;
 use crate::object_id::ObjectId;
 use crate::objects::named_in;
 use crate::protocol_error::posted_error;
-use crate::telling::{lacks_memory, put_error};
+use crate::telling::{DISPLAY, lacks_memory, put_error};
 use wl_link::Transport;
-use wl_wire::{CString, IoFault, Protocol};
+use wl_wire::{CString, IoFault, OutOfMemory, Protocol, WL_DISPLAY_INTERFACE};
 
 impl<T: Transport + Drop, U: Drop, C: Drop> Client<T, U, C> {
     /// Posts an error on an object: it is told to the client where it is not killed and the object is kept, what waits is
@@ -52,6 +53,29 @@ impl<T: Transport + Drop, U: Drop, C: Drop> Client<T, U, C> {
         let refused = self.told(numbers, wrote);
         self.kill(numbers, DisconnectReason::ProtocolError(error));
         refused || lacked
+    }
+
+    /// Posts an error on the display of a live client, which broke the protocol. Where there was no memory for the text the
+    /// client is closed down. The answer is whether memory was refused.
+    #[cold]
+    #[inline(never)]
+    pub fn breaks(
+        &mut self,
+        protocol: &Protocol,
+        numbers: &mut NoteNumbers,
+        id: &ClientId,
+        code: u32,
+        text: Result<CString, OutOfMemory>,
+    ) -> bool
+        requires { self.old.part.is_killed ≡ false }
+        ensures { (t : List ℕ) → IfOk text (λ x. x ≡ t)
+            → IsCarried T.sends (posts protocol.now (core_of self.old.part) (display_of id.now) code t) self.old result self.new }
+    {
+        let display = ObjectId::from_parts(DISPLAY, 0, *id, WL_DISPLAY_INTERFACE);
+        match text {
+            Ok(text) => self.posts(protocol, numbers, &display, code, text),
+            Err(_) => self.told(numbers, Err(IoFault::OutOfMemory)),
+        }
     }
 
     /// Posts an error on an object, as the program asks. A null id is of none, and nothing is done. The answer is whether
