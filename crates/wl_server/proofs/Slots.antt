@@ -1,7 +1,7 @@
 -- What is held of each client id after one slot was written.
-use Rattle.std.proofs.Common.{◌≡◌, ◌≢◌, ℕ, suc, zero, Bool, true, false, ◌<◌, List, [], ◌∷◌, ◌++◌, length, Option, None, Some, is_some, refl, sym, ap, subst, ◌∙◌, append_assoc, true≢false}
+use Rattle.std.proofs.Common.{◌≡◌, ◌≢◌, ℕ, suc, zero, Bool, true, false, ◌<◌, List, [], ◌∷◌, ◌++◌, length, Option, None, Some, is_some, refl, sym, ap, subst, ◌∙◌, append_assoc, arith, true≢false}
 use Rattle.std.specs.Option.{option_map_or}
-use Rattle.std.specs.Prelude.{if◌then◌else◌, ◌==◌, slice_get, slice_index_or, slice_set}
+use Rattle.std.specs.Prelude.{if◌then◌else◌, ◌==◌, slice_get, slice_index_or, slice_set, Vec, vec_len}
 use Rattle.std.proofs.lemmas.Bool.{eqb-true, eq-eqb, false≢true}
 use Rattle.std.proofs.lemmas.Option.{slice_get_read, slice_get_within}
 use Rattle.wl_server.specs.declared.note.Happening.{Happening}
@@ -25,6 +25,10 @@ get_set_other (z ∷ xs) zero zero y differ = absurd (differ refl)
 get_set_other (z ∷ xs) zero (suc j) y differ = refl
 get_set_other (z ∷ xs) (suc i) zero y differ = refl
 get_set_other (z ∷ xs) (suc i) (suc j) y differ = get_set_other xs i j y (λ e. differ (ap suc e))
+
+-- the slot of a stored client is an index
+pub slot_in : {A Z : Type 0} (clients : Vec A Z) (n slot : ℕ) → n ≡ slot → slot < length clients.items → n < vec_len clients
+slot_in clients n slot is below = let len : clients.len ≡ length clients.items = clients.ok.0 in omega (arith, is, below, len)
 
 -- ---- ids
 

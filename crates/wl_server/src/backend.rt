@@ -24,6 +24,7 @@ pub struct Backend<T, U, G, C> {
     pub(crate) last_global: u64,
     pub(crate) default_limit: usize,
     pub(crate) last_client: u64,
+    /// The clients by slot. A slot is a number of 32 bits.
     pub(crate) clients: Vec<Option<Client<T, U, C>>>,
     pub(crate) notes: Vec<Note<U>>,
     pub(crate) numbers: NoteNumbers,
@@ -32,6 +33,7 @@ pub struct Backend<T, U, G, C> {
 
 impl<T, U, G, C> Model for Backend<T, U, G, C> {
     ghost use Rattle.std.specs.Coded.{codes};
+    ghost use Rattle.std.specs.Prelude.{◌≤◌, vec_len};
     ghost use Rattle.wl_link.specs.ObjectMap.{store_code};
     ghost use Rattle.wl_server.specs.Backend.{BackendState};
 
@@ -52,6 +54,8 @@ impl<T, U, G, C> Model for Backend<T, U, G, C> {
       };
       refused = b.refused;
     } };
+
+    ghost invariant = { λ b. vec_len b.clients ≤ 0x100000000 };
 }
 
 impl<T: Drop, U: Drop, G: Drop, C: Drop> Backend<T, U, G, C> {

@@ -11,7 +11,7 @@ use Rattle.wl_server.specs.declared.step.Reply.TheVariants as reply
 use Rattle.wl_server.specs.declared.step.Step.TheVariants as step
 use Rattle.wl_server.proofs.Calls.{IsOwn, done_at, not_stored}
 use Rattle.wl_server.proofs.Feeling.{IsFelt, felt_call}
-use Rattle.wl_server.proofs.Slots.{slot_not_empty}
+use Rattle.wl_server.proofs.Slots.{slot_in, slot_not_empty}
 use Rattle.wl_server.proofs.backend.Backend.flush.Goals as goal
 
 own : {T U G C : Type 0} (client : Option ClientParts) (answer : _) → IsOwn {T = T} {U = U} {G = G} {C = C} (Asked (step.Flush client) (reply.Flush answer))
@@ -33,6 +33,9 @@ pub returns-then-not-is_stored : goal.returns-then-not-is_stored
 returns-then-not-is_stored g c = rw (← c.self.view_is, c.in-Some.is)
     (not_stored _ _ _ _ (own _ _) c.in-Some.id (λ i p lacked did q. FlushedTo g.T.Transport.sends p (Ok tt) lacked did q) (Ok tt ≡ Ok tt) (λ i l d b a h. (_, refl, h))
     (sym c.is_stored.ensures.stored ∙ c.if-not-is_stored.true) refl)
+
+pub index_mut-requires : goal.index_mut-requires
+index_mut-requires g c = slot_in c.self.inside.clients _ _ c.slot.ensures (c.is_stored.ensures.within c.if-not-is_stored.false)
 
 pub unreachable-requires : goal.unreachable-requires
 unreachable-requires g c =

@@ -8,7 +8,7 @@ use Rattle.wl_server.specs.Telling.{Kills}
 use Rattle.wl_server.specs.declared.step.Reply.TheVariants as reply
 use Rattle.wl_server.specs.declared.step.Step.TheVariants as step
 use Rattle.wl_server.proofs.Calls.{IsOwn, done_at, not_stored}
-use Rattle.wl_server.proofs.Slots.{Kind, slot_not_empty}
+use Rattle.wl_server.proofs.Slots.{Kind, slot_in, slot_not_empty}
 use Rattle.wl_server.proofs.backend.Backend.kill_client.Goals as goal
 
 abbrev kills : {T U C : Type 0} → DisconnectReason → Kind T U C
@@ -24,6 +24,9 @@ kill_does before reason after (did, q, does, is) = (did, q, (refl, does), is)
 pub returns-then-not-is_stored : goal.returns-then-not-is_stored
 returns-then-not-is_stored g c = rw (← c.self.view_is)
     (not_stored _ _ _ _ (own _ _) c.args.id.now (kills c.args.reason) (Unit {0}) (λ i l d b a h. (refl, h)) (sym c.is_stored.ensures.stored ∙ c.if-not-is_stored.true) tt)
+
+pub index_mut-requires : goal.index_mut-requires
+index_mut-requires g c = slot_in c.self.inside.clients _ _ c.slot.ensures (c.is_stored.ensures.within c.if-not-is_stored.false)
 
 pub unreachable-requires : goal.unreachable-requires
 unreachable-requires g c =
