@@ -30,3 +30,4 @@ pub mod IsolationLaw
 pub mod ReaderLaws
 pub mod EventChecks
 pub mod Ending
+pub mod BaseMoves
