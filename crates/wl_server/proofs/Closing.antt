@@ -14,7 +14,8 @@ use Rattle.wl_server.specs.Part.{Part}
 use Rattle.wl_server.specs.Puts.{Puts}
 use Rattle.wl_server.specs.Server.{Stored}
 use Rattle.wl_server.specs.Telling.{Core, Kills, Tells, Told, closed_down, end_deeds, part_of, speaker, tells}
-use Rattle.wl_server.proofs.Notes.{tells_put, told_notes}
+use Rattle.wl_server.specs.Carried.{told_notes}
+use Rattle.wl_server.proofs.Notes.{tells_put}
 
 or_false : (b : Bool) → (b || false) ≡ b
 or_false true = refl

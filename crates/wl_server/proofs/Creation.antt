@@ -1,6 +1,6 @@
 -- How an insertion, or why there is none, is a creation.
-use Rattle.std.proofs.Common.{◌≡◌, ℕ, ◌+◌, ◌<◌, Bool, true, false, List, [], Option, None, Some, is_some, Result, Ok, Err, MatchOption, MatchBool, refl, sym, ap, subst, ◌∙◌, inl, inr, true≢false, arith}
-use Rattle.std.specs.Prelude.{◌⊎◌, ◌==◌, slice_get}
+use Rattle.std.proofs.Common.{◌≡◌, ℕ, ◌+◌, ◌<◌, Bool, true, false, List, [], Option, None, Some, is_some, Result, Ok, Err, MatchOption, MatchBool, refl, ap, subst, ◌∙◌, inl, inr, true≢false, arith}
+use Rattle.std.specs.Prelude.{◌==◌, slice_get}
 use Rattle.std.proofs.lemmas.Bool.{eqb-true, eq-eqb, false≢true}
 use Rattle.wl_wire.specs.declared.interface.InterfaceId.{InterfaceId}
 use Rattle.wl_wire.specs.Table.{InterfaceRow}
@@ -8,7 +8,7 @@ use Rattle.wl_link.specs.declared.object.Object.{Object}
 use Rattle.wl_link.specs.declared.object_map.NewError.{NewError}
 use Rattle.wl_link.specs.declared.object_map.NewError.TheVariants as new
 use Rattle.wl_link.specs.ObjectMap.{InsertsNew}
-use Rattle.wl_link.specs.Store.{Store, server_range, first_unused, stored, IsFull, IsLeastAbsent}
+use Rattle.wl_link.specs.Store.{Store, server_range, stored}
 use Rattle.wl_server.specs.declared.error.CreateError.{CreateError}
 use Rattle.wl_server.specs.declared.error.CreateError.TheVariants as create
 use Rattle.wl_server.specs.declared.kept.Kept.{Kept}
@@ -16,8 +16,8 @@ use Rattle.wl_server.specs.Client.{Does}
 use Rattle.wl_server.specs.Creation.{LacksSerial}
 use Rattle.wl_server.specs.Deeds.{Deed}
 use Rattle.wl_server.specs.Ids.{ClientParts, IdParts}
-use Rattle.wl_server.specs.Objects.{Creates, CreatesAt, new_object, with_new_at}
-use Rattle.wl_server.specs.Part.{Part, fresh_object, id_at, last_possible_serial}
+use Rattle.wl_server.specs.Objects.{Creates, new_object, with_new_at}
+use Rattle.wl_server.specs.Part.{Part, fresh_object, last_possible_serial}
 use Rattle.wl_server.specs.Server.{Stored}
 use Rattle.wl_server.proofs.Doing.{does_quietly}
 

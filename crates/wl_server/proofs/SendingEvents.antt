@@ -33,7 +33,8 @@ use Rattle.wl_server.specs.Puts.{Puts}
 use Rattle.wl_server.specs.Server.{Stored}
 use Rattle.wl_server.specs.Telling.{Core, Did, Kills, Tells, closed_down, core_of, end_deeds, part_of, tells}
 use Rattle.wl_server.proofs.Closing.{client_of, closing, told_by, told_closing}
-use Rattle.wl_server.proofs.Notes.{notes_append, notes_of_sends, told_notes}
+use Rattle.wl_server.specs.Carried.{told_notes}
+use Rattle.wl_server.proofs.Notes.{notes_append, notes_of_sends}
 use Rattle.wl_server.proofs.Putting.{puts_none}
 
 -- ---- the message that is written

@@ -2,7 +2,7 @@
 --
 -- So a law of whole runs is an induction over the moves, and sees no call. A move says what it does to the part, and what
 -- it does beside that, by kind: a chain of moves tells the deeds of a call but for the order of deeds of different kinds.
-use Rattle.std.specs.Prelude.{◌≡◌, ◌≢◌, ◌⊎◌, ℕ, ◌+◌, List, [], ◌∷◌, ◌++◌, Bool, true, false, ◌==◌, if◌then◌else◌, Option, None, Some, Result, Ok, Err}
+use Rattle.std.specs.Prelude.{◌≡◌, ◌≢◌, ◌⊎◌, ℕ, ◌+◌, List, [], ◌∷◌, ◌++◌, Bool, true, false, ◌==◌, if◌then◌else◌, Option, None, Some, Result}
 use Rattle.wl_wire.specs.declared.argument.Argument.{Argument}
 use Rattle.wl_wire.specs.declared.argument.Argument.TheVariants as arg
 use Rattle.wl_wire.specs.declared.argument.Token.{Token}
@@ -183,7 +183,6 @@ pub data Moves {T U C : Type 0} (sends : T → Queue → Result ℕ IoFault → 
   -- of the ids that came up on the way these are handed out
   handed_out : {p q : Part T U C} {a d : Doings U} (ids : List HandedId) → Moves sends receives client p a q
       → ((id : HandedId) → IsAmong ids id → IsAmong a.handed id) → d ≡ record a { handed = ids } → Moves sends receives client p d q
-
   -- the link: a message was read, or the program changed the transport or a limit; a receive; messages are put, up to the
   -- first that fails; a flush
   relinked : {p q : Part T U C} {d : Doings U} (link : LinkState T) → link.outgoing ≡ p.link.outgoing → d ≡ nothing_done → q ≡ with_link p link
@@ -195,11 +194,9 @@ pub data Moves {T U C : Type 0} (sends : T → Queue → Result ℕ IoFault → 
       → Moves sends receives client p d q
   flushed : {p q : Part T U C} {d : Doings U} (es : List Sending) (answer : Result (Unit {0}) IoFault) (link : LinkState T)
       → FlushedBy sends p.link es answer link → d ≡ sending es → q ≡ with_link p link → Moves sends receives client p d q
-
   -- the client is killed, which is noted if it was not
   ended : {p q : Part T U C} {d : Doings U} (reason : DisconnectReason) → d ≡ noting (end_notes p.is_killed reason)
       → q ≡ record p { is_killed = true } → Moves sends receives client p d q
-
   -- an object takes a free number and the next serial, and its id is made; an id is made of an object, or of none; an
   -- object gets user data; an object leaves
   born : {p q : Part T U C} {d : Doings U} (n : ℕ) (x : Object (Kept U)) → held p.store n ≡ None → n ≢ 0 → x.value.serial ≡ p.last_serial + 1
@@ -212,7 +209,6 @@ pub data Moves {T U C : Type 0} (sends : T → Queue → Result ℕ IoFault → 
       → q ≡ record p { store = rewritten p.store n (with_user_data u x) } → Moves sends receives client p d q
   went : {p q : Part T U C} {d : Doings U} (n : ℕ) (x : Object (Kept U)) (waits : Bool) → held p.store n ≡ Some x
       → d ≡ leaving client waits n x → q ≡ left_by client waits p n x → Moves sends receives client p d q
-
   -- a kept registry is told of globals from now on; an action is handed out, and open; none is open; the notes that waited
   -- are made
   remembered : {p q : Part T U C} {d : Doings U} (n : ℕ) (x : Object (Kept U)) → held p.store n ≡ Some x → (x.interface.0 == registry_id.0) ≡ true

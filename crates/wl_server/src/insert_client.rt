@@ -1,6 +1,6 @@
 //! New clients.
 
-ghost use Rattle.std.specs.Prelude.{◌≡◌, ℕ, ◌<◌, ◌≤◌, None, Some, IfOk, OnErr, IsSome, MatchOption, length};
+ghost use Rattle.std.specs.Prelude.{◌≡◌, ℕ, ◌<◌, ◌≤◌, None, Some, IfOk, OnErr, IsSome, MatchOption, length, vec_len};
 ghost use Rattle.wl_link.specs.Store.{empty_store, stored};
 ghost use Rattle.wl_server.specs.Backend.{Calls};
 ghost use Rattle.wl_server.specs.Client.{IsInserted};
@@ -105,6 +105,7 @@ fn put_new<T: Drop, U: Drop, C: Drop>(
     ensures put { IfOk result (λ _. (s : Stored T U C) × IsInserted id.now.serial transport (Some max_buffer_size) info s
         × IsPut clients.old.items id.now.slot s clients.new.items) }
     ensures unchanged { OnErr result (clients.new.items ≡ clients.old.items) }
+    ensures slots { vec_len clients.old ≤ 0x100000000 → vec_len clients.new ≤ 0x100000000 }
 {
     let slot = id.slot() as usize;
     let alloc = *clients.allocator();

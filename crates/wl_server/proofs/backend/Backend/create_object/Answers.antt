@@ -1,4 +1,4 @@
-use Rattle.std.proofs.Common.{◌≡◌, ◌∙◌, [], false, Bool, List, Result, Err, ℕ, refl, sym}
+use Rattle.std.proofs.Common.{◌≡◌, ◌∙◌, [], Bool, List, Result, Err, ℕ, refl, sym}
 use Rattle.wl_wire.specs.declared.interface.InterfaceId.{InterfaceId}
 use Rattle.wl_wire.specs.Table.{InterfaceRow}
 use Rattle.wl_server.specs.declared.error.CreateError.{CreateError}
@@ -11,7 +11,7 @@ use Rattle.wl_server.specs.Server.{Stored}
 use Rattle.wl_server.specs.declared.step.Reply.TheVariants as reply
 use Rattle.wl_server.specs.declared.step.Step.TheVariants as step
 use Rattle.wl_server.proofs.Calls.{IsOwn, done_at, not_stored}
-use Rattle.wl_server.proofs.Slots.{Kind, slot_not_empty}
+use Rattle.wl_server.proofs.Slots.{Kind, slot_in, slot_not_empty}
 use Rattle.wl_server.proofs.backend.Backend.create_object.Goals as goal
 
 abbrev creates : {T U C : Type 0} → List InterfaceRow → InterfaceId → ℕ → U → Result IdParts CreateError → Kind T U C
@@ -31,6 +31,9 @@ pub returns-then-not-is_stored : goal.returns-then-not-is_stored
 returns-then-not-is_stored g c = rw (← c.self.view_is)
     (not_stored _ _ _ _ (own _ _ _ _ _) c.args.client.now (creates _ c.args.interface c.args.version c.args.user_data (Err create.InvalidId))
     (◌≡◌ {A = Result IdParts CreateError} (Err create.InvalidId) (Err create.InvalidId)) (λ i l d b a h. (_, refl, h)) (sym c.is_stored.ensures.stored ∙ c.if-not-is_stored.true) refl)
+
+pub index_mut-requires : goal.index_mut-requires
+index_mut-requires g c = slot_in c.self.inside.clients _ _ c.slot.ensures (c.is_stored.ensures.within c.if-not-is_stored.false)
 
 pub unreachable-requires : goal.unreachable-requires
 unreachable-requires g c =

@@ -39,3 +39,6 @@ returns-in-Err g c =
     rw (← c.self.view_is)
     (insertion_starved _ _ _ _ c.from_parts-id.result c.put_new.new.clients.items free (omega (arith, c.if-self.false))
     (ap (λ (i : ClientParts). i.serial) c.from_parts-id.ensures) c.in-Err.ensures.unchanged)
+
+pub invariant_of-self-in-Ok : goal.invariant_of-self-in-Ok
+invariant_of-self-in-Ok g c = c.put_new.ensures.slots c.self.invariant

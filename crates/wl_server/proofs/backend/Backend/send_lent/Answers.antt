@@ -13,7 +13,7 @@ use Rattle.wl_server.specs.Events.{SendsEvent, session_content}
 use Rattle.wl_server.specs.Ids.{ClientParts, IdParts}
 use Rattle.wl_server.specs.PartStep.{Asked}
 use Rattle.wl_server.proofs.Calls.{IsOwn, done_at, not_stored}
-use Rattle.wl_server.proofs.Slots.{Kind, slot_not_empty}
+use Rattle.wl_server.proofs.Slots.{Kind, slot_in, slot_not_empty}
 use Rattle.wl_server.proofs.backend.Backend.send_lent.Goals as goal
 
 abbrev sends_event : {T U C : Type 0} → (T → Queue → Result ℕ IoFault → T → Type 0) → List InterfaceRow → Message IdParts Token → Result (Unit {0}) EventError → Kind T U C
@@ -29,6 +29,9 @@ pub returns-then-not-is_stored : goal.returns-then-not-is_stored
 returns-then-not-is_stored g c = rw (← c.self.view_is)
     (not_stored _ _ _ _ (own _ _) c.args.message.now.sender_id.client (sends_event g.T.Transport.sends c.self.inside.protocol c.args.message.now unknown) (unknown ≡ unknown)
     (λ i l d b a h. (unknown, refl, h)) (rw (← c.client-id.ensures) (sym c.is_stored.ensures.stored ∙ c.if-not-is_stored.true)) refl)
+
+pub index_mut-requires : goal.index_mut-requires
+index_mut-requires g c = slot_in c.self.inside.clients _ _ c.slot.ensures (c.is_stored.ensures.within c.if-not-is_stored.false)
 
 pub unreachable-requires : goal.unreachable-requires
 unreachable-requires g c =

@@ -1,4 +1,4 @@
-use Rattle.std.proofs.Common.{◌≡◌, ◌∙◌, sym, rules}
+use Rattle.std.proofs.Common.{◌∙◌, sym, rules}
 use Rattle.wl_server.proofs.Creation.{unknown_interface, lacks_serial, created, exhausted, no_memory}
 use Rattle.wl_server.proofs.client.Client.create_object.Goals as goal
 
