@@ -16,6 +16,7 @@ mod Posting
 mod EventFaults
 mod Feeling
 mod Flushing
+mod Hearing
 mod AtName
 mod Inserting
 mod NewIds
@@ -23,3 +24,4 @@ mod Taking
 mod SendingEvents
 mod Closing
 mod Texts
+mod Announcing

@@ -7,6 +7,7 @@
 
 mod action;
 mod arguments;
+mod announce;
 mod backend;
 mod client;
 mod client_id;

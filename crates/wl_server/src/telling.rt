@@ -30,7 +30,12 @@ pub fn lacks_memory(answer: Result<(), IoFault>) -> bool
 }
 
 /// A message whose argument is one number.
-fn message_of_number(alloc: Global, sender_id: u32, opcode: u16, number: u32) -> Message<u32, Token>
+pub fn message_of_number(
+    alloc: Global,
+    sender_id: u32,
+    opcode: u16,
+    number: u32,
+) -> Message<u32, Token>
     ensures { content result ≡ record { sender = sender_id; opcode = opcode; args = arg.Uint number ∷ [] } }
 {
     let mut args = SmallVec::new(alloc);
