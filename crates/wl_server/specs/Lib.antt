@@ -31,3 +31,5 @@ pub mod ReaderLaws
 pub mod EventChecks
 pub mod Ending
 pub mod BaseMoves
+pub mod DoingsLaws
+pub mod MovesOfVerdicts
