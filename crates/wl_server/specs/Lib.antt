@@ -33,3 +33,4 @@ pub mod Ending
 pub mod BaseMoves
 pub mod DoingsLaws
 pub mod MovesOfVerdicts
+pub mod MovesOfRequests
