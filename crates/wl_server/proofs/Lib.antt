@@ -25,3 +25,4 @@ mod SendingEvents
 mod Closing
 mod Texts
 mod Announcing
+mod Destroying

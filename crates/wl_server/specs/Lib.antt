@@ -20,6 +20,8 @@ pub mod Runs
 pub mod Client
 pub mod Puts
 pub mod Scripting
+pub mod Creation
+pub mod Destruction
 pub mod Carried
 pub mod Places
 pub mod Creation

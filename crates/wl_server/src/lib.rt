@@ -12,6 +12,7 @@ mod backend;
 mod client;
 mod client_id;
 mod create;
+mod destroy;
 mod error;
 mod event_check;
 mod flush;

@@ -1,6 +1,6 @@
 //! The objects of a client: look-ups among them, and what a program asks and changes of one.
 
-ghost use Rattle.std.specs.Prelude.{◌≡◌, ◌<◌, ◌++◌, false, Err, IsSome, Ok, MatchOption, map, not, option_copied};
+ghost use Rattle.std.specs.Prelude.{◌≡◌, ◌<◌, ◌++◌, false, true, Err, IfSome, IsSome, Ok, OnErr, OnOk, MatchOption, is_some, map, not, option_copied};
 ghost use Rattle.std.specs.List.{filter};
 ghost use Rattle.std.specs.VecDeque.{deque_capacity, deque_len};
 ghost use Rattle.wl_link.specs.Store.{held, removed};
@@ -8,7 +8,7 @@ ghost use Rattle.wl_server.specs.Backend.{Calls};
 ghost use Rattle.wl_server.specs.Client.{Does};
 ghost use Rattle.wl_server.specs.Finish.{data_given};
 ghost use Rattle.wl_server.specs.Objects.{DataSet};
-ghost use Rattle.wl_server.specs.Part.{end_note, named, registries_without, same_id, fresh_object as the_object, id_at as the_id};
+ghost use Rattle.wl_server.specs.Part.{end_note, named, note_of_end, registries_without, same_id, fresh_object as the_object, id_at as the_id};
 ghost use Rattle.wl_server.specs.PartStep.{Quietly, over};
 ghost use Rattle.wl_server.specs.declared.step.Reply.TheVariants as reply;
 ghost use Rattle.wl_server.specs.declared.step.Step.TheVariants as step;
@@ -25,7 +25,7 @@ use crate::object_id::ObjectId;
 use crate::registry::Registry;
 use std::collections::VecDeque;
 use wl_link::{Object, ObjectMap, Transport};
-use wl_wire::{InterfaceId, WL_REGISTRY_INTERFACE};
+use wl_wire::{InterfaceId, OutOfMemory, WL_REGISTRY_INTERFACE};
 
 /// A new object.
 pub fn fresh_object<U>(
@@ -91,6 +91,21 @@ pub fn take_out<U: Drop>(
     Some(object)
 }
 
+/// Makes room for the note that this object is gone, where it has user data.
+pub fn reserve_note<U>(
+    waiting: &mut VecDeque<(u128, Happening<U>)>,
+    object: &Object<Kept<U>>,
+) -> Result<(), OutOfMemory>
+    ensures items { waiting.new.items ≡ waiting.old.items }
+    ensures room { OnOk result (IsSome object.now.value.user_data → deque_len waiting.new < deque_capacity waiting.new) }
+    ensures asked { OnErr result (is_some object.now.value.user_data ≡ true) }
+{
+    if object.value.user_data.is_some() {
+        waiting.reserve(1)?;
+    }
+    Ok(())
+}
+
 /// Notes for the next cleanup that this object is gone, where it had user data. There is room for that.
 pub fn note_waiting<U: Drop>(
     waiting: &mut VecDeque<(u128, Happening<U>)>,
@@ -104,6 +119,31 @@ pub fn note_waiting<U: Drop>(
     if let Some(user_data) = user_data {
         waiting.push_back_reserved((numbers.next_waiting(), Happening::Destroyed(id, user_data)));
     }
+}
+
+/// Takes the object at the number of the id out. If it had user data, its note waits for the next cleanup, and there is room
+/// for that.
+pub fn take_out_noted<U: Drop>(
+    objects: &mut ObjectMap<Kept<U>>,
+    registries: &mut Vec<Registry>,
+    waiting: &mut VecDeque<(u128, Happening<U>)>,
+    numbers: &mut NoteNumbers,
+    id: &ObjectId,
+)
+    requires { IfSome (held objects.old.store id.now.number)
+        (λ x. IsSome x.value.user_data → deque_len waiting.old < deque_capacity waiting.old) }
+    ensures removed { objects.new.store ≡ removed objects.old.store id.now.number }
+    ensures registries { IfSome (held objects.old.store id.now.number)
+        (λ x. registries.new.items ≡ registries_without registries.old.items id.now.number x) }
+    ensures noted { IfSome (held objects.old.store id.now.number)
+        (λ x. map (λ w. w.1) waiting.new.items ≡ map (λ w. w.1) waiting.old.items ++ note_of_end id.now.client id.now.number x) }
+{
+    let number = id.protocol_id();
+    let Some(object) = take_out(objects, registries, number) else {
+        return;
+    };
+    let gone = id_at(&id.client(), number, &object);
+    note_waiting(waiting, numbers, gone, object.value.user_data);
 }
 
 /// Gives the object that the id names these user data, in place of what it had.

@@ -1,0 +1,47 @@
+use Rattle.std.proofs.Common.{◌≡◌, ◌∙◌, ℕ, Bool, Result, Err, refl, ap, sym, subst}
+use Rattle.wl_wire.specs.declared.error.IoFault.{IoFault}
+use Rattle.wl_link.specs.Exchange.{Queue}
+use Rattle.wl_server.specs.declared.error.DestroyError.{DestroyError}
+use Rattle.wl_server.specs.declared.error.DestroyError.TheVariants as destroy
+use Rattle.wl_server.specs.Client.{Does}
+use Rattle.wl_server.specs.Destruction.{lacks_destroy}
+use Rattle.wl_server.specs.Ids.{IdParts}
+use Rattle.wl_server.specs.Objects.{Destroys}
+use Rattle.wl_server.specs.PartStep.{Asked}
+use Rattle.wl_server.specs.Server.{Stored}
+use Rattle.wl_server.specs.declared.step.Reply.TheVariants as reply
+use Rattle.wl_server.specs.declared.step.Step.TheVariants as step
+use Rattle.wl_server.proofs.Calls.{IsOwn, done_at, not_stored}
+use Rattle.wl_server.proofs.Slots.{Kind, slot_not_empty, stored_by}
+use Rattle.wl_server.proofs.backend.Backend.destroy_object.Goals as goal
+
+abbrev destroys : {T U C : Type 0} → (T → Queue → Result ℕ IoFault → T → Type 0) → IdParts → Result (Unit {0}) DestroyError → Kind T U C
+destroys sends o answer id p lacked did q = Destroys sends id p o answer lacked did q
+
+own : {T U G C : Type 0} (o : IdParts) (answer : Result (Unit {0}) DestroyError)
+    → IsOwn {T = T} {U = U} {G = G} {C = C} (Asked (step.DestroyObject o) (reply.DestroyObject answer))
+own o answer = record { offer = λ o. refl; last = refl; client = λ b. tt; global = λ o. tt; order = tt; growth = refl }
+
+-- with whether memory was refused
+does : {T U C : Type 0} (sends : T → Queue → Result ℕ IoFault → T → Type 0) (o : IdParts) (before after : Stored T U C) (answer : Result (Unit {0}) DestroyError)
+    (lacked : Bool) → lacked ≡ lacks_destroy answer → Does before (λ p did q. Destroys sends o.client p o answer (lacks_destroy answer) did q) after
+    → Does before (λ p did q. destroys sends o answer o.client p lacked did q) after
+does sends o before after answer lacked is done = subst (λ (b : Bool). Does before (λ p did q. Destroys sends o.client p o answer b did q) after) (sym is) done
+
+pub returns-then-not-is_stored : goal.returns-then-not-is_stored
+returns-then-not-is_stored g c = rw (← c.self.view_is)
+    (not_stored _ _ _ _ (own _ _) c.args.id.now.client (destroys _ c.args.id.now (Err destroy.InvalidId)) (◌≡◌ {A = Result (Unit {0}) DestroyError} (Err destroy.InvalidId) (Err destroy.InvalidId))
+    (λ i l d b a h. (_, refl, h)) (stored_by _ _ _ _ c.client-client.ensures c.is_stored.ensures.stored ∙ c.if-not-is_stored.true) refl)
+
+pub unreachable-requires : goal.unreachable-requires
+unreachable-requires g c =
+    slot_not_empty c.self.inside.clients.items c.args.id.now.client c.slot.result _
+    (stored_by _ _ _ _ c.client-client.ensures c.is_stored.ensures.stored ∙ c.if-not-is_stored.false) (c.slot.ensures ∙ ap (λ t. t.slot) c.client-client.ensures)
+    c.index_mut.ensures.value c.in-None.is
+
+pub returns : goal.returns
+returns g c = rw (← c.self.view_is)
+    (done_at _ _ _ _ (own _ _) c.args.id.now.client (destroys g.T.Transport.sends c.args.id.now c.destroy_object-answer.result) (c.destroy_object-answer.result ≡ Err destroy.InvalidId)
+    (λ i l d b a h. (_, refl, h)) c.slot.result c.index_mut.result.now c.in-Some.client c.destroy_object-answer.new.self c.lacked_memory-self-inside.result
+    (stored_by _ _ _ _ c.client-client.ensures c.is_stored.ensures.stored ∙ c.if-not-is_stored.false) (c.slot.ensures ∙ ap (λ t. t.slot) c.client-client.ensures)
+    c.index_mut.ensures.value c.in-Some.is (does g.T.Transport.sends c.args.id.now _ _ c.destroy_object-answer.result _ c.lacked_memory-self-inside.ensures c.destroy_object-answer.ensures))
