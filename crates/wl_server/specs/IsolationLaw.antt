@@ -23,10 +23,10 @@ use Rattle.wl_server.specs.Steps.{Entry, InsertsNext, NumbersClient, OneStep, in
 
 -- ---- ids
 
-same_self : (id : ClientParts) → same_client id id ≡ true
+pub same_self : (id : ClientParts) → same_client id id ≡ true
 same_self id = rw (eq-eqb id.slot id.slot refl) (eq-eqb id.serial id.serial refl)
 
-same_serial : (a b : ClientParts) → same_client a b ≡ true → a.serial ≡ b.serial
+pub same_serial : (a b : ClientParts) → same_client a b ≡ true → a.serial ≡ b.serial
 same_serial a b same = at (a.slot == b.slot) same
   where
     at : (t : Bool) → (t && (a.serial == b.serial)) ≡ true → a.serial ≡ b.serial
@@ -185,7 +185,7 @@ module _ {T U G C : Type 0} where
   other_offer id offer (step.AcceptFault target f) answer far = refl
   other_offer id offer (step.TakeSent target) answer far = refl
 
-  offer_of_other : (id : ClientParts) (offer : Offer G) (call : Call T U G C) → concerns id call ≡ false → offer_after offer call ≡ offer
+  pub offer_of_other : (id : ClientParts) (offer : Offer G) (call : Call T U G C) → concerns id call ≡ false → offer_after offer call ≡ offer
   offer_of_other id offer (Asked s answer) far = other_offer id offer s answer far
   offer_of_other id offer (Changed target t) far = refl
 
@@ -226,13 +226,13 @@ module _ {T U G C : Type 0} where
   unborn_run w before after [] born same = subst (λ (s : ServerState T U G C). Unborn s) (sym same) born
   unborn_run w before after (e ∷ run) born (mid, by, leads) = unborn_run w mid after run (unborn_step w before e mid born by) leads
 
-  offer_run : (w : World T G C) (before after : ServerState T U G C) (run : List (Entry T U G C)) → Leads w before run after
+  pub offer_run : (w : World T G C) (before after : ServerState T U G C) (run : List (Entry T U G C)) → Leads w before run after
       → after.offer ≡ offer_over before.offer run
   offer_run w before after [] same = ap (λ (s : ServerState T U G C). s.offer) same
   offer_run w before after (e ∷ run) (mid, by, leads) =
       offer_run w mid after run leads ∙ ap (λ (o : Offer G). offer_over o run) by.offer
 
-  offer_over_one : (offer : Offer G) (run : List (Entry T U G C)) (e : Entry T U G C) → offer_over offer (run ++ e ∷ []) ≡ offer_after (offer_over offer run) e.call
+  pub offer_over_one : (offer : Offer G) (run : List (Entry T U G C)) (e : Entry T U G C) → offer_over offer (run ++ e ∷ []) ≡ offer_after (offer_over offer run) e.call
   offer_over_one offer [] e = refl
   offer_over_one offer (f ∷ run) e = offer_over_one (offer_after offer f.call) run e
 

@@ -36,3 +36,11 @@ pub mod BaseMoves
 pub mod DoingsLaws
 pub mod MovesOfVerdicts
 pub mod MovesOfRequests
+pub mod Outcome
+pub mod ExchangeLaws
+pub mod NumberLaws
+pub mod PartOutcome
+pub mod OutcomeLaws
+pub mod RunOutcome
+pub mod MoveLaws
+pub mod ShareLaws

@@ -1,0 +1,162 @@
+-- When two replies are the same to a client, and when two runs of one client are.
+--
+-- Where the answers of a transport follow from its value, what a client's own calls and the shared ones lead to alone is
+-- one outcome, but for whether memory is there. It is said of one client: a server's value may differ in what no client
+-- sees, such as the order in which the notes of two clients stand.
+use Rattle.std.specs.Prelude.{◌≡◌, Bool, true, false, List, [], ◌∷◌, ◌++◌, Ok}
+use Rattle.wl_wire.specs.Table.{InterfaceRow}
+use Rattle.wl_link.specs.Exchange.{Queue}
+use Rattle.wl_link.specs.OneLaws.{IsFunction, IsReceiveFunction}
+use Rattle.wl_server.specs.declared.step.Reply.{Reply}
+use Rattle.wl_server.specs.declared.step.Reply.TheVariants as reply
+use Rattle.wl_server.specs.declared.step.Step.{Step}
+use Rattle.wl_server.specs.declared.step.Step.TheVariants as step
+use Rattle.wl_server.specs.Deeds.{Deed}
+use Rattle.wl_server.specs.Events.{SessionMessage, session_content}
+use Rattle.wl_server.specs.Globals.{Offer, new_offer}
+use Rattle.wl_server.specs.Ids.{ClientParts}
+use Rattle.wl_server.specs.Moves.{Move, Moved, taken}
+use Rattle.wl_server.specs.PartStep.{Asked, Call, Changed, PartStep, World, lacks_move, share_of}
+use Rattle.wl_server.specs.Reading.{action_content}
+use Rattle.wl_server.specs.Runs.{Alone, Leads, Own, concerns, is_about, mine, offer_over}
+use Rattle.wl_server.specs.Server.{Seen, ServerState, new_server, notes_of, seen}
+use Rattle.wl_server.specs.Steps.{Entry, NumbersGlobal, lacks_growth, offer_after}
+
+-- ---- what stands outside a server
+
+-- two moves of one kind, neither refused for want of memory, have one answer and leave one value
+abbrev pub IsMoveFunction : {T : Type 0} → (T → Move → Moved → T → Type 0) → Type 0
+IsMoveFunction {T = T} moves =
+    (before : T) (m : Move) (one two : Moved) (after after' : T)
+    → moves before m one after → moves before m two after' → lacks_move one ≡ false → lacks_move two ≡ false → (one ≡ two) × (after ≡ after')
+
+-- what a transport answers and becomes follows from its value
+pub record IsDetermined {T G C : Type 0} (w : World T G C) : Type 0 where
+  pub sends : IsFunction w.sends
+  pub receives : IsReceiveFunction w.receives
+  pub moves : IsMoveFunction w.moves
+
+-- ---- replies
+
+module _ {T U : Type 0} (id : ClientParts) where
+  -- Two replies are the same to a client: but for where their lists lie in memory, of which a program sees nothing; and of
+  -- what a cleanup hands out, and of the notes, this client's share.
+  abbrev pub SameReply : Reply T U → Reply T U → Type 0
+  SameReply (reply.NextAction r) (reply.NextAction r') = action_content r ≡ action_content r'
+  SameReply (reply.NextActionWithin r left) (reply.NextActionWithin r' left') = (action_content r ≡ action_content r') × (left ≡ left')
+  SameReply (reply.Cleanup (Ok out)) (reply.Cleanup (Ok out')) = share_of id out.items ≡ share_of id out'.items
+  SameReply (reply.TakeNotes (Ok out)) (reply.TakeNotes (Ok out')) = notes_of id out.items ≡ notes_of id out'.items
+  SameReply (reply.TakeSent r) (reply.TakeSent r') = taken r ≡ taken r'
+  SameReply r r' = r ≡ r'
+
+-- Two outcomes of a step are the same to a client: its deeds with the client and what is then held of it; and where the
+-- step is the client's own or shared, its replies.
+pub record SameOutcome {T U C : Type 0} (id : ClientParts) (is_own : Bool) (answer answer' : Reply T U) (did did' : List (Deed U))
+    (after after' : Seen T U C) : Type 0 where
+  pub reply : is_own ≡ true → SameReply id answer answer'
+  pub deeds : did ≡ did'
+  pub held : after ≡ after'
+
+module _ {T U G C : Type 0} where
+  -- The answers are the same where they tell what all clients share: the id of a new client and that of a new global. What
+  -- is shared before determines them.
+  abbrev pub SharedSame : Step T U G C → Reply T U → Reply T U → Type 0
+  SharedSame (step.InsertClient _ _) answer answer' = answer ≡ answer'
+  SharedSame (step.CreateGlobal _ _ _) answer answer' = answer ≡ answer'
+  SharedSame _ answer answer' = Unit {0}
+
+  -- ---- calls
+
+  abbrev pub SendsSame : SessionMessage → Step T U G C → Type 0
+  SendsSame m (step.SendEvent m') = m ≡ session_content m'
+  SendsSame m _ = ⊥
+
+  abbrev pub ArrivesSame : ClientParts → Queue → Step T U G C → Type 0
+  ArrivesSame target chunk (step.Arrive target' bytes tokens) = (target ≡ target') × (chunk ≡ record { bytes = bytes.items; tokens = tokens.items })
+  ArrivesSame target chunk _ = ⊥
+
+  -- Two steps are the same, but for where their lists lie in memory.
+  abbrev pub SameStep : Step T U G C → Step T U G C → Type 0
+  SameStep (step.SendEvent m) s' = SendsSame (session_content m) s'
+  SameStep (step.Arrive target bytes tokens) s' = ArrivesSame target (record { bytes = bytes.items; tokens = tokens.items }) s'
+  SameStep s s' = s ≡ s'
+
+  -- the same step, or the same change of a transport
+  abbrev pub SameCall : Call T U G C → Call T U G C → Type 0
+  SameCall (Asked s _) (Asked s' _) = SameStep s s'
+  SameCall (Changed id t) (Changed id' t') = (id ≡ id') × (t ≡ t')
+  SameCall _ _ = ⊥
+
+  -- the replies are the same to the client
+  abbrev pub SameAnswer : ClientParts → Call T U G C → Call T U G C → Type 0
+  SameAnswer id (Asked _ answer) (Asked _ answer') = SameReply id answer answer'
+  SameAnswer id _ _ = Unit {0}
+
+  -- the answers are the same where they tell what all clients share
+  abbrev pub SharedAnswer : Call T U G C → Call T U G C → Type 0
+  SharedAnswer (Asked s answer) (Asked _ answer') = SharedSame s answer answer'
+  SharedAnswer _ _ = Unit {0}
+
+  -- ---- runs of one client
+
+  -- memory is not refused: neither to the client nor for what a shared call makes of its own
+  abbrev pub HasMemory : List (Own T U G C) → Type 0
+  HasMemory [] = Unit {0}
+  HasMemory (e ∷ run) = (e.lacked ≡ false) × (lacks_growth e.call ≡ false) × HasMemory run
+
+  -- the calls are the client's own or shared
+  abbrev pub AreOwn : ClientParts → List (Own T U G C) → Type 0
+  AreOwn id [] = Unit {0}
+  AreOwn id (e ∷ run) = (concerns id e.call ≡ true) × AreOwn id run
+
+  -- the globals that are created are numbered by the offer alone
+  abbrev pub AreNumbered : Offer G → List (Own T U G C) → Type 0
+  AreNumbered offer [] = Unit {0}
+  AreNumbered offer (e ∷ run) = NumbersGlobal offer e.call × AreNumbered (offer_after offer e.call) run
+
+  -- the runs are of the same steps
+  abbrev pub SameSteps : List (Own T U G C) → List (Own T U G C) → Type 0
+  SameSteps [] [] = Unit {0}
+  SameSteps (e ∷ run) (f ∷ run') = SameCall e.call f.call × SameSteps run run'
+  SameSteps _ _ = ⊥
+
+  -- and so are their replies to the client, and the deeds with it
+  abbrev pub SameRun : ClientParts → List (Own T U G C) → List (Own T U G C) → Type 0
+  SameRun id [] [] = Unit {0}
+  SameRun id (e ∷ run) (f ∷ run') = SameAnswer id e.call f.call × (e.did ≡ f.did) × SameRun id run run'
+  SameRun id _ _ = ⊥
+
+-- ---- one outcome
+
+module _ {T G C : Type 0} where
+  -- Of each step, with one reply and with another, where memory is not refused to the client, nor for what a shared call makes
+  -- of its own, and where the answers that tell what all clients share are the same.
+  abbrev pub EachStepOne : Type 0 → World T G C → Type 0
+  EachStepOne U w =
+      (id : ClientParts) (offer : Offer G) (before after after' : Seen T U C) (s s' : Step T U G C) (answer answer' : Reply T U) (did did' : List (Deed U)) →
+      SameStep s s' → lacks_growth (Asked s answer) ≡ false → lacks_growth (Asked s' answer') ≡ false → SharedSame s answer answer' →
+      PartStep w id offer s answer before false did after → PartStep w id offer s' answer' before false did' after' →
+      SameOutcome id (is_about id s) answer answer' did did' after after'
+
+  -- of a client's own calls and the shared ones, one after another
+  abbrev pub EachAloneOne : Type 0 → World T G C → Type 0
+  EachAloneOne U w =
+      (id : ClientParts) (offer : Offer G) (before after after' : Seen T U C) (run run' : List (Own T U G C)) →
+      AreOwn id run → SameSteps run run' → HasMemory run → HasMemory run' → AreNumbered offer run → AreNumbered offer run' →
+      Alone w id offer before run after → Alone w id offer before run' after' → SameRun id run run' × (after ≡ after')
+
+  -- A call inserts this client, with this transport and these data.
+  abbrev pub InsertsAs : {U : Type 0} → ClientParts → T → C → Entry T U G C → Type 0
+  InsertsAs id transport info e = e.call ≡ Asked (step.InsertClient transport info) (reply.InsertClient (Ok id))
+
+  -- Whatever other clients do: of two runs of a new server in which a client was inserted with one id, one transport and
+  -- one data of its own, at one offer, and in which its own calls and the shared ones from then on are of the same steps.
+  abbrev pub EachClientOne : Type 0 → World T G C → Type 0
+  EachClientOne U w =
+      (table : List InterfaceRow) (id : ClientParts) (transport : T) (info : C) (earlier later earlier' later' : List (Entry T U G C)) (e e' : Entry T U G C)
+      (after after' : ServerState T U G C) →
+      Leads w (new_server table) (earlier ++ e ∷ later) after → Leads w (new_server table) (earlier' ++ e' ∷ later') after' →
+      InsertsAs id transport info e → InsertsAs id transport info e' →
+      offer_over (new_offer table) earlier ≡ offer_over (new_offer table) earlier' →
+      SameSteps (mine id later) (mine id later') → HasMemory (mine id later) → HasMemory (mine id later') →
+      SameRun id (mine id later) (mine id later') × (seen id after ≡ seen id after')
