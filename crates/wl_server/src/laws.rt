@@ -1,15 +1,25 @@
 //! What follows from the definitions of a server alone. Each function has a law as its contract, and does nothing.
 
-ghost use Rattle.std.specs.Prelude.{List};
+ghost use Rattle.std.specs.Prelude.{◌≡◌, ◌≢◌, ℕ, List, Option, Result, Err};
 ghost use Rattle.wl_wire.specs.Table.{InterfaceRow};
+ghost use Rattle.wl_wire.specs.declared.interface.InterfaceId.{InterfaceId};
+ghost use Rattle.wl_link.specs.OneLaws.{IsFunction, IsReceiveFunction};
 ghost use Rattle.wl_link.specs.Runs.{Entry as RunEntry};
 ghost use Rattle.wl_link.specs.Script.{Script};
+ghost use Rattle.wl_server.specs.declared.error.GlobalError.{GlobalError};
+ghost use Rattle.wl_server.specs.declared.error.GlobalError.TheVariants as global;
+ghost use Rattle.wl_server.specs.declared.error.InsertClientError.{InsertClientError};
+ghost use Rattle.wl_server.specs.declared.error.InsertClientError.TheVariants as insert;
 ghost use Rattle.wl_server.specs.declared.step.Reply.{Reply};
 ghost use Rattle.wl_server.specs.declared.step.Step.{Step};
-ghost use Rattle.wl_server.specs.PartStep.{over, over_scripts};
+ghost use Rattle.wl_server.specs.Globals.{CreatesGlobal, Globals};
+ghost use Rattle.wl_server.specs.Ids.{ClientParts, GlobalParts};
+ghost use Rattle.wl_server.specs.Outcome.{EachAloneOne, EachClientOne, EachStepOne};
+ghost use Rattle.wl_server.specs.PartStep.{over, over_scripts, share_of};
 ghost use Rattle.wl_server.specs.Runs.{AreIsolated, IsIsolated, Leads, Performs};
-ghost use Rattle.wl_server.specs.Server.{ServerState, new_server};
-ghost use Rattle.wl_server.specs.Steps.{Entry};
+ghost use Rattle.wl_server.specs.Server.{ServerState, Stored, new_server};
+ghost use Rattle.wl_server.specs.ShareLaws.{RiseBySlot};
+ghost use Rattle.wl_server.specs.Steps.{Entry, InsertsNext};
 
 use crate::handler::GlobalHandler;
 use wl_link::Transport;
@@ -29,4 +39,36 @@ pub fn each_client_is_alone<T: Transport, U, G: GlobalHandler<C>, C>()
 pub fn each_client_of_a_script_is_alone<U, G: GlobalHandler<C>, C>()
     ensures { (table : List InterfaceRow) (steps : List (RunEntry (Step Script U G C) (Reply Script U))) (after : ServerState Script U G C) →
         Performs (over_scripts G.views) (new_server table) steps after → AreIsolated (over_scripts G.views) table steps after }
+{}
+
+/// What a server does with a client has one outcome, over every transport whose answers follow from its value.
+///
+/// Where memory is not refused, a step determines its deeds with each client and what is then held of it; and where the
+/// step is the client's own or shared, what it replies to this client, up to where lists lie in memory. So it is of a
+/// client's own calls and the shared ones, one after another, and of two runs of a server whatever other clients do in
+/// them: the definitions of the calls leave no choice but whether memory is there.
+pub fn each_client_has_one_outcome<T: Transport, U, G: GlobalHandler<C>, C>()
+    ensures step { IsFunction T.sends → IsReceiveFunction T.receives → EachStepOne U (over T.sends T.receives G.views) }
+    ensures alone { IsFunction T.sends → IsReceiveFunction T.receives → EachAloneOne U (over T.sends T.receives G.views) }
+    ensures client { IsFunction T.sends → IsReceiveFunction T.receives → EachClientOne U (over T.sends T.receives G.views) }
+{}
+
+/// The same over the transport by script.
+pub fn each_client_of_a_script_has_one_outcome<U, G: GlobalHandler<C>, C>()
+    ensures step { EachStepOne U (over_scripts G.views) }
+    ensures alone { EachAloneOne U (over_scripts G.views) }
+    ensures client { EachClientOne U (over_scripts G.views) }
+{}
+
+/// What a server answers of what all its clients share has one outcome, where memory is not refused: the id of a new
+/// client, that of a new global, and why there is none; and the list that a cleanup hands out, by each client's share.
+pub fn what_is_shared_has_one_outcome<T, U, G, C>()
+    ensures client { (last : ℕ) (clients : List (Option (Stored T U C))) (a b : Result ClientParts InsertClientError) →
+        a ≢ Err insert.OutOfMemory → b ≢ Err insert.OutOfMemory →
+        InsertsNext last clients a → InsertsNext last clients b → a ≡ b }
+    ensures global { (table : List InterfaceRow) (globals : Globals G) (i : InterfaceId) (version : ℕ)
+        (a b : Result GlobalParts GlobalError) → a ≢ Err global.OutOfMemory → b ≢ Err global.OutOfMemory →
+        CreatesGlobal table globals i version a → CreatesGlobal table globals i version b → a ≡ b }
+    ensures cleanup { (out out' : List (ClientParts × T)) → RiseBySlot out → RiseBySlot out' →
+        ((id : ClientParts) → share_of id out ≡ share_of id out') → out ≡ out' }
 {}

@@ -1,0 +1,14 @@
+use Rattle.wl_server.specs.MoveLaws.{transport_determined}
+use Rattle.wl_server.specs.OutcomeLaws.{same_step_one}
+use Rattle.wl_server.specs.RunOutcome.{alone_one, client_one}
+use Rattle.wl_server.proofs.laws.each_client_has_one_outcome.Goals as goal
+
+pub returns-clause-step : goal.returns-clause-step
+returns-clause-step g c = λ function receive_function id offer before after after' s s' answer answer' did did'.
+    same_step_one _ (transport_determined _ _ g.G.GlobalHandler.views function receive_function) id offer before did did' after after' s s' answer answer'
+
+pub returns-clause-alone : goal.returns-clause-alone
+returns-clause-alone g c = λ function receive_function. alone_one _ (transport_determined _ _ g.G.GlobalHandler.views function receive_function)
+
+pub returns-clause-client : goal.returns-clause-client
+returns-clause-client g c = λ function receive_function. client_one _ (transport_determined _ _ g.G.GlobalHandler.views function receive_function)
