@@ -24,7 +24,6 @@ pub mod Creation
 pub mod Destruction
 pub mod Carried
 pub mod Places
-pub mod Creation
 pub mod Inserting
 pub mod Backend
 pub mod Lookups
