@@ -1,8 +1,9 @@
 -- What it comes to that a live client was told messages.
-use Rattle.std.proofs.Common.{◌≡◌, ◌∙◌, ℕ, Bool, true, false, ◌||◌, List, [], ◌++◌, Result, Ok, Err, refl, sym, ap, append-nil, subst}
+use Rattle.std.proofs.Common.{◌≡◌, ◌∙◌, ℕ, Bool, true, false, ◌||◌, List, [], ◌++◌, Result, Ok, Err, refl, sym, ap, append-nil, subst, map}
 use Rattle.std.specs.Prelude.{MatchResult}
 use Rattle.wl_wire.specs.declared.error.IoFault.{IoFault}
 use Rattle.wl_wire.specs.declared.error.IoFault.TheVariants as fault
+use Rattle.wl_wire.specs.Table.{InterfaceRow}
 use Rattle.wl_link.specs.Branches.{at_false, at_true}
 use Rattle.wl_link.specs.Exchange.{Queue}
 use Rattle.wl_link.specs.Link.{LinkState}
@@ -12,13 +13,15 @@ use Rattle.wl_server.specs.declared.note.DisconnectReason.TheVariants.{Connectio
 use Rattle.wl_server.specs.declared.note.Happening.{Happening}
 use Rattle.wl_server.specs.Client.{Does}
 use Rattle.wl_server.specs.Deeds.{Deed, notes_in}
-use Rattle.wl_server.specs.Felt.{Hears}
+use Rattle.wl_server.specs.Felt.{Hears, news}
+use Rattle.wl_server.specs.Globals.{Shown}
 use Rattle.wl_server.specs.Part.{Part, with_link}
 use Rattle.wl_server.specs.Puts.{Puts}
 use Rattle.wl_server.specs.Server.{Stored}
-use Rattle.wl_server.specs.Telling.{Core, Kills, Tells, closed_down, core_of, end_deeds, part_of, speaker, tells}
+use Rattle.wl_server.specs.Telling.{Core, Kills, Tells, closed_down, core_of, end_deeds, global_message, part_of, speaker, tells}
 use Rattle.wl_server.proofs.Flushing.{does_nothing}
 use Rattle.wl_server.proofs.Notes.{tells_put}
+use Rattle.wl_server.proofs.Putting.{puts_none}
 
 -- a write that failed closes the client down, for whatever reason
 came_failed : {U C : Type 0} (c : Core U C) (messages : List Said) (f : IoFault) → came_to speaker (tells c messages) (Err f) ≡ closed_down c
@@ -69,3 +72,21 @@ module _ {T U C : Type 0} (sends : T → Queue → Result ℕ IoFault → T → 
       (part ∙ ap (λ (c : Core U C). part_of (record { core = c; link = link })) (sym core))
       (notes ∙ ap (λ (c : Core U C). notes_in (end_deeds {U = U} c.ended)) core ∙ ap (λ (ds : List (Deed U)). notes_in ds) (sym deeds))
       becomes
+
+  -- a live client is told of a new global that it may see, and of no other
+  abbrev HearsNew : List InterfaceRow → Bool → Shown → Stored T U C → Bool → Stored T U C → Type 0
+  HearsNew table visible g s lacked after =
+      (did : List (Deed U)) × (q : Part T U C) × Hears sends s.part (news table s.part visible g) lacked did q
+      × (after ≡ record { serial = s.serial; part = q; made = s.made ++ notes_in did })
+
+  pub unseen_hears : (table : List InterfaceRow) (visible : Bool) (g : Shown) (s : Stored T U C) → s.part.is_killed ≡ false → visible ≡ false
+      → HearsNew table visible g s false s
+  unseen_hears table visible g s live unseen =
+      subst (λ (b : Bool). HearsNew table b g s false s) (sym unseen) (live_hears s s [] (Ok tt) s.part.link false live (puts_none sends s.part.link) refl refl)
+
+  pub seen_hears : (table : List InterfaceRow) (visible : Bool) (g : Shown) (s after : Stored T U C) (wrote : Result (Unit {0}) IoFault) (link : LinkState T) (lacked : Bool)
+      → s.part.is_killed ≡ false → visible ≡ true → Puts sends s.part.link (map (λ r. global_message table r g) s.part.registries) wrote link → lacked ≡ lacked_memory wrote
+      → MatchResult wrote (λ _. after ≡ over_link s link) (λ _. Does (over_link s link) (λ p did q. Kills p ConnectionClosed did q) after)
+      → HearsNew table visible g s lacked after
+  seen_hears table visible g s after wrote link lacked live seen puts is told =
+      subst (λ (b : Bool). HearsNew table b g s lacked after) (sym seen) (live_hears s after (news table s.part true g) wrote link lacked live puts is told)

@@ -26,3 +26,5 @@ mod Closing
 mod Texts
 mod Announcing
 mod Destroying
+mod PutEach
+mod Texts

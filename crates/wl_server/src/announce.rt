@@ -1,21 +1,76 @@
 //! What the registries of a client are told.
 
-ghost use Rattle.std.specs.Prelude.{map};
+ghost use Rattle.std.specs.Prelude.{◌≡◌, ◌∷◌, [], false, IfOk, Some, map};
+ghost use Rattle.std.specs.String.{string_bytes};
+ghost use Rattle.wl_wire.specs.declared.argument.Argument.TheVariants as arg;
+ghost use Rattle.wl_wire.specs.Table.{holds_zero, name_of};
 ghost use Rattle.wl_server.specs.Client.{Does};
-ghost use Rattle.wl_server.specs.Felt.{Hears, removals};
+ghost use Rattle.wl_server.specs.Felt.{Hears, news, removals};
 ghost use Rattle.wl_server.specs.Puts.{Puts};
-ghost use Rattle.wl_server.specs.Telling.{by_object, removal_message};
+ghost use Rattle.wl_server.specs.Telling.{by_object, global_message, removal_message};
 
 use crate::client::Client;
+use crate::client_id::ClientId;
+use crate::global_id::GlobalId;
+use crate::handler::GlobalHandler;
+use crate::kept::KeptGlobal;
 use crate::note_numbers::NoteNumbers;
 use crate::registry::Registry;
 use crate::telling::message_of_number;
+use smallvec::SmallVec;
 use std::alloc::Global;
-use wl_link::{BufferedSocket, Transport};
-use wl_wire::{IoFault, Message, Token};
+use wl_link::{BufferedSocket, Object, Transport};
+use wl_wire::{Argument, CString, InterfaceId, IoFault, Message, OutOfMemory, Protocol, Token};
 
 /// The opcode of `wl_registry.global_remove`.
 const GLOBAL_REMOVE: u16 = 1;
+
+/// The opcode of `wl_registry.global`.
+const GLOBAL: u16 = 0;
+
+/// The text without a zero byte, as a string.
+fn c_string(text: String) -> CString
+    requires { holds_zero (string_bytes text) ≡ false }
+    ensures { result ≡ string_bytes text }
+{
+    match CString::new(text.into_bytes()) {
+        Ok(string) => string,
+        Err(_) => unreachable!(),
+    }
+}
+
+/// The name of an interface, as an argument.
+fn interface_name(
+    alloc: Global,
+    protocol: &Protocol,
+    interface: InterfaceId,
+) -> Result<CString, OutOfMemory>
+    ensures { IfOk result (λ name. name ≡ name_of protocol.now interface.0) }
+{
+    let name = String::from_str(alloc, protocol.name(interface))?;
+    Ok(c_string(name))
+}
+
+/// The message of a global, whose sender is still to be set.
+fn message_of_global(
+    alloc: Global,
+    name: u32,
+    interface: CString,
+    version: u32,
+) -> Message<u32, Token>
+    ensures opcode { result.opcode ≡ GLOBAL }
+    ensures args { result.args.items ≡ arg.Uint name ∷ arg.Str (Some interface) ∷ arg.Uint version ∷ [] }
+{
+    let mut args = SmallVec::new(alloc);
+    args.push_reserved(Argument::Uint(name));
+    args.push_reserved(Argument::Str(Some(interface)));
+    args.push_reserved(Argument::Uint(version));
+    Message {
+        sender_id: 0,
+        opcode: GLOBAL,
+        args,
+    }
+}
 
 /// Writes the message once for each registry, which is its sender, up to the first that fails.
 fn put_to_each<T: Transport>(
@@ -47,7 +102,60 @@ fn put_removals<T: Transport>(
     put_to_each(socket, registries, &mut message)
 }
 
+/// Tells each registry of a global. Its text takes memory once, and none without a registry.
+fn put_global<T: Transport>(
+    alloc: Global,
+    socket: &mut BufferedSocket<T>,
+    protocol: &Protocol,
+    registries: &[Registry],
+    name: u32,
+    interface: InterfaceId,
+    version: u32,
+) -> Result<(), IoFault>
+    ensures { Puts T.sends socket.old (map (λ r. global_message protocol.now r (record { name = name; interface = interface; version = version })) registries.now) result socket.new }
+{
+    if registries.is_empty() {
+        return Ok(());
+    }
+    let Ok(text) = interface_name(alloc, protocol, interface) else {
+        return Err(IoFault::OutOfMemory);
+    };
+    let mut message = message_of_global(alloc, name, text, version);
+    put_to_each(socket, registries, &mut message)
+}
+
 impl<T: Transport + Drop, U: Drop, C: Drop> Client<T, U, C> {
+    /// Tells the registries of a live client of a new global, if the client may see it. The answer is whether memory was
+    /// refused.
+    pub fn hear_new<G: GlobalHandler<C>>(
+        &mut self,
+        numbers: &mut NoteNumbers,
+        protocol: &Protocol,
+        client: &ClientId,
+        id: &GlobalId,
+        global: &Object<KeptGlobal<G>>,
+    ) -> bool
+        ensures { Does self.old (λ p did q. Hears T.sends p
+            (news protocol.now p (G.views global.now.value.handler client.now p.info id.now)
+            (record { name = id.now.name; interface = global.now.interface; version = global.now.version }))
+            result did q) self.new }
+    {
+        if self.is_killed || !global.value.handler.can_view(client, &self.info, id) {
+            return false;
+        }
+        let alloc = *self.registries.allocator();
+        let answer = put_global(
+            alloc,
+            &mut self.socket,
+            protocol,
+            &self.registries,
+            id.name(),
+            global.interface,
+            global.version,
+        );
+        self.told(numbers, answer)
+    }
+
     /// Tells the registries of a live client that the global of that name is announced no more. The answer is whether
     /// memory was refused.
     pub fn hear_loss(&mut self, numbers: &mut NoteNumbers, name: u32) -> bool

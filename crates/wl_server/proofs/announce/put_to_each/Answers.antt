@@ -1,7 +1,7 @@
 use Rattle.std.proofs.Common.{Err, Ok, ap, arith, refl}
 use Rattle.wl_link.specs.Identity.{Id}
 use Rattle.wl_server.specs.Telling.{by_object}
-use Rattle.wl_server.proofs.Announcing.{first_all, first_failed, first_more, first_none, wrote_by}
+use Rattle.wl_server.proofs.PutEach.{first_all, first_failed, first_more, first_none, wrote_by}
 use Rattle.wl_server.proofs.announce.put_to_each.Goals as goal
 
 pub loop-registry-init : goal.loop-registry-init

@@ -1,6 +1,6 @@
 use Rattle.std.proofs.Common.{◌≡◌, Ok}
 use Rattle.wl_server.specs.Telling.{by_object}
-use Rattle.wl_server.proofs.Announcing.{PutsFirst}
+use Rattle.wl_server.proofs.PutEach.{PutsFirst}
 use Rattle.wl_server.proofs.announce.put_to_each.Given as goal
 
 abbrev pub invariant-loop-registry : goal.invariant-loop-registry

@@ -1,13 +1,14 @@
 -- A message for each entry of a list, one after another.
-use Rattle.std.proofs.Common.{◌≡◌, ◌∙◌, ◌<◌, ◌≤◌, ℕ, ◌+◌, List, [], ◌∷◌, ◌++◌, length, map, take, drop, Result, Ok, Err, sym, ap, subst}
+use Rattle.std.proofs.Common.{◌≡◌, ◌∙◌, ◌<◌, ◌≤◌, ℕ, ◌+◌, List, [], ◌∷◌, ◌++◌, length, map, take, drop, Result, Ok, Err, sym, ap, subst, ◌≢◌, arith, inr, refl, true}
 use Rattle.std.specs.Prelude.{get_or}
 use Rattle.std.proofs.lemmas.List.{map-append, take-append-drop, take_all, take_more}
 use Rattle.wl_wire.specs.declared.error.IoFault.{IoFault}
+use Rattle.wl_wire.specs.declared.error.IoFault.TheVariants as fault
 use Rattle.wl_wire.specs.Argument.{WireArgument}
 use Rattle.wl_link.specs.Exchange.{Queue}
 use Rattle.wl_link.specs.Identity.{Id}
 use Rattle.wl_link.specs.Link.{LinkState, Wrote}
-use Rattle.wl_link.specs.Puts.{Said}
+use Rattle.wl_link.specs.Puts.{Said, has_text}
 use Rattle.wl_server.specs.Puts.{Puts}
 use Rattle.wl_server.specs.Telling.{by_object}
 use Rattle.wl_server.proofs.Putting.{puts_failed, puts_more, puts_none, puts_one}
@@ -47,3 +48,15 @@ pub wrote_by : {T : Type 0} (sends : T → Queue → Result ℕ IoFault → T �
     (result answer : Result (Unit {0}) IoFault) → number ≡ r.number → opcode ≡ opcode' → args ≡ args' → result ≡ answer
     → Wrote sends before (record { sender = number; opcode = opcode; args = args }) result after → Wrote sends before (by_object r opcode' args').message answer after
 wrote_by sends before after r number opcode opcode' args args' result answer by same_opcode same_args is wrote = rw (← by, ← same_opcode, ← same_args, ← is) wrote
+
+-- there is no entry, or there was no memory for the text of the first message
+module _ {T A : Type 0} (sends : T → Queue → Result ℕ IoFault → T → Type 0) (say : A → Said) where
+  pub each_of_none : (link : LinkState T) (xs : List A) → length xs ≡ 0 → Puts sends link (map say xs) (Ok tt) link
+  each_of_none link [] none = puts_none sends link
+  each_of_none link (x ∷ xs) none = absurd (omega (arith, none))
+
+  pub each_starved : (link : LinkState T) (xs : List A) → length xs ≢ 0 → ((x : A) → has_text (say x).message ≡ true)
+      → Puts sends link (map say xs) (Err fault.OutOfMemory) link
+  each_starved link [] some texts = absurd (some refl)
+  each_starved link (x ∷ xs) some texts =
+      ([], [], ([], Err fault.OutOfMemory, link, inr (refl, refl, refl, texts x), (refl, refl, refl, refl)))
