@@ -43,3 +43,4 @@ pub mod OutcomeLaws
 pub mod RunOutcome
 pub mod MoveLaws
 pub mod ShareLaws
+pub mod MovesOfReadings
