@@ -24,7 +24,5 @@ mod Taking
 mod SendingEvents
 mod Closing
 mod Texts
-mod Announcing
 mod Destroying
 mod PutEach
-mod Texts

@@ -1,5 +1,5 @@
 -- How what is done adds up: over moves one behind another, and over deeds.
-use Rattle.std.proofs.Common.{◌≡◌, ℕ, Bool, List, [], ◌∷◌, ◌++◌, Option, None, Some, Result, map, refl, sym, ap, ◌∙◌, append-nil, append_assoc}
+use Rattle.std.proofs.Common.{◌≡◌, List, [], ◌∷◌, ◌++◌, Option, None, Some, Result, map, refl, sym, ap, ◌∙◌, append-nil, append_assoc}
 use Rattle.wl_wire.specs.declared.error.IoFault.{IoFault}
 use Rattle.wl_link.specs.Exchange.{Queue, Sending}
 use Rattle.wl_link.specs.Puts.{Said}
@@ -117,14 +117,14 @@ module _ {U : Type 0} where
         es ++ fs,
         rs,
         done_both (map Sent es) (exchanges_in turns) ∙ ap (λ (d : Doings U). joined d (done (exchanges_in turns))) (done_sends es)
-        ∙ ap (λ (d : Doings U). joined (sending es) d) is,
+            ∙ ap (λ (d : Doings U). joined (sending es) d) is,
       )
   done_turns (Unread es ∷ turns) =
       let (fs, rs, is) = done_turns turns in (
         es ++ fs,
         rs,
         done_both (map Sent es) (exchanges_in turns) ∙ ap (λ (d : Doings U). joined d (done (exchanges_in turns))) (done_sends es)
-        ∙ ap (λ (d : Doings U). joined (sending es) d) is,
+            ∙ ap (λ (d : Doings U). joined (sending es) d) is,
       )
 
   -- ---- what is given

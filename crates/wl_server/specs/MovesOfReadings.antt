@@ -1,5 +1,5 @@
 -- That a reading is a chain of base moves, over the reader's turns.
-use Rattle.std.proofs.Common.{◌≡◌, ◌⊎◌, ℕ, Bool, true, false, not, ◌&&◌, List, [], ◌∷◌, ◌++◌, map, Option, None, Some, is_none, Result, Ok, Err, refl, sym, ap, subst, ◌∙◌, append-nil, append_assoc, true≢false}
+use Rattle.std.proofs.Common.{◌≡◌, ◌⊎◌, ℕ, Bool, true, false, not, ◌&&◌, List, [], ◌∷◌, ◌++◌, map, Option, None, Some, is_none, Result, Ok, Err, refl, sym, ap, subst, ◌∙◌, append-nil, true≢false}
 use mathlib.Core.Logic.{inl, inr}
 use Rattle.std.specs.Prelude.{MatchBool, length, nat_le}
 use Rattle.wl_wire.specs.declared.argument.ArgumentType.{ArgumentType}
@@ -13,20 +13,20 @@ use Rattle.wl_link.specs.Branches.{either_bool, either_option, either_result}
 use Rattle.wl_link.specs.Exchange.{Queue, Sending}
 use Rattle.wl_link.specs.Link.{LinkState, ReadFound, ReadOne, count_of, counted_answer}
 use Rattle.wl_link.specs.Puts.{Said}
-use Rattle.wl_link.specs.Reader.{CarriesOut, Given, Gives, Handled, Leaves, Reads, Received, Stops, Takes, Then, Turn, Unread, Verdict, behind, stops, with_link}
+use Rattle.wl_link.specs.Reader.{CarriesOut, Given, Gives, Handled, Reads, Received, Stops, Turn, Unread, Verdict, behind, with_link}
 use Rattle.wl_link.specs.Reader.{Part as ReaderPart}
 use Rattle.wl_server.specs.declared.action.Reading.{Reading}
 use Rattle.wl_server.specs.declared.error.ActionError.{ActionError}
 use Rattle.wl_server.specs.declared.note.DisconnectReason.TheVariants.{ConnectionClosed}
 use Rattle.wl_server.specs.declared.note.Happening.{Happening}
-use Rattle.wl_server.specs.BaseMoves.{Doings, HandedId, followed, joined, nothing_done, noting, putting, received, receiving, relinked, sending, stayed}
-use Rattle.wl_server.specs.Deeds.{Came, Deed, Handed, Put, Sent, notes_in, sends_of}
-use Rattle.wl_server.specs.DoingsLaws.{IsQuiet, deeds_done, done, done_both, done_end, done_puts, done_sends, end_of, joined_none, turns_done, verdict_done}
+use Rattle.wl_server.specs.BaseMoves.{Doings, followed, joined, noting, putting, received, receiving, relinked, sending, stayed}
+use Rattle.wl_server.specs.Deeds.{Came, Deed, Handed, Put, Sent, notes_in}
+use Rattle.wl_server.specs.DoingsLaws.{IsQuiet, deeds_done, done, done_both, done_puts, done_sends, end_of, joined_none, turns_done, verdict_done}
 use Rattle.wl_server.specs.MovesOfRequests.{handles_comes, malformed_comes}
-use Rattle.wl_server.specs.MovesOfVerdicts.{Carried, Comes, Ends, Go, IsCalm, at, carried, ends_killed, ends_not, notes_at_end, same_doings}
+use Rattle.wl_server.specs.MovesOfVerdicts.{Comes, Ends, Go, IsCalm, carried, ends_killed, ends_not, notes_at_end, same_doings}
 use Rattle.wl_server.specs.Part.{Part}
-use Rattle.wl_server.specs.Reading.{Around, NextAction, ReadsTo, exchanges_in, faulted, reads_on, server}
-use Rattle.wl_server.specs.Telling.{Core, Finish, Told, closed_down, core_of, deeds_in, deeds_of, end_deeds, part_of, reader_part}
+use Rattle.wl_server.specs.Reading.{Around, NextAction, exchanges_in, faulted, reads_on, server}
+use Rattle.wl_server.specs.Telling.{Core, Told, deeds_in, deeds_of, end_deeds, part_of, reader_part}
 
 module _ {T : Type 0} where
   -- a message that is read leaves what waits to be sent
@@ -88,8 +88,8 @@ module _ {T U G C : Type 0} (sends : T → Queue → Result ℕ IoFault → T �
       let so : notes_at_end sends receives a.client mid.core ≡ c.notes =
       c.so ∙ ap (λ (o : Option _). notes_in (end_deeds {U = U} o) ++ c.notes) none in (
         followed (relinked link waits refl refl) c.moves
-        (verdict_done es c.put c.made first mid.core c.deeds
-        ∙ ap (λ (n : List (Happening U)). joined (putting es c.put) (joined (done c.made) (noting n))) so),
+            (verdict_done es c.put c.made first mid.core c.deeds
+            ∙ ap (λ (n : List (Happening U)). joined (putting es c.put) (joined (done c.made) (noting n))) so),
         c.calm,
         quiet_given c.put c.made first c.deeds c.quiet,
       )

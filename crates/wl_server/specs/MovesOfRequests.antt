@@ -1,5 +1,5 @@
 -- That what a request comes to is a chain of base moves.
-use Rattle.std.proofs.Common.{◌≡◌, ◌≢◌, ◌⊎◌, ℕ, ◌+◌, Bool, true, false, not, ◌&&◌, cond, eqb, List, [], ◌∷◌, ◌++◌, map, Option, None, Some, is_some, Result, Ok, Err, refl, sym, ap, subst, ◌∙◌, append-nil, append_assoc, true≢false}
+use Rattle.std.proofs.Common.{◌≡◌, ◌≢◌, ◌⊎◌, ℕ, Bool, true, false, not, ◌&&◌, cond, eqb, List, [], ◌∷◌, ◌++◌, map, Option, None, Some, is_some, Result, Ok, Err, refl, sym, ap, subst, ◌∙◌, append-nil, true≢false}
 use mathlib.Core.Logic.{inl, inr}
 use Rattle.std.specs.Prelude.{nat_lt, if◌then◌else◌}
 use Rattle.std.specs.Option.{option_map_or}
@@ -28,18 +28,18 @@ use Rattle.wl_server.specs.declared.kept.KeptGlobal.{KeptGlobal}
 use Rattle.wl_server.specs.declared.note.DisconnectReason.TheVariants.{ConnectionClosed, ProtocolError as BrokeProtocol}
 use Rattle.wl_server.specs.declared.note.Happening.{Happening}
 use Rattle.wl_server.specs.declared.request_fault.RequestFault.TheVariants as wrong
-use Rattle.wl_server.specs.BaseMoves.{Doings, Found, HandedId, IsAmong, New, Opens, action_ids, all_action_ids, argument_ids, born, created_ids, followed, found, found_none, handed_out, handing, joined, nothing_done, opens, remembered, stayed, went}
+use Rattle.wl_server.specs.BaseMoves.{Doings, Found, HandedId, IsAmong, New, all_action_ids, argument_ids, born, created_ids, followed, found, found_none, handed_out, handing, nothing_done, opens, remembered, stayed, went}
 use Rattle.wl_server.specs.Deeds.{Acted, Deed, Handed, Remembered}
 use Rattle.wl_server.specs.Deeds as deeds
 use Rattle.wl_server.specs.DoingsLaws.{IsQuiet, done, told_deeds}
 use Rattle.wl_server.specs.Errors.{bind_text, error_of, fault_text, new_id_text, since_text}
 use Rattle.wl_server.specs.Globals.{global_at}
-use Rattle.wl_server.specs.Ids.{ClientParts, IdParts}
+use Rattle.wl_server.specs.Ids.{IdParts}
 use Rattle.wl_server.specs.MovesOfVerdicts.{Comes, Go, IsCalm, Lands, at, ends_killed, lands_at, lands_not, lands_then}
 use Rattle.wl_server.specs.Part.{Part, display_of, id_at, last_possible_serial, null_id}
-use Rattle.wl_server.specs.Reading.{Around, binds, binds_to, breaks, converted, display_request, garbled, hands_out, made_at, may_bind, new_at, other_request, registers, registry_request, replies, request, request_to, row_in, server, stops_if, synced, syncs, with_registry}
-use Rattle.wl_server.specs.Requests.{Converted, Converting, Outcome, Whole, Wrong, allows_null, convert, convert_one, going_on, is_valid_new, kinds_after, made_id, made_object, object_argument, object_found, start, with_made, with_new_argument, with_object_argument}
-use Rattle.wl_server.specs.Telling.{Core, Did, Stops, Told, closed_down, objects_in, tells, with_objects}
+use Rattle.wl_server.specs.Reading.{Around, binds, binds_to, breaks, converted, display_request, garbled, hands_out, made_at, may_bind, new_at, other_request, registers, registry_request, replies, request, row_in, server, stops_if, synced, syncs, with_registry}
+use Rattle.wl_server.specs.Requests.{Converted, Converting, Outcome, Whole, Wrong, allows_null, convert, convert_one, going_on, is_valid_new, kinds_after, made_id, made_object, object_found, start, with_made, with_new_argument, with_object_argument}
+use Rattle.wl_server.specs.Telling.{Core, Did, Stops, Told, closed_down, objects_in, with_objects}
 
 none_some : {A : Type 0} {x : A} → None ≡ Some x → ⊥
 none_some e = true≢false (sym (ap is_some e))

@@ -5,8 +5,8 @@ use Rattle.std.specs.Prelude.{if◌then◌else◌}
 use Rattle.wl_wire.specs.declared.error.IoFault.{IoFault}
 use Rattle.wl_wire.specs.declared.error.IoFault.TheVariants as fault
 use Rattle.wl_link.specs.Exchange.{Queue, Sending}
-use Rattle.wl_link.specs.Link.{LinkState, FlushedBy}
-use Rattle.wl_link.specs.Puts.{FlushesOut, Said, lacked_memory}
+use Rattle.wl_link.specs.Link.{LinkState}
+use Rattle.wl_link.specs.Puts.{FlushesOut, Said}
 use Rattle.wl_link.specs.Reader.{CarriesOut, Given, Reader, Verdict, came_to}
 use Rattle.wl_link.specs.Reader.{Part as ReaderPart}
 use Rattle.wl_server.specs.declared.note.DisconnectReason.{DisconnectReason}
@@ -14,11 +14,11 @@ use Rattle.wl_server.specs.declared.note.DisconnectReason.TheVariants.{Connectio
 use Rattle.wl_server.specs.declared.note.Happening.{Happening}
 use Rattle.wl_server.specs.declared.note.Happening.TheVariants.{Disconnected}
 use Rattle.wl_server.specs.BaseMoves.{Doings, Moves, ended, end_notes, flushed, followed, joined, nothing_done, noting, putting, sending, stayed, told}
-use Rattle.wl_server.specs.Deeds.{Deed, Put, Sent, notes_in}
+use Rattle.wl_server.specs.Deeds.{Deed, Put, notes_in}
 use Rattle.wl_server.specs.DoingsLaws.{IsQuiet, deeds_given, done, joined_assoc, joined_none, told_deeds, verdict_done}
 use Rattle.wl_server.specs.Ids.{ClientParts}
 use Rattle.wl_server.specs.Part.{Part}
-use Rattle.wl_server.specs.Telling.{Core, Finish, Tells, Told, closed_down, core_of, deeds_in, deeds_of, end_deeds, killed, part_of, speaker}
+use Rattle.wl_server.specs.Telling.{Core, Finish, Tells, Told, closed_down, core_of, deeds_in, end_deeds, killed, part_of, speaker}
 
 module _ {T U C : Type 0} (sends : T → Queue → Result ℕ IoFault → T → Type 0) (receives : T → ℕ → Result Queue IoFault → T → Type 0)
     (client : ClientParts) where

@@ -6,8 +6,8 @@
 #![tactic(auto)]
 
 mod action;
-mod arguments;
 mod announce;
+mod arguments;
 mod backend;
 mod client;
 mod client_id;
