@@ -24,6 +24,7 @@ mod kept;
 mod kill;
 mod laws;
 mod limits;
+mod lookups;
 mod note;
 mod note_numbers;
 mod object_id;

@@ -1,0 +1,122 @@
+//! What a server answers of its clients and their objects, without a change.
+
+ghost use Rattle.std.specs.Prelude.{◌≡◌, MatchResult, None, Some, option_copied};
+ghost use Rattle.wl_server.specs.Lookups.{client_by, client_data_of, object_data_of, object_for_number, object_info_of, transport_of};
+ghost use Rattle.wl_server.specs.Server.{client_at};
+
+use crate::backend::Backend;
+use crate::client::Client;
+use crate::client_id::ClientId;
+use crate::error::InvalidId;
+use crate::kept::Kept;
+use crate::object_id::ObjectId;
+use crate::objects::{id_at, named_in};
+use wl_link::Object;
+use wl_wire::{InterfaceId, ObjectInfo};
+
+impl<T: Drop, U: Drop, G: Drop, C: Drop> Backend<T, U, G, C> {
+    /// The client of that id, while it is stored.
+    fn client(&self, id: &ClientId) -> Option<&Client<T, U, C>>
+        ensures { option_copied result ≡ client_at id.now self.now.server.clients }
+    {
+        let Some(Some(client)) = self.clients.get(id.slot() as usize) else {
+            return None;
+        };
+        if client.serial == id.serial() {
+            Some(client)
+        } else {
+            None
+        }
+    }
+
+    /// What the protocol says of the object that the id names. `InvalidId` where its client is not stored, or the id names
+    /// none.
+    pub fn object_info(&self, id: &ObjectId) -> Result<ObjectInfo, InvalidId>
+        ensures { MatchResult result (λ info. object_info_of self.now.server id.now ≡ Some info)
+            (λ _. object_info_of self.now.server id.now ≡ None) }
+    {
+        let Some(client) = self.client(&id.client()) else {
+            return Err(InvalidId);
+        };
+        match named_in(&client.objects, id) {
+            Some(object) => Ok(ObjectInfo {
+                id: id.protocol_id(),
+                interface: object.interface,
+                version: object.version,
+            }),
+            None => Err(InvalidId),
+        }
+    }
+
+    /// The client of the id, which need not name an object. `InvalidId` where that is not stored.
+    pub fn get_client(&self, id: &ObjectId) -> Result<ClientId, InvalidId>
+        ensures { MatchResult result (λ client. client_by self.now.server id.now ≡ Some client)
+            (λ _. client_by self.now.server id.now ≡ None) }
+    {
+        let client = id.client();
+        if self.client(&client).is_none() {
+            return Err(InvalidId);
+        }
+        Ok(client)
+    }
+
+    /// The program's data of the client. `InvalidId` where it is not stored.
+    pub fn get_client_data(&self, id: &ClientId) -> Result<&C, InvalidId>
+        ensures { MatchResult result (λ info. client_data_of self.now.server id.now ≡ Some info.now)
+            (λ _. client_data_of self.now.server id.now ≡ None) }
+    {
+        match self.client(id) {
+            Some(client) => Ok(&client.info),
+            None => Err(InvalidId),
+        }
+    }
+
+    /// The user data of the object that the id names. `InvalidId` where its client is not stored, or the id names none, or
+    /// one without user data.
+    pub fn get_object_data(&self, id: &ObjectId) -> Result<&U, InvalidId>
+        ensures { MatchResult result (λ u. object_data_of self.now.server id.now ≡ Some u.now)
+            (λ _. object_data_of self.now.server id.now ≡ None) }
+    {
+        let Some(client) = self.client(&id.client()) else {
+            return Err(InvalidId);
+        };
+        let Some(object) = named_in(&client.objects, id) else {
+            return Err(InvalidId);
+        };
+        match &object.value.user_data {
+            Some(user_data) => Ok(user_data),
+            None => Err(InvalidId),
+        }
+    }
+
+    /// The client's transport. `InvalidId` where the client is not stored.
+    pub fn transport(&self, id: &ClientId) -> Result<&T, InvalidId>
+        ensures { MatchResult result (λ transport. transport_of self.now.server id.now ≡ Some transport.now)
+            (λ _. transport_of self.now.server id.now ≡ None) }
+    {
+        match self.client(id) {
+            Some(client) => Ok(client.socket.transport()),
+            None => Err(InvalidId),
+        }
+    }
+
+    /// The id of the client's object that has this number. `InvalidId` where the client is not stored, or the number holds
+    /// no object, or one of another interface.
+    pub fn object_for_protocol_id(
+        &self,
+        client: &ClientId,
+        interface: InterfaceId,
+        number: u32,
+    ) -> Result<ObjectId, InvalidId>
+        ensures { MatchResult result (λ id. object_for_number self.now.server client.now interface number ≡ Some id)
+            (λ _. object_for_number self.now.server client.now interface number ≡ None) }
+    {
+        let Some(stored) = self.client(client) else {
+            return Err(InvalidId);
+        };
+        match stored.objects.find(number) {
+            Some(object) if object.interface == interface => Ok(id_at(client, number, object)),
+            _ => Err(InvalidId),
+        }
+    }
+}
