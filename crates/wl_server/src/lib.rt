@@ -11,6 +11,7 @@ mod arguments;
 mod backend;
 mod client;
 mod client_id;
+mod client_limit;
 mod create;
 mod destroy;
 mod error;
