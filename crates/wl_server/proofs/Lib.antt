@@ -26,3 +26,5 @@ mod Closing
 mod Texts
 mod Destroying
 mod PutEach
+mod Finishing
+mod Opened

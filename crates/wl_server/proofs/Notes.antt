@@ -7,7 +7,8 @@ use Rattle.wl_link.specs.Puts.{FlushesOut, Said, lacked_memory}
 use Rattle.wl_link.specs.Reader.{Given, HandedOut, Queued, Verdict, came_to, put_and_gave}
 use Rattle.wl_link.specs.Reader.{Part as ReaderPart}
 use Rattle.wl_server.specs.declared.note.Happening.{Happening}
-use Rattle.wl_server.specs.Carried.{IsCarried, told_notes}
+use Rattle.wl_server.specs.Carried.{IsCarried}
+pub use Rattle.wl_server.specs.Carried.{told_notes}
 use Rattle.wl_server.specs.Deeds.{Acted, Came, Deed, Left, Noted, NoteTaken, Put, Remembered, Sent, notes_in}
 use Rattle.wl_server.specs.Puts.{Puts}
 use Rattle.wl_server.specs.Part.{Part}

@@ -25,6 +25,7 @@ pub mod Destruction
 pub mod Carried
 pub mod Places
 pub mod Inserting
+pub mod Finishing
 pub mod Backend
 pub mod Lookups
 pub mod IsolationLaw

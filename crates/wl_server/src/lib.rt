@@ -17,6 +17,7 @@ mod destroy;
 mod error;
 mod event_check;
 mod flush;
+mod finish;
 mod global_id;
 mod globals;
 mod handler;

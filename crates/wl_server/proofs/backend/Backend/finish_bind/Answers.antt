@@ -1,0 +1,37 @@
+use Rattle.std.proofs.Common.{◌≡◌, ◌∙◌, false, Result, Err, refl, sym}
+use Rattle.wl_server.specs.declared.error.FinishError.TheVariants as finish
+use Rattle.wl_server.specs.declared.error.FinishRefused.{FinishRefused}
+use Rattle.wl_server.specs.Finish.{FinishesBind}
+use Rattle.wl_server.specs.Ids.{ClientParts}
+use Rattle.wl_server.specs.PartStep.{Asked}
+use Rattle.wl_server.specs.declared.step.Reply.TheVariants as reply
+use Rattle.wl_server.specs.declared.step.Step.TheVariants as step
+use Rattle.wl_server.proofs.Calls.{IsOwn, done_at, not_stored}
+use Rattle.wl_server.proofs.Slots.{Kind, slot_not_empty}
+use Rattle.wl_server.proofs.backend.Backend.finish_bind.Goals as goal
+
+abbrev finishes : {T U C : Type 0} → U → Result (Unit {0}) (FinishRefused U) → Kind T U C
+finishes u answer id p lacked did q = FinishesBind p u answer lacked did q
+
+own : {T U G C : Type 0} (id : ClientParts) (u : U) (answer : Result (Unit {0}) (FinishRefused U))
+    → IsOwn {T = T} {U = U} {G = G} {C = C} (Asked (step.FinishBind id u) (reply.FinishBind answer))
+own id u answer = record { offer = λ o. refl; last = refl; client = λ b. tt; global = λ o. tt; order = tt; growth = refl }
+
+abbrev Unknown : {U : Type 0} → U → Result (Unit {0}) (FinishRefused U) → Type 0
+Unknown u answer = answer ≡ Err (record { error = finish.InvalidId; user_data = u })
+
+pub returns-then-not-is_stored : goal.returns-then-not-is_stored
+returns-then-not-is_stored g c = rw (← c.self.view_is)
+    (not_stored _ _ _ _ (own _ _ _) c.args.client.now (finishes c.args.user_data (Err (record { error = finish.InvalidId; user_data = c.args.user_data })))
+    (Unknown c.args.user_data (Err (record { error = finish.InvalidId; user_data = c.args.user_data }))) (λ i l d b a h. (_, refl, h))
+    (sym c.is_stored.ensures.stored ∙ c.if-not-is_stored.true) refl)
+
+pub unreachable-requires : goal.unreachable-requires
+unreachable-requires g c =
+    slot_not_empty c.self.inside.clients.items c.args.client.now c.slot.result _ (sym c.is_stored.ensures.stored ∙ c.if-not-is_stored.false) c.slot.ensures c.index_mut.ensures.value c.in-None.is
+
+pub returns : goal.returns
+returns g c = rw (← c.self.view_is)
+    (done_at _ _ _ _ (own _ _ _) c.args.client.now (finishes c.args.user_data c.finish_bind.result) (Unknown c.args.user_data c.finish_bind.result) (λ i l d b a h. (_, refl, h))
+    c.slot.result c.index_mut.result.now c.in-Some.stored c.finish_bind.new.self false (sym c.is_stored.ensures.stored ∙ c.if-not-is_stored.false) c.slot.ensures
+    c.index_mut.ensures.value c.in-Some.is c.finish_bind.ensures)

@@ -1,0 +1,41 @@
+use Rattle.std.proofs.Common.{◌≡◌, ◌∙◌, ℕ, Option, Result, Err, refl, sym}
+use Rattle.wl_wire.specs.declared.error.IoFault.{IoFault}
+use Rattle.wl_link.specs.Exchange.{Queue}
+use Rattle.wl_server.specs.declared.error.FinishError.TheVariants as finish
+use Rattle.wl_server.specs.declared.error.FinishRefused.{FinishRefused}
+use Rattle.wl_server.specs.Finish.{FinishesRequest}
+use Rattle.wl_server.specs.Finishing.{lacks_finish}
+use Rattle.wl_server.specs.Ids.{ClientParts}
+use Rattle.wl_server.specs.PartStep.{Asked}
+use Rattle.wl_server.specs.declared.step.Reply.TheVariants as reply
+use Rattle.wl_server.specs.declared.step.Step.TheVariants as step
+use Rattle.wl_server.proofs.Calls.{IsOwn, done_at, not_stored}
+use Rattle.wl_server.proofs.Slots.{Kind, slot_not_empty}
+use Rattle.wl_server.proofs.backend.Backend.finish_request.Goals as goal
+
+abbrev finishes : {T U C : Type 0} → (T → Queue → Result ℕ IoFault → T → Type 0) → Option U → Result (Unit {0}) (FinishRefused (Option U)) → Kind T U C
+finishes sends u answer id p lacked did q = FinishesRequest sends id p u answer lacked did q
+
+own : {T U G C : Type 0} (id : ClientParts) (u : Option U) (answer : Result (Unit {0}) (FinishRefused (Option U)))
+    → IsOwn {T = T} {U = U} {G = G} {C = C} (Asked (step.FinishRequest id u) (reply.FinishRequest answer))
+own id u answer = record { offer = λ o. refl; last = refl; client = λ b. tt; global = λ o. tt; order = tt; growth = refl }
+
+abbrev Unknown : {U : Type 0} → Option U → Result (Unit {0}) (FinishRefused (Option U)) → Type 0
+Unknown u answer = answer ≡ Err (record { error = finish.InvalidId; user_data = u })
+
+pub returns-then-not-is_stored : goal.returns-then-not-is_stored
+returns-then-not-is_stored g c = rw (← c.self.view_is)
+    (not_stored _ _ _ _ (own _ _ _) c.args.client.now (finishes g.T.Transport.sends c.args.user_data (Err (record { error = finish.InvalidId; user_data = c.args.user_data })))
+    (Unknown c.args.user_data (Err (record { error = finish.InvalidId; user_data = c.args.user_data }))) (λ i l d b a h. (_, refl, h))
+    (sym c.is_stored.ensures.stored ∙ c.if-not-is_stored.true) refl)
+
+pub unreachable-requires : goal.unreachable-requires
+unreachable-requires g c =
+    slot_not_empty c.self.inside.clients.items c.args.client.now c.slot.result _ (sym c.is_stored.ensures.stored ∙ c.if-not-is_stored.false) c.slot.ensures c.index_mut.ensures.value c.in-None.is
+
+pub returns : goal.returns
+returns g c = rw (← c.self.view_is, c.lacks-self-inside.ensures)
+    (done_at _ _ _ _ (own _ _ _) c.args.client.now (finishes g.T.Transport.sends c.args.user_data c.finish_request-answer.result)
+    (Unknown c.args.user_data c.finish_request-answer.result) (λ i l d b a h. (_, refl, h)) c.slot.result c.index_mut.result.now c.in-Some.stored
+    c.finish_request-answer.new.self (lacks_finish c.finish_request-answer.result) (sym c.is_stored.ensures.stored ∙ c.if-not-is_stored.false) c.slot.ensures
+    c.index_mut.ensures.value c.in-Some.is c.finish_request-answer.ensures)

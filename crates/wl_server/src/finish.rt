@@ -1,0 +1,254 @@
+//! The end of an action that was handed out.
+
+ghost use Rattle.std.specs.Prelude.{◌≡◌, ◌+◌, ◌<◌, ◌≤◌, ◌++◌, IsSome, OnErr, OnOk, false, is_some, true, map};
+ghost use Rattle.std.specs.VecDeque.{deque_capacity, deque_len};
+ghost use Rattle.wl_server.specs.Backend.{Calls};
+ghost use Rattle.wl_server.specs.Client.{Does};
+ghost use Rattle.wl_server.specs.Finish.{FinishesBind, FinishesOpen, FinishesRequest, refusal};
+ghost use Rattle.wl_server.specs.Finishing.{EndsSender, lacks_finish, part_closed};
+ghost use Rattle.wl_server.specs.Part.{end_note};
+ghost use Rattle.wl_server.specs.PartStep.{over};
+ghost use Rattle.wl_server.specs.declared.action.OpenAction.TheVariants as opened;
+ghost use Rattle.wl_server.specs.declared.step.Reply.TheVariants as reply;
+ghost use Rattle.wl_server.specs.declared.step.Step.TheVariants as step;
+
+use crate::action::OpenAction;
+use crate::backend::Backend;
+use crate::client::Client;
+use crate::client_id::ClientId;
+use crate::error::{FinishError, FinishRefused};
+use crate::handler::GlobalHandler;
+use crate::kept::Kept;
+use crate::note::Happening;
+use crate::note_numbers::NoteNumbers;
+use crate::object_id::ObjectId;
+use crate::objects::{give_data, id_at, named_in, take_out};
+use crate::telling::{lacks_memory, put_delete_id};
+use std::collections::VecDeque;
+use wl_link::{Object, Transport};
+use wl_wire::{IoFault, OutOfMemory};
+
+/// Why a request cannot be finished with these data, whatever memory there is. Those of a killed client may lack.
+fn refusal_of<U>(
+    is_killed: bool,
+    created: &Option<ObjectId>,
+    user_data: &Option<U>,
+) -> Option<FinishError>
+    ensures { result ≡ refusal is_killed created.now user_data.now }
+{
+    match (created.is_some(), user_data.is_some()) {
+        (true, false) if !is_killed => Some(FinishError::MissingObjectData),
+        (false, true) => Some(FinishError::UnexpectedData),
+        _ => None,
+    }
+}
+
+/// Makes room for the note of this object, where it has user data, and for one more.
+fn reserve_end<U: Drop>(
+    made: &mut VecDeque<(u128, Happening<U>)>,
+    object: &Object<Kept<U>>,
+) -> Result<(), OutOfMemory>
+    ensures items { made.new.items ≡ made.old.items }
+    ensures len { deque_len made.new ≡ deque_len made.old }
+    ensures capacity { deque_capacity made.old ≤ deque_capacity made.new }
+    ensures room { OnOk result (IsSome object.now.value.user_data → deque_len made.new + 2 ≤ deque_capacity made.new) }
+    ensures asked { OnErr result (is_some object.now.value.user_data ≡ true) }
+{
+    if object.value.user_data.is_some() {
+        made.reserve(2)?;
+    }
+    Ok(())
+}
+
+/// Notes that this object is gone, where it had user data. There is room for that.
+fn note_made<U: Drop>(
+    made: &mut VecDeque<(u128, Happening<U>)>,
+    numbers: &mut NoteNumbers,
+    id: ObjectId,
+    user_data: Option<U>,
+)
+    requires { IsSome user_data → deque_len made.old + 2 ≤ deque_capacity made.old }
+    ensures items { map (λ m. m.1) made.new.items ≡ map (λ m. m.1) made.old.items ++ end_note id user_data }
+    ensures room { deque_len made.old < deque_capacity made.old → deque_len made.new < deque_capacity made.new }
+{
+    if let Some(user_data) = user_data {
+        made.push_back_reserved((numbers.next_made(), Happening::Destroyed(id, user_data)));
+    }
+}
+
+impl<T: Transport + Drop, U: Drop, C: Drop> Client<T, U, C> {
+    /// Ends the sender of a request, where the request ends it and it is kept: the client is told that the number is free,
+    /// the object leaves, and it is noted if it had user data. The answer is that of the telling. Without memory for the
+    /// note or for the telling the object stays.
+    fn end_sender(
+        &mut self,
+        id: &ClientId,
+        numbers: &mut NoteNumbers,
+        sender: &ObjectId,
+        is_destructor: bool,
+    ) -> Result<Result<(), IoFault>, OutOfMemory>
+        ensures { EndsSender T.sends id.now self.old sender.now is_destructor result self.new }
+    {
+        if !is_destructor {
+            return Ok(Ok(()));
+        }
+        let Some(object) = named_in(&self.objects, sender) else {
+            return Ok(Ok(()));
+        };
+        reserve_end(&mut self.made, object)?;
+        let alloc = *self.registries.allocator();
+        let number = sender.protocol_id();
+        let wrote = put_delete_id(alloc, &mut self.socket, number);
+        if lacks_memory(wrote) {
+            return Err(OutOfMemory);
+        }
+        if let Some(object) = take_out(&mut self.objects, &mut self.registries, number) {
+            let object_id = id_at(id, number, &object);
+            note_made(&mut self.made, numbers, object_id, object.value.user_data);
+        }
+        Ok(wrote)
+    }
+
+    /// No action is open any more, and the object that it made, if that is still kept, gets these data.
+    fn close_action(&mut self, created: Option<ObjectId>, user_data: Option<U>)
+        ensures { self.new ≡ record self.old { part = part_closed self.old.part created user_data } }
+    {
+        self.action = None;
+        if let (Some(id), Some(user_data)) = (created, user_data) {
+            let _ = give_data(&mut self.objects, &id, user_data);
+        }
+    }
+
+    /// Ends the request that is open with these data.
+    fn end_request(
+        &mut self,
+        id: &ClientId,
+        numbers: &mut NoteNumbers,
+        sender: &ObjectId,
+        is_destructor: bool,
+        created: Option<ObjectId>,
+        user_data: Option<U>,
+    ) -> Result<(), FinishRefused<Option<U>>>
+        ensures { Does self.old (λ p did q. FinishesOpen T.sends id.now p (opened.Request sender.now is_destructor created) user_data result (lacks_finish result) did q) self.new }
+    {
+        if let Some(error) = refusal_of(self.is_killed, &created, &user_data) {
+            return Err(FinishRefused { error, user_data });
+        }
+        let Ok(wrote) = self.end_sender(id, numbers, sender, is_destructor) else {
+            let error = FinishError::OutOfMemory;
+            return Err(FinishRefused { error, user_data });
+        };
+        self.close_action(created, user_data);
+        let _ = self.told(numbers, wrote);
+        Ok(())
+    }
+
+    /// Ends the open request.
+    pub fn finish_request(
+        &mut self,
+        id: &ClientId,
+        numbers: &mut NoteNumbers,
+        user_data: Option<U>,
+    ) -> Result<(), FinishRefused<Option<U>>>
+        ensures { Does self.old (λ p did q. FinishesRequest T.sends id.now p user_data result (lacks_finish result) did q) self.new }
+    {
+        let Some(action) = self.action else {
+            let error = FinishError::NoOpenAction;
+            return Err(FinishRefused { error, user_data });
+        };
+        match action {
+            OpenAction::Request {
+                sender,
+                is_destructor,
+                created,
+            } => self.end_request(id, numbers, &sender, is_destructor, created, user_data),
+            OpenAction::Bind { .. } => {
+                let error = FinishError::WrongKind;
+                Err(FinishRefused { error, user_data })
+            }
+        }
+    }
+
+    /// Ends the open bind: its object gets these data.
+    pub fn finish_bind(&mut self, user_data: U) -> Result<(), FinishRefused<U>>
+        ensures { Does self.old (λ p did q. FinishesBind p user_data result false did q) self.new }
+    {
+        let Some(action) = self.action else {
+            let error = FinishError::NoOpenAction;
+            return Err(FinishRefused { error, user_data });
+        };
+        match action {
+            OpenAction::Bind { object } => {
+                self.close_action(Some(object), Some(user_data));
+                Ok(())
+            }
+            OpenAction::Request { .. } => {
+                let error = FinishError::WrongKind;
+                Err(FinishRefused { error, user_data })
+            }
+        }
+    }
+}
+
+/// Whether memory was refused, by the answer.
+fn lacks<D>(answer: &Result<(), FinishRefused<D>>) -> bool
+    ensures { result ≡ lacks_finish answer.now }
+{
+    match answer {
+        Ok(()) => false,
+        Err(refused) => matches!(refused.error, FinishError::OutOfMemory),
+    }
+}
+
+impl<T: Transport + Drop, U: Drop, G: GlobalHandler<C> + Drop, C: Drop> Backend<T, U, G, C> {
+    /// Ends the request that `next_action` handed out, and gives the object that it made its user data.
+    ///
+    /// A request that ends its sender destroys it, while it is kept: its client is told that the number is free again, if
+    /// it is one of its own, and the object is noted if it has user data. A client that cannot be told is killed, as one
+    /// whose connection is closed, and the action is finished all the same.
+    ///
+    /// The refusals are, in this order: `InvalidId` where the client is not stored; `NoOpenAction`; `WrongKind` where a bind
+    /// is open; `MissingObjectData` where the request made an object, no data are given, and the client is not killed;
+    /// `UnexpectedData` where it made none and data are given; `OutOfMemory` where there is none for the note or for what
+    /// the client is told. Each gives the data back, and leaves the action open and the objects as they were.
+    pub fn finish_request(
+        &mut self,
+        client: &ClientId,
+        user_data: Option<U>,
+    ) -> Result<(), FinishRefused<Option<U>>>
+        ensures { Calls (over T.sends T.receives G.views) self.old (step.FinishRequest client.now user_data) (reply.FinishRequest result) self.new }
+    {
+        self.refused = false;
+        if !self.is_stored(client) {
+            let error = FinishError::InvalidId;
+            return Err(FinishRefused { error, user_data });
+        }
+        match &mut self.clients[client.slot() as usize] {
+            Some(stored) => {
+                let answer = stored.finish_request(client, &mut self.numbers, user_data);
+                self.refused = lacks(&answer);
+                answer
+            }
+            None => unreachable!(),
+        }
+    }
+
+    /// Ends the bind that `next_action` handed out, and gives its object, if that is still kept, these user data. It takes
+    /// no memory.
+    ///
+    /// The refusals are, in this order: `InvalidId` where the client is not stored; `NoOpenAction`; `WrongKind` where a
+    /// request is open. Each gives the data back, and changes nothing.
+    pub fn finish_bind(&mut self, client: &ClientId, user_data: U) -> Result<(), FinishRefused<U>>
+        ensures { Calls (over T.sends T.receives G.views) self.old (step.FinishBind client.now user_data) (reply.FinishBind result) self.new }
+    {
+        self.refused = false;
+        if !self.is_stored(client) {
+            let error = FinishError::InvalidId;
+            return Err(FinishRefused { error, user_data });
+        }
+        match &mut self.clients[client.slot() as usize] {
+            Some(stored) => stored.finish_bind(user_data),
+            None => unreachable!(),
+        }
+    }
+}
