@@ -1,11 +1,12 @@
 //! Errors that are posted on objects.
 
 ghost use Rattle.std.specs.Prelude.{◌≡◌, ℕ, List, IfOk, true, false};
+ghost use Rattle.wl_wire.specs.Table.{InterfaceRow};
 ghost use Rattle.wl_link.specs.Puts.{FlushesOut};
 ghost use Rattle.wl_server.specs.Backend.{Calls};
 ghost use Rattle.wl_server.specs.Carried.{IsCarried};
 ghost use Rattle.wl_server.specs.Client.{Does};
-ghost use Rattle.wl_server.specs.Errors.{error_messages, posts, PostsError};
+ghost use Rattle.wl_server.specs.Errors.{error_messages, error_of, posts, PostsError};
 ghost use Rattle.wl_server.specs.Part.{display_of, with_link};
 ghost use Rattle.wl_server.specs.PartStep.{over};
 ghost use Rattle.wl_server.specs.Puts.{Puts};
@@ -24,7 +25,7 @@ use crate::objects::named_in;
 use crate::protocol_error::posted_error;
 use crate::telling::{DISPLAY, lacks_memory, put_error};
 use wl_link::Transport;
-use wl_wire::{CString, IoFault, OutOfMemory, Protocol, WL_DISPLAY_INTERFACE};
+use wl_wire::{CString, IoFault, OutOfMemory, Protocol, ProtocolError, WL_DISPLAY_INTERFACE};
 
 impl<T: Transport + Drop, U: Drop, C: Drop> Client<T, U, C> {
     /// Posts an error on an object: it is told to the client where it is not killed and the object is kept, what waits is
@@ -45,9 +46,25 @@ impl<T: Transport + Drop, U: Drop, C: Drop> Client<T, U, C> {
             return self.flush_dropped();
         }
         let alloc = *self.registries.allocator();
-        let Ok(error) = posted_error(alloc, protocol, id, code, &text) else {
-            return self.told(numbers, Err(IoFault::OutOfMemory));
-        };
+        match posted_error(alloc, protocol, id, code, &text) {
+            Ok(error) => self.post_made(numbers, id, code, text, error),
+            Err(_) => self.told(numbers, Err(IoFault::OutOfMemory)),
+        }
+    }
+
+    /// Posts an error on an object of the live client, which is killed for this.
+    fn post_made(
+        &mut self,
+        numbers: &mut NoteNumbers,
+        id: &ObjectId,
+        code: u32,
+        text: CString,
+        error: ProtocolError,
+    ) -> bool
+        requires { self.old.part.is_killed ≡ false }
+        ensures { (table : List InterfaceRow) → error ≡ error_of table id.now code text
+            → IsCarried T.sends (posts table (core_of self.old.part) id.now code text) self.old result self.new }
+    {
         let wrote = self.put_posted(id, code, text);
         let lacked = self.flush_dropped();
         let refused = self.told(numbers, wrote);
