@@ -28,3 +28,7 @@ mod Destroying
 mod PutEach
 mod Finishing
 mod Opened
+mod Posting
+mod Handling
+mod Requesting
+mod Announcing

@@ -13,6 +13,7 @@ pub mod Reading
 pub mod Felt
 pub mod Server
 pub mod Turns
+pub mod Responses
 pub mod Moves
 pub mod PartStep
 pub mod Steps

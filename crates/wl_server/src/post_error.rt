@@ -72,29 +72,6 @@ impl<T: Transport + Drop, U: Drop, C: Drop> Client<T, U, C> {
         refused || lacked
     }
 
-    /// Posts an error on the display of a live client, which broke the protocol. Where there was no memory for the text the
-    /// client is closed down. The answer is whether memory was refused.
-    #[cold]
-    #[inline(never)]
-    pub fn breaks(
-        &mut self,
-        protocol: &Protocol,
-        numbers: &mut NoteNumbers,
-        id: &ClientId,
-        code: u32,
-        text: Result<CString, OutOfMemory>,
-    ) -> bool
-        requires { self.old.part.is_killed ≡ false }
-        ensures { (t : List ℕ) → IfOk text (λ x. x ≡ t)
-            → IsCarried T.sends (posts protocol.now (core_of self.old.part) (display_of id.now) code t) self.old result self.new }
-    {
-        let display = ObjectId::from_parts(DISPLAY, 0, *id, WL_DISPLAY_INTERFACE);
-        match text {
-            Ok(text) => self.posts(protocol, numbers, &display, code, text),
-            Err(_) => self.told(numbers, Err(IoFault::OutOfMemory)),
-        }
-    }
-
     /// Posts an error on an object, as the program asks. A null id is of none, and nothing is done. The answer is whether
     /// memory was refused.
     pub fn post_error(

@@ -1,12 +1,12 @@
 //! The messages that the server sends of itself.
 
-ghost use Rattle.std.specs.Prelude.{◌≡◌, ◌∷◌, [], Some};
+ghost use Rattle.std.specs.Prelude.{◌≡◌, ◌∷◌, ℕ, [], Some};
 ghost use Rattle.wl_wire.specs.declared.argument.Argument.TheVariants as arg;
 ghost use Rattle.wl_wire.specs.Message.{content};
 ghost use Rattle.wl_link.specs.Link.{Wrote};
 ghost use Rattle.wl_link.specs.Puts.{lacked_memory};
 ghost use Rattle.wl_server.specs.Puts.{Puts};
-ghost use Rattle.wl_server.specs.Telling.{deletions, error_message};
+ghost use Rattle.wl_server.specs.Telling.{deletions, done_message, error_message};
 
 use smallvec::SmallVec;
 use std::alloc::Global;
@@ -18,6 +18,9 @@ pub const DISPLAY: u32 = 1;
 
 /// The opcode of `wl_display.error`.
 const ERROR: u16 = 0;
+
+/// The opcode of `wl_callback.done`.
+const DONE: u16 = 0;
 
 /// The opcode of `wl_display.delete_id`.
 const DELETE_ID: u16 = 1;
@@ -102,4 +105,19 @@ pub fn put_error<T: Transport>(
 {
     let message = message_of_error(alloc, number, code, text);
     socket.write_message(&message)
+}
+
+/// Tells a client that its callback of this number is done, and that the number is free again.
+pub fn put_done<T: Transport>(
+    alloc: Global,
+    socket: &mut BufferedSocket<T>,
+    number: u32,
+) -> Result<(), IoFault>
+    ensures { (serial : ℕ) → Puts T.sends socket.old (done_message (record { number = number; serial = serial }) ∷ deletions number) result socket.new }
+{
+    let wrote = put_number(alloc, socket, number, DONE, 0);
+    if let Err(fault) = wrote {
+        return Err(fault);
+    }
+    put_delete_id(alloc, socket, number)
 }

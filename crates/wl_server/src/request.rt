@@ -1,0 +1,230 @@
+//! The requests of a client: what is made of one, and how it is answered.
+
+ghost use Rattle.std.specs.Prelude.{◌≡◌, ◌<◌, ℕ, List, [], true, false, Err, Some, IfOk, MatchResult, length, vec_len, vec_capacity};
+ghost use Rattle.smallvec.specs.SmallVec.{HasRoomFor};
+ghost use Rattle.wl_wire.specs.declared.argument.Argument.{Argument as Arg};
+ghost use Rattle.wl_wire.specs.declared.argument.Token.{Token as TokenParts};
+ghost use Rattle.wl_wire.specs.declared.error.IoFault.TheVariants as io;
+ghost use Rattle.wl_wire.specs.Argument.{Matches};
+ghost use Rattle.wl_wire.specs.Asked.{creates as row_creates};
+ghost use Rattle.wl_wire.specs.Message.{content};
+ghost use Rattle.wl_wire.specs.Table.{message_row};
+ghost use Rattle.wl_link.specs.declared.object.Object.{Object as ObjectOf};
+ghost use Rattle.wl_link.specs.Puts.{lacked_memory};
+ghost use Rattle.wl_link.specs.Store.{held};
+ghost use Rattle.wl_server.specs.declared.kept.Kept.{Kept as KeptOf};
+ghost use Rattle.wl_server.specs.declared.note.DisconnectReason.TheVariants.{ConnectionClosed};
+ghost use Rattle.wl_server.specs.declared.turn.TurnEnd.TheVariants as came;
+ghost use Rattle.wl_server.specs.Client.{Does};
+ghost use Rattle.wl_server.specs.Ids.{IdParts};
+ghost use Rattle.wl_server.specs.Reading.{breaks, garbled, request_to};
+ghost use Rattle.wl_server.specs.Responses.{code_of, core_with, opened_of, response_to, text_of};
+ghost use Rattle.wl_server.specs.Telling.{Core, Kills, core_of};
+ghost use Rattle.wl_server.specs.Turns.{Ended, IsHandled, Live, around_of, turned};
+
+use crate::action::OpenAction;
+use crate::client::Client;
+use crate::display_request::display_request;
+use crate::first_globals::put_globals;
+use crate::handler::GlobalHandler;
+use crate::kept::Kept;
+use crate::note::DisconnectReason;
+use crate::note_numbers::NoteNumbers;
+use crate::object_id::ObjectId;
+use crate::other_request::other_request;
+use crate::registry::Registry;
+use crate::registry_request::registry_request;
+use crate::request_text::{bind_text, fault_text, new_id_text, since_text};
+use crate::response::{Breach, Response};
+use crate::surroundings::Surroundings;
+use crate::telling::{DISPLAY, put_done};
+use crate::turn::{Found, NoAction, TurnEnd};
+use smallvec::SmallVec;
+use std::alloc::Global;
+use wl_link::{ObjectMap, Transport};
+use wl_wire::{
+    Argument, CString, INLINE_ARGS, IoFault, Message, MessageDesc, OutOfMemory, Protocol, Token,
+    WL_DISPLAY_INTERFACE, WL_REGISTRY_INTERFACE,
+};
+
+/// Goes through a request, by what its object is. The arguments of one that is handed out are taken out of the message,
+/// and what they become is in `args` then.
+pub fn request<'m, U: Drop, G: GlobalHandler<C> + Drop, C>(
+    around: &Surroundings<'_, G>,
+    info: &C,
+    objects: &mut ObjectMap<Kept<U>>,
+    last_serial: &mut u64,
+    registries: &mut Vec<Registry>,
+    desc: &'m MessageDesc,
+    message: &'m mut Message<u32, Token>,
+    args: &mut SmallVec<Argument<ObjectId, Token>, INLINE_ARGS>,
+) -> Response<'m>
+    requires can_make { row_creates (message_row desc.now) ≡ true → objects.old.reserved ≡ true }
+    requires can_register { row_creates (message_row desc.now) ≡ true → vec_len registries.old < vec_capacity registries.old }
+    requires kinds { Matches desc.now.signature.items message.old.args.items }
+    requires empty { args.old.items ≡ [] }
+    requires room { HasRoomFor args.old (length message.old.args.items) }
+    ensures capacity { args.new.capacity ≡ args.old.capacity }
+    ensures responds { (x : ObjectOf (KeptOf U)) (c : Core U C) → held objects.old.store message.old.sender_id ≡ Some x
+        → request_to (around_of G.views around.now) (core_with c info.now objects.old.store last_serial.old registries.old.items) (content message.old) x (message_row desc.now)
+        ≡ response_to (around_of G.views around.now) (core_with c info.now objects.new.store last_serial.new registries.new.items) result args.new.items }
+{
+    let Some(object) = objects.find(message.sender_id) else {
+        return Response::Garbled;
+    };
+    let interface = object.interface;
+    if interface == WL_DISPLAY_INTERFACE {
+        return display_request(around, info, objects, last_serial, registries, message);
+    }
+    if interface == WL_REGISTRY_INTERFACE {
+        return registry_request(around, info, objects, last_serial, message);
+    }
+    other_request(around, info, objects, last_serial, desc, message, args)
+}
+
+/// The text of the error that a breach ends in.
+#[cold]
+#[inline(never)]
+fn breach_text(
+    alloc: Global,
+    protocol: &Protocol,
+    breach: &Breach<'_>,
+) -> Result<CString, OutOfMemory>
+    ensures { IfOk result (λ s. s ≡ text_of protocol.now breach.now) }
+{
+    match breach {
+        Breach::InvalidNewId(number) => new_id_text(alloc, *number),
+        Breach::RefusedBind(global, version, interface) => {
+            bind_text(alloc, interface, *version, *global)
+        }
+        Breach::SinceLater(opcode, version, since, interface, number) => {
+            let interface = protocol.name(*interface);
+            since_text(alloc, *opcode, *version, *since, interface, *number)
+        }
+        Breach::WrongArgument(interface, desc, wrong) => {
+            fault_text(alloc, protocol, *interface, desc, *wrong)
+        }
+    }
+}
+
+/// The code of the error that a breach ends in.
+fn breach_code(breach: &Breach<'_>) -> u32
+    ensures { result ≡ code_of breach.now }
+{
+    match breach {
+        Breach::SinceLater(_, _, _, _, _) => 1,
+        _ => 0,
+    }
+}
+
+/// What the end of an action has to know of it.
+fn open_action(found: &Found) -> OpenAction
+    ensures { result ≡ opened_of found.now }
+{
+    match found {
+        Found::Request(sender, _, is_destructor, created) => {
+            OpenAction::Request {
+                sender: *sender,
+                is_destructor: *is_destructor,
+                created: *created,
+            }
+        }
+        Found::Bind(_, object) => OpenAction::Bind { object: *object },
+    }
+}
+
+impl<T: Transport + Drop, U: Drop, C: Drop> Client<T, U, C> {
+    /// Closes the connection, for bytes that are no message that the client may send.
+    #[cold]
+    #[inline(never)]
+    pub fn garbled(&mut self, numbers: &mut NoteNumbers) -> NoAction
+        ensures { IsHandled T.sends (garbled (core_of self.old.part)) self.old (Ended result) self.new }
+    {
+        self.kill(numbers, DisconnectReason::ConnectionClosed);
+        NoAction {
+            fault: IoFault::Proto,
+            refused: false,
+        }
+    }
+
+    /// Posts an error with this text on the display of a live client, which broke the protocol. Where there was no memory
+    /// for the text, the client is closed down.
+    #[cold]
+    #[inline(never)]
+    pub fn breaks<G: GlobalHandler<C>>(
+        &mut self,
+        numbers: &mut NoteNumbers,
+        around: &Surroundings<'_, G>,
+        code: u32,
+        text: Result<CString, OutOfMemory>,
+    ) -> NoAction
+        requires { self.old.part.is_killed ≡ false }
+        ensures { (t : List ℕ) → IfOk text (λ s. s ≡ t) → IsHandled T.sends (breaks (around_of G.views around.now) (core_of self.old.part) code t) self.old (Ended result) self.new }
+    {
+        let Ok(text) = text else {
+            let refused = self.told(numbers, Err(IoFault::OutOfMemory));
+            return NoAction {
+                fault: IoFault::Pipe,
+                refused,
+            };
+        };
+        let display = ObjectId::from_parts(DISPLAY, 0, around.client, WL_DISPLAY_INTERFACE);
+        let refused = self.posts(around.protocol, numbers, &display, code, text);
+        NoAction {
+            fault: IoFault::Pipe,
+            refused,
+        }
+    }
+
+    /// What it comes to that what the client was told in answer to a request was put so.
+    pub fn replied(&mut self, numbers: &mut NoteNumbers, wrote: Result<(), IoFault>) -> TurnEnd
+        ensures { MatchResult wrote
+            (λ _. (result ≡ came.GoesOn) × (self.new ≡ self.old))
+            (λ f. (result ≡ came.Ends (record { fault = io.Pipe; refused = lacked_memory (Err f) }))
+            × Does self.old (λ p did q. Kills p ConnectionClosed did q) self.new) }
+    {
+        let is_written = wrote.is_ok();
+        let refused = self.told(numbers, wrote);
+        if is_written {
+            return TurnEnd::GoesOn;
+        }
+        TurnEnd::Ends(NoAction {
+            fault: IoFault::Pipe,
+            refused,
+        })
+    }
+
+    /// Answers a request of a live client that was gone through.
+    pub fn respond<G: GlobalHandler<C> + Drop>(
+        &mut self,
+        numbers: &mut NoteNumbers,
+        around: &Surroundings<'_, G>,
+        response: &Response<'_>,
+    ) -> TurnEnd
+        requires { Live self.old.part }
+        ensures { (args : List (Arg IdParts TokenParts)) → IsHandled T.sends (response_to (around_of G.views around.now) (core_of self.old.part) response.now args) self.old (turned result args) self.new }
+    {
+        match response {
+            Response::Garbled => TurnEnd::Ends(self.garbled(numbers)),
+            Response::Breaks(breach) => {
+                let alloc = *self.registries.allocator();
+                let text = breach_text(alloc, around.protocol, breach);
+                TurnEnd::Ends(self.breaks(numbers, around, breach_code(breach), text))
+            }
+            Response::Syncs(id) => {
+                let alloc = *self.registries.allocator();
+                let wrote = put_done(alloc, &mut self.socket, id.protocol_id());
+                self.replied(numbers, wrote)
+            }
+            Response::Registers(id) => {
+                let alloc = *self.registries.allocator();
+                let wrote = put_globals(alloc, &mut self.socket, around, &self.info, id);
+                self.replied(numbers, wrote)
+            }
+            Response::HandsOut(found) => {
+                self.action = Some(open_action(found));
+                TurnEnd::Acts(*found)
+            }
+        }
+    }
+}
