@@ -14,13 +14,14 @@ mod OverScripts
 mod WholeRows
 mod Posting
 mod EventFaults
+mod Inserting
+mod Gathering
+mod Taking
 mod Feeling
 mod Flushing
 mod Hearing
 mod AtName
-mod Inserting
 mod NewIds
-mod Taking
 mod SendingEvents
 mod Closing
 mod Texts
@@ -28,7 +29,7 @@ mod Destroying
 mod PutEach
 mod Finishing
 mod Opened
-mod Posting
 mod Handling
 mod Requesting
 mod Announcing
+mod TakingNotes

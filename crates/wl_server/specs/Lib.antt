@@ -24,8 +24,9 @@ pub mod Scripting
 pub mod Creation
 pub mod Destruction
 pub mod Carried
-pub mod Places
 pub mod Inserting
+pub mod Gathering
+pub mod Places
 pub mod Finishing
 pub mod Backend
 pub mod Lookups

@@ -1,0 +1,12 @@
+use Rattle.std.proofs.Common.{◌∙◌, Vec, ap}
+use Rattle.wl_server.proofs.TakingNotes.{notes_starved, notes_taken}
+use Rattle.wl_server.proofs.backend.Backend.take_notes.Goals as goal
+
+pub returns-in-Ok : goal.returns-in-Ok
+returns-in-Ok g c = rw (← c.self.view_is)
+    (notes_taken _ _ c.gather_made.new.clients.items c.gather_made.new.notes.items c.replace.result c.replace.new.dest.items
+    (ap (λ (v : Vec _ _). v.items) c.replace.ensures.value) (ap (λ (v : Vec _ _). v.items) c.replace.ensures.after ∙ c.new-none.ensures.items)
+    c.in-Ok.ensures.gathered c.in-Ok.ensures.ended)
+
+pub returns-in-Err : goal.returns-in-Err
+returns-in-Err g c = rw (← c.self.view_is) (notes_starved _ _ _ _ _ c.in-Err.ensures.unchanged.0 c.in-Err.ensures.unchanged.1)
