@@ -16,6 +16,7 @@ use Rattle.wl_link.specs.Puts.{PutsOut, Said}
 use Rattle.wl_link.specs.Store.{held, removed, rewritten, stored}
 use Rattle.wl_server.specs.declared.action.OpenAction.{OpenAction}
 use Rattle.wl_server.specs.declared.action.OpenAction.TheVariants as opened
+use Rattle.wl_server.specs.declared.error.CreateError.{CreateError}
 use Rattle.wl_server.specs.declared.kept.Kept.{Kept}
 use Rattle.wl_server.specs.declared.note.DisconnectReason.{DisconnectReason}
 use Rattle.wl_server.specs.declared.note.Happening.{Happening}
@@ -52,6 +53,11 @@ created_ids (Some id) = New id ∷ []
 abbrev pub action_ids : Handed → List HandedId
 action_ids (Request sender opcode args is_destructor created) = Found sender ∷ (argument_ids args ++ created_ids created)
 action_ids (Bind global object) = New object ∷ []
+
+-- the id of an object that the program made
+abbrev pub made_ids : Result IdParts CreateError → List HandedId
+made_ids (Ok id) = New id ∷ []
+made_ids (Err e) = []
 
 abbrev pub all_action_ids : List Handed → List HandedId
 all_action_ids [] = []

@@ -47,3 +47,4 @@ pub mod RunOutcome
 pub mod MoveLaws
 pub mod ShareLaws
 pub mod MovesOfReadings
+pub mod MovesOfCalls
