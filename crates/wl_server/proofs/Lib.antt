@@ -33,3 +33,4 @@ mod Handling
 mod Requesting
 mod Announcing
 mod TakingNotes
+mod GatheredSlots

@@ -2,7 +2,7 @@
 --
 -- So a law of whole runs is an induction over the moves, and sees no call. A move says what it does to the part, and what
 -- it does beside that, by kind: a chain of moves tells the deeds of a call but for the order of deeds of different kinds.
-use Rattle.std.specs.Prelude.{◌≡◌, ◌≢◌, ◌⊎◌, ℕ, ◌+◌, List, [], ◌∷◌, ◌++◌, Bool, true, false, ◌==◌, if◌then◌else◌, Option, None, Some, Result}
+use Rattle.std.specs.Prelude.{◌≡◌, ◌≢◌, ◌⊎◌, ℕ, ◌+◌, List, [], ◌∷◌, ◌++◌, Bool, true, false, ◌==◌, if◌then◌else◌, Option, None, Some, Result, Ok, Err}
 use Rattle.wl_wire.specs.declared.argument.Argument.{Argument}
 use Rattle.wl_wire.specs.declared.argument.Argument.TheVariants as arg
 use Rattle.wl_wire.specs.declared.argument.Token.{Token}

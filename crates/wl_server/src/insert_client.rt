@@ -1,6 +1,7 @@
 //! New clients.
 
-ghost use Rattle.std.specs.Prelude.{◌≡◌, ℕ, ◌<◌, ◌≤◌, None, Some, IfOk, OnErr, IsSome, MatchOption, length, vec_len};
+ghost use Rattle.std.specs.Prelude.{◌≡◌, ℕ, ◌<◌, ◌≤◌, None, Some, IfOk, OnErr, OnOk, IsSome, ◌∷◌, [], map, MatchOption, length, vec_capacity, vec_len};
+ghost use Rattle.std.specs.VecDeque.{deque_capacity, deque_len};
 ghost use Rattle.wl_link.specs.Store.{empty_store, stored};
 ghost use Rattle.wl_server.specs.Backend.{Calls};
 ghost use Rattle.wl_server.specs.Client.{IsInserted};
@@ -9,6 +10,7 @@ ghost use Rattle.wl_server.specs.Part.{display_object};
 ghost use Rattle.wl_server.specs.PartStep.{over};
 ghost use Rattle.wl_server.specs.Server.{Stored, stored_at};
 ghost use Rattle.wl_server.specs.Steps.{IsLeastFree};
+ghost use Rattle.wl_server.specs.declared.note.Happening.TheVariants.{Initialized};
 ghost use Rattle.wl_server.specs.declared.step.Reply.TheVariants as reply;
 ghost use Rattle.wl_server.specs.declared.step.Step.TheVariants as step;
 
@@ -39,36 +41,46 @@ fn first_objects<U: Drop>(alloc: Global) -> Result<ObjectMap<Kept<U>>, OutOfMemo
     }
 }
 
-impl<T: Drop, U: Drop, C: Drop> Client<T, U, C> {
-    /// A client in which nothing has happened but that it was inserted, which is noted.
-    pub fn new(
-        alloc: Global,
-        serial: u64,
-        transport: T,
-        max_buffer_size: usize,
-        info: C,
-        numbers: &mut NoteNumbers,
-    ) -> Result<Self, OutOfMemory>
-        ensures { IfOk result (IsInserted serial transport (Some max_buffer_size) info) }
-    {
-        let objects = first_objects(alloc)?;
-        let socket = BufferedSocket::new(alloc, transport, Some(max_buffer_size))?;
-        // Room for this note, and for that of the client's end.
-        let mut made = VecDeque::with_capacity(alloc, 2)?;
-        made.push_back_reserved((numbers.next_made(), Happening::Initialized));
-        Ok(Client {
-            serial,
-            socket,
-            info,
-            objects,
-            last_serial: 0,
-            is_killed: false,
-            action: None,
-            registries: Vec::new(alloc),
-            waiting: VecDeque::new(alloc),
-            made,
-        })
+/// The notes of a client in which nothing has happened but that it was inserted, with room for that of its end.
+fn first_notes<U>(
+    alloc: Global,
+    numbers: &mut NoteNumbers,
+) -> Result<VecDeque<(u128, Happening<U>)>, OutOfMemory>
+    ensures notes { IfOk result (λ made. map (λ m. m.1) made.items ≡ Initialized ∷ []) }
+    ensures room { IfOk result (λ made. deque_len made < deque_capacity made) }
+{
+    let mut made = VecDeque::with_capacity(alloc, 2)?;
+    made.push_back_reserved((numbers.next_made(), Happening::Initialized));
+    Ok(made)
+}
+
+/// What a new client keeps beside its link: its objects, and its notes.
+fn first_lists<U: Drop>(
+    alloc: Global,
+    numbers: &mut NoteNumbers,
+) -> Result<(ObjectMap<Kept<U>>, VecDeque<(u128, Happening<U>)>), OutOfMemory>
+    ensures objects { IfOk result (λ lists. lists.0.store ≡ stored empty_store 1 display_object) }
+    ensures notes { IfOk result (λ lists. map (λ m. m.1) lists.1.items ≡ Initialized ∷ []) }
+    ensures room { IfOk result (λ lists. deque_len lists.1 < deque_capacity lists.1) }
+{
+    let objects = first_objects(alloc)?;
+    let made = first_notes(alloc, numbers)?;
+    Ok((objects, made))
+}
+
+/// Makes room for a client at the slot, which is not past the first one that was never in use.
+fn reserve_slot<T, U, C>(
+    clients: &mut Vec<Option<Client<T, U, C>>>,
+    slot: usize,
+) -> Result<(), OutOfMemory>
+    ensures items { clients.new.items ≡ clients.old.items }
+    ensures len { vec_len clients.new ≡ vec_len clients.old }
+    ensures room { OnOk result (vec_len clients.new ≤ slot → vec_len clients.new < vec_capacity clients.new) }
+{
+    if slot < clients.len() {
+        return Ok(());
     }
+    Ok(clients.reserve(1)?)
 }
 
 /// The first place without a client, or the one behind all.
@@ -91,6 +103,24 @@ fn free_slot<T, U, C>(clients: &[Option<Client<T, U, C>>]) -> Option<u32>
     u32::try_from(first_free(clients)).ok()
 }
 
+/// Puts a client at a slot that no client has, for which there is room.
+fn put_at<T: Drop, U: Drop, C: Drop>(
+    clients: &mut Vec<Option<Client<T, U, C>>>,
+    slot: usize,
+    client: Client<T, U, C>,
+)
+    requires within { slot ≤ vec_len clients.old }
+    requires room { vec_len clients.old ≤ slot → vec_len clients.old < vec_capacity clients.old }
+    ensures put { IsPut clients.old.items slot client clients.new.items }
+    ensures slots { vec_len clients.old ≤ 0x100000000 → slot < 0x100000000 → vec_len clients.new ≤ 0x100000000 }
+{
+    if slot < clients.len() {
+        clients[slot] = Some(client);
+    } else {
+        clients.push_reserved(Some(client));
+    }
+}
+
 /// Puts a new client at a slot that no client has, and that is not past the first one that was never in use. Where there
 /// is no memory, nothing changes.
 fn put_new<T: Drop, U: Drop, C: Drop>(
@@ -109,19 +139,22 @@ fn put_new<T: Drop, U: Drop, C: Drop>(
 {
     let slot = id.slot() as usize;
     let alloc = *clients.allocator();
-    let client = Client::new(
-        alloc,
-        id.serial(),
-        transport,
-        max_buffer_size,
+    reserve_slot(clients, slot)?;
+    let (objects, made) = first_lists(alloc, numbers)?;
+    let socket = BufferedSocket::new(alloc, transport, Some(max_buffer_size))?;
+    let client = Client {
+        serial: id.serial(),
+        socket,
         info,
-        numbers,
-    )?;
-    if slot < clients.len() {
-        clients[slot] = Some(client);
-    } else if clients.push(Some(client)).is_err() {
-        return Err(OutOfMemory);
-    }
+        objects,
+        last_serial: 0,
+        is_killed: false,
+        action: None,
+        registries: Vec::new(alloc),
+        waiting: VecDeque::new(alloc),
+        made,
+    };
+    put_at(clients, slot, client);
     Ok(())
 }
 

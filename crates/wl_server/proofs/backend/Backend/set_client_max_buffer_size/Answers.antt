@@ -6,7 +6,7 @@ use Rattle.wl_server.specs.PartStep.{Asked, Quietly}
 use Rattle.wl_server.specs.declared.step.Reply.TheVariants as reply
 use Rattle.wl_server.specs.declared.step.Step.TheVariants as step
 use Rattle.wl_server.proofs.Calls.{IsOwn, done_at, not_stored}
-use Rattle.wl_server.proofs.Slots.{Kind, slot_not_empty}
+use Rattle.wl_server.proofs.Slots.{Kind, slot_in, slot_not_empty}
 use Rattle.wl_server.proofs.backend.Backend.set_client_max_buffer_size.Goals as goal
 
 abbrev limits : {T U C : Type 0} → ℕ → Kind T U C
@@ -20,6 +20,9 @@ pub returns-then-not-is_stored : goal.returns-then-not-is_stored
 returns-then-not-is_stored g c = rw (← c.self.view_is)
     (not_stored _ _ _ _ (own _ _) c.args.client.now (limits c.args.max_buffer_size) (Unit {0}) (λ i l d b a h. (refl, h))
     (sym c.is_stored.ensures.stored ∙ c.if-not-is_stored.true) tt)
+
+pub index_mut-requires : goal.index_mut-requires
+index_mut-requires g c = slot_in c.self.inside.clients _ _ c.slot.ensures (c.is_stored.ensures.within c.if-not-is_stored.false)
 
 pub unreachable-requires : goal.unreachable-requires
 unreachable-requires g c =

@@ -1,4 +1,5 @@
-use Rattle.std.proofs.Common.{◌∙◌, Vec, ap}
+use Rattle.std.proofs.Common.{◌∙◌, Vec, ap, arith}
+use Rattle.wl_server.proofs.GatheredSlots.{slots_kept}
 use Rattle.wl_server.proofs.TakingNotes.{notes_starved, notes_taken}
 use Rattle.wl_server.proofs.backend.Backend.take_notes.Goals as goal
 
@@ -10,3 +11,11 @@ returns-in-Ok g c = rw (← c.self.view_is)
 
 pub returns-in-Err : goal.returns-in-Err
 returns-in-Err g c = rw (← c.self.view_is) (notes_starved _ _ _ _ _ c.in-Err.ensures.unchanged.0 c.in-Err.ensures.unchanged.1)
+
+pub invariant_of-self : goal.invariant_of-self
+invariant_of-self g c =
+    let same = slots_kept _ _ _ _ _ c.gather_made.ensures.gathered c.gather_made.ensures.unchanged in
+    let before = c.self.inside.clients.ok.0 in
+    let after = c.gather_made.new.clients.ok.0 in
+    let within = c.self.invariant in
+    omega (arith, same, before, after, within)
