@@ -76,25 +76,21 @@ module _ {T U C : Type 0} (sends : T → Queue → Result ℕ IoFault → T → 
       (sym named-is) ends
 
   -- it was taken out at its number, and noted
-  pub ends_taken : (x y : Object (Kept U)) (n : ℕ) (id : IdParts) (wrote : Result (Unit {0}) IoFault) (link : LinkState T) (store : Store (Kept U)) (registries : List Id)
-      (made same_made : List (Happening U)) → Some x ≡ named s.part.store sender → n ≡ sender.number → Some y ≡ held s.part.store n
-      → Puts sends s.part.link (deletions n) wrote link → false ≡ lacked_memory wrote → store ≡ removed s.part.store n
-      → registries ≡ registries_without s.part.registries n y → id ≡ id_at client n y → made ≡ same_made ++ end_note id y.value.user_data
-      → same_made ≡ s.made
-      → EndsSender sends client s sender true (Ok wrote) (changed link store registries made)
-  ends_taken x y n id wrote link store registries made same_made named-is n-is held-is puts lacks store-is registries-is id-is made-is same-is =
-      let here : held s.part.store sender.number ≡ Some x = named_held s.part.store sender x (sym named-is) in
-      let same : y ≡ x = same_some (held-is ∙ ap (held s.part.store) n-is ∙ here) in
-      let noted : end_note id y.value.user_data ≡ note_of_end client sender.number x =
-      ap (λ (i : IdParts). end_note i y.value.user_data) id-is ∙ ap (λ (k : ℕ). note_of_end client k y) n-is ∙ ap (note_of_end client sender.number) same in
+  pub ends_taken : (x : Object (Kept U)) (n : ℕ) (wrote : Result (Unit {0}) IoFault) (link : LinkState T) (store : Store (Kept U)) (registries : List Id)
+      (made same_made : List (Happening U)) → Some x ≡ named s.part.store sender → n ≡ sender.number → Puts sends s.part.link (deletions n) wrote link
+      → false ≡ lacked_memory wrote → store ≡ removed s.part.store n
+      → ((y : Object (Kept U)) → held s.part.store n ≡ Some y
+      → (registries ≡ registries_without s.part.registries n y) × (made ≡ same_made ++ note_of_end client n y))
+      → same_made ≡ s.made → EndsSender sends client s sender true (Ok wrote) (changed link store registries made)
+  ends_taken x n wrote link store registries made same_made named-is n-is puts lacks store-is left same-is =
+      let out = left x (ap (held s.part.store) n-is ∙ named_held s.part.store sender x (sym named-is)) in
       where_kept x (Ok wrote) (changed link store registries made) (sym named-is) (
         subst (λ (k : ℕ). Puts sends s.part.link (deletions k) wrote link) n-is puts,
         sym lacks,
         ap (λ (t : Store (Kept U)). changed link t registries made) (store-is ∙ ap (removed s.part.store) n-is)
-            ∙ ap (λ (r : List Id). changed link (removed s.part.store sender.number) r made)
-            (registries-is ∙ ap (λ (k : ℕ). registries_without s.part.registries k y) n-is ∙ ap (registries_without s.part.registries sender.number) same)
+            ∙ ap (λ (r : List Id). changed link (removed s.part.store sender.number) r made) (out.0 ∙ ap (λ (k : ℕ). registries_without s.part.registries k x) n-is)
             ∙ ap (changed link (removed s.part.store sender.number) (registries_without s.part.registries sender.number x))
-            (made-is ∙ ap (λ (notes : List (Happening U)). notes ++ end_note id y.value.user_data) same-is ∙ ap (λ (notes : List (Happening U)). s.made ++ notes) noted),
+            (out.1 ∙ ap (λ (notes : List (Happening U)). notes ++ note_of_end client n x) same-is ∙ ap (λ (k : ℕ). s.made ++ note_of_end client k x) n-is),
       )
 
 -- ---- what it leaves

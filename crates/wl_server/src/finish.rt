@@ -1,12 +1,15 @@
 //! The end of an action that was handed out.
 
-ghost use Rattle.std.specs.Prelude.{◌≡◌, ◌+◌, ◌<◌, ◌≤◌, ◌++◌, IsSome, OnErr, OnOk, false, is_some, true, map};
+ghost use Rattle.std.specs.Prelude.{◌≡◌, ◌+◌, ◌<◌, ◌≤◌, ◌++◌, IsSome, Some, OnErr, OnOk, false, is_some, true, map};
 ghost use Rattle.std.specs.VecDeque.{deque_capacity, deque_len};
+ghost use Rattle.wl_link.specs.Store.{held, removed};
+ghost use Rattle.wl_link.specs.declared.object.Object.{Object};
+ghost use Rattle.wl_server.specs.declared.kept.Kept.{Kept};
 ghost use Rattle.wl_server.specs.Backend.{Calls};
 ghost use Rattle.wl_server.specs.Client.{Does};
 ghost use Rattle.wl_server.specs.Finish.{FinishesBind, FinishesOpen, FinishesRequest, refusal};
 ghost use Rattle.wl_server.specs.Finishing.{EndsSender, lacks_finish, part_closed};
-ghost use Rattle.wl_server.specs.Part.{end_note};
+ghost use Rattle.wl_server.specs.Part.{end_note, note_of_end, registries_without};
 ghost use Rattle.wl_server.specs.PartStep.{over};
 ghost use Rattle.wl_server.specs.declared.action.OpenAction.TheVariants as opened;
 ghost use Rattle.wl_server.specs.declared.step.Reply.TheVariants as reply;
@@ -23,9 +26,10 @@ use crate::note::Happening;
 use crate::note_numbers::NoteNumbers;
 use crate::object_id::ObjectId;
 use crate::objects::{give_data, id_at, named_in, take_out};
+use crate::registry::Registry;
 use crate::telling::{lacks_memory, put_delete_id};
 use std::collections::VecDeque;
-use wl_link::{Object, Transport};
+use wl_link::{Object, ObjectMap, Transport};
 use wl_wire::{IoFault, OutOfMemory};
 
 /// Why a request cannot be finished with these data, whatever memory there is. Those of a killed client may lack.
@@ -76,6 +80,29 @@ fn note_made<U: Drop>(
     }
 }
 
+/// Takes the object of this number out, and notes it if it had user data. There is room for that.
+fn take_out_made<U: Drop>(
+    objects: &mut ObjectMap<Kept<U>>,
+    registries: &mut Vec<Registry>,
+    made: &mut VecDeque<(u128, Happening<U>)>,
+    numbers: &mut NoteNumbers,
+    client: &ClientId,
+    number: u32,
+)
+    requires { (x : Object (Kept U)) → held objects.old.store number ≡ Some x → IsSome x.value.user_data → deque_len made.old + 2 ≤ deque_capacity made.old }
+    ensures removed { objects.new.store ≡ removed objects.old.store number }
+    ensures left { (x : Object (Kept U)) → held objects.old.store number ≡ Some x
+        → (registries.new.items ≡ registries_without registries.old.items number x)
+        × (map (λ m. m.1) made.new.items ≡ map (λ m. m.1) made.old.items ++ note_of_end client.now number x) }
+    ensures room { deque_len made.old < deque_capacity made.old → deque_len made.new < deque_capacity made.new }
+{
+    let Some(object) = take_out(objects, registries, number) else {
+        return;
+    };
+    let id = id_at(client, number, &object);
+    note_made(made, numbers, id, object.value.user_data);
+}
+
 impl<T: Transport + Drop, U: Drop, C: Drop> Client<T, U, C> {
     /// Ends the sender of a request, where the request ends it and it is kept: the client is told that the number is free,
     /// the object leaves, and it is noted if it had user data. The answer is that of the telling. Without memory for the
@@ -102,10 +129,14 @@ impl<T: Transport + Drop, U: Drop, C: Drop> Client<T, U, C> {
         if lacks_memory(wrote) {
             return Err(OutOfMemory);
         }
-        if let Some(object) = take_out(&mut self.objects, &mut self.registries, number) {
-            let object_id = id_at(id, number, &object);
-            note_made(&mut self.made, numbers, object_id, object.value.user_data);
-        }
+        take_out_made(
+            &mut self.objects,
+            &mut self.registries,
+            &mut self.made,
+            numbers,
+            id,
+            number,
+        );
         Ok(wrote)
     }
 

@@ -2,10 +2,9 @@ use Rattle.std.proofs.Common.{ap, map}
 use Rattle.wl_server.proofs.Finishing.{ends_taken}
 use Rattle.wl_server.proofs.client.Client.end_sender.Goals as goal
 
-pub returns-in-Some-take_out : goal.returns-in-Some-take_out
-returns-in-Some-take_out g c =
+pub returns : goal.returns
+returns g c =
     rw (← c.self.view_is, c.if-not-is_destructor.false)
-    (ends_taken g.T.Transport.sends c.args.id.now _ c.args.sender.now c.in-Some.object.now c.in-Some-take_out.object c.protocol_id-number.result c.id_at-object_id.result
-    c.put_delete_id-wrote.result c.put_delete_id-wrote.new.socket _ _ _ _ c.in-Some.ensures c.protocol_id-number.ensures c.in-Some-take_out.ensures.found
-    c.put_delete_id-wrote.ensures c.if-lacks_memory.ensures c.in-Some-take_out.ensures.removed c.in-Some-take_out.ensures.registries c.id_at-object_id.ensures
-    c.note_made.ensures.items (ap (map (λ m. m.1)) c.in_ok-reserve_end.ensures.items))
+    (ends_taken g.T.Transport.sends c.args.id.now _ c.args.sender.now c.in-Some.object.now c.protocol_id-number.result c.put_delete_id-wrote.result
+    c.put_delete_id-wrote.new.socket _ _ _ _ c.in-Some.ensures c.protocol_id-number.ensures c.put_delete_id-wrote.ensures c.if-lacks_memory.ensures
+    c.take_out_made.ensures.removed c.take_out_made.ensures.left (ap (map (λ m. m.1)) c.in_ok-reserve_end.ensures.items))
