@@ -63,28 +63,35 @@ module _ {U : Type 0} where
 
 -- ---- its end
 
-module _ {T U C : Type 0} (sends : T → Queue → Result ℕ IoFault → T → Type 0) (client : ClientParts) (s : Stored T U C) (sender : IdParts) where
+module _ {U : Type 0} where
+  -- an object that is ended is the one that the id names
+  pub ended_named : (store : Store (Kept U)) (sender : IdParts) (x : Object (Kept U)) (is_destructor : Bool) → ended_by store sender is_destructor ≡ Some x
+      → named store sender ≡ Some x
+  ended_named store sender x true is = is
+  ended_named store sender x false is = absurd (none_some is)
+
+module _ {T U C : Type 0} (sends : T → Queue → Result ℕ IoFault → T → Type 0) (client : ClientParts) (s : Stored T U C) (sender : IdParts) (is_destructor : Bool) where
   abbrev changed : LinkState T → Store (Kept U) → List Id → List (Happening U) → Stored T U C
   changed link store registries made =
       record { serial = s.serial; part = record s.part { link = link; store = store; registries = registries }; made = made }
 
   -- of a sender that the request ends and that is kept
-  where_kept : (x : Object (Kept U)) (answer : Result (Result (Unit {0}) IoFault) OutOfMemory) (after : Stored T U C) → named s.part.store sender ≡ Some x
-      → EndsObject sends client s sender x answer after → EndsSender sends client s sender true answer after
-  where_kept x answer after named-is ends =
+  where_kept : (x : Object (Kept U)) (answer : Result (Result (Unit {0}) IoFault) OutOfMemory) (after : Stored T U C) → Some x ≡ ended_by s.part.store sender is_destructor
+      → EndsObject sends client s sender x answer after → EndsSender sends client s sender is_destructor answer after
+  where_kept x answer after ended-is ends =
       subst (λ (o : Option (Object (Kept U))). MatchOption o ((answer ≡ Ok (Ok tt)) × (after ≡ s)) (λ x. EndsObject sends client s sender x answer after))
-      (sym named-is) ends
+      ended-is ends
 
   -- it was taken out at its number, and noted
   pub ends_taken : (x : Object (Kept U)) (n : ℕ) (wrote : Result (Unit {0}) IoFault) (link : LinkState T) (store : Store (Kept U)) (registries : List Id)
-      (made same_made : List (Happening U)) → Some x ≡ named s.part.store sender → n ≡ sender.number → Puts sends s.part.link (deletions n) wrote link
+      (made same_made : List (Happening U)) → Some x ≡ ended_by s.part.store sender is_destructor → n ≡ sender.number → Puts sends s.part.link (deletions n) wrote link
       → false ≡ lacked_memory wrote → store ≡ removed s.part.store n
       → ((y : Object (Kept U)) → held s.part.store n ≡ Some y
       → (registries ≡ registries_without s.part.registries n y) × (made ≡ same_made ++ note_of_end client n y))
-      → same_made ≡ s.made → EndsSender sends client s sender true (Ok wrote) (changed link store registries made)
-  ends_taken x n wrote link store registries made same_made named-is n-is puts lacks store-is left same-is =
-      let out = left x (ap (held s.part.store) n-is ∙ named_held s.part.store sender x (sym named-is)) in
-      where_kept x (Ok wrote) (changed link store registries made) (sym named-is) (
+      → same_made ≡ s.made → EndsSender sends client s sender is_destructor (Ok wrote) (changed link store registries made)
+  ends_taken x n wrote link store registries made same_made ended-is n-is puts lacks store-is left same-is =
+      let out = left x (ap (held s.part.store) n-is ∙ named_held s.part.store sender x (ended_named s.part.store sender x is_destructor (sym ended-is))) in
+      where_kept x (Ok wrote) (changed link store registries made) ended-is (
         subst (λ (k : ℕ). Puts sends s.part.link (deletions k) wrote link) n-is puts,
         sym lacks,
         ap (λ (t : Store (Kept U)). changed link t registries made) (store-is ∙ ap (removed s.part.store) n-is)
@@ -203,13 +210,6 @@ module _ {T U C : Type 0} (sends : T → Queue → Result ℕ IoFault → T → 
   abbrev ReachedBy : Option (Object (Kept U)) → Bool → Stored T U C → Type 0
   ReachedBy o refused after = IsCarried sends (ends client (core_of s.part) sender o created u) s refused after
 
-  named_ended : (x : Object (Kept U)) → ended_by s.part.store sender is_destructor ≡ Some x → named s.part.store sender ≡ Some x
-  named_ended x = at is_destructor
-    where
-      at : (b : Bool) → ended_by s.part.store sender b ≡ Some x → named s.part.store sender ≡ Some x
-      at true is = is
-      at false is = absurd (none_some is)
-
   abbrev with_notes : Part T U C → List (Happening U) → Stored T U C
   with_notes p made = record { serial = s.serial; part = p; made = made }
 
@@ -292,7 +292,7 @@ module _ {T U C : Type 0} (sends : T → Queue → Result ℕ IoFault → T → 
           → MatchOption o ((◌≡◌ {A = Result (Result (Unit {0}) IoFault) OutOfMemory} (Err e) (Ok (Ok tt))) × (after ≡ s)) (λ x. EndsObject sends client s sender x (Err e) after)
           → ReachedBy o true after
       at None is h = absurd (ok_ok e h.0)
-      at (Some x) is h = stays x e after (named_ended x is) h
+      at (Some x) is h = stays x e after (ended_named s.part.store sender x is_destructor is) h
 
   pub ends_done : (wrote : Result (Unit {0}) IoFault) (mid after : Stored T U C) → EndsSender sends client s sender is_destructor (Ok wrote) mid
       → MatchResult wrote (λ _. after ≡ finished mid) (λ _. Does (finished mid) (λ p did q. Kills p ConnectionClosed did q) after)

@@ -1,13 +1,13 @@
 //! The end of an action that was handed out.
 
-ghost use Rattle.std.specs.Prelude.{◌≡◌, ◌+◌, ◌<◌, ◌≤◌, ◌++◌, IsSome, Some, OnErr, OnOk, false, is_some, true, map};
+ghost use Rattle.std.specs.Prelude.{◌≡◌, ◌+◌, ◌<◌, ◌≤◌, ◌++◌, IsSome, Some, OnErr, OnOk, false, is_some, true, map, option_copied};
 ghost use Rattle.std.specs.VecDeque.{deque_capacity, deque_len};
 ghost use Rattle.wl_link.specs.Store.{held, removed};
 ghost use Rattle.wl_link.specs.declared.object.Object.{Object};
 ghost use Rattle.wl_server.specs.declared.kept.Kept.{Kept};
 ghost use Rattle.wl_server.specs.Backend.{Calls};
 ghost use Rattle.wl_server.specs.Client.{Does};
-ghost use Rattle.wl_server.specs.Finish.{FinishesBind, FinishesOpen, FinishesRequest, refusal};
+ghost use Rattle.wl_server.specs.Finish.{ended_by, FinishesBind, FinishesOpen, FinishesRequest, refusal};
 ghost use Rattle.wl_server.specs.Finishing.{EndsSender, lacks_finish, part_closed};
 ghost use Rattle.wl_server.specs.Part.{end_note, note_of_end, registries_without};
 ghost use Rattle.wl_server.specs.PartStep.{over};
@@ -28,6 +28,7 @@ use crate::object_id::ObjectId;
 use crate::objects::{give_data, id_at, named_in, take_out};
 use crate::registry::Registry;
 use crate::telling::{lacks_memory, put_delete_id};
+use std::alloc::Global;
 use std::collections::VecDeque;
 use wl_link::{Object, ObjectMap, Transport};
 use wl_wire::{IoFault, OutOfMemory};
@@ -45,6 +46,20 @@ fn refusal_of<U>(
         (false, true) => Some(FinishError::UnexpectedData),
         _ => None,
     }
+}
+
+/// The object that a request ends: its own sender, while that is kept.
+fn ended_in<'a, U: Drop>(
+    objects: &'a ObjectMap<Kept<U>>,
+    sender: &ObjectId,
+    is_destructor: bool,
+) -> Option<&'a Object<Kept<U>>>
+    ensures { option_copied result ≡ ended_by objects.now.store sender.now is_destructor }
+{
+    if !is_destructor {
+        return None;
+    }
+    named_in(objects, sender)
 }
 
 /// Makes room for the note of this object, where it has user data, and for one more.
@@ -109,6 +124,7 @@ impl<T: Transport + Drop, U: Drop, C: Drop> Client<T, U, C> {
     /// note or for the telling the object stays.
     fn end_sender(
         &mut self,
+        alloc: Global,
         id: &ClientId,
         numbers: &mut NoteNumbers,
         sender: &ObjectId,
@@ -116,14 +132,10 @@ impl<T: Transport + Drop, U: Drop, C: Drop> Client<T, U, C> {
     ) -> Result<Result<(), IoFault>, OutOfMemory>
         ensures { EndsSender T.sends id.now self.old sender.now is_destructor result self.new }
     {
-        if !is_destructor {
-            return Ok(Ok(()));
-        }
-        let Some(object) = named_in(&self.objects, sender) else {
+        let Some(object) = ended_in(&self.objects, sender, is_destructor) else {
             return Ok(Ok(()));
         };
         reserve_end(&mut self.made, object)?;
-        let alloc = *self.registries.allocator();
         let number = sender.protocol_id();
         let wrote = put_delete_id(alloc, &mut self.socket, number);
         if lacks_memory(wrote) {
@@ -165,7 +177,8 @@ impl<T: Transport + Drop, U: Drop, C: Drop> Client<T, U, C> {
         if let Some(error) = refusal_of(self.is_killed, &created, &user_data) {
             return Err(FinishRefused { error, user_data });
         }
-        let Ok(wrote) = self.end_sender(id, numbers, sender, is_destructor) else {
+        let alloc = *self.registries.allocator();
+        let Ok(wrote) = self.end_sender(alloc, id, numbers, sender, is_destructor) else {
             let error = FinishError::OutOfMemory;
             return Err(FinishRefused { error, user_data });
         };
