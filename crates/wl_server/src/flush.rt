@@ -14,15 +14,9 @@ use crate::backend::Backend;
 use crate::client::Client;
 use crate::client_id::ClientId;
 use crate::handler::GlobalHandler;
+use crate::telling::lacks_memory;
 use wl_link::Transport;
 use wl_wire::IoFault;
-
-/// Whether memory was refused.
-fn lacks_memory(answer: &Result<(), IoFault>) -> bool
-    ensures { result ≡ lacked_memory answer.now }
-{
-    matches!(answer, Err(IoFault::OutOfMemory))
-}
 
 impl<T: Transport + Drop, U: Drop, C: Drop> Client<T, U, C> {
     /// Sends what waits for the client, as far as its transport takes it.
@@ -40,7 +34,7 @@ impl<T: Transport + Drop, U: Drop, C: Drop> Client<T, U, C> {
             return false;
         }
         let answer = self.flush();
-        lacks_memory(&answer)
+        lacks_memory(answer)
     }
 }
 
@@ -86,7 +80,7 @@ impl<T: Transport + Drop, U: Drop, G: GlobalHandler<C> + Drop, C: Drop> Backend<
         match &mut self.clients[id.slot() as usize] {
             Some(client) => {
                 let answer = client.flush();
-                self.refused = lacks_memory(&answer);
+                self.refused = lacks_memory(answer);
                 answer
             }
             None => unreachable!(),
