@@ -29,9 +29,9 @@ use Rattle.wl_link.specs.Stretch.{Act, Arrived, Does, DoesAll, HasEnded, HasRead
 -- ---- what sends keep
 
 module _ {T : Type 0} (sends : T → Queue → Result ℕ IoFault → T → Type 0) where
-  record Stays (before after : LinkState T) : Type 0 where
-    incoming : after.incoming ≡ before.incoming
-    limit : after.limit ≡ before.limit
+  pub record Stays (before after : LinkState T) : Type 0 where
+    pub incoming : after.incoming ≡ before.incoming
+    pub limit : after.limit ≡ before.limit
 
   stays_same : (before after : LinkState T) → after ≡ before → Stays before after
   stays_same before after same = record { incoming = ap (λ (l : LinkState T). l.incoming) same; limit = ap (λ (l : LinkState T). l.limit) same }
@@ -92,7 +92,7 @@ module _ {T : Type 0} (sends : T → Queue → Result ℕ IoFault → T → Type
       ]
 
   -- a verdict that is carried out leaves what waits to be read
-  carries_stays : {Core Event Finish : Type 0} (reader : Reader Core Event Finish) (v : Verdict Core Event) (before : LinkState T) (after : Part T Core) (es : List Sending)
+  pub carries_stays : {Core Event Finish : Type 0} (reader : Reader Core Event Finish) (v : Verdict Core Event) (before : LinkState T) (after : Part T Core) (es : List Sending)
       (gave : List (Given Event)) (refused : Bool) → CarriesOut sends reader v before es gave refused after → Stays before after.link
   carries_stays reader v before after es gave refused (inl (first, others, put, wrote, mid, lacked, puts, flushes, split, end, is, was)) =
       stays_both before mid after.link (puts_stay v.puts before mid first put wrote puts) (flushes_stay v.flushes lacked mid after.link others flushes)

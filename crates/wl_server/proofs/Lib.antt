@@ -34,3 +34,4 @@ mod Requesting
 mod Announcing
 mod TakingNotes
 mod GatheredSlots
+mod Turning

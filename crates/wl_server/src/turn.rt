@@ -1,6 +1,6 @@
 //! One turn of a reading: the message at the front is taken off the link and handled.
 
-ghost use Rattle.std.specs.Prelude.{◌≡◌, ◌≢◌, ◌≤◌, ◌<◌, [], true, false, None, Some, Ok, Err, length, vec_len, vec_capacity, IfOk, OnErr, OnOk, option_copied, option_map};
+ghost use Rattle.std.specs.Prelude.{◌≡◌, ◌≢◌, ◌≤◌, ◌<◌, List, [], true, false, None, Some, Ok, Err, length, vec_len, vec_capacity, IfOk, OnErr, OnOk, option_copied, option_map};
 ghost use Rattle.smallvec.specs.SmallVec.{HasRoomFor};
 ghost use Rattle.wl_wire.specs.Argument.{Matches};
 ghost use Rattle.wl_wire.specs.Asked.{creates as row_creates};
@@ -10,14 +10,24 @@ ghost use Rattle.wl_wire.specs.Table.{message_row};
 ghost use Rattle.wl_link.specs.Link.{ReadOne, read_into};
 ghost use Rattle.wl_link.specs.Store.{held};
 ghost use Rattle.wl_server.specs.Reading.{row_asks, row_in};
-ghost use Rattle.wl_server.specs.Turns.{IsHeader, TookWith};
+ghost use Rattle.wl_wire.specs.declared.argument.Argument.{Argument as Arg};
+ghost use Rattle.wl_wire.specs.declared.argument.Token.{Token as TokenParts};
+ghost use Rattle.wl_server.specs.declared.action.Reading.{Reading as ReadingOf};
+ghost use Rattle.wl_server.specs.Ids.{IdParts};
+ghost use Rattle.wl_server.specs.Turns.{IsHeader, Live, NotTaken, TookWith, Turns, around_of, turned};
 
+use crate::action::Reading;
+use crate::client::Client;
 use crate::global_id::GlobalId;
+use crate::handler::GlobalHandler;
 use crate::kept::Kept;
+use crate::note_numbers::NoteNumbers;
 use crate::object_id::ObjectId;
 use crate::registry::Registry;
+use crate::request::request;
+use crate::surroundings::Surroundings;
 use smallvec::SmallVec;
-use wl_link::{BufferedSocket, ObjectMap};
+use wl_link::{BufferedSocket, ObjectMap, Transport};
 use wl_wire::{
     Argument, ArgumentType, INLINE_ARGS, IoFault, Message, MessageDesc, MessageParseError,
     OutOfMemory, Protocol, Token,
@@ -171,4 +181,116 @@ pub fn take<'p, T: Drop, U: Drop>(
     };
     read_under(socket, signature, message)?;
     Ok(desc)
+}
+
+impl<T: Transport + Drop, U: Drop, C: Drop> Client<T, U, C> {
+    /// Takes the message at the front off the link and handles it. The arguments of a request that is handed out are in
+    /// `args` then.
+    pub fn turn<G: GlobalHandler<C> + Drop>(
+        &mut self,
+        numbers: &mut NoteNumbers,
+        around: &Surroundings<'_, G>,
+        reading: &mut Reading,
+        args: &mut SmallVec<Argument<ObjectId, Token>, INLINE_ARGS>,
+    ) -> TurnEnd
+        requires live { Live self.old.part }
+        requires inline { INLINE_ARGS ≤ args.old.capacity }
+        ensures turns { Turns T.sends T.receives (around_of G.views around.now) self.old reading.old (turned result args.new.items) self.new reading.new }
+        ensures inline { INLINE_ARGS ≤ args.new.capacity }
+    {
+        match self.socket.next_header() {
+            Some(header) => self.turn_at_header(numbers, around, reading, header, args),
+            None => TurnEnd::Lacks,
+        }
+    }
+
+    /// The same where this header waits. It is apart, since the place for a message is made only where a header waits.
+    #[inline(never)]
+    fn turn_at_header<G: GlobalHandler<C> + Drop>(
+        &mut self,
+        numbers: &mut NoteNumbers,
+        around: &Surroundings<'_, G>,
+        reading: &mut Reading,
+        header: (u32, u16),
+        args: &mut SmallVec<Argument<ObjectId, Token>, INLINE_ARGS>,
+    ) -> TurnEnd
+        requires live { Live self.old.part }
+        requires header { IsHeader self.old.part.link header }
+        requires inline { INLINE_ARGS ≤ args.old.capacity }
+        ensures turns { Turns T.sends T.receives (around_of G.views around.now) self.old reading.old (turned result args.new.items) self.new reading.new }
+        ensures inline { INLINE_ARGS ≤ args.new.capacity }
+    {
+        let mut message = Message {
+            sender_id: 0,
+            opcode: 0,
+            args: SmallVec::new(*self.registries.allocator()),
+        };
+        self.turn_with(numbers, around, reading, header, &mut message, args)
+    }
+
+    /// The same with a place for the message that is taken. It is lent, so that an early return has nothing to drop.
+    fn turn_with<G: GlobalHandler<C> + Drop>(
+        &mut self,
+        numbers: &mut NoteNumbers,
+        around: &Surroundings<'_, G>,
+        reading: &mut Reading,
+        header: (u32, u16),
+        message: &mut Message<u32, Token>,
+        args: &mut SmallVec<Argument<ObjectId, Token>, INLINE_ARGS>,
+    ) -> TurnEnd
+        requires live { Live self.old.part }
+        requires header { IsHeader self.old.part.link header }
+        requires place { INLINE_ARGS ≤ message.old.args.capacity }
+        requires inline { INLINE_ARGS ≤ args.old.capacity }
+        ensures turns { Turns T.sends T.receives (around_of G.views around.now) self.old reading.old (turned result args.new.items) self.new reading.new }
+        ensures inline { INLINE_ARGS ≤ args.new.capacity }
+    {
+        let read = reading.read;
+        let desc = match take(
+            around.protocol,
+            &mut self.objects,
+            &mut self.registries,
+            &mut self.socket,
+            header,
+            message,
+            args,
+        ) {
+            Ok(desc) => desc,
+            Err(error) => return self.not_taken(numbers, around, error),
+        };
+        reading.read = read.saturating_add(1);
+        let response = request(
+            around,
+            &self.info,
+            &mut self.objects,
+            &mut self.last_serial,
+            &mut self.registries,
+            desc,
+            message,
+            args,
+        );
+        self.respond(numbers, around, &response)
+    }
+
+    /// What it comes to that no message was taken.
+    fn not_taken<G: GlobalHandler<C> + Drop>(
+        &mut self,
+        numbers: &mut NoteNumbers,
+        around: &Surroundings<'_, G>,
+        error: MessageParseError,
+    ) -> TurnEnd
+        requires live { Live self.old.part }
+        requires not_taken { NotTaken around.now.protocol.now self.old.part.store self.old.part.link error }
+        ensures { (r : ReadingOf) (args : List (Arg IdParts TokenParts)) → r.read ≤ 0xFFFFFFFFFFFFFFFF
+            → Turns T.sends T.receives (around_of G.views around.now) self.old r (turned result args) self.new r }
+    {
+        match error {
+            MessageParseError::MissingData | MessageParseError::MissingFD => TurnEnd::Lacks,
+            MessageParseError::Malformed => TurnEnd::Ends(self.garbled(numbers)),
+            MessageParseError::OutOfMemory => TurnEnd::Ends(NoAction {
+                fault: IoFault::OutOfMemory,
+                refused: true,
+            }),
+        }
+    }
 }
