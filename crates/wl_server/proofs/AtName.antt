@@ -1,7 +1,7 @@
 -- What becomes of the globals by a change at one name.
-use Rattle.std.proofs.Common.{◌≡◌, ◌<◌, ℕ, ◌+◌, Bool, true, false, List, Option, None, Some, Bor, Err, Result, is_some, not, refl, sym, ap, ◌∙◌, nat_le, subst}
+use Rattle.std.proofs.Common.{◌≡◌, ◌<◌, ℕ, ◌+◌, Bool, true, false, List, Option, None, Some, Bor, Err, Result, is_some, not, refl, sym, ap, ◌∙◌, nat_le, subst, arith, ◌≤◌, Ok}
 use Rattle.std.specs.Prelude.{MatchOption, ◌==◌, if◌then◌else◌, option_copied, slice_get}
-use Rattle.std.proofs.lemmas.Bool.{false≢true}
+use Rattle.std.proofs.lemmas.Bool.{eq-eqb, false≢true, ne_eqb}
 use Rattle.wl_wire.specs.declared.interface.InterfaceId.{InterfaceId}
 use Rattle.wl_wire.specs.Table.{InterfaceRow}
 use Rattle.wl_link.specs.declared.object.Object.{Object}
@@ -10,6 +10,7 @@ use Rattle.wl_link.specs.declared.object_map.NewError.TheVariants as new
 use Rattle.wl_link.specs.Identity.{names, named_in}
 use Rattle.wl_link.specs.ObjectMap.{InsertsNew}
 use Rattle.wl_link.specs.Store.{Store, held, removed, rewritten}
+use Rattle.wl_link.specs.StoreLaws.{stored_here}
 use Rattle.wl_server.specs.declared.error.GlobalError.TheVariants as refused
 use Rattle.wl_server.specs.declared.kept.KeptGlobal.{KeptGlobal}
 use Rattle.wl_server.specs.Globals.{CreatesGlobal, Globals, as_disabled, disabled, disabled_at, freed, freed_at, global_serial, name_range}
@@ -75,6 +76,18 @@ module _ {G : Type 0} where
       at : (o : Option (Object (KeptGlobal G))) → is_some o ≡ true → globals_of after last ≡ freed_at (globals_of store last) id.name o
       at None h = absurd (false≢true h)
       at (Some x) h = ap (λ (s : Store (KeptGlobal G)). globals_of s last) becomes
+
+  -- a new global is named by its id
+  pub new_named : (store after : Store (KeptGlobal G)) (id : GlobalParts) (x : Object (KeptGlobal G)) (answer : Result ℕ NewError) → x.value.serial ≡ id.serial
+      → answer ≡ Ok id.name → InsertsNew name_range store x answer after → global_by after id ≡ Some x
+  new_named store after id x answer serial is inserts = at (subst (λ (r : Result ℕ NewError). InsertsNew name_range store x r after) is inserts)
+    where
+      at : InsertsNew name_range store x (Ok id.name) after → global_by after id ≡ Some x
+      at (least, becomes) =
+          let above : 1 ≤ id.name = least.within in
+          let other : (id.name == 0) ≡ false = ne_eqb id.name 0 (λ zero. absurd (omega (arith, zero, above))) in
+          let same : (x.value.serial == id.serial) ≡ true = eq-eqb x.value.serial id.serial serial in
+          rw (other, becomes, stored_here store id.name x id.name refl, same) refl
 
   -- there was no memory for a new global
   pub lacks_memory : (table : List InterfaceRow) (store after : Store (KeptGlobal G)) (last : ℕ) (i : InterfaceId) (version : ℕ) (row : InterfaceRow)

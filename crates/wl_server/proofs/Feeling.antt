@@ -9,6 +9,7 @@ use Rattle.std.proofs.lemmas.Option.{slice_get_past}
 use Rattle.wl_server.specs.declared.note.Happening.{Happening}
 use Rattle.wl_server.specs.declared.step.Reply.{Reply}
 use Rattle.wl_server.specs.declared.step.Step.{Step}
+use Rattle.wl_server.specs.Client.{Does}
 use Rattle.wl_server.specs.Deeds.{Deed}
 use Rattle.wl_server.specs.Globals.{Offer}
 use Rattle.wl_server.specs.Ids.{ClientParts}
@@ -20,6 +21,13 @@ use Rattle.wl_server.proofs.Slots.{Kind, client_present, get_set_other, get_set_
 
 module _ {T U C : Type 0} (R : Kind T U C) where
   -- ---- the loop over the slots
+
+  -- the client of a slot felt it by its id
+  pub place_felt : (slot serial : ℕ) (id : ClientParts) (s s' : Stored T U C) (place : Option (Stored T U C)) (lacked : Bool) → place ≡ Some s
+      → id ≡ record { slot = slot; serial = serial } → serial ≡ s.serial → Does s (λ p did q. R id p lacked did q) s' → PlaceFeels R slot place lacked (Some s')
+  place_felt slot serial id s s' place lacked is known same does =
+      let named : id ≡ record { slot = slot; serial = s.serial } = known ∙ ap (λ (n : ℕ). let i : ClientParts = record { slot = slot; serial = n } in i) same in
+      rw is (s', subst (λ (i : ClientParts). Does s (λ p did q. R i p lacked did q) s') named does, refl)
 
   pub none_felt : (start : List (Option (Stored T U C))) → AllFeel R false 0 start start
   none_felt start = record {
@@ -208,11 +216,11 @@ module _ {T U G C : Type 0} (w : World T G C) (before : ServerState T U G C) (s 
       was_refused (inr (id, lacks)) = one_lacks R refused before.clients clients all id lacks
 
   -- no client made anything of it
-  pub unfelt_call : (offer : Offer G) → offer ≡ offer_after before.offer (Asked s answer) → NumbersGlobal before.offer (Asked s answer)
-      → ((id : ClientParts) (b : Seen T U C) → PartStep w id before.offer s answer b false [] b)
-      → StepOf w before s answer (lacks_growth (Asked s answer)) (record before { offer = offer })
-  unfelt_call offer becomes numbers to = (
-    record { call = Asked s answer; refused = lacks_growth (Asked s answer); lacks = λ id. false; did = λ id. [] },
+  pub unfelt_call : (refused : Bool) (offer : Offer G) → offer ≡ offer_after before.offer (Asked s answer) → NumbersGlobal before.offer (Asked s answer)
+      → lacks_growth (Asked s answer) ≡ refused → ((id : ClientParts) (b : Seen T U C) → PartStep w id before.offer s answer b false [] b)
+      → StepOf w before s answer refused (record before { offer = offer })
+  unfelt_call refused offer becomes numbers growth to = (
+    record { call = Asked s answer; refused = refused; lacks = λ id. false; did = λ id. [] },
     refl,
     refl,
     record {
@@ -221,11 +229,11 @@ module _ {T U G C : Type 0} (w : World T G C) (before : ServerState T U G C) (s 
       client = felt.client before;
       global = numbers;
       order = felt.order;
-      refused = (λ is. inl is, λ h. was_refused h);
+      refused = (λ is. inl (growth ∙ is), λ h. was_refused h);
       each = λ id. to id _;
     },
   )
     where
-      was_refused : (lacks_growth (Asked s answer) ≡ true) ⊎ ((id : ClientParts) × (false ≡ true)) → lacks_growth (Asked s answer) ≡ true
-      was_refused (inl growth) = growth
+      was_refused : (lacks_growth (Asked s answer) ≡ true) ⊎ ((id : ClientParts) × (false ≡ true)) → refused ≡ true
+      was_refused (inl grown) = sym growth ∙ grown
       was_refused (inr (id, lacks)) = absurd (false≢true lacks)

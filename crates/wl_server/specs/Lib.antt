@@ -28,6 +28,7 @@ pub mod Inserting
 pub mod Gathering
 pub mod Places
 pub mod Finishing
+pub mod News
 pub mod Backend
 pub mod Lookups
 pub mod IsolationLaw

@@ -5,7 +5,8 @@ ghost use Rattle.std.specs.String.{string_bytes};
 ghost use Rattle.wl_wire.specs.declared.argument.Argument.TheVariants as arg;
 ghost use Rattle.wl_wire.specs.Table.{holds_zero, name_of};
 ghost use Rattle.wl_server.specs.Client.{Does};
-ghost use Rattle.wl_server.specs.Felt.{Hears, news, removals};
+ghost use Rattle.wl_server.specs.Felt.{Hears, removals};
+ghost use Rattle.wl_server.specs.News.{HearsNew};
 ghost use Rattle.wl_server.specs.Puts.{Puts};
 ghost use Rattle.wl_server.specs.Telling.{by_object, global_message, removal_message};
 
@@ -135,10 +136,7 @@ impl<T: Transport + Drop, U: Drop, C: Drop> Client<T, U, C> {
         id: &GlobalId,
         global: &Object<KeptGlobal<G>>,
     ) -> bool
-        ensures { Does self.old (λ p did q. Hears T.sends p
-            (news protocol.now p (G.views global.now.value.handler client.now p.info id.now)
-            (record { name = id.now.name; interface = global.now.interface; version = global.now.version }))
-            result did q) self.new }
+        ensures { Does self.old (λ p did q. HearsNew T.sends G.views protocol.now id.now global.now client.now p result did q) self.new }
     {
         if self.is_killed || !global.value.handler.can_view(client, &self.info, id) {
             return false;

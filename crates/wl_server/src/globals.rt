@@ -1,10 +1,10 @@
 //! The globals of a server.
 
-ghost use Rattle.std.specs.Prelude.{◌≡◌, ℕ, MatchOption, MatchResult, option_copied};
+ghost use Rattle.std.specs.Prelude.{◌≡◌, ℕ, MatchOption, IfOk, MatchResult, Some, option_copied};
 ghost use Rattle.wl_link.specs.Identity.{names};
 ghost use Rattle.wl_link.specs.ObjectMap.{InsertsNew};
 ghost use Rattle.wl_link.specs.Store.{held, rewritten};
-ghost use Rattle.wl_server.specs.Globals.{CreatesGlobal, as_disabled, disabled, freed, global_serial, name_range, with_created};
+ghost use Rattle.wl_server.specs.Globals.{CreatesGlobal, as_disabled, disabled, freed, global_serial, name_range, new_global, with_created};
 ghost use Rattle.wl_server.specs.Lookups.{global_info_by, handler_of, name_for};
 
 use crate::backend::Backend;
@@ -57,6 +57,8 @@ pub fn create<G: Drop>(
     ensures answer { CreatesGlobal protocol.now (record { store = globals.old.store; last_serial = last_serial.old }) interface version result }
     ensures globals { record { store = globals.new.store; last_serial = last_serial.new }
         ≡ with_created (record { store = globals.old.store; last_serial = last_serial.old }) interface version handler result }
+    ensures kept { IfOk result (λ id. names global_serial (record { number = id.name; serial = id.serial }) globals.new.store
+        ≡ Some (new_global interface version id.serial handler)) }
 {
     match protocol.get(interface) {
         None => return Err(GlobalError::UnknownInterface),

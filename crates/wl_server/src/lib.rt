@@ -15,6 +15,7 @@ mod client_limit;
 mod create;
 mod destroy;
 mod display_request;
+mod create_global;
 mod error;
 mod event_check;
 mod finish;

@@ -9,4 +9,4 @@ felt : {T U G C : Type 0} (limit : ℕ) → IsFelt {T = T} {U = U} {G = G} {C = 
 felt limit = record { last = refl; client = λ b. tt; order = tt }
 
 pub returns : goal.returns
-returns g c = rw (← c.self.view_is) (unfelt_call _ _ _ _ (felt _) _ refl tt (λ i b. (refl, (refl, refl, refl))))
+returns g c = rw (← c.self.view_is) (unfelt_call _ _ _ _ (felt _) _ _ refl tt refl (λ i b. (refl, (refl, refl, refl))))

@@ -1,0 +1,64 @@
+use Rattle.std.proofs.Common.{◌≡◌, ◌∙◌, Bool, ℕ, List, Option, Err, Result, ap, false, length, refl, subst, sym, true}
+use Rattle.std.specs.Prelude.{vec_len}
+use Rattle.std.proofs.lemmas.List.{with_items_is}
+use Rattle.std.proofs.lemmas.Option.{same_Some}
+use Rattle.wl_wire.specs.declared.interface.InterfaceId.{InterfaceId}
+use Rattle.wl_link.specs.declared.object.Object.{Object}
+use Rattle.wl_server.specs.declared.error.GlobalError.{GlobalError}
+use Rattle.wl_server.specs.declared.error.GlobalError.TheVariants as refused
+use Rattle.wl_server.specs.declared.kept.KeptGlobal.{KeptGlobal}
+use Rattle.wl_server.specs.Globals.{Globals, Offer, new_global}
+use Rattle.wl_server.specs.Ids.{GlobalParts}
+use Rattle.wl_server.specs.News.{HearsNew}
+use Rattle.wl_server.specs.PartStep.{Asked}
+use Rattle.wl_server.specs.Places.{AllFeel}
+use Rattle.wl_server.specs.Server.{Stored}
+use Rattle.wl_server.specs.Steps.{lacks_growth}
+use Rattle.wl_server.specs.declared.step.Reply.TheVariants as reply
+use Rattle.wl_server.specs.declared.step.Step.TheVariants as step
+use Rattle.wl_server.proofs.Feeling.{IsFelt, felt_call, unfelt_call}
+use Rattle.wl_server.proofs.backend.Backend.create_global.Goals as goal
+use Rattle.wl_server.proofs.backend.Backend.create_global.Goals.{in-OutOfMemory, in_default}
+
+felt : {T U G C : Type 0} (i : InterfaceId) (version : ℕ) (handler : G) (answer : Result GlobalParts GlobalError)
+    → IsFelt {T = T} {U = U} {G = G} {C = C} (Asked (step.CreateGlobal i version handler) (reply.CreateGlobal answer))
+felt i version handler answer = record { last = refl; client = λ b. tt; order = tt }
+
+abbrev is_memory : GlobalError → Bool
+is_memory refused.OutOfMemory = true
+is_memory _ = false
+
+no_memory : (e : GlobalError) → (e ≡ refused.OutOfMemory → ⊥) → is_memory e ≡ false
+no_memory refused.OutOfMemory other = absurd (other refl)
+no_memory e other = refl
+
+growth : (T U G C : Type 0) (i : InterfaceId) (version : ℕ) (handler : G) (e : GlobalError)
+    → lacks_growth {T = T} {U = U} {G = G} {C = C} (Asked (step.CreateGlobal i version handler) (reply.CreateGlobal (Err e))) ≡ is_memory e
+growth T U G C i version handler refused.OutOfMemory = refl
+growth T U G C i version handler e = refl
+
+pub returns-in-Err : goal.returns-in-Err
+returns-in-Err g c = rw (← c.self.view_is)
+    (unfelt_call _ _ _ _ (felt _ _ _ _) c.match-matches.self _ (ap (λ (gs : Globals _). let o : Offer _ = record { table = c.self.inside.protocol; globals = gs; default_limit = c.self.inside.default_limit } in o) c.in-Err.ensures.globals)
+    c.in-Err.ensures.answer
+    (growth g.row.T.Denot g.row.U.Denot g.row.G.Denot g.row.C.Denot c.args.interface c.args.version c.args.handler c.in-Err.error
+    ∙ elim c.match-matches.branch [
+      | in-OutOfMemory w ↦ ap is_memory w.in-OutOfMemory.is ∙ sym w.self-is
+      | in_default w ↦ no_memory c.in-Err.error w.in_default.not-OutOfMemory ∙ sym w.self-is
+    ])
+    (λ id b. (_, refl, (refl, refl, refl))))
+
+pub returns : goal.returns
+returns g c =
+    let len : length c.tell_new-self-inside.new.clients ≡ vec_len c.self.inside.clients = c.tell_new-self-inside.ensures.len ∙ c.deref_mut.ensures.len in
+    let all = subst (λ (x : Object (KeptGlobal _)). AllFeel (HearsNew g.T.Transport.sends g.G.GlobalHandler.views c.self.inside.protocol c.in-Ok.id x)
+    c.tell_new-self-inside.result (length c.self.inside.clients.items) c.self.inside.clients.items c.tell_new-self-inside.new.clients)
+    (same_Some _ _ (c.in-Some.ensures ∙ c.in-Ok.ensures.kept))
+    (subst (λ (xs : List (Option (Stored _ _ _))). AllFeel (HearsNew g.T.Transport.sends g.G.GlobalHandler.views c.self.inside.protocol c.in-Ok.id c.in-Some.global.now)
+    c.tell_new-self-inside.result (length xs) xs c.tell_new-self-inside.new.clients) c.deref_mut.ensures.value c.tell_new-self-inside.ensures) in
+    rw (← c.self.view_is, with_items_is c.self.inside.clients c.tell_new-self-inside.new.clients len)
+    (felt_call _ _ _ _ (felt _ _ _ _)
+    (HearsNew g.T.Transport.sends g.G.GlobalHandler.views c.self.inside.protocol c.in-Ok.id (new_global c.args.interface c.args.version c.in-Ok.id.serial c.args.handler))
+    c.tell_new-self-inside.result _ c.tell_new-self-inside.new.clients
+    (ap (λ (gs : Globals _). let o : Offer _ = record { table = c.self.inside.protocol; globals = gs; default_limit = c.self.inside.default_limit } in o) c.in-Ok.ensures.globals)
+    c.in-Ok.ensures.answer refl (λ i l d b a h. (_, refl, h)) all)
