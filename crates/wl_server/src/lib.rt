@@ -41,6 +41,7 @@ mod protocol_error;
 mod registry;
 mod registry_request;
 mod request;
+mod remove_global;
 mod request_fault;
 mod request_text;
 mod response;

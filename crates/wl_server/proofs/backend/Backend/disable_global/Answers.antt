@@ -1,0 +1,34 @@
+use Rattle.std.proofs.Common.{◌≡◌, ◌∙◌, List, Option, ap, length, refl, subst, sym}
+use Rattle.std.specs.Prelude.{vec_len}
+use Rattle.std.proofs.lemmas.List.{with_items_is}
+use Rattle.wl_link.specs.Branches.{at_false, at_true}
+use Rattle.wl_server.specs.Felt.{Hears, removals}
+use Rattle.wl_server.specs.Globals.{Globals, Offer}
+use Rattle.wl_server.specs.Ids.{GlobalParts}
+use Rattle.wl_server.specs.PartStep.{Asked}
+use Rattle.wl_server.specs.Places.{AllFeel}
+use Rattle.wl_server.specs.Server.{Stored}
+use Rattle.wl_server.specs.declared.step.Reply.TheVariants as reply
+use Rattle.wl_server.specs.declared.step.Step.TheVariants as step
+use Rattle.wl_server.proofs.Feeling.{IsFelt, felt_call, unfelt_call}
+use Rattle.wl_server.proofs.backend.Backend.disable_global.Goals as goal
+
+felt : {T U G C : Type 0} (id : GlobalParts) → IsFelt {T = T} {U = U} {G = G} {C = C} (Asked (step.DisableGlobal id) reply.DisableGlobal)
+felt id = record { last = refl; client = λ b. tt; order = tt }
+
+pub returns-then-was_enabled : goal.returns-then-was_enabled
+returns-then-was_enabled g c =
+    let len : length c.tell_loss-self-inside.new.clients ≡ vec_len c.self.inside.clients = c.tell_loss-self-inside.ensures.len ∙ c.deref_mut.ensures.len in
+    let all = subst (λ (xs : List (Option (Stored _ _ _))). AllFeel (λ id p lacked did q. Hears g.T.Transport.sends p (removals p c.name.result) lacked did q)
+    c.tell_loss-self-inside.result (length xs) xs c.tell_loss-self-inside.new.clients) c.deref_mut.ensures.value c.tell_loss-self-inside.ensures in
+    rw (← c.self.view_is, with_items_is c.self.inside.clients c.tell_loss-self-inside.new.clients len)
+    (felt_call _ _ _ _ (felt _) (λ id p lacked did q. Hears g.T.Transport.sends p (removals p c.args.id.now.name) lacked did q)
+    c.tell_loss-self-inside.result _ c.tell_loss-self-inside.new.clients
+    (ap (λ (gs : Globals _). let o : Offer _ = record { table = c.self.inside.protocol; globals = gs; default_limit = c.self.inside.default_limit } in o) (c.disable.ensures c.self.inside.last_global))
+    tt refl (λ i l d b a h. (refl, at_true _ _ (sym c.is_enabled-was_enabled.ensures ∙ c.if-was_enabled.true) h)) (rw (← c.name.ensures) all))
+
+pub returns-else-was_enabled : goal.returns-else-was_enabled
+returns-else-was_enabled g c = rw (← c.self.view_is)
+    (unfelt_call _ _ _ _ (felt _) _ _
+    (ap (λ (gs : Globals _). let o : Offer _ = record { table = c.self.inside.protocol; globals = gs; default_limit = c.self.inside.default_limit } in o) (c.disable.ensures c.self.inside.last_global))
+    tt refl (λ i b. (refl, at_false _ _ (sym c.is_enabled-was_enabled.ensures ∙ c.if-was_enabled.false) (refl, refl, refl))))
