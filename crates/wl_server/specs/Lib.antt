@@ -49,3 +49,6 @@ pub mod MoveLaws
 pub mod ShareLaws
 pub mod MovesOfReadings
 pub mod MovesOfCalls
+pub mod WholeOutcome
+pub mod WholeLaws
+pub mod WholeRuns

@@ -129,30 +129,32 @@ module _ {T U G C : Type 0} where
 -- ---- one outcome
 
 module _ {T G C : Type 0} where
-  -- Of each step, with one reply and with another, where memory is not refused to the client, nor for what a shared call makes
-  -- of its own, and where the answers that tell what all clients share are the same.
-  abbrev pub EachStepOne : Type 0 → World T G C → Type 0
-  EachStepOne U w =
+  -- A step that is made once with this reply and once with that: where memory is refused neither to the client nor for what
+  -- a shared call makes of its own, and the answers that tell what all clients share are the same.
+  abbrev pub StepsHaveOneOutcome : Type 0 → World T G C → Type 0
+  StepsHaveOneOutcome U w =
       (id : ClientParts) (offer : Offer G) (before after after' : Seen T U C) (s s' : Step T U G C) (answer answer' : Reply T U) (did did' : List (Deed U)) →
       SameStep s s' → lacks_growth (Asked s answer) ≡ false → lacks_growth (Asked s' answer') ≡ false → SharedSame s answer answer' →
       PartStep w id offer s answer before false did after → PartStep w id offer s' answer' before false did' after' →
       SameOutcome id (is_about id s) answer answer' did did' after after'
 
-  -- of a client's own calls and the shared ones, one after another
-  abbrev pub EachAloneOne : Type 0 → World T G C → Type 0
-  EachAloneOne U w =
+  -- A client's own calls and the shared ones, one after another: the offer alone numbers the globals that are created, so
+  -- the answers to that need not be the same.
+  abbrev pub OwnRunsHaveOneOutcome : Type 0 → World T G C → Type 0
+  OwnRunsHaveOneOutcome U w =
       (id : ClientParts) (offer : Offer G) (before after after' : Seen T U C) (run run' : List (Own T U G C)) →
       AreOwn id run → SameSteps run run' → HasMemory run → HasMemory run' → AreNumbered offer run → AreNumbered offer run' →
       Alone w id offer before run after → Alone w id offer before run' after' → SameRun id run run' × (after ≡ after')
 
-  -- A call inserts this client, with this transport and these data.
+  -- the call inserts this client, with this transport and these data
   abbrev pub InsertsAs : {U : Type 0} → ClientParts → T → C → Entry T U G C → Type 0
   InsertsAs id transport info e = e.call ≡ Asked (step.InsertClient transport info) (reply.InsertClient (Ok id))
 
-  -- Whatever other clients do: of two runs of a new server in which a client was inserted with one id, one transport and
-  -- one data of its own, at one offer, and in which its own calls and the shared ones from then on are of the same steps.
-  abbrev pub EachClientOne : Type 0 → World T G C → Type 0
-  EachClientOne U w =
+  -- Two runs of a new server, in each of which a client was inserted: with the same id, transport and data, at the same
+  -- offer. Its own calls and the shared ones from then on are of the same steps. What other clients did and do may differ,
+  -- and whether memory was refused to them.
+  abbrev pub ClientsHaveOneOutcome : Type 0 → World T G C → Type 0
+  ClientsHaveOneOutcome U w =
       (table : List InterfaceRow) (id : ClientParts) (transport : T) (info : C) (earlier later earlier' later' : List (Entry T U G C)) (e e' : Entry T U G C)
       (after after' : ServerState T U G C) →
       Leads w (new_server table) (earlier ++ e ∷ later) after → Leads w (new_server table) (earlier' ++ e' ∷ later') after' →

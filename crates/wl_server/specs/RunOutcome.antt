@@ -15,7 +15,7 @@ use Rattle.wl_server.specs.Globals.{Offer, new_offer}
 use Rattle.wl_server.specs.Ids.{ClientParts, GlobalParts}
 use Rattle.wl_server.specs.IsolationLaw.{each_alone, offer_of_other, offer_over_one, offer_run, split_run}
 use Rattle.wl_server.specs.NumberLaws.{creates_global_one, fresh_one}
-use Rattle.wl_server.specs.Outcome.{AreNumbered, AreOwn, EachClientOne, HasMemory, InsertsAs, IsDetermined, ArrivesSame, SameCall, SameRun, SameStep, SameSteps, SendsSame, SharedAnswer, SharedSame}
+use Rattle.wl_server.specs.Outcome.{AreNumbered, AreOwn, ClientsHaveOneOutcome, HasMemory, InsertsAs, IsDetermined, ArrivesSame, SameCall, SameRun, SameStep, SameSteps, SendsSame, SharedAnswer, SharedSame}
 use Rattle.wl_server.specs.OutcomeLaws.{call_one, part_as}
 use Rattle.wl_server.specs.PartStep.{Asked, Call, Changed, PartCall, PartStep, World}
 use Rattle.wl_server.specs.Runs.{Alone, Leads, Own, begun, concerns, is_about, mine, offer_over, own_of}
@@ -26,34 +26,12 @@ module _ {T U G C : Type 0} where
   -- ---- what all clients share
 
   -- the offer after two calls of one step, where they are answered alike
-  offer_one : (offer : Offer G) (s : Step T U G C) (p q : Reply T U) → SharedSame s p q → offer_after offer (Asked s p) ≡ offer_after offer (Asked s q)
+  pub offer_one : (offer : Offer G) (s : Step T U G C) (p q : Reply T U) → SharedSame s p q → offer_after offer (Asked s p) ≡ offer_after offer (Asked s q)
   offer_one offer (step.CreateGlobal i version handler) p q shared = ap (λ (z : Reply T U). offer_after {C = C} offer (Asked (step.CreateGlobal i version handler) z)) shared
-  offer_one offer (step.InsertClient transport info) p q shared = refl
-  offer_one offer (step.SetObjectData o u) p q shared = refl
-  offer_one offer (step.CreateObject target i version u) p q shared = refl
-  offer_one offer (step.DestroyObject o) p q shared = refl
-  offer_one offer (step.SendEvent m) p q shared = refl
-  offer_one offer (step.PostError o code text) p q shared = refl
-  offer_one offer (step.KillClient target reason) p q shared = refl
-  offer_one offer (step.DisableGlobal g) p q shared = refl
-  offer_one offer (step.RemoveGlobal g) p q shared = refl
-  offer_one offer (step.Flush target) p q shared = refl
-  offer_one offer (step.SetDefaultMaxBufferSize limit) p q shared = refl
-  offer_one offer (step.SetClientMaxBufferSize target limit) p q shared = refl
-  offer_one offer (step.NextAction target) p q shared = refl
-  offer_one offer (step.NextActionWithin target reading) p q shared = refl
-  offer_one offer (step.FinishRequest target u) p q shared = refl
-  offer_one offer (step.FinishBind target u) p q shared = refl
-  offer_one offer step.Cleanup p q shared = refl
-  offer_one offer step.TakeNotes p q shared = refl
-  offer_one offer (step.Arrive target bytes tokens) p q shared = refl
-  offer_one offer (step.ArriveFault target f) p q shared = refl
-  offer_one offer (step.Accept target n) p q shared = refl
-  offer_one offer (step.AcceptFault target f) p q shared = refl
-  offer_one offer (step.TakeSent target) p q shared = refl
+  offer_one offer s p q shared = refl
 
   -- what a step leaves of the offer, another leaves that is the same
-  offer_as : (offer : Offer G) (s s' : Step T U G C) (q : Reply T U) → SameStep s s' → offer_after offer (Asked s q) ≡ offer_after offer (Asked s' q)
+  pub offer_as : (offer : Offer G) (s s' : Step T U G C) (q : Reply T U) → SameStep s s' → offer_after offer (Asked s q) ≡ offer_after offer (Asked s' q)
   offer_as offer (step.SendEvent m) s' q same = at s' same
     where
       at : (s' : Step T U G C) → SendsSame (session_content m) s' → offer ≡ offer_after offer (Asked s' q)
@@ -67,7 +45,7 @@ module _ {T U G C : Type 0} where
   offer_as offer s s' q same = ap (λ (z : Step T U G C). offer_after offer (Asked z q)) same
 
   -- and so it is of the numbering of globals
-  numbers_as : (offer : Offer G) (s s' : Step T U G C) (q : Reply T U) → SameStep s s' → NumbersGlobal offer (Asked s' q) → NumbersGlobal offer (Asked s q)
+  pub numbers_as : (offer : Offer G) (s s' : Step T U G C) (q : Reply T U) → SameStep s s' → NumbersGlobal offer (Asked s' q) → NumbersGlobal offer (Asked s q)
   numbers_as offer (step.SendEvent m) s' q same n = tt
   numbers_as offer (step.Arrive target bytes tokens) s' q same n = tt
   numbers_as offer s s' q same n = subst (λ (z : Step T U G C). NumbersGlobal offer (Asked z q)) (sym same) n
@@ -83,7 +61,7 @@ module _ {T U G C : Type 0} where
         true≢false refused
 
     -- the client's own calls and the shared ones are answered alike, where their answers tell what all clients share
-    shared_same : (s : Step T U G C) (p q : Reply T U) → is_about id s ≡ true → Ample s p → Ample s q → NumbersGlobal offer (Asked s p) → NumbersGlobal offer (Asked s q)
+    pub shared_same : (s : Step T U G C) (p q : Reply T U) → is_about id s ≡ true → Ample s p → Ample s q → NumbersGlobal offer (Asked s p) → NumbersGlobal offer (Asked s q)
         → PartStep w id offer s p before false d x → PartStep w id offer s q before false e y → SharedSame s p q
     shared_same (step.InsertClient transport info) p q own ample ample' n n' h g = absurd (true≢false (sym own))
     shared_same (step.CreateGlobal i version handler) p q own ample ample' n n' (r, is, h) (r', is', g) =
@@ -93,28 +71,7 @@ module _ {T U G C : Type 0} where
         let one = creates_global_one offer.globals offer.table i version r r' (created_allowed s r (subst (λ z. Ample s z) is ample)) (created_allowed s r' (subst (λ z. Ample s z) is' ample'))
         numbers numbers' in
         is ∙ ap (λ (z : Result GlobalParts GlobalError). let a : Reply T U = reply.CreateGlobal z in a) one ∙ sym is'
-    shared_same (step.SetObjectData o u) p q own ample ample' n n' h g = tt
-    shared_same (step.CreateObject target i version u) p q own ample ample' n n' h g = tt
-    shared_same (step.DestroyObject o) p q own ample ample' n n' h g = tt
-    shared_same (step.SendEvent m) p q own ample ample' n n' h g = tt
-    shared_same (step.PostError o code text) p q own ample ample' n n' h g = tt
-    shared_same (step.KillClient target reason) p q own ample ample' n n' h g = tt
-    shared_same (step.DisableGlobal global) p q own ample ample' n n' h g = tt
-    shared_same (step.RemoveGlobal global) p q own ample ample' n n' h g = tt
-    shared_same (step.Flush target) p q own ample ample' n n' h g = tt
-    shared_same (step.SetDefaultMaxBufferSize limit) p q own ample ample' n n' h g = tt
-    shared_same (step.SetClientMaxBufferSize target limit) p q own ample ample' n n' h g = tt
-    shared_same (step.NextAction target) p q own ample ample' n n' h g = tt
-    shared_same (step.NextActionWithin target reading) p q own ample ample' n n' h g = tt
-    shared_same (step.FinishRequest target u) p q own ample ample' n n' h g = tt
-    shared_same (step.FinishBind target u) p q own ample ample' n n' h g = tt
-    shared_same step.Cleanup p q own ample ample' n n' h g = tt
-    shared_same step.TakeNotes p q own ample ample' n n' h g = tt
-    shared_same (step.Arrive target bytes tokens) p q own ample ample' n n' h g = tt
-    shared_same (step.ArriveFault target f) p q own ample ample' n n' h g = tt
-    shared_same (step.Accept target m) p q own ample ample' n n' h g = tt
-    shared_same (step.AcceptFault target f) p q own ample ample' n n' h g = tt
-    shared_same (step.TakeSent target) p q own ample ample' n n' h g = tt
+    shared_same s p q own ample ample' n n' h g = tt
 
     -- so it is of calls: they are answered alike, and leave one offer
     shared_call : (call call' : Call T U G C) → SameCall call call' → concerns id call ≡ true → lacks_growth call ≡ false → lacks_growth call' ≡ false
@@ -185,7 +142,7 @@ module _ {T U G C : Type 0} where
       → offer_over offer (earlier ++ e ∷ []) ≡ offer_over offer earlier
   inserted_offer offer id transport info earlier e inserts = offer_over_one offer earlier e ∙ ap (λ (c : Call T U G C). offer_after (offer_over offer earlier) c) inserts
 
-  pub client_one : (w : World T G C) → IsDetermined w → EachClientOne U w
+  pub client_one : (w : World T G C) → IsDetermined w → ClientsHaveOneOutcome U w
   client_one w known table id transport info earlier later earlier' later' e e' after after' leads leads' inserts inserts' offers same ample ample' =
       let (link, fresh, alone) = each_alone w table (earlier ++ e ∷ later) after leads id transport info earlier later e refl inserts in
       let (link', fresh', alone') = each_alone w table (earlier' ++ e' ∷ later') after' leads' id transport info earlier' later' e' refl inserts' in

@@ -14,12 +14,13 @@ ghost use Rattle.wl_server.specs.declared.step.Reply.{Reply};
 ghost use Rattle.wl_server.specs.declared.step.Step.{Step};
 ghost use Rattle.wl_server.specs.Globals.{CreatesGlobal, Globals};
 ghost use Rattle.wl_server.specs.Ids.{ClientParts, GlobalParts};
-ghost use Rattle.wl_server.specs.Outcome.{EachAloneOne, EachClientOne, EachStepOne};
+ghost use Rattle.wl_server.specs.Outcome.{OwnRunsHaveOneOutcome, ClientsHaveOneOutcome, StepsHaveOneOutcome};
 ghost use Rattle.wl_server.specs.PartStep.{over, over_scripts, share_of};
 ghost use Rattle.wl_server.specs.Runs.{AreIsolated, IsIsolated, Leads, Performs};
 ghost use Rattle.wl_server.specs.Server.{ServerState, Stored, new_server};
 ghost use Rattle.wl_server.specs.ShareLaws.{RiseBySlot};
 ghost use Rattle.wl_server.specs.Steps.{Entry, InsertsNext};
+ghost use Rattle.wl_server.specs.WholeOutcome.{PerformancesHaveOneOutcome, RunsHaveOneOutcome};
 
 use crate::handler::GlobalHandler;
 use wl_link::Transport;
@@ -48,16 +49,16 @@ pub fn each_client_of_a_script_is_alone<U, G: GlobalHandler<C>, C>()
 /// client's own calls and the shared ones, one after another, and of two runs of a server whatever other clients do in
 /// them: the definitions of the calls leave no choice but whether memory is there.
 pub fn each_client_has_one_outcome<T: Transport, U, G: GlobalHandler<C>, C>()
-    ensures step { IsFunction T.sends → IsReceiveFunction T.receives → EachStepOne U (over T.sends T.receives G.views) }
-    ensures alone { IsFunction T.sends → IsReceiveFunction T.receives → EachAloneOne U (over T.sends T.receives G.views) }
-    ensures client { IsFunction T.sends → IsReceiveFunction T.receives → EachClientOne U (over T.sends T.receives G.views) }
+    ensures step { IsFunction T.sends → IsReceiveFunction T.receives → StepsHaveOneOutcome U (over T.sends T.receives G.views) }
+    ensures alone { IsFunction T.sends → IsReceiveFunction T.receives → OwnRunsHaveOneOutcome U (over T.sends T.receives G.views) }
+    ensures client { IsFunction T.sends → IsReceiveFunction T.receives → ClientsHaveOneOutcome U (over T.sends T.receives G.views) }
 {}
 
 /// The same over the transport by script.
 pub fn each_client_of_a_script_has_one_outcome<U, G: GlobalHandler<C>, C>()
-    ensures step { EachStepOne U (over_scripts G.views) }
-    ensures alone { EachAloneOne U (over_scripts G.views) }
-    ensures client { EachClientOne U (over_scripts G.views) }
+    ensures step { StepsHaveOneOutcome U (over_scripts G.views) }
+    ensures alone { OwnRunsHaveOneOutcome U (over_scripts G.views) }
+    ensures client { ClientsHaveOneOutcome U (over_scripts G.views) }
 {}
 
 /// What a server answers of what all its clients share has one outcome, where memory is not refused: the id of a new
@@ -71,4 +72,20 @@ pub fn what_is_shared_has_one_outcome<T, U, G, C>()
         CreatesGlobal table globals i version a → CreatesGlobal table globals i version b → a ≡ b }
     ensures cleanup { (out out' : List (ClientParts × T)) → RiseBySlot out → RiseBySlot out' →
         ((id : ClientParts) → share_of id out ≡ share_of id out') → out ≡ out' }
+{}
+
+/// A run of a server has one outcome, over every transport whose answers follow from its value.
+///
+/// Two runs of the same calls, in which memory is not refused, from values of a server that are the same to their program,
+/// have the same replies and lead to values that are the same: what is held of each client id, the offer, and how many
+/// clients there were. Which lists lie where in memory is not told, nor in which order the notes of two clients stand.
+pub fn each_run_of_a_server_has_one_outcome<T: Transport, U, G: GlobalHandler<C>, C>()
+    ensures run { IsFunction T.sends → IsReceiveFunction T.receives → RunsHaveOneOutcome U (over T.sends T.receives G.views) }
+    ensures steps { IsFunction T.sends → IsReceiveFunction T.receives → PerformancesHaveOneOutcome U (over T.sends T.receives G.views) }
+{}
+
+/// The same over the transport by script.
+pub fn each_run_of_a_server_over_scripts_has_one_outcome<U, G: GlobalHandler<C>, C>()
+    ensures run { RunsHaveOneOutcome U (over_scripts G.views) }
+    ensures steps { PerformancesHaveOneOutcome U (over_scripts G.views) }
 {}

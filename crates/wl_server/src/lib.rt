@@ -64,7 +64,8 @@ pub use global_id::{GlobalId, GlobalInfo};
 pub use handler::{GlobalHandler, ShownToAll};
 pub use laws::{
     each_client_has_one_outcome, each_client_is_alone, each_client_of_a_script_has_one_outcome,
-    each_client_of_a_script_is_alone, what_is_shared_has_one_outcome,
+    each_client_of_a_script_is_alone, each_run_of_a_server_has_one_outcome,
+    each_run_of_a_server_over_scripts_has_one_outcome, what_is_shared_has_one_outcome,
 };
 pub use note::{DisconnectReason, Note};
 pub use object_id::ObjectId;

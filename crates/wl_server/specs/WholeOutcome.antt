@@ -1,0 +1,63 @@
+-- When two servers are the same to their program, and when two of their runs are.
+--
+-- A program finds of a server what is held of each client id, the offer, and how many clients there were. It does not find
+-- in which order the notes of two clients stand, nor which of a client's notes were gathered already.
+use Rattle.std.specs.Prelude.{◌≡◌, false, List, [], ◌∷◌, length, Ok}
+use Rattle.wl_link.specs.Runs.{AllSame, entries}
+use Rattle.wl_server.specs.declared.step.Reply.{Reply}
+use Rattle.wl_server.specs.declared.step.Reply.TheVariants as reply
+use Rattle.wl_server.specs.declared.step.Step.{Step}
+use Rattle.wl_server.specs.Ids.{ClientParts}
+use Rattle.wl_server.specs.Outcome.{SameCall, SameReply}
+use Rattle.wl_server.specs.PartStep.{Asked, Call, World}
+use Rattle.wl_server.specs.Runs.{Leads, Performs}
+use Rattle.wl_server.specs.Server.{ServerState, seen}
+use Rattle.wl_server.specs.Steps.{Entry}
+
+-- the offer, the last serial given to a client, and what is held of each client id
+pub record SameServer {T U G C : Type 0} (s t : ServerState T U G C) : Type 0 where
+  pub offer : s.offer ≡ t.offer
+  pub last : s.last_client ≡ t.last_client
+  pub each : (id : ClientParts) → seen id s ≡ seen id t
+
+module _ {T U : Type 0} where
+  -- Two replies are the same to the program: but for where their lists lie in memory, and for the order of the notes of two
+  -- clients.
+  abbrev pub WholeReply : Reply T U → Reply T U → Type 0
+  WholeReply (reply.Cleanup (Ok out)) (reply.Cleanup (Ok out')) = out.items ≡ out'.items
+  WholeReply answer answer' = (id : ClientParts) → SameReply id answer answer'
+
+module _ {T U G C : Type 0} where
+  abbrev pub WholeAnswer : Call T U G C → Call T U G C → Type 0
+  WholeAnswer (Asked _ answer) (Asked _ answer') = WholeReply answer answer'
+  WholeAnswer _ _ = Unit {0}
+
+  -- the calls are the same, and memory is not refused
+  abbrev pub SameCalls : List (Entry T U G C) → List (Entry T U G C) → Type 0
+  SameCalls [] [] = Unit {0}
+  SameCalls (e ∷ run) (f ∷ run') = SameCall e.call f.call × (e.refused ≡ false) × (f.refused ≡ false) × SameCalls run run'
+  SameCalls _ _ = ⊥
+
+  -- and so are their replies, and the deeds with each client
+  abbrev pub SameEntries : List (Entry T U G C) → List (Entry T U G C) → Type 0
+  SameEntries [] [] = Unit {0}
+  SameEntries (e ∷ run) (f ∷ run') = WholeAnswer e.call f.call × ((id : ClientParts) → e.did id ≡ f.did id) × SameEntries run run'
+  SameEntries _ _ = ⊥
+
+-- ---- one outcome
+
+module _ {T G C : Type 0} where
+  -- runs of calls, with all that their entries say
+  abbrev pub RunsHaveOneOutcome : Type 0 → World T G C → Type 0
+  RunsHaveOneOutcome U w =
+      (before before' after after' : ServerState T U G C) (run run' : List (Entry T U G C)) →
+      SameServer before before' → SameCalls run run' → Leads w before run after → Leads w before' run' after' →
+      SameEntries run run' × SameServer after after'
+
+  -- steps with their replies, in none of which memory was refused
+  abbrev pub PerformancesHaveOneOutcome : Type 0 → World T G C → Type 0
+  PerformancesHaveOneOutcome U w =
+      (before before' after after' : ServerState T U G C) (steps : List (Step T U G C)) (replies replies' : List (Reply T U)) →
+      length replies ≡ length steps → length replies' ≡ length steps → SameServer before before' →
+      Performs w before (entries steps replies) after → Performs w before' (entries steps replies') after' →
+      AllSame WholeReply replies replies' × SameServer after after'
