@@ -52,3 +52,4 @@ pub mod MovesOfCalls
 pub mod WholeOutcome
 pub mod WholeLaws
 pub mod WholeRuns
+pub mod LookupLaws

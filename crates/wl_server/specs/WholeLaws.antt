@@ -54,7 +54,7 @@ module _ {T U C : Type 0} where
   abbrev has_part : Option (Stored T U C) → Bool
   has_part c = is_some (option_map (λ z. z.part) c)
 
-  found : (st : Stored T U C) (o : Option (Stored T U C)) → o ≡ Some st → if_serial st.serial o ≡ Some st
+  pub found : (st : Stored T U C) (o : Option (Stored T U C)) → o ≡ Some st → if_serial st.serial o ≡ Some st
   found st o is = ap (λ (z : Option (Stored T U C)). if_serial st.serial z) is ∙ (rw (eq-eqb st.serial st.serial refl) refl)
 
 module _ {T U G C : Type 0} where

@@ -2,12 +2,14 @@
 --
 -- A program finds of a server what is held of each client id, the offer, and how many clients there were. It does not find
 -- in which order the notes of two clients stand, nor which of a client's notes were gathered already.
-use Rattle.std.specs.Prelude.{◌≡◌, false, List, [], ◌∷◌, length, Ok}
+use Rattle.std.specs.Prelude.{◌≡◌, ℕ, Bool, false, List, [], ◌∷◌, length, Ok}
+use Rattle.wl_wire.specs.declared.interface.InterfaceId.{InterfaceId}
 use Rattle.wl_link.specs.Runs.{AllSame, entries}
 use Rattle.wl_server.specs.declared.step.Reply.{Reply}
 use Rattle.wl_server.specs.declared.step.Reply.TheVariants as reply
 use Rattle.wl_server.specs.declared.step.Step.{Step}
-use Rattle.wl_server.specs.Ids.{ClientParts}
+use Rattle.wl_server.specs.Ids.{ClientParts, GlobalParts, IdParts}
+use Rattle.wl_server.specs.Lookups.{client_by, client_data_of, global_info_by, handler_of, live_clients, name_for, object_data_of, object_for_number, object_info_of, objects_of_client, transport_of}
 use Rattle.wl_server.specs.Outcome.{SameCall, SameReply}
 use Rattle.wl_server.specs.PartStep.{Asked, Call, World}
 use Rattle.wl_server.specs.Runs.{Leads, Performs}
@@ -19,6 +21,20 @@ pub record SameServer {T U G C : Type 0} (s t : ServerState T U G C) : Type 0 wh
   pub offer : s.offer ≡ t.offer
   pub last : s.last_client ≡ t.last_client
   pub each : (id : ClientParts) → seen id s ≡ seen id t
+
+-- They answer the same of themselves.
+pub record AnswersAlike {T U G C : Type 0} (s t : ServerState T U G C) : Type 0 where
+  pub object_info : (id : IdParts) → object_info_of s id ≡ object_info_of t id
+  pub client : (id : IdParts) → client_by s id ≡ client_by t id
+  pub client_data : (id : ClientParts) → client_data_of s id ≡ client_data_of t id
+  pub object_data : (id : IdParts) → object_data_of s id ≡ object_data_of t id
+  pub transport : (id : ClientParts) → transport_of s id ≡ transport_of t id
+  pub for_number : (id : ClientParts) (i : InterfaceId) (n : ℕ) → object_for_number s id i n ≡ object_for_number t id i n
+  pub clients : live_clients s ≡ live_clients t
+  pub objects : (id : ClientParts) → objects_of_client s id ≡ objects_of_client t id
+  pub global_info : (id : GlobalParts) → global_info_by s id ≡ global_info_by t id
+  pub handler : (id : GlobalParts) → handler_of s id ≡ handler_of t id
+  pub name : (views : G → ClientParts → C → GlobalParts → Bool) (id : GlobalParts) (client : ClientParts) → name_for s views id client ≡ name_for t views id client
 
 module _ {T U : Type 0} where
   -- Two replies are the same to the program: but for where their lists lie in memory, and for the order of the notes of two

@@ -20,7 +20,7 @@ ghost use Rattle.wl_server.specs.Runs.{AreIsolated, IsIsolated, Leads, Performs}
 ghost use Rattle.wl_server.specs.Server.{ServerState, Stored, new_server};
 ghost use Rattle.wl_server.specs.ShareLaws.{RiseBySlot};
 ghost use Rattle.wl_server.specs.Steps.{Entry, InsertsNext};
-ghost use Rattle.wl_server.specs.WholeOutcome.{PerformancesHaveOneOutcome, RunsHaveOneOutcome};
+ghost use Rattle.wl_server.specs.WholeOutcome.{AnswersAlike, PerformancesHaveOneOutcome, RunsHaveOneOutcome, SameServer};
 
 use crate::handler::GlobalHandler;
 use wl_link::Transport;
@@ -88,4 +88,10 @@ pub fn each_run_of_a_server_has_one_outcome<T: Transport, U, G: GlobalHandler<C>
 pub fn each_run_of_a_server_over_scripts_has_one_outcome<U, G: GlobalHandler<C>, C>()
     ensures run { RunsHaveOneOutcome U (over_scripts G.views) }
     ensures steps { PerformancesHaveOneOutcome U (over_scripts G.views) }
+{}
+
+/// Values of a server that are the same to their program answer the same of themselves: which clients are live, what is
+/// known of a client, an object and a global, and what handler a global has.
+pub fn servers_that_are_the_same_answer_alike<T, U, G, C>()
+    ensures { (s t : ServerState T U G C) → SameServer s t → AnswersAlike s t }
 {}
