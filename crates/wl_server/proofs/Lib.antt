@@ -35,3 +35,4 @@ mod Announcing
 mod TakingNotes
 mod GatheredSlots
 mod Turning
+mod OutcomeRows
