@@ -21,9 +21,12 @@ use Rattle.wl_server.specs.declared.kept.Kept.{Kept}
 use Rattle.wl_server.specs.declared.note.DisconnectReason.{DisconnectReason}
 use Rattle.wl_server.specs.declared.note.Happening.{Happening}
 use Rattle.wl_server.specs.declared.note.Happening.TheVariants.{Disconnected, Initialized}
+use Rattle.wl_server.specs.declared.step.Reply.TheVariants as reply
+use Rattle.wl_server.specs.declared.step.Step.TheVariants as step
 use Rattle.wl_server.specs.Deeds.{Acted, Bind, Came, Deed, Handed, Request, left_in, log_of, notes_in, registries_in, sends_of, taken_in}
-use Rattle.wl_server.specs.Ids.{ClientParts, IdParts}
+use Rattle.wl_server.specs.Ids.{ClientParts, IdParts, same_client}
 use Rattle.wl_server.specs.Part.{Part, fresh_part, id_at, id_of, note_of_end, null_id, registries_without, with_link, with_user_data}
+use Rattle.wl_server.specs.PartStep.{Asked, Call}
 use Rattle.wl_server.specs.Server.{Seen}
 
 -- ---- ids that are handed out
@@ -226,6 +229,11 @@ pub data Moves {T U C : Type 0} (sends : T → Queue → Result ℕ IoFault → 
   cleaned : {p q : Part T U C} {d : Doings U} → d ≡ noting p.waiting → q ≡ record p { waiting = [] } → Moves sends receives client p d q
 
 -- ---- what is held of a client id
+
+-- the ids that a call hands out of a client, but for those of notes
+abbrev pub handed_by : {T U G C : Type 0} → ClientParts → Call T U G C → List (Deed U) → List HandedId
+handed_by id (Asked (step.CreateObject target i version u) (reply.CreateObject r)) did = if same_client target id then made_ids r else []
+handed_by id _ did = all_action_ids (acted_in did)
 
 -- what a call does to that: nothing; a client is inserted; its part goes over moves, the notes of them behind those that
 -- were made; it is taken out, killed and with no object left; or the notes are handed out

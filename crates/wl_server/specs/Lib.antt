@@ -53,3 +53,4 @@ pub mod WholeOutcome
 pub mod WholeLaws
 pub mod WholeRuns
 pub mod LookupLaws
+pub mod BaseMovesLaw

@@ -181,7 +181,7 @@ module _ {T U C : Type 0} (sends : T → Queue → Result ℕ IoFault → T → 
         | inr (x, some, (is, same)) ↦ wrote id.number x u (named_held p.store id x some) refl same
       ]
 
-  creates_moves : (table : List InterfaceRow) (p : Part T U C) (i : InterfaceId) (version : ℕ) (u : U) (answer : Result IdParts CreateError) (q : Part T U C)
+  pub creates_moves : (table : List InterfaceRow) (p : Part T U C) (i : InterfaceId) (version : ℕ) (u : U) (answer : Result IdParts CreateError) (q : Part T U C)
       → Creates table client p i version u answer q → Move p (handing (made_ids answer)) q
   creates_moves table p i version u answer q h =
       elim (either_option (slice_get table i.0) h) [
@@ -248,7 +248,7 @@ module _ {T U C : Type 0} (sends : T → Queue → Result ℕ IoFault → T → 
 
   -- ---- messages alone, errors, the end of a client
 
-  tells_comes : (c : Core U C) (messages : List Said) → Calm c → Come c (tells c messages)
+  pub tells_comes : (c : Core U C) (messages : List Said) → Calm c → Come c (tells c messages)
   tells_comes c messages calm = record {
     made = [];
     lands = lands_not sends receives client c calm;
