@@ -11,7 +11,7 @@ use Rattle.wl_wire.specs.Table.{registry_id}
 use Rattle.wl_link.specs.declared.object.Object.{Object}
 use Rattle.wl_link.specs.Exchange.{Queue, Sending}
 use Rattle.wl_link.specs.Identity.{Id}
-use Rattle.wl_link.specs.Link.{LinkState, FilledBy, FlushedBy, IsFresh}
+use Rattle.wl_link.specs.Link.{LinkState, FilledBy, FlushedBy}
 use Rattle.wl_link.specs.Puts.{PutsOut, Said}
 use Rattle.wl_link.specs.Store.{held, removed, rewritten, stored}
 use Rattle.wl_server.specs.declared.action.OpenAction.{OpenAction}
@@ -20,12 +20,12 @@ use Rattle.wl_server.specs.declared.error.CreateError.{CreateError}
 use Rattle.wl_server.specs.declared.kept.Kept.{Kept}
 use Rattle.wl_server.specs.declared.note.DisconnectReason.{DisconnectReason}
 use Rattle.wl_server.specs.declared.note.Happening.{Happening}
-use Rattle.wl_server.specs.declared.note.Happening.TheVariants.{Disconnected, Initialized}
+use Rattle.wl_server.specs.declared.note.Happening.TheVariants.{Disconnected}
 use Rattle.wl_server.specs.declared.step.Reply.TheVariants as reply
 use Rattle.wl_server.specs.declared.step.Step.TheVariants as step
 use Rattle.wl_server.specs.Deeds.{Acted, Bind, Came, Deed, Handed, Request, left_in, log_of, notes_in, registries_in, sends_of, taken_in}
 use Rattle.wl_server.specs.Ids.{ClientParts, IdParts, same_client}
-use Rattle.wl_server.specs.Part.{Part, fresh_part, id_at, id_of, note_of_end, null_id, registries_without, with_link, with_user_data}
+use Rattle.wl_server.specs.Part.{Part, id_at, id_of, note_of_end, null_id, registries_without, with_link, with_user_data}
 use Rattle.wl_server.specs.PartStep.{Asked, Call}
 use Rattle.wl_server.specs.Server.{Seen}
 
@@ -66,10 +66,10 @@ abbrev pub all_action_ids : List Handed → List HandedId
 all_action_ids [] = []
 all_action_ids (h ∷ acted) = action_ids h ++ all_action_ids acted
 
--- one of the ids
-abbrev pub IsAmong : List HandedId → HandedId → Type 0
-IsAmong [] id = ⊥
-IsAmong (other ∷ ids) id = (other ≡ id) ⊎ IsAmong ids id
+-- one of them
+abbrev pub IsAmong : {A : Type 0} → List A → A → Type 0
+IsAmong [] x = ⊥
+IsAmong (other ∷ xs) x = (other ≡ x) ⊎ IsAmong xs x
 
 -- ---- what is done, by kind
 
@@ -235,14 +235,11 @@ abbrev pub handed_by : {T U G C : Type 0} → ClientParts → Call T U G C → L
 handed_by id (Asked (step.CreateObject target i version u) (reply.CreateObject r)) did = if same_client target id then made_ids r else []
 handed_by id _ did = all_action_ids (acted_in did)
 
--- what a call does to that: nothing; a client is inserted; its part goes over moves, the notes of them behind those that
--- were made; it is taken out, killed and with no object left; or the notes are handed out
+-- What a call does to that which does not insert the client: nothing; its part goes over moves, the notes of them behind
+-- those that were made; it is taken out, killed and with no object left; or the notes are handed out.
 pub data Goes {T U C : Type 0} (sends : T → Queue → Result ℕ IoFault → T → Type 0) (receives : T → ℕ → Result Queue IoFault → T → Type 0)
     (client : ClientParts) : Seen T U C → Doings U → Seen T U C → Type 0 where
   unfelt : {s t : Seen T U C} {d : Doings U} → d ≡ nothing_done → t ≡ s → Goes sends receives client s d t
-  begins : {s t : Seen T U C} {d : Doings U} (transport : T) (asked : Option ℕ) (link : LinkState T) (info : C) → IsFresh transport asked link
-      → d ≡ noting (Initialized ∷ []) → t ≡ record { part = Some (fresh_part link info); made = s.made ++ Initialized ∷ [] }
-      → Goes sends receives client s d t
   within : {s t : Seen T U C} {d : Doings U} (p q : Part T U C) → s.part ≡ Some p → Moves sends receives client p d q
       → t ≡ record { part = Some q; made = s.made ++ d.notes } → Goes sends receives client s d t
   taken_out : {s t : Seen T U C} {d : Doings U} (p q : Part T U C) → s.part ≡ Some p → p.is_killed ≡ true → Moves sends receives client p d q

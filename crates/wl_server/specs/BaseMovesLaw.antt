@@ -25,7 +25,7 @@ use Rattle.wl_server.specs.declared.step.Reply.{Reply}
 use Rattle.wl_server.specs.declared.step.Reply.TheVariants as reply
 use Rattle.wl_server.specs.declared.step.Step.{Step}
 use Rattle.wl_server.specs.declared.step.Step.TheVariants as step
-use Rattle.wl_server.specs.BaseMoves.{Doings, Goes, HandedId, begins, cleaned, doings_of, flushed, followed, handed_by, joined, leaving, left_by, left_id, made_ids, nothing_done, notes_taken, noting, relinked, sending, stayed, taken_out, unfelt, went, within}
+use Rattle.wl_server.specs.BaseMoves.{Doings, Goes, HandedId, cleaned, doings_of, flushed, followed, handed_by, joined, leaving, left_by, left_id, made_ids, nothing_done, notes_taken, noting, relinked, sending, stayed, taken_out, unfelt, went, within}
 use Rattle.wl_server.specs.Deeds.{Deed, Noted, NoteTaken, Sent, left_if, notes_in}
 use Rattle.wl_server.specs.DoingsLaws.{done, done_both, done_sends, joined_none}
 use Rattle.wl_server.specs.Felt.{Cleaned, FlushedTo, FlushesLive, Hears, Stays, objects_leave}
@@ -38,6 +38,7 @@ use Rattle.wl_server.specs.MovesOfVerdicts.{Go, same_doings, tells_moves}
 use Rattle.wl_server.specs.Part.{Part, end_note, id_at, id_of, note_of_end, with_link}
 use Rattle.wl_server.specs.Objects.{Creates}
 use Rattle.wl_server.specs.PartStep.{Asked, Call, Changed, CleanedAs, Feels, FeelsGlobal, FeelsLoss, FlushedFor, Inserted, InsertedAs, MovedFor, NotesTaken, OfClient, OnPart, PartCall, PartStep, ReadsFor, Unfelt, WithTransport, World, around}
+use Rattle.wl_server.specs.Runs.{concerns, is_about}
 use Rattle.wl_server.specs.Server.{Seen}
 use Rattle.wl_server.specs.Telling.{core_of, tells}
 
@@ -188,15 +189,6 @@ module _ {T U G C : Type 0} (w : World T G C) (id : ClientParts) (offer : Offer 
   abbrev To : Seen T U C → List (Deed U) → Seen T U C → Type 0
   To s did t = Goes w.sends w.receives id s (done did) t
 
-  inserted_goes : (transport : T) (info : C) (r : Result ClientParts InsertClientError) (s : Seen T U C) (lacked : Bool) (did : List (Deed U)) (t : Seen T U C)
-      → InsertedAs w id offer transport info r s lacked did t → To s did t
-  inserted_goes transport info (Err e) s lacked did t h = unfelt_goes w.sends w.receives id s lacked did t h
-  inserted_goes transport info (Ok new) s lacked did t h =
-      elim (either_bool (same_client new id) h) [
-        | inl (link, fresh, no_memory, did_so, same) ↦ begins transport (Some offer.default_limit) link info fresh (ap done did_so) same
-        | inr other ↦ unfelt_goes w.sends w.receives id s lacked did t other
-      ]
-
   creates_goes : (target : ClientParts) (i : InterfaceId) (version : ℕ) (u : U) (r : Result IdParts CreateError) (missing : Type 0) (s : Seen T U C) (lacked l : Bool)
       (did : List (Deed U)) (t : Seen T U C) → (missing → made_ids r ≡ [])
       → OfClient (same_client target id) s (λ p q. (lacked ≡ l) × (did ≡ []) × Creates offer.table id p i version u r q) missing lacked did t
@@ -299,48 +291,49 @@ module _ {T U G C : Type 0} (w : World T G C) (id : ClientParts) (offer : Offer 
   Handed call s did t = Goes w.sends w.receives id s (doings_of (handed_by id call did) did) t
 
   step_goes : (call : Step T U G C) (answer : Reply T U) (s : Seen T U C) (lacked : Bool) (did : List (Deed U)) (t : Seen T U C)
-      → PartStep w id offer call answer s lacked did t → Handed (Asked call answer) s did t
-  step_goes (step.InsertClient transport info) answer s lacked did t (r, is, h) = inserted_goes transport info r s lacked did t h
-  step_goes (step.SetObjectData o u) answer s lacked did t (r, is, h) =
+      → is_about id call ≡ true → PartStep w id offer call answer s lacked did t → Handed (Asked call answer) s did t
+  step_goes (step.InsertClient transport info) answer s lacked did t about h = absurd (true≢false (sym about))
+  step_goes (step.SetObjectData o u) answer s lacked did t about (r, is, h) =
       of_client w.sends w.receives id (same_client o.client id) s _ _ lacked did t
       (λ p q (no_memory, none, set). same_doings w.sends w.receives id p q nothing_done (done did) (ap done none) (data_set_moves w.sends w.receives id p o u r q set)) h
-  step_goes (step.CreateObject target i version u) answer s lacked did t (r, is, h) =
+  step_goes (step.CreateObject target i version u) answer s lacked did t about (r, is, h) =
       subst (λ (a : Reply T U). Handed (Asked (step.CreateObject target i version u) a) s did t) (sym is)
       (creates_goes target i version u r _ s lacked _ did t (λ unknown. ap made_ids unknown) h)
-  step_goes (step.DestroyObject o) answer s lacked did t (r, is, h) =
+  step_goes (step.DestroyObject o) answer s lacked did t about (r, is, h) =
       of_client w.sends w.receives id (same_client o.client id) s _ _ lacked did t (λ p q d. destroys_moves w.sends w.receives id p o r lacked did q d) h
-  step_goes (step.SendEvent m) answer s lacked did t (r, is, h) =
+  step_goes (step.SendEvent m) answer s lacked did t about (r, is, h) =
       of_client w.sends w.receives id (same_client m.sender_id.client id) s _ _ lacked did t (λ p q d. sends_moves w.sends w.receives id offer.table p _ r lacked did q d) h
-  step_goes (step.PostError o code text) answer s lacked did t (is, h) =
+  step_goes (step.PostError o code text) answer s lacked did t about (is, h) =
       of_client w.sends w.receives id (same_client o.client id) s _ _ lacked did t (λ p q d. posts_moves w.sends w.receives id offer.table p o _ _ lacked did q d) h
-  step_goes (step.KillClient target reason) answer s lacked did t (is, h) =
+  step_goes (step.KillClient target reason) answer s lacked did t about (is, h) =
       of_client w.sends w.receives id (same_client target id) s _ _ lacked did t (λ p q (no_memory, k). kills_moves w.sends w.receives id p reason did q k) h
-  step_goes (step.CreateGlobal i version handler) answer s lacked did t (r, is, h) = global_goes i _ handler r s lacked did t h
-  step_goes (step.DisableGlobal g) answer s lacked did t (is, h) = loss_goes g s lacked did t h
-  step_goes (step.RemoveGlobal g) answer s lacked did t (is, h) = loss_goes g s lacked did t h
-  step_goes (step.Flush target) answer s lacked did t (r, is, h) = flushed_goes target r s lacked did t h
-  step_goes (step.SetDefaultMaxBufferSize limit) answer s lacked did t (is, h) = unfelt_goes w.sends w.receives id s lacked did t h
-  step_goes (step.SetClientMaxBufferSize target limit) answer s lacked did t (is, h) =
+  step_goes (step.CreateGlobal i version handler) answer s lacked did t about (r, is, h) = global_goes i _ handler r s lacked did t h
+  step_goes (step.DisableGlobal g) answer s lacked did t about (is, h) = loss_goes g s lacked did t h
+  step_goes (step.RemoveGlobal g) answer s lacked did t about (is, h) = loss_goes g s lacked did t h
+  step_goes (step.Flush target) answer s lacked did t about (r, is, h) = flushed_goes target r s lacked did t h
+  step_goes (step.SetDefaultMaxBufferSize limit) answer s lacked did t about (is, h) = unfelt_goes w.sends w.receives id s lacked did t h
+  step_goes (step.SetClientMaxBufferSize target limit) answer s lacked did t about (is, h) =
       of_client w.sends w.receives id (same_client target id) s _ _ lacked did t
       (λ p q (no_memory, none, (link, (l, limits, set), same)). relinked link (ap (λ (k : LinkState T). k.outgoing) set) (ap done none) same) h
-  step_goes (step.NextAction target) answer s lacked did t (r, left, is, h) = reads_goes target _ _ left s lacked did t h
-  step_goes (step.NextActionWithin target reading) answer s lacked did t (r, left, is, h) = reads_goes target reading _ left s lacked did t h
-  step_goes (step.FinishRequest target u) answer s lacked did t (r, is, h) =
+  step_goes (step.NextAction target) answer s lacked did t about (r, left, is, h) = reads_goes target _ _ left s lacked did t h
+  step_goes (step.NextActionWithin target reading) answer s lacked did t about (r, left, is, h) = reads_goes target reading _ left s lacked did t h
+  step_goes (step.FinishRequest target u) answer s lacked did t about (r, is, h) =
       of_client w.sends w.receives id (same_client target id) s _ _ lacked did t (λ p q f. finishes_moves w.sends w.receives id p u r lacked did q f) h
-  step_goes (step.FinishBind target u) answer s lacked did t (r, is, h) =
+  step_goes (step.FinishBind target u) answer s lacked did t about (r, is, h) =
       of_client w.sends w.receives id (same_client target id) s _ _ lacked did t (λ p q f. finishes_bind_moves w.sends w.receives id p u r lacked did q f) h
-  step_goes step.Cleanup answer s lacked did t (r, is, h) = cleanup_goes r s lacked did t h
-  step_goes step.TakeNotes answer s lacked did t (r, is, h) = taken_goes r s lacked did t h
-  step_goes (step.Arrive target bytes tokens) answer s lacked did t (r, is, h) = moved_goes target _ _ s lacked did t h
-  step_goes (step.ArriveFault target f) answer s lacked did t (r, is, h) = moved_goes target _ _ s lacked did t h
-  step_goes (step.Accept target n) answer s lacked did t (r, is, h) = moved_goes target _ _ s lacked did t h
-  step_goes (step.AcceptFault target f) answer s lacked did t (r, is, h) = moved_goes target _ _ s lacked did t h
-  step_goes (step.TakeSent target) answer s lacked did t (r, is, h) = moved_goes target _ _ s lacked did t h
+  step_goes step.Cleanup answer s lacked did t about (r, is, h) = cleanup_goes r s lacked did t h
+  step_goes step.TakeNotes answer s lacked did t about (r, is, h) = taken_goes r s lacked did t h
+  step_goes (step.Arrive target bytes tokens) answer s lacked did t about (r, is, h) = moved_goes target _ _ s lacked did t h
+  step_goes (step.ArriveFault target f) answer s lacked did t about (r, is, h) = moved_goes target _ _ s lacked did t h
+  step_goes (step.Accept target n) answer s lacked did t about (r, is, h) = moved_goes target _ _ s lacked did t h
+  step_goes (step.AcceptFault target f) answer s lacked did t about (r, is, h) = moved_goes target _ _ s lacked did t h
+  step_goes (step.TakeSent target) answer s lacked did t about (r, is, h) = moved_goes target _ _ s lacked did t h
 
-  -- what is held of a client id goes over base moves, which make the deeds of the call and hand out its ids
+  -- Over a call that is about a client, or about none, what is held of the client goes over base moves, which make the
+  -- deeds of the call and hand out its ids.
   pub call_goes : (call : Call T U G C) (s : Seen T U C) (lacked : Bool) (did : List (Deed U)) (t : Seen T U C)
-      → PartCall w id offer call s lacked did t → Handed call s did t
-  call_goes (Asked call answer) s lacked did t h = step_goes call answer s lacked did t h
-  call_goes (Changed target t') s lacked did t h =
+      → concerns id call ≡ true → PartCall w id offer call s lacked did t → Handed call s did t
+  call_goes (Asked call answer) s lacked did t about h = step_goes call answer s lacked did t about h
+  call_goes (Changed target t') s lacked did t about h =
       of_client w.sends w.receives id (same_client target id) s _ _ lacked did t
       (λ p q (no_memory, none, with'). transport_moves w.sends w.receives id (λ x y. y ≡ t') p did q none with') h

@@ -52,21 +52,22 @@ both : (a b : Bool) → (a && b) ≡ true → (a ≡ true) × (b ≡ true)
 both true b e = (refl, e)
 both false b e = absurd (true≢false (sym e))
 
--- ---- ids among others
+-- ---- some among others
 
-pub among_first : (ids others : List HandedId) (id : HandedId) → IsAmong ids id → IsAmong (ids ++ others) id
-among_first [] others id among = absurd among
-among_first (x ∷ ids) others id (inl is) = inl is
-among_first (x ∷ ids) others id (inr among) = inr (among_first ids others id among)
+module _ {A : Type 0} where
+  pub among_first : (xs others : List A) (x : A) → IsAmong xs x → IsAmong (xs ++ others) x
+  among_first [] others x among = absurd among
+  among_first (y ∷ xs) others x (inl is) = inl is
+  among_first (y ∷ xs) others x (inr among) = inr (among_first xs others x among)
 
-pub among_later : (ids others : List HandedId) (id : HandedId) → IsAmong others id → IsAmong (ids ++ others) id
-among_later [] others id among = among
-among_later (x ∷ ids) others id among = inr (among_later ids others id among)
+  pub among_later : (xs others : List A) (x : A) → IsAmong others x → IsAmong (xs ++ others) x
+  among_later [] others x among = among
+  among_later (y ∷ xs) others x among = inr (among_later xs others x among)
 
-among_both : (ids others : List HandedId) (id : HandedId) → IsAmong (ids ++ others) id → IsAmong ids id ⊎ IsAmong others id
-among_both [] others id among = inr among
-among_both (x ∷ ids) others id (inl is) = inl (inl is)
-among_both (x ∷ ids) others id (inr among) = elim (among_both ids others id among) [ inl a ↦ inl (inr a) | inr b ↦ inr b ]
+  pub among_both : (xs others : List A) (x : A) → IsAmong (xs ++ others) x → IsAmong xs x ⊎ IsAmong others x
+  among_both [] others x among = inr among
+  among_both (y ∷ xs) others x (inl is) = inl (inl is)
+  among_both (y ∷ xs) others x (inr among) = elim (among_both xs others x among) [ inl a ↦ inl (inr a) | inr b ↦ inr b ]
 
 argument_ids_both : (args others : List (Argument IdParts Token)) → argument_ids (args ++ others) ≡ argument_ids args ++ argument_ids others
 argument_ids_both [] others = refl
