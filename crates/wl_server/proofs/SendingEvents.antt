@@ -1,5 +1,5 @@
 -- What an event that is sent does, from the steps of its sending.
-use Rattle.std.proofs.Common.{◌≡◌, ◌∙◌, ℕ, Bool, true, false, eqb, cond, List, [], ◌∷◌, ◌++◌, append-nil, map, Option, None, Some, IsSome, IsTrue, is_some, Result, Ok, Err, MatchBool, MatchResult, refl, sym, ap, subst, inl, inr}
+use Rattle.std.proofs.Common.{◌≡◌, ◌∙◌, ℕ, Bool, true, false, List, [], ◌∷◌, ◌++◌, append-nil, map, Option, None, Some, IfSome, Result, Ok, Err, MatchBool, MatchResult, refl, sym, ap, subst, inl, inr}
 use Rattle.std.proofs.lemmas.Bool.{false≢true}
 use Rattle.wl_wire.specs.declared.error.IoFault.{IoFault}
 use Rattle.wl_wire.specs.declared.error.IoFault.TheVariants as fault
@@ -13,7 +13,6 @@ use Rattle.wl_wire.specs.Message.{WireMessage}
 use Rattle.wl_wire.specs.Table.{InterfaceRow}
 use Rattle.wl_link.specs.declared.object.Object.{Object}
 use Rattle.wl_link.specs.Exchange.{Queue, Sending}
-use Rattle.wl_link.specs.Identity.{Id, named_in}
 use Rattle.wl_link.specs.Link.{LinkState, Wrote, WroteBy}
 use Rattle.wl_link.specs.Puts.{lacked_memory}
 use Rattle.wl_link.specs.Store.{Store, held}
@@ -23,17 +22,17 @@ use Rattle.wl_server.specs.declared.kept.Kept.{Kept}
 use Rattle.wl_server.specs.declared.note.DisconnectReason.TheVariants.{ConnectionClosed}
 use Rattle.wl_server.specs.declared.note.Happening.{Happening}
 use Rattle.wl_server.specs.Client.{Does}
-use Rattle.wl_server.specs.Deeds.{Deed, Put, Sent, left_if, notes_in}
-use Rattle.wl_server.specs.Ending.{ending, has_data, notes_ending, registries_ending, store_ending, told_of_end, PutsEnd, TellsEnd}
+use Rattle.wl_server.specs.Deeds.{Deed, Put, Sent, notes_in}
+use Rattle.wl_server.specs.Ending.{notes_ending, registries_ending, store_ending, told_of_end, PutsEnd, TellsEnd}
 use Rattle.wl_server.specs.Events.{AsksForMemory, SendsEvent, SendsGranted, SentAs, SessionMessage, ends_closed, ends_sender, event_check, said, session_content, wire_argument, wire_message}
 use Rattle.wl_server.specs.Ids.{ClientParts, IdParts}
 use Rattle.wl_server.specs.Objects.{leaving}
-use Rattle.wl_server.specs.Part.{Part, id_of, named, serial_of, with_link}
+use Rattle.wl_server.specs.Part.{Part, named, with_link}
 use Rattle.wl_server.specs.Puts.{Puts}
 use Rattle.wl_server.specs.Server.{Stored}
-use Rattle.wl_server.specs.Telling.{Core, Did, Kills, Tells, closed_down, core_of, end_deeds, part_of, tells}
+use Rattle.wl_server.specs.Telling.{Core, Kills, Tells, closed_down, core_of, end_deeds, part_of, tells}
 use Rattle.wl_server.proofs.Closing.{client_of, closing, told_by, told_closing}
-use Rattle.wl_server.specs.Carried.{told_notes}
+use Rattle.wl_server.proofs.Destroying.{leaves_no_note, named_is_held}
 use Rattle.wl_server.proofs.Notes.{notes_append, notes_of_sends}
 use Rattle.wl_server.proofs.Putting.{puts_none}
 
@@ -58,43 +57,11 @@ pub event_numbered : (m : Message IdParts Token) → numbered (λ id. id.number)
 event_numbered m =
     ap (λ (args : List WireArgument). let w : WireMessage = record { sender = m.sender_id.number; opcode = m.opcode; args = args } in w) (arguments_numbered m.args.items)
 
--- ---- the sender
-
-chosen : {X : Type 0} (b : Bool) (y x : X) → cond b (Some y) None ≡ Some x → y ≡ x
-chosen true y x e = cc
-chosen false y x e = absurd cc
-
 module _ {U : Type 0} where
-  found : (id : Id) (h : Option (Object (Kept U))) (x : Object (Kept U)) → named_in serial_of id h ≡ Some x → h ≡ Some x
-  found id None x e = absurd cc
-  found id (Some y) x e = ap Some (chosen (eqb (serial_of y.value) id.serial) y x e)
-
-  not_null : (b : Bool) (id : Id) (h : Option (Object (Kept U))) (x : Object (Kept U)) → cond b None (named_in serial_of id h) ≡ Some x → h ≡ Some x
-  not_null true id h x e = absurd cc
-  not_null false id h x e = found id h x e
-
-  -- an object that an id names is the one at the id's number
-  pub named_held : (store : Store (Kept U)) (id : IdParts) (x : Object (Kept U)) → named store id ≡ Some x → held store id.number ≡ Some x
-  named_held store id x e = not_null (eqb id.number 0) (id_of id) (held store id.number) x e
-
-  -- memory is asked for where a sender with user data ends
-  pub asks_memory : (ends : Bool) (store : Store (Kept U)) (id : IdParts) (x : Object (Kept U)) → named store id ≡ Some x
-      → IsTrue (has_data (ending ends store id.number)) → AsksForMemory x ends
-  asks_memory true store id x is has = (refl, some x.value.user_data (subst (λ (h : Option (Object (Kept U))). IsTrue (has_data h)) (named_held store id x is) has))
-    where
-      some : (u : Option U) → IsTrue (is_some u) → IsSome u
-      some None none = absurd (false≢true none)
-      some (Some u) is = refl
-  asks_memory false store id x is has = absurd (false≢true has)
-
-  -- nothing that an object leaves behind is a note
-  leaves_no_note : {C : Type 0} (id : IdParts) (u : Option U) (c : Core U C) → told_notes (leaving id u c) ≡ []
-  leaves_no_note id u c = at (is_some (named c.store id)) u
-    where
-      at : (b : Bool) (u : Option U) → told_notes (cond b [] (map Did (left_if (id_of id) u))) ≡ []
-      at true u = refl
-      at false None = refl
-      at false (Some u) = refl
+  -- what is said of what the sender's number holds is said of the sender
+  pub of_sender : (store : Store (Kept U)) (id : IdParts) (x : Object (Kept U)) (P : Object (Kept U) → Type 0) → named store id ≡ Some x
+      → IfSome (held store id.number) P → P x
+  of_sender store id x P is some = subst (λ (h : Option (Object (Kept U))). IfSome h P) (named_is_held store id x is) some
 
   -- what follows sends has all the notes
   notes_behind : (es : List Sending) (did : List (Deed U)) → notes_in (map Sent es ++ did) ≡ notes_in did
@@ -110,24 +77,15 @@ module _ {T U C : Type 0} (client : ClientParts) (m : SessionMessage) (sender : 
     part = record s.part {
       link = link;
       store = store_ending ends s.part.store m.sender.number;
-      registries = registries_ending s.part.registries m.sender.number (ending ends s.part.store m.sender.number);
-      waiting = s.part.waiting ++ notes_ending client m.sender.number (ending ends s.part.store m.sender.number);
+      registries = registries_ending ends s.part.registries m.sender.number sender;
+      waiting = s.part.waiting ++ notes_ending ends client m.sender.number sender;
     };
   }
 
-  after_end_is : (s : Stored T U C) (ends : Bool) (link : LinkState T) → named s.part.store m.sender ≡ Some sender
+  after_end_is : (s : Stored T U C) (ends : Bool) (link : LinkState T)
       → after_end s ends link ≡ client_of s.serial (ends_sender client (core_of s.part) m sender ends).core link s.made
-  after_end_is s true link is =
-      ap (λ (h : Option (Object (Kept U))). let x : Stored T U C = record s {
-        part = record s.part {
-          link = link;
-          store = store_ending true s.part.store m.sender.number;
-          registries = registries_ending s.part.registries m.sender.number h;
-          waiting = s.part.waiting ++ notes_ending client m.sender.number h;
-        };
-      } in x)
-      (named_held s.part.store m.sender sender is)
-  after_end_is s false link is =
+  after_end_is s true link = refl
+  after_end_is s false link =
       ap (λ (waiting : List (Happening U)). let x : Stored T U C = record s { part = record s.part { link = link; waiting = waiting } } in x)
       (append-nil s.part.waiting)
 
@@ -166,11 +124,10 @@ module _ {T U C : Type 0} (client : ClientParts) (m : SessionMessage) (sender : 
 
     -- the event was written, or its write failed and not for want of memory
     pub sent : (s s1 s2 : Stored T U C) (ends : Bool) (n : ℕ) (mid : LinkState T) (written : Result (Unit {0}) IoFault) (lacked : Bool)
-        → named s.part.store m.sender ≡ Some sender
         → Wrote sends s.part.link (wire_message m) written mid → lacked_memory written ≡ false
         → s1 ≡ after_end s ends mid → n ≡ m.sender.number → TellsEnd sends s1 n ends written lacked s2
         → Does s (λ p did q. SendsGranted sends client p m sender ends (Ok tt) lacked did q) s2
-    sent s s1 s2 ends n mid written lacked is (es, wrote) went ended n-is (told, after, puts, lacked-is, closed) =
+    sent s s1 s2 ends n mid written lacked (es, wrote) went ended n-is (told, after, puts, lacked-is, closed) =
         by written wrote went
         (subst (λ (k : ℕ). PutsEnd sends mid k ends written told after) n-is
         (subst (λ (x : Stored T U C). PutsEnd sends x.part.link n ends written told after) ended puts))
@@ -187,7 +144,7 @@ module _ {T U C : Type 0} (client : ClientParts) (m : SessionMessage) (sender : 
         after-is did notes =
             told_closing s.serial c after s.made told s2 (none_ended ends)
             (subst (λ (x : Stored T U C). MatchResult told (λ _. s2 ≡ x) (λ _. Does x (λ p did q. Kills p ConnectionClosed did q) s2))
-            (ap (λ (x : Stored T U C). let y : Stored T U C = record x { part = with_link x.part after } in y) ended ∙ after_end_is s ends after is) closed)
+            (ap (λ (x : Stored T U C). let y : Stored T U C = record x { part = with_link x.part after } in y) ended ∙ after_end_is s ends after) closed)
             ∙ ap (λ (l : List (Happening U)). client_of s.serial (closing c told) after (s.made ++ l)) (sym notes)
 
         by : (written : Result (Unit {0}) IoFault) → WroteBy sends s.part.link (wire_message m) es written mid → lacked_memory written ≡ false
@@ -220,13 +177,12 @@ module _ {T U C : Type 0} (client : ClientParts) (m : SessionMessage) (sender : 
             )
 
     -- there was no room for the note of its sender's end
-    pub no_room : (s s1 : Stored T U C) (ends : Bool) → named s.part.store m.sender ≡ Some sender
-        → IsTrue (has_data (ending ends s.part.store m.sender.number)) → s1 ≡ s
+    pub no_room : (s s1 : Stored T U C) (ends : Bool) → AsksForMemory sender ends → s1 ≡ s
         → Does s (λ p did q. SendsGranted sends client p m sender ends (Err refused.OutOfMemory) true did q) s1
-    no_room s s1 ends is has same = (
+    no_room s s1 ends asks same = (
       [],
       s.part,
-      inl (asks_memory ends s.part.store m.sender sender is has, refl, refl, refl, refl),
+      inl (asks, refl, refl, refl, refl),
       same ∙ ap (λ (made : List (Happening U)). let x : Stored T U C = record s { made = made } in x) (sym (append-nil s.made)),
     )
 

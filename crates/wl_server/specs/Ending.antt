@@ -1,12 +1,12 @@
 -- What the functions that end an object say to their callers.
-use Rattle.std.specs.Prelude.{◌≡◌, ℕ, List, [], Bool, true, false, Option, None, Some, is_some, Result, Err, MatchResult}
+use Rattle.std.specs.Prelude.{◌≡◌, ℕ, List, [], Bool, true, false, Result, Err, MatchResult}
 use Rattle.wl_wire.specs.declared.error.IoFault.{IoFault}
 use Rattle.wl_link.specs.declared.object.Object.{Object}
 use Rattle.wl_link.specs.Exchange.{Queue}
 use Rattle.wl_link.specs.Identity.{Id}
 use Rattle.wl_link.specs.Link.{LinkState}
 use Rattle.wl_link.specs.Puts.{Said, lacked_memory}
-use Rattle.wl_link.specs.Store.{Store, held, removed}
+use Rattle.wl_link.specs.Store.{Store, removed}
 use Rattle.wl_server.specs.declared.kept.Kept.{Kept}
 use Rattle.wl_server.specs.declared.note.DisconnectReason.TheVariants.{ConnectionClosed}
 use Rattle.wl_server.specs.declared.note.Happening.{Happening}
@@ -38,26 +38,17 @@ TellsEnd {T = T} sends before n ends written refused after =
     (λ _. Does (record before { part = with_link before.part link }) (λ p did q. Kills p ConnectionClosed did q) after)
 
 module _ {U : Type 0} where
-  -- what a number holds that is ended; and the store without it
-  abbrev pub ending : Bool → Store (Kept U) → ℕ → Option (Object (Kept U))
-  ending true store n = held store n
-  ending false store n = None
-
+  -- the store without what a number holds, where that is ended
   abbrev pub store_ending : Bool → Store (Kept U) → ℕ → Store (Kept U)
   store_ending true store n = removed store n
   store_ending false store n = store
 
-  -- it has user data
-  abbrev pub has_data : Option (Object (Kept U)) → Bool
-  has_data None = false
-  has_data (Some x) = is_some x.value.user_data
-
-  -- the note of its end
-  abbrev pub notes_ending : ClientParts → ℕ → Option (Object (Kept U)) → List (Happening U)
-  notes_ending client n None = []
-  notes_ending client n (Some x) = note_of_end client n x
-
   -- the registries without it
-  abbrev pub registries_ending : List Id → ℕ → Option (Object (Kept U)) → List Id
-  registries_ending registries n None = registries
-  registries_ending registries n (Some x) = registries_without registries n x
+  abbrev pub registries_ending : Bool → List Id → ℕ → Object (Kept U) → List Id
+  registries_ending true registries n x = registries_without registries n x
+  registries_ending false registries n x = registries
+
+  -- the note of it
+  abbrev pub notes_ending : Bool → ClientParts → ℕ → Object (Kept U) → List (Happening U)
+  notes_ending true client n x = note_of_end client n x
+  notes_ending false client n x = []

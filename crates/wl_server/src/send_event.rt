@@ -1,22 +1,21 @@
 //! The sending of an event.
 
-ghost use Rattle.std.specs.Prelude.{◌≡◌, ◌<◌, ◌++◌, IsTrue, OnErr, OnOk, Some, map};
+ghost use Rattle.std.specs.Prelude.{◌≡◌, ◌<◌, ◌++◌, IfSome, OnErr, OnOk, Some, map};
 ghost use Rattle.std.specs.VecDeque.{deque_capacity, deque_len};
 ghost use Rattle.wl_link.specs.declared.object.Object.{Object};
-ghost use Rattle.wl_link.specs.Puts.{lacked_memory};
+ghost use Rattle.wl_link.specs.Store.{held};
 ghost use Rattle.wl_server.specs.declared.kept.Kept.{Kept};
 ghost use Rattle.wl_server.specs.declared.step.Reply.TheVariants as reply;
 ghost use Rattle.wl_server.specs.declared.step.Step.TheVariants as step;
 ghost use Rattle.wl_server.specs.Backend.{Calls};
 ghost use Rattle.wl_server.specs.Client.{Does};
-ghost use Rattle.wl_server.specs.Ending.{ending, has_data, notes_ending, registries_ending, store_ending, PutsEnd, TellsEnd};
-ghost use Rattle.wl_server.specs.Events.{SendsEvent, SendsGranted, session_content};
+ghost use Rattle.wl_server.specs.Ending.{notes_ending, registries_ending, store_ending, PutsEnd, TellsEnd};
+ghost use Rattle.wl_server.specs.Events.{AsksForMemory, SendsEvent, SendsGranted, session_content};
 ghost use Rattle.wl_server.specs.Part.{named};
 ghost use Rattle.wl_server.specs.PartStep.{over};
 
 use crate::backend::Backend;
 use crate::client::Client;
-use crate::client_id::ClientId;
 use crate::error::EventError;
 use crate::event_check::{OwnNumbers, check_event};
 use crate::handler::GlobalHandler;
@@ -24,67 +23,53 @@ use crate::kept::Kept;
 use crate::note::Happening;
 use crate::note_numbers::NoteNumbers;
 use crate::object_id::ObjectId;
-use crate::objects::{id_at, note_waiting, take_out};
+use crate::objects::{reserve_note, take_out_noted};
 use crate::registry::Registry;
-use crate::telling::put_delete_id;
+use crate::telling::{lacks_memory, put_delete_id};
 use std::alloc::Global;
 use std::collections::VecDeque;
 use wl_link::{BufferedSocket, ObjectMap, Transport};
 use wl_wire::{IoFault, Message, OutOfMemory, Protocol, Token};
 
-/// Makes room for the note of the object of this number, where it has user data and the event ends it.
+/// Makes room for the note of the sender, where the event ends it and it has user data.
 fn make_room<U: Drop>(
     objects: &ObjectMap<Kept<U>>,
     waiting: &mut VecDeque<(u128, Happening<U>)>,
-    number: u32,
+    sender: &ObjectId,
     ends: bool,
 ) -> Result<(), OutOfMemory>
     ensures items { waiting.new.items ≡ waiting.old.items }
-    ensures asked { OnErr result (IsTrue (has_data (ending ends objects.now.store number))) }
-    ensures room { OnOk result (IsTrue (has_data (ending ends objects.now.store number)) → deque_len waiting.new < deque_capacity waiting.new) }
+    ensures asked { OnErr result (IfSome (held objects.now.store sender.now.number) (λ x. AsksForMemory x ends)) }
+    ensures room { OnOk result (IfSome (held objects.now.store sender.now.number) (λ x. AsksForMemory x ends → deque_len waiting.new < deque_capacity waiting.new)) }
 {
     if !ends {
         return Ok(());
     }
-    let Some(object) = objects.find(number) else {
-        return Ok(());
-    };
-    if object.value.user_data.is_some() {
-        waiting.reserve(1)?;
+    match objects.find(sender.protocol_id()) {
+        Some(object) => reserve_note(waiting, object),
+        None => Ok(()),
     }
-    Ok(())
 }
 
-/// Takes the object of this number out, where the event ends it. If it had user data, its note waits for the next cleanup.
+/// Takes the sender out, where the event ends it. If it had user data, its note waits for the next cleanup.
 fn end_sender<U: Drop>(
     objects: &mut ObjectMap<Kept<U>>,
     registries: &mut Vec<Registry>,
     waiting: &mut VecDeque<(u128, Happening<U>)>,
     numbers: &mut NoteNumbers,
-    client: &ClientId,
-    number: u32,
+    sender: &ObjectId,
     ends: bool,
 )
-    requires { IsTrue (has_data (ending ends objects.old.store number)) → deque_len waiting.old < deque_capacity waiting.old }
-    ensures store { objects.new.store ≡ store_ending ends objects.old.store number }
-    ensures registries { registries.new.items ≡ registries_ending registries.old.items number (ending ends objects.old.store number) }
-    ensures waiting { map (λ w. w.1) waiting.new.items ≡ map (λ w. w.1) waiting.old.items ++ notes_ending client.now number (ending ends objects.old.store number) }
+    requires { IfSome (held objects.old.store sender.now.number) (λ x. AsksForMemory x ends → deque_len waiting.old < deque_capacity waiting.old) }
+    ensures store { objects.new.store ≡ store_ending ends objects.old.store sender.now.number }
+    ensures registries { IfSome (held objects.old.store sender.now.number)
+        (λ x. registries.new.items ≡ registries_ending ends registries.old.items sender.now.number x) }
+    ensures waiting { IfSome (held objects.old.store sender.now.number)
+        (λ x. map (λ w. w.1) waiting.new.items ≡ map (λ w. w.1) waiting.old.items ++ notes_ending ends sender.now.client sender.now.number x) }
 {
-    if !ends {
-        return;
+    if ends {
+        take_out_noted(objects, registries, waiting, numbers, sender);
     }
-    let Some(object) = take_out(objects, registries, number) else {
-        return;
-    };
-    let id = id_at(client, number, &object);
-    note_waiting(waiting, numbers, id, object.value.user_data);
-}
-
-/// Whether a write met a want of memory.
-fn lacked_memory(written: &Result<(), IoFault>) -> bool
-    ensures { result ≡ lacked_memory written.now }
-{
-    matches!(written, Err(IoFault::OutOfMemory))
 }
 
 /// Tells the client that the number is free again, where an event was written that ends the number's object. The answer is
@@ -126,21 +111,20 @@ impl<T: Transport + Drop, U: Drop, C: Drop> Client<T, U, C> {
     /// out, also where it could not be written; without memory nothing is done.
     fn send_granted(
         &mut self,
-        id: &ClientId,
         numbers: &mut NoteNumbers,
         message: &Message<ObjectId, Token>,
         ends: bool,
     ) -> (Result<(), EventError>, bool)
         ensures { (sender : Object (Kept U)) → named self.old.part.store message.now.sender_id ≡ Some sender
-            → Does self.old (λ p did q. SendsGranted T.sends id.now p (session_content message.now) sender ends result.0 result.1 did q) self.new }
+            → Does self.old (λ p did q. SendsGranted T.sends message.now.sender_id.client p (session_content message.now) sender ends result.0 result.1 did q) self.new }
     {
-        let number = message.sender_id.protocol_id();
-        let room = make_room(&self.objects, &mut self.waiting, number, ends);
+        let sender = &message.sender_id;
+        let room = make_room(&self.objects, &mut self.waiting, sender, ends);
         if room.is_err() {
             return (Err(EventError::OutOfMemory), true);
         }
         let written = self.socket.write_numbered(message, &OwnNumbers);
-        if lacked_memory(&written) {
+        if lacks_memory(written) {
             return (Err(EventError::OutOfMemory), true);
         }
         end_sender(
@@ -148,11 +132,13 @@ impl<T: Transport + Drop, U: Drop, C: Drop> Client<T, U, C> {
             &mut self.registries,
             &mut self.waiting,
             numbers,
-            id,
-            number,
+            sender,
             ends,
         );
-        (Ok(()), self.tell_end(numbers, number, ends, written))
+        (
+            Ok(()),
+            self.tell_end(numbers, sender.protocol_id(), ends, written),
+        )
     }
 
     /// Sends an event of one of the client's objects, and answers whether memory was refused, too. To a killed client
@@ -160,17 +146,17 @@ impl<T: Transport + Drop, U: Drop, C: Drop> Client<T, U, C> {
     pub fn send_event(
         &mut self,
         protocol: &Protocol,
-        id: &ClientId,
         numbers: &mut NoteNumbers,
         message: &Message<ObjectId, Token>,
     ) -> (Result<(), EventError>, bool)
-        ensures { Does self.old (λ p did q. SendsEvent T.sends id.now protocol.now p (session_content message.now) result.0 result.1 did q) self.new }
+        ensures { Does self.old (λ p did q. SendsEvent T.sends message.now.sender_id.client protocol.now p (session_content message.now) result.0 result.1 did q) self.new }
     {
         if self.is_killed {
             return (Ok(()), false);
         }
-        match check_event(protocol, id, &self.objects, message) {
-            Ok(ends) => self.send_granted(id, numbers, message, ends),
+        let client = message.sender_id.client();
+        match check_event(protocol, &client, &self.objects, message) {
+            Ok(ends) => self.send_granted(numbers, message, ends),
             Err(error) => (Err(error), false),
         }
     }
@@ -190,7 +176,6 @@ impl<T: Transport + Drop, U: Drop, G: GlobalHandler<C> + Drop, C: Drop> Backend<
             Some(client) => {
                 let (answer, lacked) = client.send_event(
                     &self.protocol,
-                    &id,
                     &mut self.numbers,
                     message,
                 );

@@ -1,4 +1,4 @@
-use Rattle.std.proofs.Common.{◌≡◌, ◌∙◌, ℕ, Err, List, Result, refl, sym, ap, subst}
+use Rattle.std.proofs.Common.{◌≡◌, ◌∙◌, ℕ, Err, List, Result, refl, sym, ap}
 use Rattle.wl_wire.specs.declared.argument.Token.{Token}
 use Rattle.wl_wire.specs.declared.error.IoFault.{IoFault}
 use Rattle.wl_wire.specs.declared.message.Message.{Message}
@@ -8,9 +8,8 @@ use Rattle.wl_server.specs.declared.error.EventError.{EventError}
 use Rattle.wl_server.specs.declared.error.EventError.TheVariants as refused
 use Rattle.wl_server.specs.declared.step.Reply.TheVariants as reply
 use Rattle.wl_server.specs.declared.step.Step.TheVariants as step
-use Rattle.wl_server.specs.Client.{Does}
 use Rattle.wl_server.specs.Events.{SendsEvent, session_content}
-use Rattle.wl_server.specs.Ids.{ClientParts, IdParts}
+use Rattle.wl_server.specs.Ids.{IdParts}
 use Rattle.wl_server.specs.PartStep.{Asked}
 use Rattle.wl_server.proofs.Calls.{IsOwn, done_at, not_stored}
 use Rattle.wl_server.proofs.Slots.{Kind, slot_in, slot_not_empty}
@@ -43,5 +42,4 @@ returns g c = rw (← c.self.view_is)
     (c.send_event-answer.result.0 ≡ unknown) (λ i l d b a h. (c.send_event-answer.result.0, refl, h))
     c.slot.result c.index_mut.result.now c.in-Some.client c.send_event-answer.new.self c.send_event-answer.result.1
     (rw (← c.client-id.ensures) (sym c.is_stored.ensures.stored ∙ c.if-not-is_stored.false)) (c.slot.ensures ∙ ap (λ i. i.slot) c.client-id.ensures) c.index_mut.ensures.value c.in-Some.is
-    (subst (λ (i : ClientParts). Does c.in-Some.client (λ p did q. SendsEvent g.T.Transport.sends i c.self.inside.protocol p (session_content c.args.message.now) c.send_event-answer.result.0 c.send_event-answer.result.1 did q) c.send_event-answer.new.self)
-    c.client-id.ensures c.send_event-answer.ensures))
+    c.send_event-answer.ensures)
