@@ -36,3 +36,4 @@ mod TakingNotes
 mod GatheredSlots
 mod Turning
 mod OutcomeRows
+mod Visiting

@@ -23,6 +23,7 @@ pub mod Puts
 pub mod Scripting
 pub mod Creation
 pub mod Destruction
+pub mod Walks
 pub mod Carried
 pub mod Inserting
 pub mod Gathering

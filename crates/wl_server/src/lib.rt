@@ -52,6 +52,7 @@ mod surroundings;
 mod take_notes;
 mod telling;
 mod turn;
+mod visits;
 
 pub use action::{Action, Reading};
 pub use backend::Backend;

@@ -16,7 +16,7 @@ use wl_wire::{InterfaceId, ObjectInfo};
 
 impl<T: Drop, U: Drop, G: Drop, C: Drop> Backend<T, U, G, C> {
     /// The client of that id, while it is stored.
-    fn client(&self, id: &ClientId) -> Option<&Client<T, U, C>>
+    pub(crate) fn client(&self, id: &ClientId) -> Option<&Client<T, U, C>>
         ensures { option_copied result ≡ client_at id.now self.now.server.clients }
     {
         let Some(Some(client)) = self.clients.get(id.slot() as usize) else {
