@@ -245,7 +245,8 @@ fn lacks<D>(answer: &Result<(), FinishRefused<D>>) -> bool
 }
 
 impl<T: Transport + Drop, U: Drop, G: GlobalHandler<C> + Drop, C: Drop> Backend<T, U, G, C> {
-    /// Ends the request that `next_action` handed out, and gives the object that it made its user data.
+    /// Ends the request that `next_action` handed out, and gives the object that it made, if that is still kept, these user
+    /// data.
     ///
     /// A request that ends its sender destroys it, while it is kept: its client is told that the number is free again, if
     /// it is one of its own, and the object is noted if it has user data. A client that cannot be told is killed, as one
@@ -254,7 +255,8 @@ impl<T: Transport + Drop, U: Drop, G: GlobalHandler<C> + Drop, C: Drop> Backend<
     /// The refusals are, in this order: `InvalidId` where the client is not stored; `NoOpenAction`; `WrongKind` where a bind
     /// is open; `MissingObjectData` where the request made an object, no data are given, and the client is not killed;
     /// `UnexpectedData` where it made none and data are given; `OutOfMemory` where there is none for the note or for what
-    /// the client is told. Each gives the data back, and leaves the action open and the objects as they were.
+    /// the client is told. Each gives the data back, and leaves the action open and all else as it was, but that after
+    /// `OutOfMemory` what a flush of the telling sent or dropped is gone from the link, and a storage that grew stays so.
     pub fn finish_request(
         &mut self,
         client: &ClientId,

@@ -1,13 +1,13 @@
 //! Errors that are posted on objects.
 
-ghost use Rattle.std.specs.Prelude.{◌≡◌, ℕ, List, IfOk, true, false};
+ghost use Rattle.std.specs.Prelude.{◌≡◌, List, true, false};
 ghost use Rattle.wl_wire.specs.Table.{InterfaceRow};
 ghost use Rattle.wl_link.specs.Puts.{FlushesOut};
 ghost use Rattle.wl_server.specs.Backend.{Calls};
 ghost use Rattle.wl_server.specs.Carried.{IsCarried};
 ghost use Rattle.wl_server.specs.Client.{Does};
 ghost use Rattle.wl_server.specs.Errors.{error_messages, error_of, posts, PostsError};
-ghost use Rattle.wl_server.specs.Part.{display_of, with_link};
+ghost use Rattle.wl_server.specs.Part.{with_link};
 ghost use Rattle.wl_server.specs.PartStep.{over};
 ghost use Rattle.wl_server.specs.Puts.{Puts};
 ghost use Rattle.wl_server.specs.Telling.{core_of};
@@ -16,16 +16,15 @@ ghost use Rattle.wl_server.specs.declared.step.Step.TheVariants as step;
 
 use crate::backend::Backend;
 use crate::client::Client;
-use crate::client_id::ClientId;
 use crate::handler::GlobalHandler;
 use crate::note::DisconnectReason;
 use crate::note_numbers::NoteNumbers;
 use crate::object_id::ObjectId;
 use crate::objects::named_in;
 use crate::protocol_error::posted_error;
-use crate::telling::{DISPLAY, lacks_memory, put_error};
+use crate::telling::{lacks_memory, put_error};
 use wl_link::Transport;
-use wl_wire::{CString, IoFault, OutOfMemory, Protocol, ProtocolError, WL_DISPLAY_INTERFACE};
+use wl_wire::{CString, IoFault, Protocol, ProtocolError};
 
 impl<T: Transport + Drop, U: Drop, C: Drop> Client<T, U, C> {
     /// Posts an error on an object: it is told to the client where it is not killed and the object is kept, what waits is
@@ -113,9 +112,9 @@ impl<T: Transport + Drop, U: Drop, C: Drop> Client<T, U, C> {
 }
 
 impl<T: Transport + Drop, U: Drop, G: GlobalHandler<C> + Drop, C: Drop> Backend<T, U, G, C> {
-    /// Posts an error on an object: its client is told of it, what waits for the client is flushed, and the client is
-    /// killed. It is noted as disconnected for this error, or as closed where the error could not be told or memory was
-    /// refused for its texts.
+    /// Posts an error on an object: its client is told of it, what waits for the client is flushed, where a fault is
+    /// dropped, and the client is killed. It is noted as disconnected for this error; or as closed where the error could
+    /// not be told, or where memory was refused for its texts: then nothing is told or flushed.
     ///
     /// The error is told where the client is not killed and the id names an object. An error on another object of a stored
     /// client is told to nobody, and kills the client all the same. To a killed client nothing is told; what waits is
