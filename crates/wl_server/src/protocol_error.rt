@@ -1,6 +1,6 @@
 //! The errors that a client is killed for.
 
-ghost use Rattle.std.specs.Prelude.{◌≡◌, [], ◌++◌, false, codes, IfOk, option_copied};
+ghost use Rattle.std.specs.Prelude.{◌≡◌, [], ◌++◌, false, codes, IfOk};
 ghost use Rattle.std.specs.Fmt.{decimal};
 ghost use Rattle.std.specs.Option.{option_map_or};
 ghost use Rattle.std.specs.Str.Lossy.{utf8_lossy};
@@ -55,8 +55,8 @@ pub fn new_id_text(alloc: Global, number: u32) -> Result<CString, OutOfMemory>
 }
 
 /// The name that a client gives an interface, as a text; a null is an empty one.
-fn given_name(alloc: Global, name: Option<&CString>) -> Result<String, OutOfMemory>
-    ensures text { IfOk result (λ text. string_bytes text ≡ utf8_lossy (option_map_or (λ t. t) (option_copied name.entry) [])) }
+fn given_name(alloc: Global, name: &Option<CString>) -> Result<String, OutOfMemory>
+    ensures text { IfOk result (λ text. string_bytes text ≡ utf8_lossy (option_map_or (λ t. t) name.now [])) }
     ensures no_zero { IfOk result (λ text. holds_zero (string_bytes text) ≡ false) }
 {
     let Some(name) = name else {
@@ -72,11 +72,11 @@ fn given_name(alloc: Global, name: Option<&CString>) -> Result<String, OutOfMemo
 #[inline(never)]
 pub fn bind_text(
     alloc: Global,
-    interface: Option<&CString>,
+    interface: &Option<CString>,
     version: u32,
     global: u32,
 ) -> Result<CString, OutOfMemory>
-    ensures { IfOk result (λ text. text ≡ text_of_bind (option_map_or (λ t. t) (option_copied interface.entry) []) version global) }
+    ensures { IfOk result (λ text. text ≡ text_of_bind (option_map_or (λ t. t) interface.now []) version global) }
 {
     let interface = given_name(alloc, interface)?;
     let text = format!(in alloc;

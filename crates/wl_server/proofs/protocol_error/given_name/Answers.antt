@@ -15,6 +15,6 @@ returns-in_default-clause-text c = rw c.in_default.is (c.new.ensures.bytes ∙ s
 
 pub returns-clause-no_zero : goal.returns-clause-no_zero
 returns-clause-no_zero c =
-    if_ok (λ text. string_bytes text ≡ utf8_lossy c.in-Some.name.now) (λ text. holds_zero (string_bytes text) ≡ false) c.to_string_lossy.result
-    (λ text is. ap holds_zero is ∙ free_lossy c.in-Some.name.now (free_string c.in-Some.name.now c.as_bytes-bytes.ensures.no_zero))
+    if_ok (λ text. string_bytes text ≡ utf8_lossy c.in-Some.name) (λ text. holds_zero (string_bytes text) ≡ false) c.to_string_lossy.result
+    (λ text is. ap holds_zero is ∙ free_lossy c.in-Some.name (free_string c.in-Some.name c.as_bytes-bytes.ensures.no_zero))
     c.to_string_lossy.ensures

@@ -1,4 +1,4 @@
-use Rattle.std.proofs.Common.{◌≡◌, false, true}
+use Rattle.std.proofs.Common.{false, true}
 use Rattle.wl_server.proofs.Posting.{posted_live}
 use Rattle.wl_server.proofs.client.Client.post_made.Goals as goal
 
