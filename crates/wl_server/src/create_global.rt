@@ -1,7 +1,9 @@
 //! The call that creates a global.
 
-ghost use Rattle.std.specs.Prelude.{◌≤◌, length};
+ghost use Rattle.std.specs.Prelude.{◌≤◌, IfSome, length};
+ghost use Rattle.wl_link.specs.Identity.{names};
 ghost use Rattle.wl_server.specs.Backend.{Calls};
+ghost use Rattle.wl_server.specs.Globals.{global_serial};
 ghost use Rattle.wl_server.specs.News.{HearsNew};
 ghost use Rattle.wl_server.specs.PartStep.{over};
 ghost use Rattle.wl_server.specs.Places.{AllFeel, PlaceFeels};
@@ -17,7 +19,7 @@ use crate::globals::{create, global_in};
 use crate::handler::GlobalHandler;
 use crate::kept::KeptGlobal;
 use crate::note_numbers::NoteNumbers;
-use wl_link::{Object, Transport};
+use wl_link::{Object, ObjectMap, Transport};
 use wl_wire::{InterfaceId, Protocol};
 
 /// Tells the client of a slot of a new global, if it is live and may see it. The answer is whether memory was refused.
@@ -65,6 +67,25 @@ fn tell_new<T: Transport + Drop, U: Drop, G: GlobalHandler<C>, C: Drop>(
     refused
 }
 
+/// Tells each live client that may see it of the global that the id names, if there is one. The answer is whether memory
+/// was refused.
+fn tell_named<T: Transport + Drop, U: Drop, G: GlobalHandler<C> + Drop, C: Drop>(
+    clients: &mut [Option<Client<T, U, C>>],
+    numbers: &mut NoteNumbers,
+    protocol: &Protocol,
+    globals: &ObjectMap<KeptGlobal<G>>,
+    id: &GlobalId,
+) -> bool
+    requires { length clients.old ≤ 0x100000000 }
+    ensures { IfSome (names global_serial (record { number = id.now.name; serial = id.now.serial }) globals.now.store)
+        (λ global. AllFeel (HearsNew T.sends G.views protocol.now id.now global) result (length clients.old) clients.old clients.new) }
+{
+    match global_in(globals, id) {
+        Some(global) => tell_new(clients, numbers, protocol, id, global),
+        None => false,
+    }
+}
+
 impl<T: Transport + Drop, U: Drop, G: GlobalHandler<C> + Drop, C: Drop> Backend<T, U, G, C> {
     /// Creates a global, at the least name that no other has, and tells the registries of each live client that may see it.
     ///
@@ -87,25 +108,21 @@ impl<T: Transport + Drop, U: Drop, G: GlobalHandler<C> + Drop, C: Drop> Backend<
             version,
             handler,
         );
-        let id = match created {
-            Ok(id) => id,
-            Err(error) => {
-                self.refused = matches!(error, GlobalError::OutOfMemory);
-                return Err(error);
-            }
-        };
-        match global_in(&self.globals, &id) {
-            Some(global) => {
-                self.refused = tell_new(
+        match created {
+            Ok(id) => {
+                self.refused = tell_named(
                     &mut self.clients,
                     &mut self.numbers,
                     &self.protocol,
+                    &self.globals,
                     &id,
-                    global,
                 );
+                Ok(id)
             }
-            None => unreachable!(),
+            Err(error) => {
+                self.refused = matches!(error, GlobalError::OutOfMemory);
+                Err(error)
+            }
         }
-        Ok(id)
     }
 }

@@ -1,7 +1,6 @@
 use Rattle.std.proofs.Common.{◌≡◌, ◌∙◌, Bool, ℕ, List, Option, Err, Result, ap, false, length, refl, subst, sym, true}
-use Rattle.std.specs.Prelude.{vec_len}
+use Rattle.std.specs.Prelude.{IfSome, vec_len}
 use Rattle.std.proofs.lemmas.List.{with_items_is}
-use Rattle.std.proofs.lemmas.Option.{same_Some}
 use Rattle.wl_wire.specs.declared.interface.InterfaceId.{InterfaceId}
 use Rattle.wl_link.specs.declared.object.Object.{Object}
 use Rattle.wl_server.specs.declared.error.GlobalError.{GlobalError}
@@ -37,8 +36,8 @@ growth : (T U G C : Type 0) (i : InterfaceId) (version : ℕ) (handler : G) (e :
 growth T U G C i version handler refused.OutOfMemory = refl
 growth T U G C i version handler e = refl
 
-pub returns-in-Err : goal.returns-in-Err
-returns-in-Err g c = rw (← c.self.view_is)
+pub returns-after-matches : goal.returns-after-matches
+returns-after-matches g c = rw (← c.self.view_is)
     (unfelt_call _ _ _ _ (felt _ _ _ _) c.match-matches.self _ (ap (λ (gs : Globals _). let o : Offer _ = record { table = c.self.inside.protocol; globals = gs; default_limit = c.self.inside.default_limit } in o) c.in-Err.ensures.globals)
     c.in-Err.ensures.answer
     (growth g.row.T.Denot g.row.U.Denot g.row.G.Denot g.row.C.Denot c.args.interface c.args.version c.args.handler c.in-Err.error
@@ -48,17 +47,17 @@ returns-in-Err g c = rw (← c.self.view_is)
     ])
     (λ id b. (_, refl, (refl, refl, refl))))
 
-pub returns : goal.returns
-returns g c =
-    let len : length c.tell_new-self-inside.new.clients ≡ vec_len c.self.inside.clients = c.tell_new-self-inside.ensures.len ∙ c.deref_mut.ensures.len in
-    let all = subst (λ (x : Object (KeptGlobal _)). AllFeel (HearsNew g.T.Transport.sends g.G.GlobalHandler.views c.self.inside.protocol c.in-Ok.id x)
-    c.tell_new-self-inside.result (length c.self.inside.clients.items) c.self.inside.clients.items c.tell_new-self-inside.new.clients)
-    (same_Some _ _ (c.in-Some.ensures ∙ c.in-Ok.ensures.kept))
-    (subst (λ (xs : List (Option (Stored _ _ _))). AllFeel (HearsNew g.T.Transport.sends g.G.GlobalHandler.views c.self.inside.protocol c.in-Ok.id c.in-Some.global.now)
-    c.tell_new-self-inside.result (length xs) xs c.tell_new-self-inside.new.clients) c.deref_mut.ensures.value c.tell_new-self-inside.ensures) in
-    rw (← c.self.view_is, with_items_is c.self.inside.clients c.tell_new-self-inside.new.clients len)
-    (felt_call _ _ _ _ (felt _ _ _ _)
-    (HearsNew g.T.Transport.sends g.G.GlobalHandler.views c.self.inside.protocol c.in-Ok.id (new_global c.args.interface c.args.version c.in-Ok.id.serial c.args.handler))
-    c.tell_new-self-inside.result _ c.tell_new-self-inside.new.clients
+pub returns-in-Ok : goal.returns-in-Ok
+returns-in-Ok g c =
+    let new = new_global c.args.interface c.args.version c.in-Ok.id.serial c.args.handler in
+    let all =
+    subst (λ (xs : List (Option (Stored _ _ _))). AllFeel (HearsNew g.T.Transport.sends g.G.GlobalHandler.views c.self.inside.protocol c.in-Ok.id new)
+    c.tell_named-self-inside.result (length xs) xs c.tell_named-self-inside.new.clients) c.deref_mut.ensures.value
+    (subst (λ (o : Option (Object (KeptGlobal _))). IfSome o (λ x. AllFeel (HearsNew g.T.Transport.sends g.G.GlobalHandler.views c.self.inside.protocol c.in-Ok.id x)
+    c.tell_named-self-inside.result (length c.deref_mut.result.now) c.deref_mut.result.now c.tell_named-self-inside.new.clients)) c.in-Ok.ensures.kept c.tell_named-self-inside.ensures) in
+    let len : length c.tell_named-self-inside.new.clients ≡ vec_len c.self.inside.clients = all.len ∙ sym c.self.inside.clients.ok.0 in
+    rw (← c.self.view_is, with_items_is c.self.inside.clients c.tell_named-self-inside.new.clients len)
+    (felt_call _ _ _ _ (felt _ _ _ _) (HearsNew g.T.Transport.sends g.G.GlobalHandler.views c.self.inside.protocol c.in-Ok.id new)
+    c.tell_named-self-inside.result _ c.tell_named-self-inside.new.clients
     (ap (λ (gs : Globals _). let o : Offer _ = record { table = c.self.inside.protocol; globals = gs; default_limit = c.self.inside.default_limit } in o) c.in-Ok.ensures.globals)
     c.in-Ok.ensures.answer refl (λ i l d b a h. (_, refl, h)) all)
