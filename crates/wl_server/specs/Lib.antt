@@ -45,6 +45,7 @@ pub mod ExchangeLaws
 pub mod NumberLaws
 pub mod PartOutcome
 pub mod OutcomeLaws
+pub mod OfferLaws
 pub mod RunOutcome
 pub mod MoveLaws
 pub mod ShareLaws

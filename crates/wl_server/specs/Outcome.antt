@@ -104,6 +104,11 @@ module _ {T U G C : Type 0} where
   HasMemory [] = Unit {0}
   HasMemory (e ∷ run) = (e.lacked ≡ false) × (lacks_growth e.call ≡ false) × HasMemory run
 
+  -- memory is not refused for what a shared call makes of its own
+  abbrev pub AreAmple : List (Own T U G C) → Type 0
+  AreAmple [] = Unit {0}
+  AreAmple (e ∷ run) = (lacks_growth e.call ≡ false) × AreAmple run
+
   -- the calls are the client's own or shared
   abbrev pub AreOwn : ClientParts → List (Own T U G C) → Type 0
   AreOwn id [] = Unit {0}
@@ -145,6 +150,14 @@ module _ {T G C : Type 0} where
       (id : ClientParts) (offer : Offer G) (before after after' : Seen T U C) (run run' : List (Own T U G C)) →
       AreOwn id run → SameSteps run run' → HasMemory run → HasMemory run' → AreNumbered offer run → AreNumbered offer run' →
       Alone w id offer before run after → Alone w id offer before run' after' → SameRun id run run' × (after ≡ after')
+
+  -- The offer that two runs of a new server lead to: one, where the shared calls are of the same steps, and those that name
+  -- some client id.
+  abbrev pub OffersHaveOneOutcome : Type 0 → World T G C → Type 0
+  OffersHaveOneOutcome U w =
+      (table : List InterfaceRow) (id : ClientParts) (run run' : List (Entry T U G C)) (after after' : ServerState T U G C) →
+      Leads w (new_server table) run after → Leads w (new_server table) run' after' →
+      SameSteps (mine id run) (mine id run') → AreAmple (mine id run) → AreAmple (mine id run') → after.offer ≡ after'.offer
 
   -- the call inserts this client, with this transport and these data
   abbrev pub InsertsAs : {U : Type 0} → ClientParts → T → C → Entry T U G C → Type 0

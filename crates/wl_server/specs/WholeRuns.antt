@@ -16,7 +16,7 @@ use Rattle.wl_server.specs.Outcome.{ArrivesSame, IsDetermined, SameCall, SameSte
 use Rattle.wl_server.specs.OutcomeLaws.{call_one, part_as}
 use Rattle.wl_server.specs.PartOutcome.{SameFelt}
 use Rattle.wl_server.specs.PartStep.{Asked, Call, Changed, PartCall, PartStep, World}
-use Rattle.wl_server.specs.RunOutcome.{numbers_as, offer_as, offer_one, shared_same}
+use Rattle.wl_server.specs.OfferLaws.{answered_step, numbers_as, offer_as, offer_one, shared_same}
 use Rattle.wl_server.specs.Server.{Seen, ServerState, seen}
 use Rattle.wl_server.specs.Steps.{Entry, InsertsNext, NumbersClient, NumbersGlobal, OneStep, RisesBySlot, inserted_by, lacks_growth, offer_after}
 use Rattle.wl_server.specs.WholeLaws.{ample_by, inserts_there, slots_same, whole_one}
@@ -89,7 +89,8 @@ module _ {T U G C : Type 0} where
         let one = inserts_next_one s.last_client s.clients r r' (inserted_allowed k r (subst (λ z. Ample k z) is ample)) (inserted_allowed k r' (subst (λ z. Ample k z) is' ample')) here back in
         is ∙ ap (λ (z : Result ClientParts InsertClientError). let a : Reply T U = reply.InsertClient z in a) one ∙ sym is'
     whole_shared any (step.CreateGlobal i version handler) p q ample ample' c c' n n' h g =
-        shared_same w known any s.offer (seen any s) (d any) (e any) (x any) (y any) (step.CreateGlobal i version handler) p q refl ample ample' n n' h g
+        let k : Step T U G C = step.CreateGlobal i version handler in
+        shared_same any s.offer k p q refl ample ample' n n' (answered_step w any s.offer k p _ _ _ _ h) (answered_step w any s.offer k q _ _ _ _ g)
     whole_shared any k p q ample ample' c c' n n' h g = tt
 
     call_whole : (call call' : Call T U G C) → SameCall call call' → lacks_growth call ≡ false → lacks_growth call' ≡ false → NumbersClient s call → NumbersClient t call'

@@ -14,7 +14,7 @@ ghost use Rattle.wl_server.specs.declared.step.Reply.{Reply};
 ghost use Rattle.wl_server.specs.declared.step.Step.{Step};
 ghost use Rattle.wl_server.specs.Globals.{CreatesGlobal, Globals};
 ghost use Rattle.wl_server.specs.Ids.{ClientParts, GlobalParts};
-ghost use Rattle.wl_server.specs.Outcome.{OwnRunsHaveOneOutcome, ClientsHaveOneOutcome, StepsHaveOneOutcome};
+ghost use Rattle.wl_server.specs.Outcome.{ClientsHaveOneOutcome, OffersHaveOneOutcome, OwnRunsHaveOneOutcome, StepsHaveOneOutcome};
 ghost use Rattle.wl_server.specs.PartStep.{over, over_scripts, share_of};
 ghost use Rattle.wl_server.specs.Runs.{AreIsolated, IsIsolated, Leads, Performs};
 ghost use Rattle.wl_server.specs.Server.{ServerState, Stored, new_server};
@@ -47,11 +47,13 @@ pub fn each_client_of_a_script_is_alone<U, G: GlobalHandler<C>, C>()
 /// Where memory is not refused, a step determines its deeds with each client and what is then held of it; and where the
 /// step is the client's own or shared, what it replies to this client, up to where lists lie in memory. So it is of a
 /// client's own calls and the shared ones, one after another, and of two runs of a server whatever other clients do in
-/// them: the definitions of the calls leave no choice but whether memory is there.
+/// them: the definitions of the calls leave no choice but whether memory is there. The offer in which a client begins is
+/// determined by the shared calls before.
 pub fn each_client_has_one_outcome<T: Transport, U, G: GlobalHandler<C>, C>()
     ensures step { IsFunction T.sends → IsReceiveFunction T.receives → StepsHaveOneOutcome U (over T.sends T.receives G.views) }
     ensures alone { IsFunction T.sends → IsReceiveFunction T.receives → OwnRunsHaveOneOutcome U (over T.sends T.receives G.views) }
     ensures client { IsFunction T.sends → IsReceiveFunction T.receives → ClientsHaveOneOutcome U (over T.sends T.receives G.views) }
+    ensures offer { OffersHaveOneOutcome U (over T.sends T.receives G.views) }
 {}
 
 /// The same over the transport by script.
@@ -59,6 +61,7 @@ pub fn each_client_of_a_script_has_one_outcome<U, G: GlobalHandler<C>, C>()
     ensures step { StepsHaveOneOutcome U (over_scripts G.views) }
     ensures alone { OwnRunsHaveOneOutcome U (over_scripts G.views) }
     ensures client { ClientsHaveOneOutcome U (over_scripts G.views) }
+    ensures offer { OffersHaveOneOutcome U (over_scripts G.views) }
 {}
 
 /// What a server answers of what all its clients share has one outcome, where memory is not refused: the id of a new

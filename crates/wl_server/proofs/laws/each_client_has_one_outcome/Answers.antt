@@ -1,4 +1,5 @@
 use Rattle.wl_server.specs.MoveLaws.{transport_determined}
+use Rattle.wl_server.specs.OfferLaws.{offers_one}
 use Rattle.wl_server.specs.OutcomeLaws.{same_step_one}
 use Rattle.wl_server.specs.RunOutcome.{alone_one, client_one}
 use Rattle.wl_server.proofs.laws.each_client_has_one_outcome.Goals as goal
@@ -12,3 +13,6 @@ returns-clause-alone g c = λ function receive_function. alone_one _ (transport_
 
 pub returns-clause-client : goal.returns-clause-client
 returns-clause-client g c = λ function receive_function. client_one _ (transport_determined _ _ g.G.GlobalHandler.views function receive_function)
+
+pub returns-clause-offer : goal.returns-clause-offer
+returns-clause-offer g c = offers_one _
