@@ -56,3 +56,5 @@ pub mod WholeLaws
 pub mod WholeRuns
 pub mod LookupLaws
 pub mod BaseMovesLaw
+pub mod Identified
+pub mod IdentityLaws
