@@ -12,10 +12,15 @@ ghost use Rattle.wl_server.specs.declared.error.InsertClientError.{InsertClientE
 ghost use Rattle.wl_server.specs.declared.error.InsertClientError.TheVariants as insert;
 ghost use Rattle.wl_server.specs.declared.step.Reply.{Reply};
 ghost use Rattle.wl_server.specs.declared.step.Step.{Step};
+<<<<<<< HEAD
 ghost use Rattle.wl_server.specs.Globals.{CreatesGlobal, Globals};
 ghost use Rattle.wl_server.specs.Ids.{ClientParts, GlobalParts};
 ghost use Rattle.wl_server.specs.Outcome.{ClientsHaveOneOutcome, OffersHaveOneOutcome, OwnRunsHaveOneOutcome, StepsHaveOneOutcome};
 ghost use Rattle.wl_server.specs.PartStep.{over, over_scripts, share_of};
+=======
+ghost use Rattle.wl_server.specs.Identified.{EachHasOwnIds, HaveOwnIds};
+ghost use Rattle.wl_server.specs.PartStep.{over, over_scripts};
+>>>>>>> db6e2b6 (The identity law of a server, over every transport and over the transport by script)
 ghost use Rattle.wl_server.specs.Runs.{AreIsolated, IsIsolated, Leads, Performs};
 ghost use Rattle.wl_server.specs.Server.{ServerState, Stored, new_server};
 ghost use Rattle.wl_server.specs.ShareLaws.{RiseBySlot};
@@ -42,6 +47,7 @@ pub fn each_client_of_a_script_is_alone<U, G: GlobalHandler<C>, C>()
         Performs (over_scripts G.views) (new_server table) steps after → AreIsolated (over_scripts G.views) table steps after }
 {}
 
+<<<<<<< HEAD
 /// What a server does with a client has one outcome, over every transport whose answers follow from its value.
 ///
 /// Where memory is not refused, a step determines its deeds with each client and what is then held of it; and where the
@@ -97,4 +103,22 @@ pub fn each_run_of_a_server_over_scripts_has_one_outcome<U, G: GlobalHandler<C>,
 /// known of a client, an object and a global, and what handler a global has.
 pub fn servers_that_are_the_same_answer_alike<T, U, G, C>()
     ensures { (s t : ServerState T U G C) → SameServer s t → AnswersAlike s t }
+=======
+/// The identity law of a server, over every transport.
+///
+/// Over every run of calls of a new server, each client that was inserted has changes, a list of them for each of its own
+/// calls and the shared ones, by which its objects come to what they are. Each id that a reply or an action hands out is of
+/// that client, and is made in its call of the object that it then names, that of a new object of one that the call puts
+/// there; the id of a note is made where its object leaves. It names that object exactly while that is kept and its client
+/// stored, and afterwards none. No object leaves twice.
+pub fn each_id_names_its_own_object<T: Transport, U, G: GlobalHandler<C>, C>()
+    ensures { (table : List InterfaceRow) (run : List (Entry T U G C)) (after : ServerState T U G C) →
+        Leads (over T.sends T.receives G.views) (new_server table) run after → EachHasOwnIds (over T.sends T.receives G.views) table run after }
+{}
+
+/// The same over the transport by script, of steps with their replies.
+pub fn each_id_of_a_script_names_its_own_object<U, G: GlobalHandler<C>, C>()
+    ensures { (table : List InterfaceRow) (steps : List (RunEntry (Step Script U G C) (Reply Script U))) (after : ServerState Script U G C) →
+        Performs (over_scripts G.views) (new_server table) steps after → HaveOwnIds (over_scripts G.views) table steps after }
+>>>>>>> db6e2b6 (The identity law of a server, over every transport and over the transport by script)
 {}

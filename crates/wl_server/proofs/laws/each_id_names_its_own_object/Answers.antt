@@ -1,0 +1,5 @@
+use Rattle.wl_server.specs.IdentityLaws.{each_has_own_ids}
+use Rattle.wl_server.proofs.laws.each_id_names_its_own_object.Goals as goal
+
+pub returns : goal.returns
+returns g c = λ table run after leads. each_has_own_ids _ table run after leads
