@@ -12,15 +12,11 @@ ghost use Rattle.wl_server.specs.declared.error.InsertClientError.{InsertClientE
 ghost use Rattle.wl_server.specs.declared.error.InsertClientError.TheVariants as insert;
 ghost use Rattle.wl_server.specs.declared.step.Reply.{Reply};
 ghost use Rattle.wl_server.specs.declared.step.Step.{Step};
-<<<<<<< HEAD
 ghost use Rattle.wl_server.specs.Globals.{CreatesGlobal, Globals};
 ghost use Rattle.wl_server.specs.Ids.{ClientParts, GlobalParts};
 ghost use Rattle.wl_server.specs.Outcome.{ClientsHaveOneOutcome, OffersHaveOneOutcome, OwnRunsHaveOneOutcome, StepsHaveOneOutcome};
-ghost use Rattle.wl_server.specs.PartStep.{over, over_scripts, share_of};
-=======
 ghost use Rattle.wl_server.specs.Identified.{EachHasOwnIds, HaveOwnIds};
-ghost use Rattle.wl_server.specs.PartStep.{over, over_scripts};
->>>>>>> db6e2b6 (The identity law of a server, over every transport and over the transport by script)
+ghost use Rattle.wl_server.specs.PartStep.{over, over_scripts, share_of};
 ghost use Rattle.wl_server.specs.Runs.{AreIsolated, IsIsolated, Leads, Performs};
 ghost use Rattle.wl_server.specs.Server.{ServerState, Stored, new_server};
 ghost use Rattle.wl_server.specs.ShareLaws.{RiseBySlot};
@@ -47,7 +43,6 @@ pub fn each_client_of_a_script_is_alone<U, G: GlobalHandler<C>, C>()
         Performs (over_scripts G.views) (new_server table) steps after → AreIsolated (over_scripts G.views) table steps after }
 {}
 
-<<<<<<< HEAD
 /// What a server does with a client has one outcome, over every transport whose answers follow from its value.
 ///
 /// Where memory is not refused, a step determines its deeds with each client and what is then held of it; and where the
@@ -103,7 +98,7 @@ pub fn each_run_of_a_server_over_scripts_has_one_outcome<U, G: GlobalHandler<C>,
 /// known of a client, an object and a global, and what handler a global has.
 pub fn servers_that_are_the_same_answer_alike<T, U, G, C>()
     ensures { (s t : ServerState T U G C) → SameServer s t → AnswersAlike s t }
-=======
+
 /// The identity law of a server, over every transport.
 ///
 /// Over every run of calls of a new server, each client that was inserted has changes, a list of them for each of its own
@@ -120,5 +115,4 @@ pub fn each_id_names_its_own_object<T: Transport, U, G: GlobalHandler<C>, C>()
 pub fn each_id_of_a_script_names_its_own_object<U, G: GlobalHandler<C>, C>()
     ensures { (table : List InterfaceRow) (steps : List (RunEntry (Step Script U G C) (Reply Script U))) (after : ServerState Script U G C) →
         Performs (over_scripts G.views) (new_server table) steps after → HaveOwnIds (over_scripts G.views) table steps after }
->>>>>>> db6e2b6 (The identity law of a server, over every transport and over the transport by script)
 {}
