@@ -201,7 +201,7 @@ module _ {T U G C : Type 0} (w : World T G C) (id : ClientParts) (offer : Offer 
           on_part w.sends w.receives id s _ missing lacked did t (doings_of (made_ids r) did) refl
           (λ none m. ap (λ (ids : List HandedId). doings_of ids did) (none_made m) ∙ ap (doings_of []) none)
           (λ p q (no_memory, none, created). subst (λ (ds : List (Deed U)). Go w.sends w.receives id p (doings_of (made_ids r) ds) q) (sym none)
-              (creates_moves w.sends w.receives id offer.table p i version u r q created)) h
+          (creates_moves w.sends w.receives id offer.table p i version u r q created)) h
       go false (no_memory, none, same) = unfelt (ap (doings_of []) none) same
 
   global_goes : (i : InterfaceId) (version : ℕ) (handler : G) (r : Result GlobalParts GlobalError) (s : Seen T U C) (lacked : Bool) (did : List (Deed U)) (t : Seen T U C)

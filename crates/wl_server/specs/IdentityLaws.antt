@@ -556,6 +556,7 @@ module _ {T U G C : Type 0} (w : World T G C) (id : ClientParts) (offer : Offer 
         | inl (none, ((is, same), rest)) ↦ absurd (subst (λ (a : Result Handed ActionError). IsAmong (answer_ids a) i) is among)
         | inr (p, there, (q, next, after)) ↦ read_ids r p answer r' lacked did q next i among
       ]
+
   abbrev Covers : Call T U G C → List (Deed U) → Type 0
   Covers call did = (i : HandedId) → IsAmong (ids_in call) i → IsAmong (handed_by id call did) i
 

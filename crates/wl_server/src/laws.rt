@@ -98,6 +98,7 @@ pub fn each_run_of_a_server_over_scripts_has_one_outcome<U, G: GlobalHandler<C>,
 /// known of a client, an object and a global, and what handler a global has.
 pub fn servers_that_are_the_same_answer_alike<T, U, G, C>()
     ensures { (s t : ServerState T U G C) → SameServer s t → AnswersAlike s t }
+{}
 
 /// The identity law of a server, over every transport.
 ///
