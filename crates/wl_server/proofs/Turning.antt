@@ -1,5 +1,5 @@
 -- How turns and receives join to a reading of a client.
-use Rattle.std.proofs.Common.{◌≡◌, ◌≢◌, ◌⊎◌, ◌∙◌, ℕ, suc, ◌+◌, ◌<◌, ◌≤◌, min, Bool, true, false, ◌&&◌, ◌||◌, not, List, [], ◌∷◌, ◌++◌, append-nil, append_assoc, length, Option, None, Some, is_none, option_map, Result, Ok, Err, MatchResult, refl, sym, ap, ap₂, subst, arith}
+use Rattle.std.proofs.Common.{◌≡◌, ◌≢◌, ◌⊎◌, ◌∙◌, ℕ, suc, ◌+◌, ◌<◌, ◌≤◌, min, Bool, true, false, ◌&&◌, ◌||◌, not, List, [], ◌∷◌, ◌++◌, append-nil, append_assoc, length, map, Option, None, Some, is_none, option_map, Result, Ok, Err, MatchResult, refl, sym, ap, ap₂, subst, arith}
 use mathlib.Core.Logic.{inl, inr}
 use Rattle.wl_wire.specs.declared.argument.Argument.{Argument}
 use Rattle.wl_wire.specs.declared.argument.Token.{Token}
@@ -32,14 +32,14 @@ use Rattle.wl_server.specs.declared.response.Response.{Response}
 use Rattle.wl_server.specs.Client.{Does}
 use Rattle.wl_server.specs.Ids.{IdParts}
 use Rattle.wl_server.specs.Responses.{core_with, response_to}
-use Rattle.wl_server.specs.Deeds.{Deed, Handed, notes_in}
+use Rattle.wl_server.specs.Deeds.{Deed, Handed, Sent, notes_in}
 use Rattle.wl_server.specs.Part.{Part}
-use Rattle.wl_server.specs.Reading.{Around, action_in, answered, faulted, reads_on, request, request_to, row_asks, row_in, server}
+use Rattle.wl_server.specs.Reading.{Around, action_in, NextAction, ReadsTo, answered, exchanges_in, faulted, read_on, reads_on, request, request_to, row_asks, row_in, server}
 use Rattle.wl_server.specs.Server.{Stored}
-use Rattle.wl_server.specs.Telling.{Core, Kills, Told, core_of, deeds_in, end_deeds, part_of, reader_part}
-use Rattle.wl_server.specs.Turns.{Acts, Ended, EndsAs, Goes, GoesOn, HasNoNote, IsHandled, IsSilent, LacksIn, LacksMore, Leads, Live, NotTaken, ReadsIn, ReceivedTo, Says, Turned, Turns, Waited, answer_of, counted, linked, refused_of, stored_as}
+use Rattle.wl_server.specs.Telling.{Core, Kills, Told, core_of, deeds_in, deeds_of, end_deeds, part_of, reader_part}
+use Rattle.wl_server.specs.Turns.{Acts, Ended, EndsAs, Fills, Goes, GoesOn, HasNoNote, IsHandled, IsSilent, LacksIn, LacksMore, Leads, Live, NotTaken, ReadsIn, Says, Turned, Turns, Waited, answer_of, counted, linked, refused_of, stored_as}
 use Rattle.wl_server.proofs.Handling.{from_there}
-use Rattle.wl_server.proofs.Notes.{notes_append}
+use Rattle.wl_server.proofs.Notes.{notes_append, notes_of_sends}
 use Rattle.wl_server.proofs.Posting.{kills_is}
 
 abbrev most : ℕ
@@ -315,3 +315,184 @@ module _ {T U G C : Type 0} (sends : T → Queue → Result ℕ IoFault → T �
       let found : v ≡ (server a).handles (core_of s.part) m = sym verdict ∙ sym (ap₂ (request a (core_of s.part) m) k.1 is) in
       turn_handled s r r' live v link to after (m, read, found)
       (from_there sends v (linked s link) mid after to refl refl refl handled) fewer left count
+
+  -- ---- receives
+
+  pub goes_within : (s m : Stored T U C) (r q : Reading) → Goes sends receives a s r m q → q.read ≤ most
+  goes_within s m r q g = let e = g.read in omega (arith, e)
+
+  module _ (s : Stored T U C) (r q : Reading) (live : Live s.part) (within : r.read ≤ most) (lacks : LacksIn sends receives a s.part) (left : r.turns_left ≡ suc q.turns_left)
+      (read : q.read ≡ r.read) where
+    abbrev reads_none : List Turn
+    reads_none = []
+
+    is_read : q.read ≡ counted r.read 0
+    is_read = read ∙ counted_none r.read within
+
+    -- a receive after which it goes on
+    pub fills_goes : (after : Stored T U C) → Fills receives s None after → Goes sends receives a s r after q
+    fills_goes after (inr (impossible, same), finds, is) = absurd (never impossible)
+      where
+        never : ◌≡◌ {A = Result (Unit {0}) IoFault} (Ok tt) (Err fault.OutOfMemory) → ⊥
+        never e = cc
+    fills_goes after (inl (rc, made), finds, is) = record {
+      first = Received rc ∷ [];
+      gave = [];
+      leads = λ turns rest end reads. (
+        live_reads s.part live,
+        lacks,
+        (
+          q.turns_left,
+          left,
+          (
+            after.part.link,
+            (made.0, refl, made.2),
+            λ memory. finds,
+            subst (λ (c : Result (Unit {0}) IoFault). MatchResult c (λ _. Reads sends (server a) receives q.turns_left (record { core = core_of s.part; link = after.part.link }) turns rest end)
+                (λ f. (turns ≡ []) × (behind [] false rest ≡ stops (Some f) (lacked_memory (Err f)) q.turns_left)
+                × (end ≡ record { core = faulted (core_of s.part) f; link = after.part.link }))) made.1
+                (subst (λ (x : Stored T U C). Reads sends (server a) receives q.turns_left (record { core = core_of x.part; link = x.part.link }) turns rest end) is reads),
+          ),
+        ),
+      );
+      silent = λ rest. refl;
+      no_note = refl;
+      read = is_read;
+      live = (ap (λ (x : Stored T U C). x.part.is_killed) is ∙ live.0, ap (λ (x : Stored T U C). x.part.action) is ∙ live.1);
+      serial = ap (λ (x : Stored T U C). x.serial) is;
+      made = ap (λ (x : Stored T U C). x.made) is;
+    }
+
+    -- a receive that ends it
+    pub fills_ends : (end : NoAction) (after : Stored T U C) → Fills receives s (Some end) after → EndsAs sends receives a s r (Err end) after q
+    fills_ends end after (link, inl (rc, made), finds, refused, is) =
+        let out : Gives (Told U) = stops (Some end.fault) (lacked_memory (Err end.fault)) q.turns_left in
+        let last : ReaderPart T (Core U C) = record { core = faulted (core_of s.part) end.fault; link = link } in
+        record {
+          turns = Received rc ∷ [];
+          out = out;
+          end = last;
+          reads = (
+            live_reads s.part live,
+            lacks,
+            (
+              q.turns_left,
+              left,
+              (
+                link,
+                (made.0, refl, made.2),
+                λ memory. finds (λ is'. memory (sym made.1 ∙ ap (λ (g : IoFault). let r : Result (Unit {0}) IoFault = Err g in r) is')),
+                subst (λ (c : Result (Unit {0}) IoFault). MatchResult c (λ _. Reads sends (server a) receives q.turns_left (record { core = core_of s.part; link = link }) [] out last)
+                    (λ f. (reads_none ≡ []) × (out ≡ stops (Some f) (lacked_memory (Err f)) q.turns_left)
+                    × (last ≡ record { core = faulted (core_of s.part) f; link = link }))) made.1 (refl, refl, refl),
+              ),
+            ),
+          );
+          answer_is = refl;
+          refused_is = refused;
+          left = refl;
+          read = is_read;
+          no_note = refl;
+          after_is = is;
+        }
+    fills_ends end after (link, inr (failed, same), finds, refused, is) =
+        let memory : end.fault ≡ fault.OutOfMemory = memory_is end.fault failed in
+        let out : Gives (Told U) = stops (Some fault.OutOfMemory) true q.turns_left in
+        record {
+          turns = [];
+          out = out;
+          end = reader_part s.part;
+          reads = (refl, at_true (out ≡ stops None false r.turns_left) (reads_on (core_of s.part)) (live_reads s.part live) (inr (inr (lacks, (q.turns_left, left, refl)))));
+          answer_is = ap (λ (f : IoFault). let r : Result Handed ActionError = Err (Io f) in r) memory;
+          refused_is = refused ∙ ap (λ (f : IoFault). lacked_memory (Err f)) memory;
+          left = refl;
+          read = is_read;
+          no_note = refl;
+          after_is = is ∙ ap (λ (f : IoFault). stored_as s (record { core = faulted (core_of s.part) f; link = link })) memory
+              ∙ ap (λ (l : LinkState T). stored_as s (record { core = core_of s.part; link = l })) same;
+        }
+      where
+        memory_is : (f : IoFault) → ◌≡◌ {A = Result (Unit {0}) IoFault} (Err f) (Err fault.OutOfMemory) → f ≡ fault.OutOfMemory
+        memory_is f is' = cc
+
+-- a receive is no note, nor is a send
+notes_of_exchanges : {U : Type 0} (turns : List Turn) → notes_in {U = U} (exchanges_in turns) ≡ []
+notes_of_exchanges [] = refl
+notes_of_exchanges (Received r ∷ turns) = notes_of_exchanges turns
+notes_of_exchanges {U = U} (Handled es ∷ turns) =
+    notes_append (map Sent es) (exchanges_in turns) ∙ ap (λ (l : List (Happening U)). l ++ notes_in (exchanges_in turns)) (notes_of_sends es) ∙ notes_of_exchanges turns
+notes_of_exchanges {U = U} (Unread es ∷ turns) =
+    notes_append (map Sent es) (exchanges_in turns) ∙ ap (λ (l : List (Happening U)). l ++ notes_in (exchanges_in turns)) (notes_of_sends es) ∙ notes_of_exchanges turns
+
+module _ {T U G C : Type 0} (sends : T → Queue → Result ℕ IoFault → T → Type 0) (receives : T → ℕ → Result Queue IoFault → T → Type 0) (a : Around G C)
+    (s after : Stored T U C) (r r' : Reading) where
+  abbrev pub NextDoes : Result Handed ActionError → Bool → Type 0
+  NextDoes answer refused = Does s (λ p did q. NextAction sends receives a r p answer r' refused did q) after
+
+  -- a reading that ended is what is told of one
+  pub reading_done : (answer : Result Handed NoAction) → Live s.part → EndsAs sends receives a s r answer after r' → NextDoes (answer_of answer) (refused_of answer)
+  reading_done answer live e =
+      let did : List (Deed U) = deeds_of (exchanges_in e.turns) e.out.gave e.end.core in
+      let notes : notes_in did ≡ notes_in (end_deeds {U = U} e.end.core.ended)
+      = notes_append (exchanges_in e.turns) (deeds_in e.out.gave ++ end_deeds e.end.core.ended)
+          ∙ ap (λ (l : List (Happening U)). l ++ notes_in (deeds_in e.out.gave ++ end_deeds e.end.core.ended)) (notes_of_exchanges e.turns)
+          ∙ notes_append (deeds_in e.out.gave) (end_deeds e.end.core.ended)
+          ∙ ap (λ (l : List (Happening U)). l ++ notes_in (end_deeds {U = U} e.end.core.ended)) e.no_note in
+      let reading : r' ≡ read_on r e.out.left (handled_in e.turns)
+      = ap₂ (λ (n m : ℕ). let x : Reading = record { turns_left = n; read = m } in x) e.left e.read in
+      let reads : ReadsTo sends receives a r s.part (answer_of answer) r' (refused_of answer) did (part_of e.end)
+      = (e.turns, e.out, e.end, e.reads, e.answer_is, reading, e.refused_is, refl, refl) in
+      (
+        did,
+        part_of e.end,
+        rw (live.1, live.0) reads,
+        e.after_is ∙ ap (λ (l : List (Happening U)). let x : Stored T U C = record { serial = s.serial; part = part_of e.end; made = s.made ++ l } in x) (sym notes),
+      )
+
+abbrev pub failed_with : IoFault → Result (Unit {0}) IoFault
+failed_with f = Err f
+
+pub failed_same : (f : IoFault) → failed_with f ≡ failed_with fault.OutOfMemory → f ≡ fault.OutOfMemory
+failed_same f is = cc
+
+pub ok_other : (u : Unit {0}) → ◌≢◌ {A = Result (Unit {0}) IoFault} (Ok u) (Err fault.OutOfMemory)
+ok_other u is = cc
+
+-- a fault after which more may come
+pub fault_stays : {T U C : Type 0} (receives : T → ℕ → Result Queue IoFault → T → Type 0) (s : Stored T U C) (link : LinkState T) (f : IoFault)
+    → faulted (core_of s.part) f ≡ core_of s.part → Filled receives s.part.link (Err f) link → (failed_with f ≢ failed_with fault.OutOfMemory → FindsRoom s.part.link link.room)
+    → Fills receives s (Some (record { fault = f; refused = lacked_memory (Err f) })) (linked s link)
+fault_stays receives s link f same filled finds = (
+  link,
+  filled,
+  λ other. finds (λ is. other (failed_same f is)),
+  refl,
+  stored_live s (record s.part { link = link }) ∙ ap (λ (c : Core _ _). stored_as s (record { core = c; link = link })) (sym same),
+)
+
+-- a fault that kills
+pub fault_fills : {T U C : Type 0} (receives : T → ℕ → Result Queue IoFault → T → Type 0) (s after : Stored T U C) (link : LinkState T) (f : IoFault)
+    → f ≢ fault.WouldBlock → f ≢ fault.OutOfMemory → Filled receives s.part.link (Err f) link → (failed_with f ≢ failed_with fault.OutOfMemory → FindsRoom s.part.link link.room)
+    → Does (linked s link) (λ p did q. Kills p ConnectionClosed did q) after
+    → Fills receives s (Some (record { fault = f; refused = false })) after
+fault_fills receives s after link f blocks memory filled finds kills =
+    (link, filled, λ other. finds (λ is. memory (failed_same f is)), sym (lacks_none f memory), kills_is (linked s link) after ConnectionClosed kills ∙ closes f blocks memory)
+  where
+    lacks_none : (f : IoFault) → f ≢ fault.OutOfMemory → lacked_memory (Err f) ≡ false
+    lacks_none fault.WouldBlock memory = refl
+    lacks_none fault.Pipe memory = refl
+    lacks_none fault.TooBig memory = refl
+    lacks_none fault.Proto memory = refl
+    lacks_none fault.InvalidInput memory = refl
+    lacks_none fault.OutOfMemory memory = absurd (memory refl)
+    lacks_none (fault.Other n) memory = refl
+
+    closes : (f : IoFault) → f ≢ fault.WouldBlock → f ≢ fault.OutOfMemory
+        → stored_as s (record { core = faulted (core_of s.part) fault.Pipe; link = link }) ≡ stored_as s (record { core = faulted (core_of s.part) f; link = link })
+    closes fault.WouldBlock blocks memory = absurd (blocks refl)
+    closes fault.Pipe blocks memory = refl
+    closes fault.TooBig blocks memory = refl
+    closes fault.Proto blocks memory = refl
+    closes fault.InvalidInput blocks memory = refl
+    closes fault.OutOfMemory blocks memory = absurd (memory refl)
+    closes (fault.Other n) blocks memory = refl

@@ -1,18 +1,23 @@
 -- What the functions of a reading say to each other.
-use Rattle.std.specs.Prelude.{◌≡◌, ◌⊎◌, ◌<◌, ◌≤◌, ◌+◌, ℕ, min, length, List, [], ◌++◌, Bool, true, false, Option, None, Some, option_map, Result, Ok, Err}
+use Rattle.std.specs.Prelude.{◌≡◌, ◌≢◌, ◌⊎◌, ◌<◌, ◌≤◌, ◌+◌, ℕ, min, length, List, [], ◌∷◌, ◌++◌, Bool, true, false, Option, None, Some, option_map, Result, Ok, Err}
 use Rattle.std.specs.Borrow.{Bor}
 use Rattle.wl_wire.specs.declared.argument.Argument.{Argument}
+use Rattle.wl_wire.specs.declared.argument.ArgumentType.{ArgumentType}
 use Rattle.wl_wire.specs.declared.argument.Token.{Token}
 use Rattle.wl_wire.specs.declared.error.IoFault.{IoFault}
+use Rattle.wl_wire.specs.declared.error.IoFault.TheVariants as fault
 use Rattle.wl_wire.specs.declared.error.MessageParseError.{MessageParseError}
 use Rattle.wl_wire.specs.declared.error.MessageParseError.TheVariants as parse
 use Rattle.wl_wire.specs.declared.interface.MessageDesc.{MessageDesc}
+use Rattle.wl_wire.specs.Asked.{creates}
 use Rattle.wl_wire.specs.Message.{WireMessage}
 use Rattle.wl_wire.specs.Parse.{IsThere, opcode_of, sender_of}
 use Rattle.wl_wire.specs.Table.{InterfaceRow, MessageRow, message_row}
+use Rattle.wl_link.specs.declared.object.Object.{Object}
 use Rattle.wl_link.specs.Exchange.{Queue, Sending}
-use Rattle.wl_link.specs.Link.{LinkState, ReadOne}
-use Rattle.wl_link.specs.Reader.{CarriesOut, Given, Gives, Lacks, Reads, Turn, Verdict, behind, handled_in}
+use Rattle.wl_link.specs.Link.{Filled, FindsRoom, LinkState, ReadOne}
+use Rattle.wl_link.specs.Puts.{lacked_memory}
+use Rattle.wl_link.specs.Reader.{CarriesOut, FrontAsks, Given, Gives, Lacks, Reads, ReadsAs, Turn, Verdict, behind, handled_in}
 use Rattle.wl_link.specs.Reader.{Part as ReaderPart}
 use Rattle.wl_link.specs.Store.{Store, held}
 use Rattle.wl_server.specs.declared.action.Reading.{Reading}
@@ -28,9 +33,9 @@ use Rattle.wl_server.specs.declared.turn.TurnEnd.TheVariants as came
 use Rattle.wl_server.specs.Deeds.{Bind, Handed, Request, notes_in}
 use Rattle.wl_server.specs.Ids.{ClientParts, GlobalParts, IdParts}
 use Rattle.wl_server.specs.Part.{Part, with_link}
-use Rattle.wl_server.specs.Reading.{Around, action_in, answered, reads_on, row_asks, row_in, server}
+use Rattle.wl_server.specs.Reading.{Around, action_in, answered, faulted, reads_on, row_asks, row_in, server}
 use Rattle.wl_server.specs.Server.{Stored}
-use Rattle.wl_server.specs.Telling.{Core, Told, deeds_in, end_deeds, part_of, reader_part, speaker}
+use Rattle.wl_server.specs.Telling.{Core, Told, core_of, deeds_in, end_deeds, part_of, reader_part, speaker}
 
 -- what a reading asks beside its own client; the last serial of a global is none of that
 abbrev pub around_of : {G C : Type 0} → (G → ClientParts → C → GlobalParts → Bool) → Surroundings G → Around G C
@@ -199,7 +204,13 @@ module _ {T U G C : Type 0} (sends : T → Queue → Result ℕ IoFault → T �
   Waited before r None after r' = Goes before r after r' × (r'.turns_left ≡ r.turns_left) × LacksIn after.part
   Waited before r (Some answer) after r' = EndsAs before r answer after r'
 
-  -- a receive was made, or there was no memory for it
-  abbrev pub ReceivedTo : Stored T U C → Reading → Option NoAction → Stored T U C → Reading → Type 0
-  ReceivedTo before r None after r' = Goes before r after r'
-  ReceivedTo before r (Some end) after r' = EndsAs before r (Err end) after r'
+module _ {T U C : Type 0} (receives : T → ℕ → Result Queue IoFault → T → Type 0) where
+  -- a receive was made, or there was no memory for it; and why it ends the reading, if it does
+  abbrev pub Fills : Stored T U C → Option NoAction → Stored T U C → Type 0
+  Fills before None after =
+      Filled receives before.part.link (Ok tt) after.part.link × FindsRoom before.part.link after.part.link.room
+      × (after ≡ linked before after.part.link)
+  Fills before (Some end) after =
+      (link : LinkState T) × Filled receives before.part.link (Err end.fault) link
+      × (end.fault ≢ fault.OutOfMemory → FindsRoom before.part.link link.room) × (end.refused ≡ lacked_memory (Err end.fault))
+      × (after ≡ stored_as before (record { core = faulted (core_of before.part) end.fault; link = link }))

@@ -31,6 +31,7 @@ mod kill;
 mod laws;
 mod limits;
 mod lookups;
+mod next_action;
 mod note;
 mod note_numbers;
 mod object_id;
@@ -70,6 +71,9 @@ pub use laws::{
     each_run_of_a_server_over_scripts_has_one_outcome, servers_that_are_the_same_answer_alike,
     what_is_shared_has_one_outcome,
 };
+pub use handler::GlobalHandler;
+pub use laws::{each_client_is_alone, each_client_of_a_script_is_alone};
+pub use next_action::READ_TURNS;
 pub use note::{DisconnectReason, Note};
 pub use object_id::ObjectId;
 pub use step::{Reply, Step, Stopped};
