@@ -1,34 +1,18 @@
 -- How a registry is told of globals, one after another.
-use Rattle.std.proofs.Common.{◌≡◌, ◌∙◌, ℕ, Bool, true, false, List, [], ◌∷◌, ◌++◌, append-nil, append_assoc, map, Option, Some, Result, Ok, Err, refl, sym, ap, subst}
-use mathlib.Core.Logic.{inl, inr}
+use Rattle.std.proofs.Common.{◌≡◌, ◌∙◌, ℕ, true, false, List, [], ◌∷◌, ◌++◌, append-nil, append_assoc, map, Result, Ok, Err, refl, sym, ap, subst}
 use Rattle.std.specs.List.{filter}
-use Rattle.wl_wire.specs.declared.argument.Argument.TheVariants as arg
 use Rattle.wl_wire.specs.declared.error.IoFault.{IoFault}
-use Rattle.wl_wire.specs.declared.error.IoFault.TheVariants as fault
-use Rattle.wl_wire.specs.Message.{WireMessage}
-use Rattle.wl_wire.specs.Table.{InterfaceRow, name_of}
 use Rattle.wl_link.specs.declared.object.Object.{Object}
 use Rattle.wl_link.specs.Exchange.{Queue}
 use Rattle.wl_link.specs.Identity.{Id}
-use Rattle.wl_link.specs.Link.{LinkState, Wrote}
+use Rattle.wl_link.specs.Link.{LinkState}
 use Rattle.wl_link.specs.Puts.{Said}
 use Rattle.wl_server.specs.declared.kept.KeptGlobal.{KeptGlobal}
-use Rattle.wl_server.specs.Globals.{Shown, is_shown, shown_as}
+use Rattle.wl_server.specs.Globals.{is_shown, shown_as}
 use Rattle.wl_server.specs.Puts.{Puts}
 use Rattle.wl_server.specs.Reading.{Around}
 use Rattle.wl_server.specs.Telling.{global_message}
-use Rattle.wl_server.proofs.Putting.{puts_by, puts_failed, puts_more, puts_none, puts_one}
-
-module _ {T : Type 0} (sends : T → Queue → Result ℕ IoFault → T → Type 0) where
-  pub puts_global : (table : List InterfaceRow) (id : Id) (g : Shown) (before after : LinkState T) (answer : Result (Unit {0}) IoFault) (m : WireMessage) (n : ℕ)
-      (name : List ℕ) → m ≡ record { sender = n; opcode = 0; args = arg.Uint g.name ∷ arg.Str (Some name) ∷ arg.Uint g.version ∷ [] } → n ≡ id.number
-      → name ≡ name_of table g.interface.0 → Wrote sends before m answer after → Puts sends before (global_message table id g ∷ []) answer after
-  puts_global table id g before after answer m n name is number named wrote =
-      let message : (global_message table id g).message ≡ m = rw (← number, ← named) (sym is) in
-      puts_one sends before after (global_message table id g) answer (subst (λ (w : WireMessage). Wrote sends before w answer after) (sym message) wrote)
-
-  pub puts_no_name : (table : List InterfaceRow) (id : Id) (g : Shown) (before : LinkState T) → Puts sends before (global_message table id g ∷ []) (Err fault.OutOfMemory) before
-  puts_no_name table id g before = puts_by sends before before (global_message table id g) [] (Err fault.OutOfMemory) (inr (refl, refl, refl, refl))
+use Rattle.wl_server.proofs.Putting.{puts_failed, puts_more, puts_none}
 
 -- what a registry is told of these globals
 abbrev pub told_of_all : {G C : Type 0} → Around G C → C → Id → List (ℕ × Object (KeptGlobal G)) → List Said

@@ -1,9 +1,8 @@
 //! What the registries of a client are told.
 
-ghost use Rattle.std.specs.Prelude.{◌≡◌, ◌∷◌, [], false, IfOk, Some, map};
-ghost use Rattle.std.specs.String.{string_bytes};
+ghost use Rattle.std.specs.Prelude.{◌≡◌, ◌∷◌, [], IfOk, Some, map};
 ghost use Rattle.wl_wire.specs.declared.argument.Argument.TheVariants as arg;
-ghost use Rattle.wl_wire.specs.Table.{holds_zero, name_of};
+ghost use Rattle.wl_wire.specs.Table.{name_of};
 ghost use Rattle.wl_server.specs.Client.{Does};
 ghost use Rattle.wl_server.specs.Felt.{Hears, removals};
 ghost use Rattle.wl_server.specs.News.{HearsNew};
@@ -16,6 +15,7 @@ use crate::global_id::GlobalId;
 use crate::handler::GlobalHandler;
 use crate::kept::KeptGlobal;
 use crate::note_numbers::NoteNumbers;
+use crate::protocol_error::c_string;
 use crate::registry::Registry;
 use crate::telling::message_of_number;
 use smallvec::SmallVec;
@@ -28,17 +28,6 @@ const GLOBAL_REMOVE: u16 = 1;
 
 /// The opcode of `wl_registry.global`.
 const GLOBAL: u16 = 0;
-
-/// The text without a zero byte, as a string.
-fn c_string(text: String) -> CString
-    requires { holds_zero (string_bytes text) ≡ false }
-    ensures { result ≡ string_bytes text }
-{
-    match CString::new(text.into_bytes()) {
-        Ok(string) => string,
-        Err(_) => unreachable!(),
-    }
-}
 
 /// The name of an interface, as an argument.
 fn interface_name(
@@ -104,7 +93,7 @@ fn put_removals<T: Transport>(
 }
 
 /// Tells each registry of a global. Its text takes memory once, and none without a registry.
-fn put_global<T: Transport>(
+pub fn put_global_to_each<T: Transport>(
     alloc: Global,
     socket: &mut BufferedSocket<T>,
     protocol: &Protocol,
@@ -142,7 +131,7 @@ impl<T: Transport + Drop, U: Drop, C: Drop> Client<T, U, C> {
             return false;
         }
         let alloc = *self.registries.allocator();
-        let answer = put_global(
+        let answer = put_global_to_each(
             alloc,
             &mut self.socket,
             protocol,

@@ -1,65 +1,22 @@
 //! The globals that a new registry is told of.
 
-ghost use Rattle.std.specs.Prelude.{◌≡◌, ◌∷◌, [], IfOk, Some, map};
-ghost use Rattle.wl_wire.specs.declared.argument.Argument.TheVariants as arg;
-ghost use Rattle.wl_wire.specs.Message.{content};
-ghost use Rattle.wl_wire.specs.Table.{name_of};
-ghost use Rattle.wl_link.specs.Puts.{PutBy};
+ghost use Rattle.std.specs.Prelude.{◌≡◌, ◌∷◌, [], map};
 ghost use Rattle.wl_server.specs.Globals.{is_shown as global_is_shown, shown};
 ghost use Rattle.wl_server.specs.Part.{id_of};
 ghost use Rattle.wl_server.specs.Puts.{Puts};
 ghost use Rattle.wl_server.specs.Telling.{global_message};
 ghost use Rattle.wl_server.specs.Turns.{around_of};
 
+use crate::announce::put_global_to_each;
 use crate::global_id::GlobalId;
 use crate::handler::GlobalHandler;
 use crate::kept::KeptGlobal;
 use crate::object_id::ObjectId;
+use crate::registry::Registry;
 use crate::surroundings::Surroundings;
-use smallvec::SmallVec;
 use std::alloc::Global;
 use wl_link::{BufferedSocket, Object, Transport};
-use wl_wire::{Argument, CString, InterfaceId, IoFault, Message, OutOfMemory, Protocol, Token};
-
-/// The opcode of `wl_registry.global`.
-const GLOBAL: u16 = 0;
-
-/// The name of an interface as a string argument.
-fn interface_name(
-    alloc: Global,
-    protocol: &Protocol,
-    interface: InterfaceId,
-) -> Result<CString, OutOfMemory>
-    ensures { IfOk result (λ s. s ≡ name_of protocol.now interface.0) }
-{
-    let bytes = Vec::from_slice(alloc, protocol.name(interface).as_bytes())?;
-    // A name of the table has no zero in it.
-    match CString::new(bytes) {
-        Ok(name) => Ok(name),
-        Err(_) => Err(OutOfMemory),
-    }
-}
-
-/// `wl_registry.global`, by this registry.
-fn message_of_global(
-    alloc: Global,
-    sender_id: u32,
-    name: u32,
-    interface: CString,
-    version: u32,
-) -> Message<u32, Token>
-    ensures { content result ≡ record { sender = sender_id; opcode = 0; args = arg.Uint name ∷ arg.Str (Some interface) ∷ arg.Uint version ∷ [] } }
-{
-    let mut args = SmallVec::new(alloc);
-    args.push_reserved(Argument::Uint(name));
-    args.push_reserved(Argument::Str(Some(interface)));
-    args.push_reserved(Argument::Uint(version));
-    Message {
-        sender_id,
-        opcode: GLOBAL,
-        args,
-    }
-}
+use wl_wire::{InterfaceId, IoFault, Protocol};
 
 /// Tells a registry of a global.
 fn put_global<T: Transport>(
@@ -74,11 +31,19 @@ fn put_global<T: Transport>(
     ensures { Puts T.sends socket.old
         (global_message protocol.now (id_of registry.now) (record { name = name; interface = interface; version = version }) ∷ []) result socket.new }
 {
-    let Ok(interface) = interface_name(alloc, protocol, interface) else {
-        return Err(IoFault::OutOfMemory);
+    let registry = Registry {
+        number: registry.protocol_id(),
+        serial: registry.serial(),
     };
-    let message = message_of_global(alloc, registry.protocol_id(), name, interface, version);
-    socket.write_message(&message)
+    put_global_to_each(
+        alloc,
+        socket,
+        protocol,
+        &[registry],
+        name,
+        interface,
+        version,
+    )
 }
 
 /// Whether the client is shown the global.

@@ -11,7 +11,6 @@ mod arguments;
 mod backend;
 mod client;
 mod client_id;
-mod client_limit;
 mod create;
 mod create_global;
 mod destroy;

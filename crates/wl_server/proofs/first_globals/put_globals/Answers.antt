@@ -1,8 +1,8 @@
-use Rattle.std.proofs.Common.{sym, ap, ◌∙◌}
+use Rattle.std.proofs.Common.{sym, ◌∙◌}
 use Rattle.std.specs.FinMap.{entries}
 use Rattle.wl_server.specs.Part.{id_of}
 use Rattle.wl_server.specs.Turns.{around_of}
-use Rattle.wl_server.proofs.Announcing.{told_begins, told_ends, told_failed, told_hidden, told_one}
+use Rattle.wl_server.proofs.Announcing.{told_begins, told_failed, told_one}
 use Rattle.wl_server.proofs.first_globals.put_globals.Goals as goal
 
 pub loop-name-init : goal.loop-name-init

@@ -1,4 +1,4 @@
-use Rattle.std.proofs.Common.{List, map}
+use Rattle.std.proofs.Common.{map}
 use Rattle.wl_server.specs.Globals.{shown}
 use Rattle.wl_server.specs.Part.{id_of}
 use Rattle.wl_server.specs.Telling.{global_message}

@@ -18,4 +18,4 @@ returns g c =
     let told : Shown = record { name = c.args.id.now.name; interface = c.args.global.now.interface; version = c.args.global.now.version } in
     rw (← c.self.view_is)
     (seen_hears g.T.Transport.sends c.args.protocol.now _ told _ _ _ _ _ c.if-self.false (sym c.can_view.ensures ∙ c.if-not-can_view.false)
-    (rw (← c.deref.ensures.value, ← c.name.ensures) c.put_global-answer.ensures) c.told.ensures.refused c.told.ensures.closed)
+    (rw (← c.deref.ensures.value, ← c.name.ensures) c.put_global_to_each-answer.ensures) c.told.ensures.refused c.told.ensures.closed)

@@ -2,7 +2,7 @@ use Rattle.std.proofs.Common.{◌∙◌, refl, sym}
 use Rattle.std.proofs.lemmas.Bool.{eqb-true}
 use Rattle.wl_server.proofs.PutEach.{each_of_none, each_starved}
 use Rattle.wl_server.proofs.Slots.{other_of}
-use Rattle.wl_server.proofs.announce.put_global.Goals as goal
+use Rattle.wl_server.proofs.announce.put_global_to_each.Goals as goal
 
 pub returns-then-is_empty : goal.returns-then-is_empty
 returns-then-is_empty g c = each_of_none _ _ _ _ (eqb-true _ _ (sym c.is_empty.ensures ∙ c.if-is_empty.true))
