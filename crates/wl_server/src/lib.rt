@@ -73,6 +73,9 @@ pub use laws::{
 pub use handler::GlobalHandler;
 pub use laws::{each_client_is_alone, each_client_of_a_script_is_alone};
 pub use next_action::READ_TURNS;
+    each_client_is_alone, each_client_of_a_script_is_alone, each_id_names_its_own_object,
+    each_id_of_a_script_names_its_own_object,
+};
 pub use note::{DisconnectReason, Note};
 pub use object_id::ObjectId;
 pub use step::{Reply, Step, Stopped};
