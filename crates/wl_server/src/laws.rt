@@ -12,16 +12,11 @@ ghost use Rattle.wl_server.specs.declared.error.InsertClientError.{InsertClientE
 ghost use Rattle.wl_server.specs.declared.error.InsertClientError.TheVariants as insert;
 ghost use Rattle.wl_server.specs.declared.step.Reply.{Reply};
 ghost use Rattle.wl_server.specs.declared.step.Step.{Step};
-<<<<<<< HEAD
 ghost use Rattle.wl_server.specs.Globals.{CreatesGlobal, Globals};
 ghost use Rattle.wl_server.specs.Ids.{ClientParts, GlobalParts};
 ghost use Rattle.wl_server.specs.Outcome.{ClientsHaveOneOutcome, OffersHaveOneOutcome, OwnRunsHaveOneOutcome, StepsHaveOneOutcome};
 ghost use Rattle.wl_server.specs.Identified.{EachHasOwnIds, HaveOwnIds};
 ghost use Rattle.wl_server.specs.PartStep.{over, over_scripts, share_of};
-=======
-ghost use Rattle.wl_server.specs.Identified.{EachHasOwnIds, HaveOwnIds};
-ghost use Rattle.wl_server.specs.PartStep.{over, over_scripts};
->>>>>>> db6e2b6 (The identity law of a server, over every transport and over the transport by script)
 ghost use Rattle.wl_server.specs.Runs.{AreIsolated, IsIsolated, Leads, Performs};
 ghost use Rattle.wl_server.specs.Server.{ServerState, Stored, new_server};
 ghost use Rattle.wl_server.specs.ShareLaws.{RiseBySlot};
@@ -48,7 +43,6 @@ pub fn each_client_of_a_script_is_alone<U, G: GlobalHandler<C>, C>()
         Performs (over_scripts G.views) (new_server table) steps after → AreIsolated (over_scripts G.views) table steps after }
 {}
 
-<<<<<<< HEAD
 /// What a server does with a client has one outcome, over every transport whose answers follow from its value.
 ///
 /// Where memory is not refused, a step determines its deeds with each client and what is then held of it; and where the
@@ -106,8 +100,6 @@ pub fn servers_that_are_the_same_answer_alike<T, U, G, C>()
     ensures { (s t : ServerState T U G C) → SameServer s t → AnswersAlike s t }
 {}
 
-=======
->>>>>>> db6e2b6 (The identity law of a server, over every transport and over the transport by script)
 /// The identity law of a server, over every transport.
 ///
 /// Over every run of calls of a new server, each client that was inserted has changes, a list of them for each of its own

@@ -70,12 +70,6 @@ pub use laws::{
     each_run_of_a_server_over_scripts_has_one_outcome, servers_that_are_the_same_answer_alike,
     what_is_shared_has_one_outcome,
 };
-pub use handler::GlobalHandler;
-pub use laws::{each_client_is_alone, each_client_of_a_script_is_alone};
-pub use next_action::READ_TURNS;
-    each_client_is_alone, each_client_of_a_script_is_alone, each_id_names_its_own_object,
-    each_id_of_a_script_names_its_own_object,
-};
 pub use note::{DisconnectReason, Note};
 pub use object_id::ObjectId;
 pub use step::{Reply, Step, Stopped};
