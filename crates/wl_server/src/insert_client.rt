@@ -2,6 +2,7 @@
 
 ghost use Rattle.std.specs.Prelude.{◌≡◌, ℕ, ◌<◌, ◌≤◌, None, Some, IfOk, OnErr, OnOk, IsSome, ◌∷◌, [], map, MatchOption, length, vec_capacity, vec_len};
 ghost use Rattle.std.specs.VecDeque.{deque_capacity, deque_len};
+ghost use Rattle.wl_link.specs.Link.{IsFresh};
 ghost use Rattle.wl_link.specs.Store.{empty_store, stored};
 ghost use Rattle.wl_server.specs.Backend.{Calls};
 ghost use Rattle.wl_server.specs.Client.{IsInserted};
@@ -68,6 +69,58 @@ fn first_lists<U: Drop>(
     Ok((objects, made))
 }
 
+/// The link, the objects and the notes of a client in which nothing has happened but that it was inserted.
+fn first_parts<T: Drop, U: Drop>(
+    alloc: Global,
+    transport: T,
+    max_buffer_size: usize,
+    numbers: &mut NoteNumbers,
+) -> Result<
+    (
+        BufferedSocket<T>,
+        ObjectMap<Kept<U>>,
+        VecDeque<(u128, Happening<U>)>,
+    ),
+    OutOfMemory,
+>
+    ensures link { IfOk result (λ parts. IsFresh transport (Some max_buffer_size) parts.0) }
+    ensures objects { IfOk result (λ parts. parts.1.store ≡ stored empty_store 1 display_object) }
+    ensures notes { IfOk result (λ parts. map (λ m. m.1) parts.2.items ≡ Initialized ∷ []) }
+    ensures room { IfOk result (λ parts. deque_len parts.2 < deque_capacity parts.2) }
+{
+    let (objects, made) = first_lists(alloc, numbers)?;
+    let socket = BufferedSocket::new(alloc, transport, Some(max_buffer_size))?;
+    Ok((socket, objects, made))
+}
+
+impl<T: Drop, U: Drop, C: Drop> Client<T, U, C> {
+    /// A client in which nothing has happened but that it was inserted, which is noted.
+    fn new(
+        alloc: Global,
+        serial: u64,
+        transport: T,
+        max_buffer_size: usize,
+        info: C,
+        numbers: &mut NoteNumbers,
+    ) -> Result<Self, OutOfMemory>
+        ensures { IfOk result (IsInserted serial transport (Some max_buffer_size) info) }
+    {
+        let (socket, objects, made) = first_parts(alloc, transport, max_buffer_size, numbers)?;
+        Ok(Client {
+            serial,
+            socket,
+            info,
+            objects,
+            last_serial: 0,
+            is_killed: false,
+            action: None,
+            registries: Vec::new(alloc),
+            waiting: VecDeque::new(alloc),
+            made,
+        })
+    }
+}
+
 /// Makes room for a client at the slot, which is not past the first one that was never in use.
 fn reserve_slot<T, U, C>(
     clients: &mut Vec<Option<Client<T, U, C>>>,
@@ -103,6 +156,19 @@ fn free_slot<T, U, C>(clients: &[Option<Client<T, U, C>>]) -> Option<u32>
     u32::try_from(first_free(clients)).ok()
 }
 
+/// Puts a client at a slot that there is, and that no client has.
+fn put_within<T: Drop, U: Drop, C: Drop>(
+    clients: &mut Vec<Option<Client<T, U, C>>>,
+    slot: usize,
+    client: Client<T, U, C>,
+)
+    requires { slot < vec_len clients.old }
+    ensures put { IsPut clients.old.items slot client clients.new.items }
+    ensures len { vec_len clients.new ≡ vec_len clients.old }
+{
+    clients[slot] = Some(client);
+}
+
 /// Puts a client at a slot that no client has, for which there is room.
 fn put_at<T: Drop, U: Drop, C: Drop>(
     clients: &mut Vec<Option<Client<T, U, C>>>,
@@ -115,7 +181,7 @@ fn put_at<T: Drop, U: Drop, C: Drop>(
     ensures slots { vec_len clients.old ≤ 0x100000000 → slot < 0x100000000 → vec_len clients.new ≤ 0x100000000 }
 {
     if slot < clients.len() {
-        clients[slot] = Some(client);
+        put_within(clients, slot, client);
     } else {
         clients.push_reserved(Some(client));
     }
@@ -140,20 +206,8 @@ fn put_new<T: Drop, U: Drop, C: Drop>(
     let slot = id.slot() as usize;
     let alloc = *clients.allocator();
     reserve_slot(clients, slot)?;
-    let (objects, made) = first_lists(alloc, numbers)?;
-    let socket = BufferedSocket::new(alloc, transport, Some(max_buffer_size))?;
-    let client = Client {
-        serial: id.serial(),
-        socket,
-        info,
-        objects,
-        last_serial: 0,
-        is_killed: false,
-        action: None,
-        registries: Vec::new(alloc),
-        waiting: VecDeque::new(alloc),
-        made,
-    };
+    let serial = id.serial();
+    let client = Client::new(alloc, serial, transport, max_buffer_size, info, numbers)?;
     put_at(clients, slot, client);
     Ok(())
 }

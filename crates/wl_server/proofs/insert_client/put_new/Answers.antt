@@ -1,6 +1,6 @@
-use Rattle.std.proofs.Common.{◌≡◌, ◌<◌, ◌≤◌, ◌∷◌, [], None, Option, List, false, arith, map, subst, sym}
+use Rattle.std.proofs.Common.{◌≡◌, ◌<◌, ◌≤◌, Option, List, Some, arith, subst}
+use Rattle.wl_server.specs.Client.{IsInserted}
 use Rattle.wl_server.specs.Inserting.{IsPut}
-use Rattle.wl_server.specs.Part.{Part}
 use Rattle.wl_server.specs.Server.{Stored}
 use Rattle.wl_server.proofs.insert_client.put_new.Goals as goal
 
@@ -10,38 +10,8 @@ moved xs ys after n m s lists slots put =
 
 pub returns-clause-put : goal.returns-clause-put
 returns-clause-put g c = (
-  record {
-    serial = c.serial.result;
-    part = record {
-      link = c.in_ok-socket.socket;
-      info = c.args.info;
-      store = c.in_ok-objects.objects.store;
-      last_serial = 0;
-      is_killed = false;
-      action = None;
-      registries = c.new-2.result.items;
-      waiting = map (λ w. w.1) c.new-3.result.items;
-    };
-    made = map (λ m. m.1) c.in_ok-objects.made.items;
-  },
-  (
-    c.in_ok-socket.socket,
-    c.in_ok-socket.ensures,
-    λ i. record {
-      serial = c.serial.ensures i;
-      part = record {
-        link = c.in_ok-socket.socket;
-        info = c.args.info;
-        store = c.in_ok-objects.ensures.objects i;
-        last_serial = 0;
-        is_killed = false;
-        action = None;
-        registries = c.new-2.ensures.items i;
-        waiting = map (λ w. w.1) (c.new-3.ensures.items i);
-      };
-      made = c.in_ok-objects.ensures.notes i;
-    },
-  ),
+  c.in_ok-client.client,
+  subst (λ n. IsInserted n c.args.transport (Some c.args.max_buffer_size) c.args.info c.in_ok-client.client) c.serial-serial.ensures c.in_ok-client.ensures,
   moved _ _ _ _ _ _ c.in_ok-reserve_slot.ensures.items c.slot-slot.ensures c.put_at.ensures.put,
 )
 
