@@ -106,7 +106,7 @@ module _ {T U C : Type 0} where
       → is_some (client_at id clients) ≡ b
   stored_by clients read id b same is = subst (λ (i : ClientParts). is_some (client_at i clients) ≡ b) same (sym is)
 
-  slot_holds : (clients : List (Option (Stored T U C))) (id : ClientParts) (x : Option (Stored T U C)) → is_some (client_at id clients) ≡ true
+  pub slot_holds : (clients : List (Option (Stored T U C))) (id : ClientParts) (x : Option (Stored T U C)) → is_some (client_at id clients) ≡ true
       → x ≡ slice_index_or clients id.slot x → slice_get clients id.slot ≡ Some x
   slot_holds clients id x some value = slice_get_read clients (length clients) id.slot x refl (slot_within clients id some) value
 

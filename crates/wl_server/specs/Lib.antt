@@ -24,6 +24,7 @@ pub mod Scripting
 pub mod Creation
 pub mod Destruction
 pub mod Walks
+pub mod Lending
 pub mod Carried
 pub mod Inserting
 pub mod Gathering

@@ -52,6 +52,7 @@ mod surroundings;
 mod take_notes;
 mod telling;
 mod turn;
+mod transport_mut;
 mod visits;
 
 pub use action::{Action, Reading};
