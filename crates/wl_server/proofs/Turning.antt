@@ -1,5 +1,5 @@
 -- How turns and receives join to a reading of a client.
-use Rattle.std.proofs.Common.{◌≡◌, ◌≢◌, ◌⊎◌, ◌∙◌, ℕ, suc, ◌+◌, ◌<◌, ◌≤◌, min, Bool, true, false, ◌&&◌, ◌||◌, not, List, [], ◌∷◌, ◌++◌, append-nil, append_assoc, length, map, Option, None, Some, is_none, option_map, Result, Ok, Err, MatchResult, refl, sym, ap, ap₂, subst, arith}
+use Rattle.std.proofs.Common.{◌≡◌, ◌≢◌, ◌⊎◌, ◌∙◌, ℕ, suc, ◌+◌, ◌<◌, ◌≤◌, min, Bool, true, false, ◌&&◌, ◌||◌, not, List, [], ◌∷◌, ◌++◌, append-nil, append_assoc, length, map, Option, None, Some, is_some, is_none, option_map, Result, Ok, Err, MatchBool, MatchOption, MatchResult, refl, sym, ap, ap₂, subst, arith, true≢false}
 use mathlib.Core.Logic.{inl, inr}
 use Rattle.wl_wire.specs.declared.argument.Argument.{Argument}
 use Rattle.wl_wire.specs.declared.argument.Token.{Token}
@@ -22,7 +22,7 @@ use Rattle.wl_link.specs.Reader.{Part as ReaderPart}
 use Rattle.wl_server.specs.declared.action.OpenAction.{OpenAction}
 use Rattle.wl_server.specs.declared.action.Reading.{Reading}
 use Rattle.wl_server.specs.declared.error.ActionError.{ActionError}
-use Rattle.wl_server.specs.declared.error.ActionError.TheVariants.{Io}
+use Rattle.wl_server.specs.declared.error.ActionError.TheVariants.{ActionOpen, Io}
 use Rattle.wl_server.specs.declared.note.DisconnectReason.{DisconnectReason}
 use Rattle.wl_server.specs.declared.note.Happening.{Happening}
 use Rattle.wl_server.specs.declared.note.DisconnectReason.TheVariants.{ConnectionClosed}
@@ -34,7 +34,7 @@ use Rattle.wl_server.specs.Ids.{IdParts}
 use Rattle.wl_server.specs.Responses.{core_with, response_to}
 use Rattle.wl_server.specs.Deeds.{Deed, Handed, Sent, notes_in}
 use Rattle.wl_server.specs.Part.{Part}
-use Rattle.wl_server.specs.Reading.{Around, action_in, NextAction, ReadsTo, answered, exchanges_in, faulted, read_on, reads_on, request, request_to, row_asks, row_in, server}
+use Rattle.wl_server.specs.Reading.{Around, action_in, NextAction, ReadsNone, ReadsTo, answered, exchanges_in, faulted, read_on, reads_on, request, request_to, row_asks, row_in, server}
 use Rattle.wl_server.specs.Server.{Stored}
 use Rattle.wl_server.specs.Telling.{Core, Kills, Told, core_of, deeds_in, deeds_of, end_deeds, part_of, reader_part}
 use Rattle.wl_server.specs.Turns.{Acts, Ended, EndsAs, Fills, Goes, GoesOn, HasNoNote, IsHandled, IsSilent, LacksIn, LacksMore, Leads, Live, NotTaken, ReadsIn, Says, Turned, Turns, Waited, answer_of, counted, linked, refused_of, stored_as}
@@ -415,6 +415,26 @@ module _ {T U G C : Type 0} (sends : T → Queue → Result ℕ IoFault → T �
         memory_is : (f : IoFault) → ◌≡◌ {A = Result (Unit {0}) IoFault} (Err f) (Err fault.OutOfMemory) → f ≡ fault.OutOfMemory
         memory_is f is' = cc
 
+-- ---- an open action is answered first, and then that the client was killed
+
+live_as : {A : Type 0} (P Q : Type 0) (S : A → Type 0) (o : Option A) (b : Bool) → o ≡ None → b ≡ false → P → MatchOption o (MatchBool b Q P) S
+live_as P Q S None true none live p = absurd (true≢false live)
+live_as P Q S None false none live p = p
+live_as P Q S (Some x) b none live p = absurd (true≢false (ap is_some none))
+
+killed_as : {A : Type 0} (P Q : Type 0) (S : A → Type 0) (o : Option A) (b : Bool) → is_some o ≡ false → b ≡ true → Q → MatchOption o (MatchBool b Q P) S
+killed_as P Q S None true none dead q = q
+killed_as P Q S None false none dead q = absurd (true≢false (sym dead))
+killed_as P Q S (Some x) b none dead q = absurd (true≢false none)
+
+open_as : {A : Type 0} (P : Type 0) (S : A → Type 0) (o : Option A) → is_some o ≡ true → ((x : A) → S x) → MatchOption o P S
+open_as P S None some s = absurd (true≢false (sym some))
+open_as P S (Some x) some s = s x
+
+pub live_is : {A : Type 0} (o : Option A) → is_some o ≡ false → o ≡ None
+live_is None none = refl
+live_is (Some x) none = absurd (true≢false none)
+
 -- a receive is no note, nor is a send
 notes_of_exchanges : {U : Type 0} (turns : List Turn) → notes_in {U = U} (exchanges_in turns) ≡ []
 notes_of_exchanges [] = refl
@@ -429,25 +449,52 @@ module _ {T U G C : Type 0} (sends : T → Queue → Result ℕ IoFault → T �
   abbrev pub NextDoes : Result Handed ActionError → Bool → Type 0
   NextDoes answer refused = Does s (λ p did q. NextAction sends receives a r p answer r' refused did q) after
 
+  module _ (answer : Result Handed ActionError) (refused : Bool) (did : List (Deed U)) (q : Part T U C) where
+    abbrev Ran : Type 0
+    Ran = ReadsTo sends receives a r s.part answer r' refused did q
+
+    abbrev Refused : ActionError → Type 0
+    Refused e = ReadsNone e r s.part answer r' refused did q
+
+    next_live : Live s.part → Ran → NextAction sends receives a r s.part answer r' refused did q
+    next_live live ran = live_as Ran (Refused (Io fault.Pipe)) (λ _. Refused ActionOpen) s.part.action s.part.is_killed live.1 live.0 ran
+
+    next_killed : is_some s.part.action ≡ false → s.part.is_killed ≡ true → Refused (Io fault.Pipe) → NextAction sends receives a r s.part answer r' refused did q
+    next_killed none dead is = killed_as Ran (Refused (Io fault.Pipe)) (λ _. Refused ActionOpen) s.part.action s.part.is_killed none dead is
+
+    next_open : is_some s.part.action ≡ true → Refused ActionOpen → NextAction sends receives a r s.part answer r' refused did q
+    next_open some is = open_as (MatchBool s.part.is_killed (Refused (Io fault.Pipe)) Ran) (λ _. Refused ActionOpen) s.part.action some (λ x. is)
+
   -- a reading that ended is what is told of one
   pub reading_done : (answer : Result Handed NoAction) → Live s.part → EndsAs sends receives a s r answer after r' → NextDoes (answer_of answer) (refused_of answer)
   reading_done answer live e =
       let did : List (Deed U) = deeds_of (exchanges_in e.turns) e.out.gave e.end.core in
       let notes : notes_in did ≡ notes_in (end_deeds {U = U} e.end.core.ended)
       = notes_append (exchanges_in e.turns) (deeds_in e.out.gave ++ end_deeds e.end.core.ended)
-          ∙ ap (λ (l : List (Happening U)). l ++ notes_in (deeds_in e.out.gave ++ end_deeds e.end.core.ended)) (notes_of_exchanges e.turns)
-          ∙ notes_append (deeds_in e.out.gave) (end_deeds e.end.core.ended)
-          ∙ ap (λ (l : List (Happening U)). l ++ notes_in (end_deeds {U = U} e.end.core.ended)) e.no_note in
+      ∙ ap (λ (l : List (Happening U)). l ++ notes_in (deeds_in e.out.gave ++ end_deeds e.end.core.ended)) (notes_of_exchanges e.turns)
+      ∙ notes_append (deeds_in e.out.gave) (end_deeds e.end.core.ended)
+      ∙ ap (λ (l : List (Happening U)). l ++ notes_in (end_deeds {U = U} e.end.core.ended)) e.no_note in
       let reading : r' ≡ read_on r e.out.left (handled_in e.turns)
       = ap₂ (λ (n m : ℕ). let x : Reading = record { turns_left = n; read = m } in x) e.left e.read in
       let reads : ReadsTo sends receives a r s.part (answer_of answer) r' (refused_of answer) did (part_of e.end)
-      = (e.turns, e.out, e.end, e.reads, e.answer_is, reading, e.refused_is, refl, refl) in
-      (
+      = (e.turns, e.out, e.end, e.reads, e.answer_is, reading, e.refused_is, refl, refl) in (
         did,
         part_of e.end,
-        rw (live.1, live.0) reads,
+        next_live (answer_of answer) (refused_of answer) did (part_of e.end) live reads,
         e.after_is ∙ ap (λ (l : List (Happening U)). let x : Stored T U C = record { serial = s.serial; part = part_of e.end; made = s.made ++ l } in x) (sym notes),
       )
+
+  abbrev same_as : List (Happening U) → Stored T U C
+  same_as made = record { serial = s.serial; part = s.part; made = made }
+
+  -- nothing is read
+  pub open_done : r' ≡ r → after ≡ s → is_some s.part.action ≡ true → NextDoes (Err ActionOpen) false
+  open_done left same some =
+      ([], s.part, next_open (Err ActionOpen) false [] s.part some (refl, left, refl, refl, refl), same ∙ ap same_as (sym (append-nil s.made)))
+
+  pub killed_done : r' ≡ r → after ≡ s → is_some s.part.action ≡ false → s.part.is_killed ≡ true → NextDoes (Err (Io fault.Pipe)) false
+  killed_done left same none dead =
+      ([], s.part, next_killed (Err (Io fault.Pipe)) false [] s.part none dead (refl, left, refl, refl, refl), same ∙ ap same_as (sym (append-nil s.made)))
 
 abbrev pub failed_with : IoFault → Result (Unit {0}) IoFault
 failed_with f = Err f
