@@ -1,7 +1,7 @@
 -- That each call is a chain of base moves, of whatever client.
-use Rattle.std.proofs.Common.{◌≡◌, ◌≢◌, ◌⊎◌, ℕ, zero, suc, ◌<◌, Bool, true, false, cond, eqb, List, [], ◌∷◌, ◌++◌, length, map, Option, None, Some, is_some, Result, Ok, Err, refl, sym, ap, subst, ◌∙◌, append-nil, true≢false, arith}
+use Rattle.std.proofs.Common.{◌≡◌, ◌⊎◌, ℕ, zero, suc, ◌<◌, Bool, true, false, cond, List, [], ◌∷◌, ◌++◌, map, Option, None, Some, is_some, Result, Ok, Err, refl, sym, ap, subst, ◌∙◌, true≢false, arith}
 use mathlib.Core.Logic.{inl, inr}
-use Rattle.std.specs.Prelude.{MatchBool, MatchOption, Contains, AllPairs, Vec, ◌↔◌}
+use Rattle.std.specs.Prelude.{MatchBool, MatchOption, Contains, AllPairs, Vec}
 use Rattle.std.specs.Global.{Global}
 use Rattle.std.specs.FinMap as finmap
 use Rattle.std.proofs.lemmas.Bool.{cases_eq}
@@ -10,24 +10,22 @@ use Rattle.wl_wire.specs.declared.error.OutOfMemory.{OutOfMemory}
 use Rattle.wl_wire.specs.declared.interface.InterfaceId.{InterfaceId}
 use Rattle.wl_link.specs.declared.object.Object.{Object}
 use Rattle.wl_link.specs.Branches.{either_bool, either_option}
-use Rattle.wl_link.specs.Exchange.{Queue, Sending}
-use Rattle.wl_link.specs.Link.{FlushedBy, LinkState, LimitSet, with_transport}
+use Rattle.wl_link.specs.Exchange.{Queue}
+use Rattle.wl_link.specs.Link.{FlushedBy, LinkState, with_transport}
 use Rattle.wl_link.specs.Puts.{Said}
-use Rattle.wl_link.specs.Store.{Store, held, removed}
+use Rattle.wl_link.specs.Store.{held}
 use Rattle.wl_link.specs.StoreLaws.{removed_here, removed_other, walk_of_entries}
 use Rattle.wl_server.specs.declared.error.CreateError.{CreateError}
 use Rattle.wl_server.specs.declared.error.GlobalError.{GlobalError}
-use Rattle.wl_server.specs.declared.error.InsertClientError.{InsertClientError}
 use Rattle.wl_server.specs.declared.kept.Kept.{Kept}
 use Rattle.wl_server.specs.declared.note.Happening.{Happening}
 use Rattle.wl_server.specs.declared.note.Note.{Note}
 use Rattle.wl_server.specs.declared.step.Reply.{Reply}
-use Rattle.wl_server.specs.declared.step.Reply.TheVariants as reply
 use Rattle.wl_server.specs.declared.step.Step.{Step}
 use Rattle.wl_server.specs.declared.step.Step.TheVariants as step
-use Rattle.wl_server.specs.BaseMoves.{Doings, Goes, HandedId, cleaned, doings_of, flushed, followed, handed_by, joined, leaving, left_by, left_id, made_ids, nothing_done, notes_taken, noting, relinked, sending, stayed, taken_out, unfelt, went, within}
-use Rattle.wl_server.specs.Deeds.{Deed, Noted, NoteTaken, Sent, left_if, notes_in}
-use Rattle.wl_server.specs.DoingsLaws.{done, done_both, done_sends, joined_none}
+use Rattle.wl_server.specs.BaseMoves.{Doings, Goes, HandedId, cleaned, doings_of, flushed, followed, handed_by, joined, leaving, left_by, left_id, made_ids, nothing_done, notes_taken, noting, relinked, stayed, taken_out, unfelt, went, within}
+use Rattle.wl_server.specs.Deeds.{Deed, Noted, NoteTaken, left_if, notes_in}
+use Rattle.wl_server.specs.DoingsLaws.{done, done_both, done_sends}
 use Rattle.wl_server.specs.Felt.{Cleaned, FlushedTo, FlushesLive, Hears, Stays, objects_leave}
 use Rattle.wl_server.specs.Globals.{Offer}
 use Rattle.wl_server.specs.Ids.{ClientParts, GlobalParts, IdParts, same_client}
@@ -37,7 +35,7 @@ use Rattle.wl_server.specs.MovesOfReadings.{next_action_moves}
 use Rattle.wl_server.specs.MovesOfVerdicts.{Go, same_doings, tells_moves}
 use Rattle.wl_server.specs.Part.{Part, end_note, id_at, id_of, note_of_end, with_link}
 use Rattle.wl_server.specs.Objects.{Creates}
-use Rattle.wl_server.specs.PartStep.{Asked, Call, Changed, CleanedAs, Feels, FeelsGlobal, FeelsLoss, FlushedFor, Inserted, InsertedAs, MovedFor, NotesTaken, OfClient, OnPart, PartCall, PartStep, ReadsFor, Unfelt, WithTransport, World, around}
+use Rattle.wl_server.specs.PartStep.{Asked, Call, Changed, CleanedAs, FeelsGlobal, FeelsLoss, FlushedFor, MovedFor, NotesTaken, OfClient, OnPart, PartCall, PartStep, ReadsFor, Unfelt, WithTransport, World, around}
 use Rattle.wl_server.specs.Runs.{concerns, is_about}
 use Rattle.wl_server.specs.Server.{Seen}
 use Rattle.wl_server.specs.Telling.{core_of, tells}

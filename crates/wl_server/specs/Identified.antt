@@ -3,7 +3,7 @@
 -- The changes of a client's objects are told call by call: an object is put at a number, leaves its number, is written to,
 -- or an id is made of it, which then names it. Each id that is handed out is one of these; and what an id names follows
 -- from the changes alone. No program stores them.
-use Rattle.std.specs.Prelude.{◌≡◌, ◌≢◌, ◌⊎◌, ◌↔◌, ℕ, List, [], ◌∷◌, ◌++◌, All, AllPairs, Bool, true, false, Option, None, Some, is_some, IsSome, Contains, Result, Ok, Err, MatchOption}
+use Rattle.std.specs.Prelude.{◌≡◌, ◌≢◌, ◌⊎◌, ◌↔◌, ℕ, List, [], ◌∷◌, ◌++◌, All, AllPairs, Bool, false, Option, None, Some, is_some, IsSome, Contains, Result, Ok, Err, MatchOption}
 use Rattle.wl_wire.specs.Table.{InterfaceRow}
 use Rattle.wl_link.specs.declared.object.Object.{Object}
 use Rattle.wl_link.specs.Identity.{Birth, Change, HasIdentity, IsBornInStep, IsMadeIn, IsMadeInStep, Objects, RunEnds, StepEnds, births_of, ended_in, ended_over}
@@ -23,7 +23,7 @@ use Rattle.wl_server.specs.BaseMoves.{Found, HandedId, New, action_ids, made_ids
 use Rattle.wl_server.specs.Deeds.{Handed, left_in, taken_in}
 use Rattle.wl_server.specs.Globals.{Offer, new_offer}
 use Rattle.wl_server.specs.Ids.{ClientParts, IdParts}
-use Rattle.wl_server.specs.Lookups.{and_then, object_of}
+use Rattle.wl_server.specs.Lookups.{and_then}
 use Rattle.wl_server.specs.Part.{Part, display_object, id_of, named, null_id, objects_of, serial_of}
 use Rattle.wl_server.specs.PartStep.{Asked, Call, PartCall, World}
 use Rattle.wl_server.specs.Reading.{action_content}

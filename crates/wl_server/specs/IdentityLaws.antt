@@ -1,15 +1,14 @@
 -- What holds of the ids of every run: an induction over base moves.
-use Rattle.std.proofs.Common.{◌≡◌, ◌≢◌, ◌⊎◌, ℕ, zero, suc, ◌+◌, Bool, true, false, cond, eqb, List, [], ◌∷◌, ◌++◌, map, Option, None, Some, is_some, IsSome, Result, Ok, Err, refl, sym, ap, subst, ◌∙◌, true≢false, append-nil, append_assoc, not-suc-le-zero, le_of_suc-le-suc, arith}
+use Rattle.std.proofs.Common.{◌≡◌, ◌≢◌, ◌⊎◌, ℕ, zero, suc, ◌+◌, Bool, true, false, cond, eqb, List, [], ◌∷◌, ◌++◌, Option, None, Some, is_some, IsSome, Result, Ok, Err, refl, sym, ap, subst, ◌∙◌, true≢false, append_assoc, not-suc-le-zero, le_of_suc-le-suc, arith}
 use mathlib.Core.Logic.{inl, inr}
-use Rattle.std.specs.Prelude.{All, AllPairs, Contains, MatchOption, MatchBool, if◌then◌else◌, is_ok, ◌↔◌}
-use Rattle.std.proofs.lemmas.Bool.{cases_eq, eq-eqb, ne_eqb}
-use Rattle.std.proofs.lemmas.Option.{same_Some}
+use Rattle.std.specs.Prelude.{All, AllPairs, Contains, MatchOption, if◌then◌else◌, is_ok, ◌↔◌}
+use Rattle.std.proofs.lemmas.Bool.{eq-eqb, ne_eqb}
 use Rattle.wl_wire.specs.declared.error.IoFault.{IoFault}
 use Rattle.wl_wire.specs.Table.{InterfaceRow}
 use Rattle.wl_link.specs.declared.object.Object.{Object}
 use Rattle.wl_link.specs.Branches.{either_bool, either_option}
 use Rattle.wl_link.specs.EndsLaw.{ends_once_law, keeps_joins, run_leads, run_owns}
-use Rattle.wl_link.specs.Exchange.{Queue, Sending}
+use Rattle.wl_link.specs.Exchange.{Queue}
 use Rattle.wl_link.specs.Identity.{Birth, Born, Change, Ended, Gone, HasIdentity, Id, IsBornInStep, IsMadeIn, IsMadeInStep, Made, Objects, OwnsExactly, RunEnds, StepEnds, Wrote, births_of, counted_id, ended_in, ended_over, named_in, names}
 use Rattle.wl_link.specs.Identity as objects
 use Rattle.wl_link.specs.IdentityLaw.{born_first, born_later, identity_law, made_first, made_later}
@@ -17,7 +16,7 @@ use Rattle.wl_link.specs.Link.{LinkState}
 use Rattle.wl_link.specs.Reader.{Given, HandedOut, Queued}
 use Rattle.wl_link.specs.Runs.{Entry as RunEntry}
 use Rattle.wl_link.specs.Store.{Store, empty_store, held, removed, rewritten, stored}
-use Rattle.wl_link.specs.StoreLaws.{held_empty, removed_here, removed_other, rewritten_here, rewritten_other, stored_here, stored_other}
+use Rattle.wl_link.specs.StoreLaws.{held_empty, removed_other, rewritten_other, stored_here, stored_other}
 use Rattle.wl_wire.specs.declared.error.IoFault.TheVariants as fault
 use Rattle.wl_server.specs.declared.action.Reading.{Reading}
 use Rattle.wl_server.specs.declared.error.ActionError.{ActionError}
@@ -27,13 +26,12 @@ use Rattle.wl_server.specs.declared.note.DisconnectReason.{DisconnectReason}
 use Rattle.wl_server.specs.declared.note.Happening.{Happening}
 use Rattle.wl_server.specs.declared.note.Happening.TheVariants.{Destroyed, Disconnected, Initialized}
 use Rattle.wl_server.specs.declared.step.Reply.{Reply}
-use Rattle.wl_server.specs.declared.step.Reply.TheVariants as reply
 use Rattle.wl_server.specs.declared.step.Step.{Step}
 use Rattle.wl_server.specs.declared.step.Step.TheVariants as step
 use Rattle.wl_server.specs.BaseMoves.{Doings, Found, Goes, HandedId, IsAmong, Moves, New, acted_in, action_ids, all_action_ids, born, cleaned, closed, doings_of, end_notes, ended, flushed, followed, found, found_none, handed_by, handed_out, handing, joined, leaving, left_by, left_id, made_ids, nothing_done, notes_taken, noting, opens, putting, received, receiving, relinked, remembered, sending, stayed, taken_out, told, unfelt, went, within, wrote}
 use Rattle.wl_server.specs.BaseMovesLaw.{call_goes}
-use Rattle.wl_server.specs.Deeds.{Acted, Came, Deed, Handed, Left, Noted, NoteTaken, Put, Remembered, Sent, left_in, notes_in, taken_in}
-use Rattle.wl_server.specs.DoingsLaws.{deeds_done, done, done_both}
+use Rattle.wl_server.specs.Deeds.{Acted, Came, Deed, Handed, Left, Noted, NoteTaken, Put, Remembered, Sent, left_in, taken_in}
+use Rattle.wl_server.specs.DoingsLaws.{deeds_done, done_both}
 use Rattle.wl_server.specs.Globals.{Offer, new_offer}
 use Rattle.wl_server.specs.Identified.{AreObjectsOf, EachHasOwnIds, Follows, HasOwnIds, HaveOwnIds, IsHandedIn, IsNotedIn, answer_ids, has_data, ids_in, is_over, named_of, waiting_of}
 use Rattle.wl_server.specs.Ids.{ClientParts, IdParts, same_client}
@@ -44,7 +42,7 @@ use Rattle.wl_server.specs.Part.{Part, display_object, end_note, id_at, id_of, n
 use Rattle.wl_server.specs.PartStep.{Asked, Call, Changed, OfClient, OnPart, PartCall, PartStep, ReadsFor, World, around}
 use Rattle.wl_server.specs.Reading.{NextAction, action_content, action_in, answered, exchanges_in, new_reading}
 use Rattle.wl_server.specs.Telling.{Core, Did, Stops, Told, deeds_in, deeds_of}
-use Rattle.wl_server.specs.Runs.{Alone, AreOf, Leads, Own, Performs, begun, concerns, history, is_about, mine, offer_over, own_of}
+use Rattle.wl_server.specs.Runs.{Alone, Leads, Own, Performs, begun, concerns, history, is_about, mine, offer_over, own_of}
 use Rattle.wl_server.specs.Server.{Seen, ServerState, new_server, seen}
 use Rattle.wl_server.specs.Steps.{Entry, offer_after}
 

@@ -1,26 +1,24 @@
 -- That what a program does with one client is a chain of base moves.
-use Rattle.std.proofs.Common.{◌≡◌, ◌≢◌, ◌⊎◌, ℕ, ◌+◌, ◌≤◌, Bool, true, false, not, ◌&&◌, cond, eqb, List, [], ◌∷◌, ◌++◌, map, Option, None, Some, is_some, Result, Ok, Err, MatchResult, refl, sym, ap, subst, ◌∙◌, append-nil, append_assoc, true≢false, arith}
+use Rattle.std.proofs.Common.{◌≡◌, ◌≢◌, ℕ, ◌≤◌, Bool, true, false, not, cond, eqb, List, [], ◌∷◌, ◌++◌, map, Option, None, Some, is_some, Result, Ok, Err, MatchResult, refl, sym, ap, subst, ◌∙◌, append-nil, true≢false, arith}
 use mathlib.Core.Logic.{inl, inr}
-use Rattle.std.specs.Prelude.{MatchBool, slice_get, is_ok}
-use Rattle.std.proofs.lemmas.Bool.{cases_eq, eq-eqb, eqb-true, ne_eqb}
+use Rattle.std.specs.Prelude.{slice_get, is_ok}
+use Rattle.std.proofs.lemmas.Bool.{eqb-true}
 use Rattle.std.proofs.lemmas.Option.{same_Some}
 use Rattle.wl_wire.specs.declared.error.IoFault.{IoFault}
 use Rattle.wl_wire.specs.declared.error.IoFault.TheVariants as fault
 use Rattle.wl_wire.specs.declared.interface.InterfaceId.{InterfaceId}
 use Rattle.wl_wire.specs.Asked.{event_row, matches}
-use Rattle.wl_wire.specs.Message.{WireMessage}
 use Rattle.wl_wire.specs.Table.{InterfaceRow, MessageRow}
 use Rattle.wl_link.specs.declared.object.Object.{Object}
 use Rattle.wl_link.specs.Branches.{either_bool, either_option}
 use Rattle.wl_link.specs.Exchange.{Queue, Sending}
 use Rattle.wl_link.specs.Identity.{Id, named_in}
-use Rattle.wl_link.specs.Link.{LinkState, FlushedBy, WroteBy}
+use Rattle.wl_link.specs.Link.{LinkState, WroteBy}
 use Rattle.wl_link.specs.Puts.{PutsOut, Said}
 use Rattle.wl_link.specs.Reader.{Verdict}
 use Rattle.wl_link.specs.Refusals.{first_refusal, when}
-use Rattle.wl_link.specs.Store.{Store, held, removed, rewritten, stored, server_range, IsLeastAbsent}
-use Rattle.wl_link.specs.StoreLaws.{removed_here, removed_other, rewritten_here, rewritten_other}
-use Rattle.wl_server.specs.declared.action.OpenAction.{OpenAction}
+use Rattle.wl_link.specs.Store.{Store, held, removed, server_range}
+use Rattle.wl_link.specs.StoreLaws.{removed_here, rewritten_other}
 use Rattle.wl_server.specs.declared.action.OpenAction.TheVariants as opened
 use Rattle.wl_server.specs.declared.error.CreateError.{CreateError}
 use Rattle.wl_server.specs.declared.error.DestroyError.{DestroyError}
@@ -32,18 +30,17 @@ use Rattle.wl_server.specs.declared.error.InvalidId.{InvalidId}
 use Rattle.wl_server.specs.declared.kept.Kept.{Kept}
 use Rattle.wl_server.specs.declared.note.DisconnectReason.{DisconnectReason}
 use Rattle.wl_server.specs.declared.note.DisconnectReason.TheVariants.{ConnectionClosed, ProtocolError as BrokeProtocol}
-use Rattle.wl_server.specs.declared.note.Happening.{Happening}
-use Rattle.wl_server.specs.BaseMoves.{Doings, Found, HandedId, New, born, closed as shut, doings_of, ended, flushed, followed, handing, joined, made_ids, leaving as leaves, left_by, left_id, nothing_done, noting, putting, sending, stayed, told, went, wrote}
-use Rattle.wl_server.specs.Deeds.{Deed, Left, Noted, Put, Sent, left_if, notes_in}
-use Rattle.wl_server.specs.DoingsLaws.{IsQuiet, done, done_both, done_end, done_sends, end_of, joined_none, told_deeds, verdict_done}
-use Rattle.wl_server.specs.Errors.{PostsError, error_messages, error_of, posts}
+use Rattle.wl_server.specs.BaseMoves.{Doings, born, closed as shut, followed, handing, joined, made_ids, leaving as leaves, left_id, nothing_done, noting, putting, sending, stayed, told, went, wrote}
+use Rattle.wl_server.specs.Deeds.{Deed, Noted, Sent, left_if}
+use Rattle.wl_server.specs.DoingsLaws.{IsQuiet, done, done_both, done_end, done_sends, joined_none, told_deeds}
+use Rattle.wl_server.specs.Errors.{PostsError, error_of, posts}
 use Rattle.wl_server.specs.Events.{SendsEvent, SendsGranted, SentAs, SessionMessage, argument_faults, checked_row, checked_sender, ends_closed, ends_sender, event_check, granted, said, wire_message}
-use Rattle.wl_server.specs.Finish.{EndsRequest, FinishesBind, FinishesOpen, FinishesOpenBind, FinishesRequest, Refuses, closed, closes, data_given, ended_by, ending, ends, ends_request, refusal, store_with_data}
+use Rattle.wl_server.specs.Finish.{FinishesBind, FinishesRequest, Refuses, closed, closes, data_given, ended_by, ending, ends, ends_request, refusal, store_with_data}
 use Rattle.wl_server.specs.Ids.{ClientParts, IdParts}
-use Rattle.wl_server.specs.MovesOfVerdicts.{Comes, Ends, Go, IsCalm, Lands, at, carried, ends_killed, ends_not, lands_at, lands_not, lands_then, notes_at_end, same_doings, tells_moves}
-use Rattle.wl_server.specs.Objects.{Creates, CreatesAt, DataSet, Destroys, destroyable, destroys, leaving, new_object, without, without_noted}
+use Rattle.wl_server.specs.MovesOfVerdicts.{Comes, Go, IsCalm, Lands, at, ends_killed, lands_at, lands_not, lands_then, same_doings, tells_moves}
+use Rattle.wl_server.specs.Objects.{Creates, DataSet, Destroys, destroyable, destroys, leaving, new_object, without, without_noted}
 use Rattle.wl_server.specs.Part.{Part, end_note, id_at, id_of, last_possible_serial, named, note_of_end, serial_of, with_link, with_user_data}
-use Rattle.wl_server.specs.Telling.{Core, Did, Kills, Tells, Told, closed_down, core_of, deletions, killed, tells}
+use Rattle.wl_server.specs.Telling.{Core, Did, Kills, Tells, Told, closed_down, core_of, killed, tells}
 
 -- ---- what an id names
 
