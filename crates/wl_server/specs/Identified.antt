@@ -20,7 +20,7 @@ use Rattle.wl_server.specs.declared.step.Reply.TheVariants as reply
 use Rattle.wl_server.specs.declared.step.Step.{Step}
 use Rattle.wl_server.specs.declared.step.Step.TheVariants as step
 use Rattle.wl_server.specs.BaseMoves.{Found, HandedId, New, action_ids, made_ids}
-use Rattle.wl_server.specs.Deeds.{Handed, left_in, taken_in}
+use Rattle.wl_server.specs.Deeds.{Handed, left_in, notes_in, taken_in}
 use Rattle.wl_server.specs.Globals.{Offer, new_offer}
 use Rattle.wl_server.specs.Ids.{ClientParts, IdParts}
 use Rattle.wl_server.specs.Lookups.{and_then}
@@ -84,8 +84,8 @@ module _ {T U C : Type 0} where
 
 module _ {T U G C : Type 0} (w : World T G C) (id : ClientParts) where
   -- The calls of a client's run lead from what is held of it to what is then held, and its objects by these changes, a list
-  -- of them for each call. In each call the ids of its reply are made; and the objects that end in it are, with user data,
-  -- those that leave.
+  -- of them for each call. In each call the ids of its reply are made. The objects with user data that end in it are those
+  -- that leave by its deeds; and each note that it makes, or that waits after it, waited before it, or its id is made in it.
   abbrev pub Follows : Offer G → Seen T U C → Objects (Kept U) → List (Own T U G C) → List (List (Change (Kept U))) → Seen T U C → Objects (Kept U)
       → Type 0
   Follows offer s o [] [] t o' = (t ≡ s) × (o' ≡ o)
@@ -96,6 +96,7 @@ module _ {T U G C : Type 0} (w : World T G C) (id : ClientParts) where
       × StepEnds serial_of is_over o changes between × AreObjectsOf mid between
       × All (IsHandedIn id changes) (ids_in e.call)
       × (left_in e.did ≡ ended_in serial_of has_data changes)
+      × ((h : Happening U) → Contains (notes_in e.did ++ waiting_of mid.part) h → Contains (waiting_of s.part) h ⊎ IsNotedIn id changes h)
       × Follows (offer_after offer e.call) mid between run rest t o'
 
   -- The run of a client has changes, a list of them for each call, by which its objects come to what they are. Each id that

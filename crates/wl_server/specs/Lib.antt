@@ -39,6 +39,7 @@ pub mod EventChecks
 pub mod Ending
 pub mod BaseMoves
 pub mod DoingsLaws
+pub mod AmongLaws
 pub mod MovesOfVerdicts
 pub mod MovesOfRequests
 pub mod Outcome
@@ -58,4 +59,6 @@ pub mod WholeRuns
 pub mod LookupLaws
 pub mod BaseMovesLaw
 pub mod Identified
+pub mod ChangeLaws
+pub mod ReplyLaws
 pub mod IdentityLaws

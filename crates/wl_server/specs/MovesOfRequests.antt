@@ -28,6 +28,7 @@ use Rattle.wl_server.specs.declared.kept.KeptGlobal.{KeptGlobal}
 use Rattle.wl_server.specs.declared.note.DisconnectReason.TheVariants.{ConnectionClosed, ProtocolError as BrokeProtocol}
 use Rattle.wl_server.specs.declared.note.Happening.{Happening}
 use Rattle.wl_server.specs.declared.request_fault.RequestFault.TheVariants as wrong
+use Rattle.wl_server.specs.AmongLaws.{among_both, among_first, among_later}
 use Rattle.wl_server.specs.BaseMoves.{Doings, Found, HandedId, IsAmong, New, all_action_ids, argument_ids, born, created_ids, followed, found, found_none, handed_out, handing, nothing_done, opens, remembered, stayed, went}
 use Rattle.wl_server.specs.Deeds.{Acted, Deed, Handed, Remembered}
 use Rattle.wl_server.specs.Deeds as deeds
@@ -51,23 +52,6 @@ not_some (Some x) b e = absurd (true≢false (sym e))
 both : (a b : Bool) → (a && b) ≡ true → (a ≡ true) × (b ≡ true)
 both true b e = (refl, e)
 both false b e = absurd (true≢false (sym e))
-
--- ---- some among others
-
-module _ {A : Type 0} where
-  pub among_first : (xs others : List A) (x : A) → IsAmong xs x → IsAmong (xs ++ others) x
-  among_first [] others x among = absurd among
-  among_first (y ∷ xs) others x (inl is) = inl is
-  among_first (y ∷ xs) others x (inr among) = inr (among_first xs others x among)
-
-  pub among_later : (xs others : List A) (x : A) → IsAmong others x → IsAmong (xs ++ others) x
-  among_later [] others x among = among
-  among_later (y ∷ xs) others x among = inr (among_later xs others x among)
-
-  pub among_both : (xs others : List A) (x : A) → IsAmong (xs ++ others) x → IsAmong xs x ⊎ IsAmong others x
-  among_both [] others x among = inr among
-  among_both (y ∷ xs) others x (inl is) = inl (inl is)
-  among_both (y ∷ xs) others x (inr among) = elim (among_both xs others x among) [ inl a ↦ inl (inr a) | inr b ↦ inr b ]
 
 argument_ids_both : (args others : List (Argument IdParts Token)) → argument_ids (args ++ others) ≡ argument_ids args ++ argument_ids others
 argument_ids_both [] others = refl

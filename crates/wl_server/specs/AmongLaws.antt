@@ -1,0 +1,35 @@
+-- What is among the elements of a list.
+use Rattle.std.proofs.Common.{◌⊎◌, zero, suc, List, [], ◌∷◌, ◌++◌, refl, arith, not-suc-le-zero, le_of_suc-le-suc}
+use mathlib.Core.Logic.{inl, inr}
+use Rattle.std.specs.Prelude.{All, Contains}
+use Rattle.wl_server.specs.BaseMoves.{IsAmong}
+
+module _ {A : Type 0} where
+  pub among_first : (xs others : List A) (x : A) → IsAmong xs x → IsAmong (xs ++ others) x
+  among_first [] others x among = absurd among
+  among_first (y ∷ xs) others x (inl is) = inl is
+  among_first (y ∷ xs) others x (inr among) = inr (among_first xs others x among)
+
+  pub among_later : (xs others : List A) (x : A) → IsAmong others x → IsAmong (xs ++ others) x
+  among_later [] others x among = among
+  among_later (y ∷ xs) others x among = inr (among_later xs others x among)
+
+  pub among_both : (xs others : List A) (x : A) → IsAmong (xs ++ others) x → IsAmong xs x ⊎ IsAmong others x
+  among_both [] others x among = inr among
+  among_both (y ∷ xs) others x (inl is) = inl (inl is)
+  among_both (y ∷ xs) others x (inr among) = elim (among_both xs others x among) [ inl a ↦ inl (inr a) | inr b ↦ inr b ]
+
+pub all_among : {A : Type 0} (P : A → Type 0) (xs : List A) → ((x : A) → IsAmong xs x → P x) → All P xs
+all_among P [] each k d lt = absurd (not-suc-le-zero lt)
+all_among P (x ∷ xs) each zero d lt = each x (inl refl)
+all_among P (x ∷ xs) each (suc k) d lt = all_among P xs (λ y among. each y (inr among)) k d (le_of_suc-le-suc lt)
+
+pub among_contains : {A : Type 0} (xs : List A) (x : A) → Contains xs x → IsAmong xs x
+among_contains [] x (k, lt, is) = absurd (not-suc-le-zero lt)
+among_contains (y ∷ xs) x (zero, lt, is) = inl is
+among_contains (y ∷ xs) x (suc k, lt, is) = inr (among_contains xs x (k, le_of_suc-le-suc lt, is))
+
+pub contains_among : {A : Type 0} (xs : List A) (x : A) → IsAmong xs x → Contains xs x
+contains_among [] x among = absurd among
+contains_among (y ∷ xs) x (inl is) = (zero, omega arith, is)
+contains_among (y ∷ xs) x (inr among) = let (k, lt, is) = contains_among xs x among in (suc k, omega (arith, lt), is)
