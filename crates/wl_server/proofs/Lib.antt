@@ -37,3 +37,4 @@ mod GatheredSlots
 mod Turning
 mod OutcomeRows
 mod Visiting
+mod Changing

@@ -1,14 +1,18 @@
 //! A client's transport, lent for writing.
 
-ghost use Rattle.std.specs.Prelude.{◌≡◌, MatchResult, None, Some, option_map};
+ghost use Rattle.std.specs.Prelude.{◌≡◌, MatchResult, None, OnOk, Some, false, option_map};
 ghost use Rattle.std.specs.Borrow.{sem};
-ghost use Rattle.wl_server.specs.Lending.{LendsTransportAt};
+ghost use Rattle.wl_server.specs.Lending.{LendsTransportAt, server_over};
 ghost use Rattle.wl_server.specs.Lookups.{transport_of};
+ghost use Rattle.wl_server.specs.PartStep.{Changed, over};
+ghost use Rattle.wl_server.specs.Steps.{Makes};
 
 use crate::backend::Backend;
 use crate::client::Client;
 use crate::client_id::ClientId;
 use crate::error::InvalidId;
+use crate::handler::GlobalHandler;
+use wl_link::Transport;
 
 impl<T: Drop, U: Drop, C: Drop> Client<T, U, C> {
     ghost use Rattle.wl_server.specs.Lending.{LendsTransportOf};
@@ -33,14 +37,16 @@ fn lent_at<T: Drop, U: Drop, C: Drop>(place: &mut Option<Client<T, U, C>>) -> Op
     }
 }
 
-impl<T: Drop, U: Drop, G: Drop, C: Drop> Backend<T, U, G, C> {
+impl<T: Transport + Drop, U: Drop, G: GlobalHandler<C> + Drop, C: Drop> Backend<T, U, G, C> {
     ghost use Rattle.wl_server.specs.Lending.{LendsServerTransport};
 
-    /// The client's transport, which may be changed; all else stays as it is. `InvalidId` where the client is not stored.
+    /// The client's transport, which may be changed; all else stays as it is, what `memory_refused` answers included.
+    /// `InvalidId` where the client is not stored.
     pub fn transport_mut(&mut self, id: &ClientId) -> Result<&mut T, InvalidId>
         ensures* lends { sem 𝓛 (LendsServerTransport T.row U.row G.row C.row self.entry id.now result) }
         ensures value { MatchResult result (λ transport. transport_of self.old.server id.now ≡ Some transport.now)
             (λ _. transport_of self.old.server id.now ≡ None) }
+        ensures step { OnOk result ((t : _) → Makes (over T.sends T.receives G.views) self.old.server (Changed id.now t) false (server_over self.old.server id.now t)) }
     {
         if !self.is_stored(id) {
             return Err(InvalidId);
