@@ -38,3 +38,4 @@ mod Turning
 mod OutcomeRows
 mod Visiting
 mod Changing
+mod ReadingCalls

@@ -1,13 +1,19 @@
 //! A reading: messages are handled, and more is received where none waits whole.
 
 ghost use Rattle.std.specs.Prelude.{◌≡◌, ◌≤◌, option_map};
+ghost use Rattle.wl_server.specs.declared.step.Reply.TheVariants as reply;
+ghost use Rattle.wl_server.specs.declared.step.Step.TheVariants as step;
+ghost use Rattle.wl_server.specs.Backend.{Calls};
 ghost use Rattle.wl_server.specs.Client.{Does};
+ghost use Rattle.wl_server.specs.PartStep.{over};
 ghost use Rattle.wl_server.specs.Reading.{NextAction, action_content, new_reading};
 ghost use Rattle.wl_server.specs.Deeds.{handed};
 ghost use Rattle.wl_server.specs.Turns.{EndsAs, Fills, Live, Waited, action_of, around_of, found_with};
 
 use crate::action::{Action, Reading};
+use crate::backend::Backend;
 use crate::client::Client;
+use crate::client_id::ClientId;
 use crate::error::ActionError;
 use crate::handler::GlobalHandler;
 use crate::note::DisconnectReason;
@@ -165,6 +171,61 @@ impl<T: Transport + Drop, U: Drop, C: Drop> Client<T, U, C> {
                 drop(args);
                 (Err(ActionError::Io(end.fault)), end.refused)
             }
+        }
+    }
+}
+
+impl<T: Transport + Drop, U: Drop, G: GlobalHandler<C> + Drop, C: Drop> Backend<T, U, G, C> {
+    /// The next action of the client, which is open until `finish_request` or `finish_bind` ends it. It receives 64 times
+    /// at most.
+    ///
+    /// The server answers some requests by itself: syncs, registries, and what breaks the protocol. The refusals are, in
+    /// this order: `Io(InvalidInput)` where the client is not stored; `ActionOpen`; `Io(Pipe)` where it was killed; then
+    /// what the reading comes to: `Io(Proto)` for bytes that are no message, and `Io(Pipe)` where the client broke the
+    /// protocol or could not be told something, all of which kill it; the transport's fault, which kills it unless it is
+    /// `WouldBlock` or `OutOfMemory`; `Io(WouldBlock)` also where no whole message waits after the last receive;
+    /// `Io(OutOfMemory)` where there is no memory for the message at the front or for a receive. After the last two what
+    /// was handled stays handled, and what waits is read by the next call.
+    pub fn next_action(&mut self, id: &ClientId) -> Result<Action, ActionError>
+        ensures { Calls (over T.sends T.receives G.views) self.old (step.NextAction id.now) (reply.NextAction result) self.new }
+    {
+        let mut reading = Reading::new();
+        self.read_client(id, &mut reading)
+    }
+
+    /// The same, which receives as often as the reading allows. `reading` then has the receives that are left, and counts
+    /// the requests that were read with those of the calls before.
+    pub fn next_action_within(
+        &mut self,
+        id: &ClientId,
+        reading: &mut Reading,
+    ) -> Result<Action, ActionError>
+        ensures { Calls (over T.sends T.receives G.views) self.old (step.NextActionWithin id.now reading.old) (reply.NextActionWithin result reading.new) self.new }
+    {
+        self.read_client(id, reading)
+    }
+
+    /// Reads the client, for each of the two calls.
+    fn read_client(&mut self, id: &ClientId, reading: &mut Reading) -> Result<Action, ActionError>
+        ensures fresh { reading.old ≡ new_reading → Calls (over T.sends T.receives G.views) self.old (step.NextAction id.now) (reply.NextAction result) self.new }
+        ensures within { Calls (over T.sends T.receives G.views) self.old (step.NextActionWithin id.now reading.old) (reply.NextActionWithin result reading.new) self.new }
+    {
+        self.refused = false;
+        if !self.is_stored(id) {
+            return Err(ActionError::Io(IoFault::InvalidInput));
+        }
+        let around = Surroundings {
+            protocol: &self.protocol,
+            globals: &self.globals,
+            client: *id,
+        };
+        match &mut self.clients[id.slot() as usize] {
+            Some(client) => {
+                let (answer, refused) = client.next_action(&mut self.numbers, &around, reading);
+                self.refused = refused;
+                answer
+            }
+            None => unreachable!(),
         }
     }
 }

@@ -6,6 +6,7 @@ use wl_link::ObjectMap;
 use wl_wire::Protocol;
 
 /// What a reading asks beside its own client.
+#[derive(Drop)]
 pub struct Surroundings<'a, G> {
     /// The table of interfaces.
     pub protocol: &'a Protocol,

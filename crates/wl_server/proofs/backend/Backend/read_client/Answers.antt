@@ -1,0 +1,32 @@
+use Rattle.std.proofs.Common.{◌∙◌, Err, refl, sym}
+use Rattle.wl_wire.specs.declared.error.IoFault.TheVariants as fault
+use Rattle.wl_server.specs.declared.error.ActionError.TheVariants.{Io}
+use Rattle.wl_server.proofs.ReadingCalls.{next_done, next_missing, within_done, within_missing}
+use Rattle.wl_server.proofs.Slots.{slot_not_empty}
+use Rattle.wl_server.proofs.backend.Backend.read_client.Goals as goal
+
+pub returns-then-not-is_stored-clause-fresh : goal.returns-then-not-is_stored-clause-fresh
+returns-then-not-is_stored-clause-fresh g c fresh =
+    rw (← c.self.view_is)
+    (next_missing g.T.Transport.sends g.T.Transport.receives g.G.GlobalHandler.views _ c.args.id.now c.args.reading.now c.args.reading.now (Err (Io fault.InvalidInput)) (sym c.is_stored.ensures.stored ∙ c.if-not-is_stored.true) refl refl fresh)
+
+pub returns-then-not-is_stored-clause-within : goal.returns-then-not-is_stored-clause-within
+returns-then-not-is_stored-clause-within g c =
+    rw (← c.self.view_is)
+    (within_missing g.T.Transport.sends g.T.Transport.receives g.G.GlobalHandler.views _ c.args.id.now c.args.reading.now c.args.reading.now (Err (Io fault.InvalidInput)) (sym c.is_stored.ensures.stored ∙ c.if-not-is_stored.true) refl refl)
+
+pub unreachable-requires : goal.unreachable-requires
+unreachable-requires g c =
+    slot_not_empty c.self.inside.clients.items c.args.id.now c.slot.result _ (sym c.is_stored.ensures.stored ∙ c.if-not-is_stored.false) c.slot.ensures c.index_mut.ensures.value c.in-None.is
+
+pub returns-clause-fresh : goal.returns-clause-fresh
+returns-clause-fresh g c fresh =
+    rw (← c.self.view_is)
+    (next_done g.T.Transport.sends g.T.Transport.receives g.G.GlobalHandler.views _ c.args.id.now c.args.reading.now c.next_action-answer.new.reading c.next_action-answer.result.0 c.slot.result c.index_mut.result.now c.in-Some.client c.next_action-answer.new.self c.next_action-answer.result.1
+    (sym c.is_stored.ensures.stored ∙ c.if-not-is_stored.false) c.slot.ensures c.index_mut.ensures.value c.in-Some.is c.next_action-answer.ensures fresh)
+
+pub returns-clause-within : goal.returns-clause-within
+returns-clause-within g c =
+    rw (← c.self.view_is)
+    (within_done g.T.Transport.sends g.T.Transport.receives g.G.GlobalHandler.views _ c.args.id.now c.args.reading.now c.next_action-answer.new.reading c.next_action-answer.result.0 c.slot.result c.index_mut.result.now c.in-Some.client c.next_action-answer.new.self c.next_action-answer.result.1
+    (sym c.is_stored.ensures.stored ∙ c.if-not-is_stored.false) c.slot.ensures c.index_mut.ensures.value c.in-Some.is c.next_action-answer.ensures)
