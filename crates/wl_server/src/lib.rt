@@ -51,8 +51,8 @@ mod step;
 mod surroundings;
 mod take_notes;
 mod telling;
-mod turn;
 mod transport_mut;
+mod turn;
 mod visits;
 
 pub use action::{Action, Reading};
