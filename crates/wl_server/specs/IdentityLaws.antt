@@ -1,7 +1,7 @@
 -- What holds of the ids of every run.
 use Rattle.std.proofs.Common.{◌≡◌, ◌≢◌, ◌⊎◌, ℕ, Bool, true, false, cond, eqb, List, [], ◌∷◌, ◌++◌, Option, None, Some, is_some, IsSome, refl, sym, ap, subst, ◌∙◌, true≢false, append_assoc, arith}
 use mathlib.Core.Logic.{inl, inr}
-use Rattle.std.specs.Prelude.{AllPairs, Contains, MatchOption, if◌then◌else◌, ◌↔◌}
+use Rattle.std.specs.Prelude.{AllPairs, Contains, MatchOption, ◌↔◌}
 use Rattle.wl_wire.specs.Table.{InterfaceRow}
 use Rattle.wl_link.specs.EndsLaw.{ends_once_law, run_leads, run_owns}
 use Rattle.wl_link.specs.Identity.{Birth, Born, Change, Ended, Gone, HasIdentity, Id, IsBornInStep, IsMadeIn, IsMadeInStep, Made, Objects, OwnsExactly, RunEnds, StepEnds, Wrote, births_of, counted_id, ended_in, ended_over, named_in, names}
@@ -28,27 +28,14 @@ use Rattle.wl_server.specs.Ids.{ClientParts, IdParts}
 use Rattle.wl_server.specs.IsolationLaw.{are_isolated, is_isolated}
 use Rattle.wl_server.specs.Lookups.{and_then}
 use Rattle.wl_server.specs.AmongLaws.{all_among, among_contains, among_first, among_later, contains_among}
+use Rattle.wl_server.specs.OwnRuns.{AreMine, are_mine}
 use Rattle.wl_server.specs.Part.{Part, display_object, id_of, named, objects_of, serial_of}
 use Rattle.wl_server.specs.PartStep.{World}
-use Rattle.wl_server.specs.Runs.{Alone, Leads, Own, Performs, begun, concerns, history, mine, offer_over, own_of}
+use Rattle.wl_server.specs.Runs.{Alone, Leads, Own, Performs, begun, history, mine, offer_over}
 use Rattle.wl_server.specs.Server.{Seen, ServerState, new_server, seen}
 use Rattle.wl_server.specs.Steps.{Entry, offer_after}
 
 -- ---- the run of a client
-
--- all its calls are about it or about none
-abbrev AreMine : {T U G C : Type 0} → ClientParts → List (Own T U G C) → Type 0
-AreMine id [] = Unit {0}
-AreMine id (e ∷ run) = (concerns id e.call ≡ true) × AreMine id run
-
-are_mine : {T U G C : Type 0} (id : ClientParts) (run : List (Entry T U G C)) → AreMine id (mine id run)
-are_mine id [] = tt
-are_mine {T} {U} {G} {C} id (e ∷ run) = go (are_mine id run) (concerns id e.call) refl
-  where
-    go : AreMine {T = T} {U = U} {G = G} {C = C} id (mine id run) → (b : Bool) → concerns id e.call ≡ b
-        → AreMine {T = T} {U = U} {G = G} {C = C} id (if b then own_of id e ∷ mine id run else mine id run)
-    go rest true is = (is, rest)
-    go rest false is = rest
 
 module _ {U : Type 0} (client : ClientParts) where
   -- a note whose id is made in some step

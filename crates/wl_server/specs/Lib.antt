@@ -61,4 +61,7 @@ pub mod BaseMovesLaw
 pub mod Identified
 pub mod ChangeLaws
 pub mod ReplyLaws
+pub mod OwnRuns
 pub mod IdentityLaws
+pub mod Logged
+pub mod LogLaws

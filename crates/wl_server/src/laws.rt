@@ -16,6 +16,7 @@ ghost use Rattle.wl_server.specs.Globals.{CreatesGlobal, Globals};
 ghost use Rattle.wl_server.specs.Ids.{ClientParts, GlobalParts};
 ghost use Rattle.wl_server.specs.Outcome.{ClientsHaveOneOutcome, OffersHaveOneOutcome, OwnRunsHaveOneOutcome, StepsHaveOneOutcome};
 ghost use Rattle.wl_server.specs.Identified.{EachHasOwnIds, HaveOwnIds};
+ghost use Rattle.wl_server.specs.Logged.{EachLogIsSpelled, HaveSpelledLogs};
 ghost use Rattle.wl_server.specs.PartStep.{over, over_scripts, share_of};
 ghost use Rattle.wl_server.specs.Runs.{AreIsolated, IsIsolated, Leads, Performs};
 ghost use Rattle.wl_server.specs.Server.{ServerState, Stored, new_server};
@@ -116,4 +117,20 @@ pub fn each_id_names_its_own_object<T: Transport, U, G: GlobalHandler<C>, C>()
 pub fn each_id_of_a_script_names_its_own_object<U, G: GlobalHandler<C>, C>()
     ensures { (table : List InterfaceRow) (steps : List (RunEntry (Step Script U G C) (Reply Script U))) (after : ServerState Script U G C) →
         Performs (over_scripts G.views) (new_server table) steps after → HaveOwnIds (over_scripts G.views) table steps after }
+{}
+
+/// Log equals bytes, over every transport.
+///
+/// Over every run of calls of a new server, what the transport of a client took since its insertion, followed by what
+/// waits to be sent, is the spelling of the messages that were put, in order; the tokens too, where no send answered 0. Of
+/// a client that was taken out, what waits is what was left over at its end.
+pub fn log_is_what_was_sent<T: Transport, U, G: GlobalHandler<C>, C>()
+    ensures { (table : List InterfaceRow) (run : List (Entry T U G C)) (after : ServerState T U G C) →
+        Leads (over T.sends T.receives G.views) (new_server table) run after → EachLogIsSpelled run after }
+{}
+
+/// The same over the transport by script, of steps with their replies.
+pub fn log_of_a_script_is_what_was_sent<U, G: GlobalHandler<C>, C>()
+    ensures { (table : List InterfaceRow) (steps : List (RunEntry (Step Script U G C) (Reply Script U))) (after : ServerState Script U G C) →
+        Performs (over_scripts G.views) (new_server table) steps after → HaveSpelledLogs (over_scripts G.views) table steps after }
 {}

@@ -1,0 +1,5 @@
+use Rattle.wl_server.specs.LogLaws.{each_log}
+use Rattle.wl_server.proofs.laws.log_is_what_was_sent.Goals as goal
+
+pub returns : goal.returns
+returns g c = λ table run after leads. each_log _ (record { law = g.met.T.Transport.within_offer }) table run after leads

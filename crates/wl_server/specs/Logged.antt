@@ -1,0 +1,42 @@
+-- What a client's transport took, and what waits for it: the spelling of what was put.
+use Rattle.std.specs.Prelude.{◌≡◌, List, ◌∷◌, ◌++◌, Ok, MatchOption}
+use Rattle.wl_wire.specs.Table.{InterfaceRow}
+use Rattle.wl_link.specs.Exchange.{Queue}
+use Rattle.wl_link.specs.Kept.{NoZero, taken}
+use Rattle.wl_link.specs.Puts.{messages_of}
+use Rattle.wl_link.specs.Runs.{Entry as RunEntry}
+use Rattle.wl_link.specs.Sides.{spelled_all}
+use Rattle.wl_server.specs.declared.step.Reply.{Reply}
+use Rattle.wl_server.specs.declared.step.Reply.TheVariants as reply
+use Rattle.wl_server.specs.declared.step.Step.{Step}
+use Rattle.wl_server.specs.declared.step.Step.TheVariants as step
+use Rattle.wl_server.specs.Deeds.{Deed, log_of, sends_of}
+use Rattle.wl_server.specs.Ids.{ClientParts}
+use Rattle.wl_server.specs.PartStep.{Asked, World}
+use Rattle.wl_server.specs.Runs.{AreOf, Leads, history, mine}
+use Rattle.wl_server.specs.Server.{Seen, ServerState, new_server, seen}
+use Rattle.wl_server.specs.Steps.{Entry}
+
+-- What the transport took, followed by what waits, is the spelling of the messages that were put; the tokens too, where no
+-- send answered 0, which drops those that it was offered.
+pub record LogIsSpelled {U : Type 0} (did : List (Deed U)) (waits : Queue) : Type 0 where
+  pub bytes : (taken (sends_of did)).bytes ++ waits.bytes ≡ (spelled_all (messages_of (log_of did))).bytes
+  pub tokens : NoZero (sends_of did) → (taken (sends_of did)).tokens ++ waits.tokens ≡ (spelled_all (messages_of (log_of did))).tokens
+
+-- this waits to be sent to the client, while it is stored
+abbrev pub WaitsFor : {T U C : Type 0} → Seen T U C → Queue → Type 0
+WaitsFor s waits = MatchOption s.part (Unit {0}) (λ p. waits ≡ p.link.outgoing)
+
+module _ {T U G C : Type 0} where
+  -- Of each client that was inserted in the run, what its transport took since then, followed by what waits, is the
+  -- spelling of what was put. Of one that was taken out, that is what was left over at its end.
+  abbrev pub EachLogIsSpelled : List (Entry T U G C) → ServerState T U G C → Type 0
+  EachLogIsSpelled run after =
+      (id : ClientParts) (transport : T) (info : C) (earlier later : List (Entry T U G C)) (e : Entry T U G C) →
+      run ≡ earlier ++ e ∷ later → e.call ≡ Asked (step.InsertClient transport info) (reply.InsertClient (Ok id)) →
+      (waits : Queue) × WaitsFor (seen id after) waits × LogIsSpelled (history (mine id later)) waits
+
+  -- steps of a new server, with these replies, are the calls of a run in which that is so
+  abbrev pub HaveSpelledLogs : World T G C → List InterfaceRow → List (RunEntry (Step T U G C) (Reply T U)) → ServerState T U G C → Type 0
+  HaveSpelledLogs w table steps after =
+      (run : List (Entry T U G C)) × AreOf steps run × Leads w (new_server table) run after × EachLogIsSpelled run after
