@@ -13,7 +13,7 @@ use Rattle.wl_server.specs.declared.arguments.Progress.{Progress}
 use Rattle.wl_server.specs.declared.kept.Kept.{Kept}
 use Rattle.wl_server.specs.declared.request_fault.RequestFault.{RequestFault}
 use Rattle.wl_server.specs.Ids.{ClientParts, IdParts}
-use Rattle.wl_server.specs.Requests.{Converting, Outcome, Whole, Wrong, convert_one, is_valid_new, made_id, with_made}
+use Rattle.wl_server.specs.Requests.{Converting, Outcome, Whole, Wrong, convert_one, is_valid_new, kinds_after, made_id, with_made, with_new_argument}
 
 -- the argument is of the next type
 abbrev pub IsNextKind : List ArgumentType → WireArgument → Type 0
@@ -42,6 +42,13 @@ module _ {U : Type 0} where
   Makes client before i version n None after = (is_valid_new before n ≡ false) × (after ≡ before)
   Makes client before i version n (Some id) after =
       (is_valid_new before n ≡ true) × (after ≡ with_made before n i version) × (id ≡ made_id client before n i)
+
+  -- a new id became this, whose type was taken
+  abbrev pub MakesNew : ClientParts → ℕ → Converting U → ℕ → Result (Argument IdParts Token) RequestFault → Converting U → Type 0
+  MakesNew client version before n (Ok b) after =
+      with_new_argument client version before n before.child ≡ Ok (b, record after { kinds = kinds_after before.kinds })
+  MakesNew client version before n (Err wrong) after =
+      (with_new_argument client version before n before.child ≡ Err wrong) × (after.objects ≡ before.objects)
 
   -- an argument became this
   abbrev pub Converts : ClientParts → ℕ → Converting U → WireArgument → Result (Argument IdParts Token) RequestFault → Converting U → Type 0

@@ -1,11 +1,11 @@
 //! The arguments of a request, and what they do to the objects of a client.
 
-ghost use Rattle.std.specs.Prelude.{◌≡◌, ◌+◌, ◌<◌, false, true, Ok, Err, IfOk, MatchResult, length, reverse};
+ghost use Rattle.std.specs.Prelude.{◌≡◌, ◌≢◌, ◌+◌, ◌<◌, false, true, None, Ok, Err, IfOk, MatchResult, length, reverse};
 ghost use Rattle.smallvec.specs.SmallVec.{HasRoomFor};
 ghost use Rattle.wl_wire.specs.Argument.{Matches};
 ghost use Rattle.wl_wire.specs.Asked.{next_interface, rest_of};
 ghost use Rattle.wl_server.specs.Requests.{Wrong, allows_null as null_allowed, convert, kinds_after, object_argument};
-ghost use Rattle.wl_server.specs.Conversion.{CanMake, Converts, EndsWhole, IsNextKind, Makes, objects_of_map, state};
+ghost use Rattle.wl_server.specs.Conversion.{CanMake, Converts, EndsWhole, IsNextKind, Makes, MakesNew, objects_of_map, state};
 
 use crate::client_id::ClientId;
 use crate::kept::Kept;
@@ -119,6 +119,34 @@ fn take_asked(progress: &mut Progress<'_>) -> InterfaceId
     }
 }
 
+/// What a new id becomes, whose type was taken.
+fn new_id_argument<U: Drop>(
+    client: ClientId,
+    version: u32,
+    objects: &mut ObjectMap<Kept<U>>,
+    last_serial: &mut u64,
+    progress: &mut Progress<'_>,
+    number: u32,
+) -> Result<Argument<ObjectId, Token>, RequestFault>
+    requires { progress.old.child ≢ None → objects.old.reserved ≡ true }
+    ensures made { MakesNew client version (state objects.old last_serial.old progress.old) number result
+        (state objects.new last_serial.new progress.new) }
+    ensures child { IfOk result (λ _. progress.new.child ≡ None) }
+    ensures kinds { progress.new.kinds.now ≡ progress.old.kinds.now }
+{
+    let Some(interface) = progress.child else {
+        return Err(RequestFault::InvalidNewId(number));
+    };
+    match make_object(client, objects, last_serial, interface, version, number) {
+        Some(id) => {
+            progress.child = None;
+            progress.created = Some(id);
+            Ok(Argument::NewId(id))
+        }
+        None => Err(RequestFault::InvalidNewId(number)),
+    }
+}
+
 /// What an argument of a request becomes, whose object has this version.
 fn convert_one<U: Drop>(
     client: ClientId,
@@ -149,17 +177,7 @@ fn convert_one<U: Drop>(
             Ok(Argument::Object(id))
         }
         Argument::NewId(number) => {
-            let Some(interface) = progress.child else {
-                return Err(RequestFault::InvalidNewId(number));
-            };
-            match make_object(client, objects, last_serial, interface, version, number) {
-                Some(id) => {
-                    progress.child = None;
-                    progress.created = Some(id);
-                    Ok(Argument::NewId(id))
-                }
-                None => Err(RequestFault::InvalidNewId(number)),
-            }
+            new_id_argument(client, version, objects, last_serial, progress, number)
         }
     }
 }

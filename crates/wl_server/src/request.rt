@@ -1,6 +1,6 @@
 //! The requests of a client: what is made of one, and how it is answered.
 
-ghost use Rattle.std.specs.Prelude.{◌≡◌, ◌<◌, ℕ, List, [], true, false, Err, Some, IfOk, MatchResult, length, vec_len, vec_capacity};
+ghost use Rattle.std.specs.Prelude.{◌≡◌, ◌∷◌, ◌<◌, map, ℕ, List, [], true, false, Err, Some, IfOk, MatchResult, length, vec_len, vec_capacity};
 ghost use Rattle.smallvec.specs.SmallVec.{HasRoomFor};
 ghost use Rattle.wl_wire.specs.declared.argument.Argument.{Argument as Arg};
 ghost use Rattle.wl_wire.specs.declared.argument.Token.{Token as TokenParts};
@@ -16,11 +16,14 @@ ghost use Rattle.wl_server.specs.declared.kept.Kept.{Kept as KeptOf};
 ghost use Rattle.wl_server.specs.declared.note.DisconnectReason.TheVariants.{ConnectionClosed};
 ghost use Rattle.wl_server.specs.declared.turn.TurnEnd.TheVariants as came;
 ghost use Rattle.wl_server.specs.Client.{Does};
+ghost use Rattle.wl_server.specs.Deeds.{Remembered};
+ghost use Rattle.wl_server.specs.Globals.{shown};
 ghost use Rattle.wl_server.specs.Ids.{IdParts};
-ghost use Rattle.wl_server.specs.Reading.{breaks, garbled, request_to};
+ghost use Rattle.wl_server.specs.Part.{id_of};
+ghost use Rattle.wl_server.specs.Reading.{breaks, garbled, hands_out, replies, request_to};
 ghost use Rattle.wl_server.specs.Responses.{code_of, core_with, opened_of, response_to, text_of};
-ghost use Rattle.wl_server.specs.Telling.{Core, Kills, core_of};
-ghost use Rattle.wl_server.specs.Turns.{Ended, IsHandled, Live, around_of, turned};
+ghost use Rattle.wl_server.specs.Telling.{Core, Kills, core_of, deletions, done_message, global_message};
+ghost use Rattle.wl_server.specs.Turns.{Acts, Ended, IsHandled, Live, around_of, found_with, turned};
 
 use crate::action::OpenAction;
 use crate::client::Client;
@@ -194,6 +197,56 @@ impl<T: Transport + Drop, U: Drop, C: Drop> Client<T, U, C> {
         })
     }
 
+    /// Ends a live client that broke the protocol.
+    fn ends_by<G: GlobalHandler<C>>(
+        &mut self,
+        numbers: &mut NoteNumbers,
+        around: &Surroundings<'_, G>,
+        breach: &Breach<'_>,
+    ) -> NoAction
+        requires { self.old.part.is_killed ≡ false }
+        ensures { IsHandled T.sends (breaks (around_of G.views around.now) (core_of self.old.part) (code_of breach.now) (text_of around.now.protocol.now breach.now)) self.old (Ended result) self.new }
+    {
+        let alloc = *self.registries.allocator();
+        let text = breach_text(alloc, around.protocol, breach);
+        self.breaks(numbers, around, breach_code(breach), text)
+    }
+
+    /// Answers a sync of a live client, whose callback had this id.
+    fn sync_done(&mut self, numbers: &mut NoteNumbers, callback: &ObjectId) -> TurnEnd
+        requires { Live self.old.part }
+        ensures { (args : List (Arg IdParts TokenParts)) → IsHandled T.sends
+            (replies (core_of self.old.part) (done_message (id_of callback.now) ∷ deletions callback.now.number) []) self.old (turned result args) self.new }
+    {
+        let alloc = *self.registries.allocator();
+        let wrote = put_done(alloc, &mut self.socket, callback.protocol_id());
+        self.replied(numbers, wrote)
+    }
+
+    /// Tells a new registry of a live client of the globals.
+    fn registered<G: GlobalHandler<C> + Drop>(
+        &mut self,
+        numbers: &mut NoteNumbers,
+        around: &Surroundings<'_, G>,
+        registry: &ObjectId,
+    ) -> TurnEnd
+        requires { Live self.old.part }
+        ensures { (args : List (Arg IdParts TokenParts)) → IsHandled T.sends
+            (replies (core_of self.old.part) (map (global_message around.now.protocol.now (id_of registry.now)) (shown G.views (around_of G.views around.now).globals around.now.client self.old.part.info))
+            (Remembered (id_of registry.now) ∷ [])) self.old (turned result args) self.new }
+    {
+        let alloc = *self.registries.allocator();
+        let wrote = put_globals(alloc, &mut self.socket, around, &self.info, registry);
+        self.replied(numbers, wrote)
+    }
+
+    /// Opens the action that is handed out.
+    fn opens(&mut self, found: &Found)
+        ensures { (args : List (Arg IdParts TokenParts)) → IsHandled T.sends (hands_out (core_of self.old.part) (opened_of found.now) (found_with found.now args)) self.old (Acts (found_with found.now args)) self.new }
+    {
+        self.action = Some(open_action(found));
+    }
+
     /// Answers a request of a live client that was gone through.
     pub fn respond<G: GlobalHandler<C> + Drop>(
         &mut self,
@@ -206,23 +259,11 @@ impl<T: Transport + Drop, U: Drop, C: Drop> Client<T, U, C> {
     {
         match response {
             Response::Garbled => TurnEnd::Ends(self.garbled(numbers)),
-            Response::Breaks(breach) => {
-                let alloc = *self.registries.allocator();
-                let text = breach_text(alloc, around.protocol, breach);
-                TurnEnd::Ends(self.breaks(numbers, around, breach_code(breach), text))
-            }
-            Response::Syncs(id) => {
-                let alloc = *self.registries.allocator();
-                let wrote = put_done(alloc, &mut self.socket, id.protocol_id());
-                self.replied(numbers, wrote)
-            }
-            Response::Registers(id) => {
-                let alloc = *self.registries.allocator();
-                let wrote = put_globals(alloc, &mut self.socket, around, &self.info, id);
-                self.replied(numbers, wrote)
-            }
+            Response::Breaks(breach) => TurnEnd::Ends(self.ends_by(numbers, around, breach)),
+            Response::Syncs(callback) => self.sync_done(numbers, callback),
+            Response::Registers(registry) => self.registered(numbers, around, registry),
             Response::HandsOut(found) => {
-                self.action = Some(open_action(found));
+                self.opens(found);
                 TurnEnd::Acts(*found)
             }
         }

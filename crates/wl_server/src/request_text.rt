@@ -6,6 +6,7 @@ ghost use Rattle.std.specs.Fmt.{decimal};
 ghost use Rattle.std.specs.Str.Lossy.{utf8_lossy};
 ghost use Rattle.std.specs.String.{string_bytes};
 ghost use Rattle.wl_wire.specs.Table.{message_row, name_of};
+ghost use Rattle.wl_server.specs.declared.request_fault.RequestFault.TheVariants as wrong;
 ghost use Rattle.wl_server.specs.Errors.{bind_text as text_of_bind, fault_text as text_of_fault, new_id_text as text_of_new_id, request_name as name_of_request, since_text as text_of_since};
 
 use crate::request_fault::RequestFault;
@@ -106,6 +107,38 @@ fn wrong_interface_text(
     )?)
 }
 
+/// The text of an object argument of a wrong interface.
+fn wrong_interface_fault(
+    alloc: Global,
+    protocol: &Protocol,
+    interface: InterfaceId,
+    desc: &MessageDesc,
+    number: u32,
+    asked: InterfaceId,
+    given: InterfaceId,
+) -> Result<CString, OutOfMemory>
+    ensures { IfOk result (λ s. s ≡ text_of_fault protocol.now interface (message_row desc.now) (wrong.WrongInterface number asked given)) }
+{
+    let request = request_name(alloc, protocol, interface, desc)?;
+    let request = request.as_str();
+    let asked = protocol.name(asked);
+    let given = protocol.name(given);
+    as_argument(wrong_interface_text(alloc, request, number, asked, given)?)
+}
+
+/// The text of an object argument that is null.
+fn null_object_fault(
+    alloc: Global,
+    protocol: &Protocol,
+    interface: InterfaceId,
+    desc: &MessageDesc,
+) -> Result<CString, OutOfMemory>
+    ensures { IfOk result (λ s. s ≡ text_of_fault protocol.now interface (message_row desc.now) wrong.NullObject) }
+{
+    let request = request_name(alloc, protocol, interface, desc)?;
+    as_argument(format!(in alloc; "Invalid null object in request {request}.")?)
+}
+
 /// The text of an argument that is wrong.
 #[cold]
 #[inline(never)]
@@ -124,15 +157,8 @@ pub fn fault_text(
             as_argument(format!(in alloc; "Unknown id: {number}.")?)
         }
         RequestFault::WrongInterface(number, asked, given) => {
-            let request = request_name(alloc, protocol, interface, desc)?;
-            let request = request.as_str();
-            let asked = protocol.name(asked);
-            let given = protocol.name(given);
-            as_argument(wrong_interface_text(alloc, request, number, asked, given)?)
+            wrong_interface_fault(alloc, protocol, interface, desc, number, asked, given)
         }
-        RequestFault::NullObject => {
-            let request = request_name(alloc, protocol, interface, desc)?;
-            as_argument(format!(in alloc; "Invalid null object in request {request}.")?)
-        }
+        RequestFault::NullObject => null_object_fault(alloc, protocol, interface, desc),
     }
 }
