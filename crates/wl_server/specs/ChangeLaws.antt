@@ -311,7 +311,7 @@ module _ {T U C : Type 0} (sends : T → Queue → Result ℕ IoFault → T → 
       })
 
   -- no note is handed out by moves of the part
-  moves_take : (p q : Part T U C) (d : Doings U) → Moves sends receives client p d q → d.taken ≡ []
+  pub moves_take : (p q : Part T U C) (d : Doings U) → Moves sends receives client p d q → d.taken ≡ []
   moves_take p q d (stayed is same) = ap (λ (x : Doings U). x.taken) is
   moves_take p q d (followed {m = m} {a = a} {b = b} first second is) =
       ap (λ (x : Doings U). x.taken) is ∙ ap (λ l. l ++ b.taken) (moves_take p m a first) ∙ moves_take m q b second

@@ -154,7 +154,7 @@ module _ {T U G C : Type 0} (w : World T G C) (id : ClientParts) where
         λ some. sym (ap (λ (x : Objects (Kept U)). is_some (names serial_of (id_of o) x.store)) is) ∙ some,
       )
 
-  own_ids : (offer : Offer G) (link : LinkState T) (info : C) (run : List (Own T U G C)) (t : Seen T U C) → AreMine id run → Alone w id offer (begun link info) run t
+  pub own_ids : (offer : Offer G) (link : LinkState T) (info : C) (run : List (Own T U G C)) (t : Seen T U C) → AreMine id run → Alone w id offer (begun link info) run t
       → HasOwnIds w id offer (begun link info) run t
   own_ids offer link info run t own alone =
       let changing = run_change offer (begun link info) (objects.begun display_object) run t own refl (stored_other empty_store 1 display_object 0 (λ is. none_one is) ∙ held_empty 0) alone in

@@ -65,3 +65,5 @@ pub mod OwnRuns
 pub mod IdentityLaws
 pub mod Logged
 pub mod LogLaws
+pub mod NotedOnce
+pub mod NotedLaws

@@ -1,0 +1,77 @@
+-- The notes of a client over a run: of each object that left with user data one, and one of its end.
+use Rattle.std.specs.Prelude.{◌≡◌, ◌≢◌, ℕ, ◌+◌, List, [], ◌∷◌, ◌++◌, AllPairs, IsPermutation, if◌then◌else◌, Bool, Option, None, Some, Ok, Vec}
+use Rattle.std.specs.Global.{Global}
+use Rattle.wl_wire.specs.Table.{InterfaceRow}
+use Rattle.wl_link.specs.Identity.{Id}
+use Rattle.wl_link.specs.Runs.{Entry as RunEntry}
+use Rattle.wl_server.specs.declared.note.Happening.{Happening}
+use Rattle.wl_server.specs.declared.note.Happening.TheVariants.{Destroyed, Disconnected, Initialized}
+use Rattle.wl_server.specs.declared.step.Reply.{Reply}
+use Rattle.wl_server.specs.declared.step.Reply.TheVariants as reply
+use Rattle.wl_server.specs.declared.step.Step.{Step}
+use Rattle.wl_server.specs.declared.step.Step.TheVariants as step
+use Rattle.wl_server.specs.Deeds.{Deed, left_in, taken_in}
+use Rattle.wl_server.specs.Identified.{waiting_of}
+use Rattle.wl_server.specs.Ids.{ClientParts}
+use Rattle.wl_server.specs.Part.{Part, id_of}
+use Rattle.wl_server.specs.PartStep.{Asked, World}
+use Rattle.wl_server.specs.Runs.{AreOf, Leads, history, mine}
+use Rattle.wl_server.specs.Server.{Seen, ServerState, new_server, seen}
+use Rattle.wl_server.specs.Steps.{Entry, OneStep}
+
+module _ {U : Type 0} where
+  -- the objects that notes tell of as destroyed
+  abbrev pub destroyed_in : List (Happening U) → List Id
+  destroyed_in [] = []
+  destroyed_in (Destroyed o u ∷ notes) = id_of o ∷ destroyed_in notes
+  destroyed_in (Initialized ∷ notes) = destroyed_in notes
+  destroyed_in (Disconnected reason ∷ notes) = destroyed_in notes
+
+  -- how often notes tell of the client's end
+  abbrev pub ends_in : List (Happening U) → ℕ
+  ends_in [] = 0
+  ends_in (Disconnected reason ∷ notes) = ends_in notes + 1
+  ends_in (Destroyed o u ∷ notes) = ends_in notes
+  ends_in (Initialized ∷ notes) = ends_in notes
+
+abbrev pub one_if : Bool → ℕ
+one_if b = if b then 1 else 0
+
+-- how often a client has ended: a live one never; one that was killed once, and it was before it was taken out
+abbrev pub ended_times : {T U C : Type 0} → Option (Part T U C) → ℕ
+ended_times None = 1
+ended_times (Some p) = one_if p.is_killed
+
+-- The objects that left with user data by these deeds are, in some order, those that notes tell of as destroyed: of the
+-- notes that were handed out, that were made, and that wait for the next cleanup. None of them left twice. The client's end
+-- is told of once, if it was killed.
+pub record NotesEach {T U C : Type 0} (did : List (Deed U)) (s : Seen T U C) : Type 0 where
+  pub destroyed : IsPermutation (left_in did) (destroyed_in (taken_in did ++ (s.made ++ waiting_of s.part)))
+  pub once : AllPairs (λ a b. a ≢ b) (left_in did)
+  pub disconnected : ends_in (taken_in did ++ s.made) ≡ ended_times s.part
+
+module _ {T U G C : Type 0} where
+  -- so it is of each client that was inserted in the run, since then
+  abbrev pub EachIsNoted : List (Entry T U G C) → ServerState T U G C → Type 0
+  EachIsNoted run after =
+      (id : ClientParts) (transport : T) (info : C) (earlier later : List (Entry T U G C)) (e : Entry T U G C) →
+      run ≡ earlier ++ e ∷ later → e.call ≡ Asked (step.InsertClient transport info) (reply.InsertClient (Ok id)) →
+      NotesEach (history (mine id later)) (seen id after)
+
+  -- steps of a new server, with these replies, are the calls of a run in which that is so
+  abbrev pub HaveNotes : World T G C → List InterfaceRow → List (RunEntry (Step T U G C) (Reply T U)) → ServerState T U G C → Type 0
+  HaveNotes w table steps after =
+      (run : List (Entry T U G C)) × AreOf steps run × Leads w (new_server table) run after × EachIsNoted run after
+
+module _ {T G C : Type 0} (U : Type 0) (w : World T G C) where
+  -- a cleanup that succeeds leaves no note that waits
+  abbrev pub CleanupNotesAll : Type 0
+  CleanupNotesAll =
+      (before after : ServerState T U G C) (e : Entry T U G C) (out : Vec (ClientParts × T) Global) → OneStep w before e after
+      → e.call ≡ Asked step.Cleanup (reply.Cleanup (Ok out)) → (id : ClientParts) → waiting_of (seen id after).part ≡ []
+
+  -- and the end of a request lets none wait: what leaves by it is noted by it
+  abbrev pub FinishNotesAtOnce : Type 0
+  FinishNotesAtOnce =
+      (before after : ServerState T U G C) (e : Entry T U G C) (target : ClientParts) (u : Option U) (answer : Reply T U) → OneStep w before e after
+      → e.call ≡ Asked (step.FinishRequest target u) answer → (id : ClientParts) → waiting_of (seen id after).part ≡ waiting_of (seen id before).part
