@@ -2,7 +2,7 @@ use Rattle.std.proofs.Common.{◌∙◌, Err, refl, sym}
 use Rattle.wl_wire.specs.declared.error.IoFault.TheVariants as fault
 use Rattle.wl_server.specs.declared.error.ActionError.TheVariants.{Io}
 use Rattle.wl_server.proofs.ReadingCalls.{next_done, next_missing, within_done, within_missing}
-use Rattle.wl_server.proofs.Slots.{slot_not_empty}
+use Rattle.wl_server.proofs.Slots.{slot_in, slot_not_empty}
 use Rattle.wl_server.proofs.backend.Backend.read_client.Goals as goal
 
 pub returns-then-not-is_stored-clause-fresh : goal.returns-then-not-is_stored-clause-fresh
@@ -14,6 +14,9 @@ pub returns-then-not-is_stored-clause-within : goal.returns-then-not-is_stored-c
 returns-then-not-is_stored-clause-within g c =
     rw (← c.self.view_is)
     (within_missing g.T.Transport.sends g.T.Transport.receives g.G.GlobalHandler.views _ c.args.id.now c.args.reading.now c.args.reading.now (Err (Io fault.InvalidInput)) (sym c.is_stored.ensures.stored ∙ c.if-not-is_stored.true) refl refl)
+
+pub index_mut-requires : goal.index_mut-requires
+index_mut-requires g c = slot_in c.self.inside.clients _ _ c.slot.ensures (c.is_stored.ensures.within c.if-not-is_stored.false)
 
 pub unreachable-requires : goal.unreachable-requires
 unreachable-requires g c =
