@@ -96,15 +96,15 @@ module _ {T U C : Type 0} (R : Kind T U C) where
 
   -- ---- what is felt by each id
 
-  abbrev client_in : ℕ → Option (Option (Stored T U C)) → Option (Stored T U C)
+  abbrev pub client_in : ℕ → Option (Option (Stored T U C)) → Option (Stored T U C)
   client_in serial x = if_serial serial (option_map_or (λ s. s) x None)
 
   -- memory was refused to a client that is stored
-  abbrev lacks_in : Option (Stored T U C) → Bool → Bool
+  abbrev pub lacks_in : Option (Stored T U C) → Bool → Bool
   lacks_in None lacked = false
   lacks_in (Some s) lacked = lacked
 
-  abbrev FeltBy : ClientParts → List (Happening U) → Bool → Option (Option (Stored T U C)) → Option (Option (Stored T U C)) → Type 0
+  abbrev pub FeltBy : ClientParts → List (Happening U) → Bool → Option (Option (Stored T U C)) → Option (Option (Stored T U C)) → Type 0
   FeltBy id gathered lacked before after =
       (did : List (Deed U))
       × Feels (seen_as gathered (client_in id.serial before)) (λ p q. R id p (lacks_in (client_in id.serial before) lacked) did q)
@@ -139,10 +139,10 @@ module _ {T U C : Type 0} (R : Kind T U C) where
 
   module _ (refused : Bool) (start now : List (Option (Stored T U C))) (all : AllFeel R refused (length start) start now) where
     -- whether memory was refused to the client of an id
-    abbrev lacks_of : ClientParts → Bool
+    abbrev pub lacks_of : ClientParts → Bool
     lacks_of id = lacks_in (client_at id start) (all.lacks id.slot)
 
-    each_felt : (gathered : List (Happening U)) (id : ClientParts) → FeltBy id gathered (all.lacks id.slot) (slice_get start id.slot) (slice_get now id.slot)
+    pub each_felt : (gathered : List (Happening U)) (id : ClientParts) → FeltBy id gathered (all.lacks id.slot) (slice_get start id.slot) (slice_get now id.slot)
     each_felt gathered id = at (nat_lt id.slot (length start)) refl
       where
         at : (b : Bool) → nat_lt id.slot (length start) ≡ b → FeltBy id gathered (all.lacks id.slot) (slice_get start id.slot) (slice_get now id.slot)
@@ -153,7 +153,7 @@ module _ {T U C : Type 0} (R : Kind T U C) where
             subst (λ (x : Option (Option (Stored T U C))). FeltBy id gathered (all.lacks id.slot) (slice_get start id.slot) x) (sym (all.rest id.slot far))
             (subst (λ (x : Option (Option (Stored T U C))). FeltBy id gathered (all.lacks id.slot) x x) (sym none) ([], (tt, (refl, refl, refl))))
 
-    some_lacks : refused ≡ true → (id : ClientParts) × (lacks_of id ≡ true)
+    pub some_lacks : refused ≡ true → (id : ClientParts) × (lacks_of id ≡ true)
     some_lacks is =
         let (k, below, lacks) = all.blame is in
         at k (slice_get start k) refl lacks (all.felt k below)
@@ -166,7 +166,7 @@ module _ {T U C : Type 0} (R : Kind T U C) where
             let id : ClientParts = record { slot = k; serial = s.serial } in
             (id, subst (λ (o : Option (Stored T U C)). lacks_in o (all.lacks k) ≡ true) (sym (client_present id start s here refl)) lacks)
 
-    one_lacks : (id : ClientParts) → lacks_of id ≡ true → refused ≡ true
+    pub one_lacks : (id : ClientParts) → lacks_of id ≡ true → refused ≡ true
     one_lacks id lacks =
         let (some, is) = stored (client_at id start) (all.lacks id.slot) lacks in
         all.told id.slot (slot_within start id some) is

@@ -43,7 +43,7 @@ module _ {U : Type 0} where
 
 -- ---- lists
 
-map_set : {A B : Type 0} (f : A → B) (xs : List A) (k : ℕ) (x y : A) → slice_get xs k ≡ Some x → f y ≡ f x → map f (slice_set xs k y) ≡ map f xs
+pub map_set : {A B : Type 0} (f : A → B) (xs : List A) (k : ℕ) (x y : A) → slice_get xs k ≡ Some x → f y ≡ f x → map f (slice_set xs k y) ≡ map f xs
 map_set f [] k x y here same = refl
 map_set f (z ∷ xs) zero x y here same = ap (λ b. b ∷ map f xs) (same ∙ ap f (sym (same_Some z x here)))
 map_set f (z ∷ xs) (suc k) x y here same = ap (λ l. f z ∷ l) (map_set f xs k x y here same)

@@ -17,6 +17,13 @@ mod EventFaults
 mod Inserting
 mod Gathering
 mod Taking
+mod Ending
+mod Outgoing
+mod CleanedSlots
+mod Cleaning
+mod Rooms
+mod Collecting
+mod CleaningUp
 mod Feeling
 mod Flushing
 mod Hearing

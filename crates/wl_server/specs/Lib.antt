@@ -28,9 +28,11 @@ pub mod Lending
 pub mod Carried
 pub mod Inserting
 pub mod Gathering
+pub mod Leaving
 pub mod Places
 pub mod Finishing
 pub mod News
+pub mod Cleanup
 pub mod Backend
 pub mod Lookups
 pub mod IsolationLaw
@@ -67,3 +69,4 @@ pub mod Logged
 pub mod LogLaws
 pub mod NotedOnce
 pub mod NotedLaws
+pub mod Performing

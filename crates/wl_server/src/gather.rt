@@ -13,7 +13,7 @@ use std::collections::VecDeque;
 use wl_wire::OutOfMemory;
 
 /// When a note is gathered: those that were made before those that wait, each by its number; and the slot of its client.
-type Turn = (bool, u128, u32);
+pub type Turn = (bool, u128, u32);
 
 /// The note of what happened to a client.
 fn note_of<U>(id: ClientId, happening: Happening<U>) -> Note<U>

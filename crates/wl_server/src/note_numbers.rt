@@ -26,6 +26,11 @@ impl NoteNumbers {
         number
     }
 
+    /// No note waits any more.
+    pub fn end_waiting(&mut self) {
+        self.waiting = 0;
+    }
+
     /// The number of a note that is made.
     pub fn next_made(&mut self) -> u128 {
         let number = self.made;

@@ -1,0 +1,31 @@
+use Rattle.std.proofs.Common.{◌≤◌, arith, length, refl, subst}
+use Rattle.std.specs.Vec.{vec_capacity}
+use Rattle.wl_server.specs.Cleanup.{CleansUp}
+use Rattle.wl_server.specs.Leaving.{collected, given_at}
+use Rattle.wl_server.proofs.CleanedSlots.{slots_cleaned}
+use Rattle.wl_server.proofs.CleaningUp.{cleaned_up, cleanup_starved}
+use Rattle.wl_server.proofs.backend.Backend.cleanup.Goals as goal
+
+pub clean_up-self-inside-requires-clause-given : goal.clean_up-self-inside-requires-clause-given
+clean_up-self-inside-requires-clause-given g c =
+    subst (λ xs. length (collected given_at 0 xs) ≤ vec_capacity c.in-Ok.room.given) c.deref.ensures.value c.in-Ok.ensures.given
+
+pub returns-in-Ok : goal.returns-in-Ok
+returns-in-Ok g c =
+    let by : CleansUp g.T.Transport.sends c.self.inside.clients.items c.self.inside.notes.items c.clean_up-self-inside.result c.clean_up-self-inside.new.clients.items
+    c.clean_up-self-inside.new.notes.items c.clean_up-self-inside.new.room.given.items =
+    subst (λ ns. CleansUp g.T.Transport.sends c.self.inside.clients.items ns c.clean_up-self-inside.result c.clean_up-self-inside.new.clients.items
+    c.clean_up-self-inside.new.notes.items c.clean_up-self-inside.new.room.given.items) c.room_for.ensures.items c.clean_up-self-inside.ensures
+    in
+    rw (← c.self.view_is) (cleaned_up _ _ _ _ _ c.clean_up-self-inside.new.room.given _ refl by)
+
+pub returns-in-Err : goal.returns-in-Err
+returns-in-Err g c = rw (← c.self.view_is) (cleanup_starved _ _ _ c.room_for.new.notes.items c.room_for.ensures.items)
+
+pub invariant_of-self : goal.invariant_of-self
+invariant_of-self g c =
+    let same = slots_cleaned _ _ _ _ _ _ _ c.clean_up-self-inside.ensures in
+    let before = c.self.inside.clients.ok.0 in
+    let after = c.clean_up-self-inside.new.clients.ok.0 in
+    let within = c.self.invariant in
+    omega (arith, same, before, after, within)
