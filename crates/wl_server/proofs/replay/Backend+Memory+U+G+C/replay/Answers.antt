@@ -1,0 +1,36 @@
+use Rattle.std.proofs.Common.{ℕ, ◌++◌, ◌∙◌, ap, subst, sym}
+use Rattle.std.proofs.lemmas.Bool.{false≢true}
+use Rattle.wl_link.specs.RunLaws.{joins}
+use Rattle.wl_link.specs.Runs.{entries}
+use Rattle.wl_server.specs.IsolationLaw.{are_isolated}
+use Rattle.wl_server.specs.PartStep.{over_scripts}
+use Rattle.wl_server.specs.Runs.{StopsAt}
+use Rattle.wl_server.specs.Server.{new_server}
+use Rattle.wl_server.specs.Steps.{StepOf}
+use Rattle.wl_server.proofs.replay.Backend+Memory+U+G+C.replay.Goals as goal
+
+pub returns-then-self-clause-stopped : goal.returns-then-self-clause-stopped
+returns-then-self-clause-stopped g c =
+    subst (λ (n : ℕ). StopsAt (over_scripts g.G.GlobalHandler.views) c.args.self.now.server c.args.steps.items n c.perform_all.new.replies.items c.perform_all.new.self.server)
+    (sym (c.len.ensures ∙ c.perform_all.new.replies.ok.0))
+    (c.perform_all.ensures.stopped (sym (ap (λ s. s.refused) c.self-2.view_is) ∙ c.if-self.true))
+
+pub returns-then-self-clause-none : goal.returns-then-self-clause-none
+returns-then-self-clause-none g c none =
+    absurd (false≢true (sym (c.perform_all.ensures.none none) ∙ sym (ap (λ s. s.refused) c.self-2.view_is) ∙ c.if-self.true))
+
+pub returns-clause-count : goal.returns-clause-count
+returns-clause-count g c = (c.perform_all.ensures.made (sym (ap (λ s. s.refused) c.self-2.view_is) ∙ c.if-self.false)).1
+
+pub returns-clause-steps : goal.returns-clause-steps
+returns-clause-steps g c = (c.perform_all.ensures.made (sym (ap (λ s. s.refused) c.self-2.view_is) ∙ c.if-self.false)).0
+
+pub returns-clause-joined : goal.returns-clause-joined
+returns-clause-joined g c begun run before =
+    joins (StepOf (over_scripts g.G.GlobalHandler.views)) begun c.args.self.now.server c.perform_all.new.self.server run (entries c.args.steps.items c.perform_all.new.replies.items) before
+    (returns-clause-steps g c)
+
+pub returns-clause-isolated : goal.returns-clause-isolated
+returns-clause-isolated g c table run before =
+    are_isolated (over_scripts g.G.GlobalHandler.views) table (run ++ entries c.args.steps.items c.perform_all.new.replies.items) c.perform_all.new.self.server
+    (returns-clause-joined g c (new_server table) run before)
