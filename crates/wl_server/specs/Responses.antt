@@ -1,16 +1,19 @@
 -- What the functions that go through a request say to those that answer it.
-use Rattle.std.specs.Prelude.{ℕ, List, [], ◌∷◌, map, Bool, false, ◌&&◌, nat_le, nat_lt, Option, None, Some}
+use Rattle.std.specs.Prelude.{◌≡◌, ℕ, List, [], ◌∷◌, map, Bool, false, ◌&&◌, nat_le, nat_lt, Option, None, Some, Result, Ok, Err}
 use Rattle.std.specs.Option.{option_map_or}
 use Rattle.std.specs.Str.{bytes_eq}
 use Rattle.wl_wire.specs.declared.argument.Argument.{Argument}
 use Rattle.wl_wire.specs.declared.argument.Argument.TheVariants as arg
 use Rattle.wl_wire.specs.declared.argument.Token.{Token}
 use Rattle.wl_wire.specs.Argument.{WireArgument}
-use Rattle.wl_wire.specs.Table.{InterfaceRow, message_row, name_of}
+use Rattle.wl_wire.specs.declared.error.MessageParseError.{MessageParseError}
+use Rattle.wl_wire.specs.Message.{WireMessage}
+use Rattle.wl_wire.specs.Table.{InterfaceRow, MessageRow, message_row, name_of}
 use Rattle.wl_link.specs.declared.object.Object.{Object}
 use Rattle.wl_link.specs.Identity.{Id}
+use Rattle.wl_link.specs.Link.{LinkState}
 use Rattle.wl_link.specs.Reader.{Verdict}
-use Rattle.wl_link.specs.Store.{Store}
+use Rattle.wl_link.specs.Store.{Store, held}
 use Rattle.wl_server.specs.declared.action.OpenAction.{OpenAction}
 use Rattle.wl_server.specs.declared.action.OpenAction.TheVariants as opened
 use Rattle.wl_server.specs.declared.kept.Kept.{Kept}
@@ -27,9 +30,9 @@ use Rattle.wl_server.specs.Errors.{bind_text, fault_text, new_id_text, since_tex
 use Rattle.wl_server.specs.Globals.{is_visible, shown}
 use Rattle.wl_server.specs.Ids.{IdParts}
 use Rattle.wl_server.specs.Part.{id_of}
-use Rattle.wl_server.specs.Reading.{Around, breaks, garbled, hands_out, replies}
+use Rattle.wl_server.specs.Reading.{Around, breaks, garbled, hands_out, replies, request_to, row_in}
 use Rattle.wl_server.specs.Telling.{Core, Told, deletions, done_message, global_message}
-use Rattle.wl_server.specs.Turns.{found_with}
+use Rattle.wl_server.specs.Turns.{NotTaken, ReadsIn, found_with}
 
 -- the number of the new id, where that is all
 abbrev pub only_new_id : List WireArgument → Option ℕ
@@ -81,3 +84,14 @@ module _ {U C : Type 0} where
   -- a client's core with these objects and registries
   abbrev pub core_with : Core U C → C → Store (Kept U) → ℕ → List Id → Core U C
   core_with c info store last_serial registries = record c { info = info; store = store; last_serial = last_serial; registries = registries }
+
+module _ {T U G C : Type 0} (a : Around G C) (info : C) where
+  -- a message was taken, and gone through; or none was taken
+  abbrev pub TookRequest : Store (Kept U) → ℕ → List Id → LinkState T → Result Response MessageParseError → List (Argument IdParts Token)
+      → Store (Kept U) → ℕ → List Id → LinkState T → Type 0
+  TookRequest store last_serial registries before (Ok response) args store' last_serial' registries' after =
+      (m : WireMessage) × (row : MessageRow) × ReadsIn a.table store before (Ok m) after × (row_in a.table (held store m.sender) m.opcode ≡ Some row)
+      × ((x : Object (Kept U)) (c : Core U C) → held store m.sender ≡ Some x
+      → request_to a (core_with c info store last_serial registries) m x row ≡ response_to a (core_with c info store' last_serial' registries') response args)
+  TookRequest store last_serial registries before (Err e) args store' last_serial' registries' after =
+      (after ≡ before) × (store' ≡ store) × (last_serial' ≡ last_serial) × (registries' ≡ registries) × NotTaken a.table store before e

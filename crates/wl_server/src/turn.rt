@@ -14,6 +14,7 @@ ghost use Rattle.wl_wire.specs.declared.argument.Argument.{Argument as Arg};
 ghost use Rattle.wl_wire.specs.declared.argument.Token.{Token as TokenParts};
 ghost use Rattle.wl_server.specs.declared.action.Reading.{Reading as ReadingOf};
 ghost use Rattle.wl_server.specs.Ids.{IdParts};
+ghost use Rattle.wl_server.specs.Responses.{TookRequest};
 ghost use Rattle.wl_server.specs.Turns.{IsHeader, Live, NotTaken, TookWith, Turns, around_of, turned};
 
 use crate::action::Reading;
@@ -25,6 +26,7 @@ use crate::note_numbers::NoteNumbers;
 use crate::object_id::ObjectId;
 use crate::registry::Registry;
 use crate::request::request;
+use crate::response::Response;
 use crate::surroundings::Surroundings;
 use smallvec::SmallVec;
 use wl_link::{BufferedSocket, ObjectMap, Transport};
@@ -147,7 +149,7 @@ fn make_room<T: Drop, U: Drop>(
 /// Takes the message at the front, of that sender and opcode, off the link, with room for what it becomes: for its
 /// arguments in `converted`, which is emptied, and for the object that it may make in the map and among the registries.
 /// The answer is what the table says of it.
-pub fn take<'p, T: Drop, U: Drop>(
+fn take<'p, T: Drop, U: Drop>(
     protocol: &'p Protocol,
     objects: &mut ObjectMap<Kept<U>>,
     registries: &mut Vec<Registry>,
@@ -181,6 +183,47 @@ pub fn take<'p, T: Drop, U: Drop>(
     };
     read_under(socket, signature, message)?;
     Ok(desc)
+}
+
+/// Takes the message at the front, of that sender and opcode, off the link, and goes through it. The arguments of one that
+/// is handed out are in `args` then, and `message` is the place of the message. `protocol` is the table, apart since its
+/// loan need not be as long as that of `around`.
+fn take_request<'m, T: Drop, U: Drop, G: GlobalHandler<C> + Drop, C>(
+    protocol: &'m Protocol,
+    around: &Surroundings<'_, G>,
+    info: &C,
+    objects: &mut ObjectMap<Kept<U>>,
+    last_serial: &mut u64,
+    registries: &mut Vec<Registry>,
+    socket: &mut BufferedSocket<T>,
+    header: (u32, u16),
+    message: &'m mut Message<u32, Token>,
+    args: &mut SmallVec<Argument<ObjectId, Token>, INLINE_ARGS>,
+) -> Result<Response<'m>, MessageParseError>
+    requires protocol { protocol.now ≡ around.now.protocol.now }
+    requires header { IsHeader socket.old header }
+    requires inline { INLINE_ARGS ≤ args.old.capacity }
+    requires place { INLINE_ARGS ≤ message.old.args.capacity }
+    ensures took { TookRequest (around_of G.views around.now) info.now objects.old.store last_serial.old registries.old.items socket.old result args.new.items
+        objects.new.store last_serial.new registries.new.items socket.new }
+    ensures fewer { OnOk result (length socket.new.incoming.bytes < length socket.old.incoming.bytes) }
+    ensures inline { INLINE_ARGS ≤ args.new.capacity }
+{
+    let taken = take(protocol, objects, registries, socket, header, message, args);
+    let desc = match taken {
+        Ok(desc) => desc,
+        Err(error) => return Err(error),
+    };
+    Ok(request(
+        around,
+        info,
+        objects,
+        last_serial,
+        registries,
+        desc,
+        message,
+        args,
+    ))
 }
 
 impl<T: Transport + Drop, U: Drop, C: Drop> Client<T, U, C> {
@@ -246,30 +289,24 @@ impl<T: Transport + Drop, U: Drop, C: Drop> Client<T, U, C> {
         ensures inline { INLINE_ARGS ≤ args.new.capacity }
     {
         let read = reading.read;
-        let desc = match take(
+        match take_request(
             around.protocol,
+            around,
+            &self.info,
             &mut self.objects,
+            &mut self.last_serial,
             &mut self.registries,
             &mut self.socket,
             header,
             message,
             args,
         ) {
-            Ok(desc) => desc,
-            Err(error) => return self.not_taken(numbers, around, error),
-        };
-        reading.read = read.saturating_add(1);
-        let response = request(
-            around,
-            &self.info,
-            &mut self.objects,
-            &mut self.last_serial,
-            &mut self.registries,
-            desc,
-            message,
-            args,
-        );
-        self.respond(numbers, around, &response)
+            Ok(response) => {
+                reading.read = read.saturating_add(1);
+                self.respond(numbers, around, &response)
+            }
+            Err(error) => self.not_taken(numbers, around, error),
+        }
     }
 
     /// What it comes to that no message was taken.
