@@ -1,35 +1,31 @@
 -- How a verdict that was carried out is a turn of a reading.
-use Rattle.std.proofs.Common.{◌≡◌, ◌∙◌, ℕ, Bool, true, false, ◌&&◌, ◌||◌, if◌then◌else◌, not, List, [], ◌∷◌, ◌++◌, append-nil, map, Option, None, Some, is_none, Result, Ok, Err, MatchResult, refl, sym, ap, subst, true≢false}
+use Rattle.std.proofs.Common.{◌≡◌, ◌∙◌, ℕ, Bool, true, false, ◌&&◌, ◌||◌, if◌then◌else◌, not, List, [], ◌∷◌, ◌++◌, append-nil, map, Some, is_none, Result, Ok, Err, MatchResult, refl, sym, ap}
 use mathlib.Core.Logic.{inl, inr}
 use Rattle.wl_wire.specs.declared.argument.Argument.{Argument}
 use Rattle.wl_wire.specs.declared.argument.Token.{Token}
 use Rattle.wl_wire.specs.declared.error.IoFault.{IoFault}
 use Rattle.wl_wire.specs.declared.error.IoFault.TheVariants as fault
-use Rattle.wl_link.specs.Exchange.{Queue, Sending}
+use Rattle.wl_link.specs.Exchange.{Queue}
 use Rattle.wl_link.specs.Identity.{Id}
 use Rattle.wl_link.specs.Link.{LinkState}
 use Rattle.wl_link.specs.Puts.{Said, lacked_memory}
 use Rattle.wl_link.specs.Reader.{Given, HandedOut, Queued, Verdict, came_to, put_and_gave}
-use Rattle.wl_link.specs.Reader.{Part as ReaderPart}
 use Rattle.wl_server.specs.declared.action.OpenAction.{OpenAction}
-use Rattle.wl_server.specs.declared.error.ActionError.{ActionError}
-use Rattle.wl_server.specs.declared.error.ActionError.TheVariants.{Io}
-use Rattle.wl_server.specs.declared.kept.Kept.{Kept}
 use Rattle.wl_server.specs.declared.note.Happening.{Happening}
 use Rattle.wl_server.specs.declared.note.DisconnectReason.TheVariants.{ConnectionClosed}
 use Rattle.wl_server.specs.declared.turn.NoAction.{NoAction}
 use Rattle.wl_server.specs.declared.turn.TurnEnd.{TurnEnd}
 use Rattle.wl_server.specs.declared.turn.TurnEnd.TheVariants as came
-use Rattle.wl_server.specs.Carried.{IsCarried, Put, Starved}
+use Rattle.wl_server.specs.Carried.{IsCarried}
 use Rattle.wl_server.specs.Client.{Does}
 use Rattle.wl_server.specs.Deeds.{Acted, Deed, Handed, Remembered, notes_in}
 use Rattle.wl_server.specs.Errors.{posts}
-use Rattle.wl_server.specs.Ids.{ClientParts, GlobalParts, IdParts}
+use Rattle.wl_server.specs.Ids.{IdParts}
 use Rattle.wl_server.specs.Part.{display_of, with_link}
 use Rattle.wl_server.specs.Puts.{Puts}
-use Rattle.wl_server.specs.Reading.{Around, action_in, breaks, garbled, hands_out, reads_on, replies, stops_if}
+use Rattle.wl_server.specs.Reading.{Around, action_in, breaks, garbled, hands_out, replies, stops_if}
 use Rattle.wl_server.specs.Server.{Stored}
-use Rattle.wl_server.specs.Telling.{Core, Did, Kills, Stops, Told, closed_down, core_of, deeds_in, end_deeds, part_of, speaker, with_objects}
+use Rattle.wl_server.specs.Telling.{Core, Did, Kills, Stops, Told, closed_down, core_of, deeds_in, speaker}
 use Rattle.wl_server.specs.Turns.{Acts, Ended, GoesOn, HasNoNote, IsHandled, Live, Turned, turned}
 use Rattle.wl_server.proofs.Posting.{kills_is}
 

@@ -1,5 +1,5 @@
 -- How turns and receives join to a reading of a client.
-use Rattle.std.proofs.Common.{◌≡◌, ◌≢◌, ◌⊎◌, ◌∙◌, ℕ, suc, ◌+◌, ◌<◌, ◌≤◌, min, Bool, true, false, ◌&&◌, ◌||◌, not, List, [], ◌∷◌, ◌++◌, append-nil, append_assoc, length, map, Option, None, Some, is_some, is_none, option_map, Result, Ok, Err, MatchBool, MatchOption, MatchResult, refl, sym, ap, ap₂, subst, arith, true≢false}
+use Rattle.std.proofs.Common.{◌≡◌, ◌≢◌, ◌∙◌, ℕ, suc, ◌+◌, ◌<◌, ◌≤◌, Bool, true, false, ◌&&◌, ◌||◌, not, List, [], ◌∷◌, ◌++◌, append-nil, append_assoc, length, map, Option, None, Some, is_some, is_none, option_map, Result, Ok, Err, MatchBool, MatchOption, MatchResult, refl, sym, ap, ap₂, subst, arith, true≢false}
 use mathlib.Core.Logic.{inl, inr}
 use Rattle.wl_wire.specs.declared.argument.Argument.{Argument}
 use Rattle.wl_wire.specs.declared.argument.Token.{Token}
@@ -11,7 +11,7 @@ use Rattle.wl_wire.specs.Message.{WireMessage}
 use Rattle.wl_link.specs.Branches.{at_false, at_true}
 use Rattle.wl_link.specs.Exchange.{Queue, Sending}
 use Rattle.wl_link.specs.LengthLaws.{carries_stays}
-use Rattle.wl_link.specs.Link.{Filled, FilledBy, FindsRoom, LinkState, count_of, counted_answer}
+use Rattle.wl_link.specs.Link.{Filled, FindsRoom, LinkState}
 use Rattle.wl_link.specs.Puts.{lacked_memory}
 use Rattle.wl_link.specs.Reader.{CarriesOut, FrontAsks, Given, Gives, Halts, Handled, Leaves, Reads, Received, Takes, Turn, Unread, Verdict, behind, handled_in, stops}
 use Rattle.wl_link.specs.Identity.{Id}
@@ -37,7 +37,7 @@ use Rattle.wl_server.specs.Part.{Part}
 use Rattle.wl_server.specs.Reading.{Around, action_in, NextAction, ReadsNone, ReadsTo, answered, exchanges_in, faulted, read_on, reads_on, request, request_to, row_asks, row_in, server}
 use Rattle.wl_server.specs.Server.{Stored}
 use Rattle.wl_server.specs.Telling.{Core, Kills, Told, core_of, deeds_in, deeds_of, end_deeds, part_of, reader_part}
-use Rattle.wl_server.specs.Turns.{Acts, Ended, EndsAs, Fills, Goes, GoesOn, HasNoNote, IsHandled, IsSilent, LacksIn, LacksMore, Leads, Live, NotTaken, ReadsIn, Says, Turned, Turns, Waited, answer_of, counted, linked, refused_of, stored_as}
+use Rattle.wl_server.specs.Turns.{Acts, Ended, EndsAs, Fills, Goes, GoesOn, HasNoNote, IsHandled, IsSilent, LacksIn, LacksMore, Live, NotTaken, ReadsIn, Turned, Turns, answer_of, counted, linked, refused_of, stored_as}
 use Rattle.wl_server.proofs.Handling.{from_there}
 use Rattle.wl_server.proofs.Notes.{notes_append, notes_of_sends}
 use Rattle.wl_server.proofs.Posting.{kills_is}

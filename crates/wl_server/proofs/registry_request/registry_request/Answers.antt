@@ -1,4 +1,4 @@
-use Rattle.std.proofs.Common.{ap, sym, ◌∙◌, option_map}
+use Rattle.std.proofs.Common.{option_map}
 use Rattle.wl_server.specs.Responses.{bind_of, core_with}
 use Rattle.wl_server.specs.Turns.{around_of}
 use Rattle.wl_server.proofs.Requesting.{registry_bound}

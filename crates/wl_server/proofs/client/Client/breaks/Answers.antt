@@ -1,9 +1,6 @@
-use Rattle.std.proofs.Common.{◌≡◌, Bool, List, ℕ, Ok, subst, sym}
-use Rattle.std.specs.Prelude.{IfOk}
-use Rattle.wl_server.specs.Reading.{breaks}
-use Rattle.wl_server.specs.Telling.{core_of}
-use Rattle.wl_server.specs.Turns.{Ended, IsHandled, around_of}
-use Rattle.wl_server.proofs.Handling.{broke, broke_starved, broken_with}
+use Rattle.std.proofs.Common.{◌≡◌}
+use Rattle.wl_server.specs.Turns.{around_of}
+use Rattle.wl_server.proofs.Handling.{broke, broke_starved}
 use Rattle.wl_server.proofs.client.Client.breaks.Goals as goal
 
 pub returns : goal.returns

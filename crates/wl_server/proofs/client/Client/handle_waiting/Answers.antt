@@ -1,5 +1,5 @@
-use Rattle.std.proofs.Common.{◌≡◌, ◌≤◌, ◌∙◌, arith, rules, refl}
-use Rattle.wl_server.specs.Turns.{around_of, found_with}
+use Rattle.std.proofs.Common.{◌≤◌, ◌∙◌, rules, refl}
+use Rattle.wl_server.specs.Turns.{around_of}
 use Rattle.wl_server.proofs.Turning.{goes_ends, goes_goes, goes_none}
 use Rattle.wl_server.proofs.client.Client.handle_waiting.Goals as goal
 

@@ -1,4 +1,4 @@
-use Rattle.wl_server.specs.Turns.{NotTaken, around_of}
+use Rattle.wl_server.specs.Turns.{around_of}
 use Rattle.wl_server.proofs.Turning.{does_ask, front_asks, is_malformed, turn_unread}
 use Rattle.wl_server.proofs.client.Client.not_taken.Goals as goal
 
