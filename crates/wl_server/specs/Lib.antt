@@ -70,3 +70,4 @@ pub mod LogLaws
 pub mod NotedOnce
 pub mod NotedLaws
 pub mod Performing
+pub mod NotedSoon

@@ -1,47 +1,37 @@
 -- That each object that left is noted once, and each client that was killed: an induction over base moves.
-use Rattle.std.proofs.Common.{◌≡◌, ◌≢◌, ℕ, ◌+◌, ◌≤◌, Bool, true, false, List, [], ◌∷◌, ◌++◌, append-nil, append_assoc, Option, None, Some, Result, Ok, Err, refl, sym, ap, subst, ◌∙◌, arith, true≢false}
-use mathlib.Core.Logic.{inl, inr}
-use Rattle.std.specs.Prelude.{AllPairs, IsPermutation, MatchBool, MatchOption, Vec, if◌then◌else◌}
-use Rattle.std.specs.Global.{Global}
+use Rattle.std.proofs.Common.{◌≡◌, ℕ, ◌+◌, ◌≤◌, Bool, true, false, List, [], ◌∷◌, ◌++◌, append-nil, append_assoc, Option, None, Some, Result, refl, sym, ap, subst, ◌∙◌, arith}
+use Rattle.std.specs.Prelude.{IsPermutation, if◌then◌else◌}
 use Rattle.std.proofs.lemmas.List.Sorted.{IsPermutation-append_comm, IsPermutation-append_left, IsPermutation-append_right, IsPermutation-refl, IsPermutation-trans}
 use Rattle.wl_wire.specs.declared.error.IoFault.{IoFault}
-use Rattle.wl_wire.specs.declared.error.IoFault.TheVariants as fault
 use Rattle.wl_wire.specs.Table.{InterfaceRow}
 use Rattle.wl_link.specs.declared.object.Object.{Object}
-use Rattle.wl_link.specs.Branches.{either_bool, either_option}
 use Rattle.wl_link.specs.Exchange.{Queue}
 use Rattle.wl_link.specs.Identity.{Id}
 use Rattle.wl_link.specs.Link.{LinkState}
-use Rattle.wl_link.specs.Reader.{Verdict, came_to}
-use Rattle.wl_link.specs.Reader.{Part as ReaderPart}
 use Rattle.wl_link.specs.Runs.{Entry as RunEntry}
-use Rattle.wl_server.specs.declared.action.OpenAction.{OpenAction}
-use Rattle.wl_server.specs.declared.action.OpenAction.TheVariants as opened
 use Rattle.wl_server.specs.declared.kept.Kept.{Kept}
 use Rattle.wl_server.specs.declared.note.DisconnectReason.{DisconnectReason}
 use Rattle.wl_server.specs.declared.note.Happening.{Happening}
 use Rattle.wl_server.specs.declared.note.Happening.TheVariants.{Destroyed, Disconnected, Initialized}
 use Rattle.wl_server.specs.declared.step.Reply.{Reply}
-use Rattle.wl_server.specs.declared.step.Reply.TheVariants as reply
 use Rattle.wl_server.specs.declared.step.Step.{Step}
-use Rattle.wl_server.specs.declared.step.Step.TheVariants as step
 use Rattle.wl_server.specs.BaseMoves.{Doings, Goes, Moves, born, cleaned, closed, doings_of, end_notes, ended, flushed, followed, found, found_none, handed_by, handed_out, joined, left_id, notes_taken, opens, received, relinked, remembered, stayed, taken_out, told, unfelt, went, within, wrote}
 use Rattle.wl_server.specs.BaseMovesLaw.{call_goes}
 use Rattle.wl_server.specs.ChangeLaws.{moves_take}
-use Rattle.wl_server.specs.Deeds.{Deed, left_in, taken_in}
+use Rattle.wl_server.specs.Deeds.{left_in, taken_in}
 use Rattle.wl_server.specs.DoingsLaws.{done_both}
 use Rattle.wl_server.specs.Globals.{Offer, new_offer}
 use Rattle.wl_server.specs.Identified.{HasOwnIds, waiting_of}
 use Rattle.wl_server.specs.IdentityLaws.{own_ids}
-use Rattle.wl_server.specs.Ids.{ClientParts, IdParts, same_client}
+use Rattle.wl_server.specs.Ids.{ClientParts, IdParts}
 use Rattle.wl_server.specs.IsolationLaw.{are_isolated, is_isolated}
-use Rattle.wl_server.specs.NotedOnce.{CleanupNotesAll, EachIsNoted, FinishNotesAtOnce, HaveNotes, NotesEach, destroyed_in, ended_times, ends_in, one_if}
+use Rattle.wl_server.specs.NotedOnce.{EachIsNoted, HaveNotes, NotesEach, destroyed_in, ended_times, ends_in, one_if}
 use Rattle.wl_server.specs.OwnRuns.{AreMine, are_mine}
 use Rattle.wl_server.specs.Part.{Part, end_note, id_at, id_of, note_of_end}
-use Rattle.wl_server.specs.PartStep.{Asked, Call, PartCall, World}
+use Rattle.wl_server.specs.PartStep.{World}
 use Rattle.wl_server.specs.Runs.{Alone, Leads, Own, Performs, begun, history, mine, offer_over}
 use Rattle.wl_server.specs.Server.{Seen, ServerState, new_server, seen}
-use Rattle.wl_server.specs.Steps.{Entry, OneStep, offer_after}
+use Rattle.wl_server.specs.Steps.{Entry, offer_after}
 
 -- ---- lists of notes
 

@@ -17,6 +17,7 @@ ghost use Rattle.wl_server.specs.Ids.{ClientParts, GlobalParts};
 ghost use Rattle.wl_server.specs.Outcome.{ClientsHaveOneOutcome, OffersHaveOneOutcome, OwnRunsHaveOneOutcome, StepsHaveOneOutcome};
 ghost use Rattle.wl_server.specs.Identified.{EachHasOwnIds, HaveOwnIds};
 ghost use Rattle.wl_server.specs.Logged.{EachLogIsSpelled, HaveSpelledLogs};
+ghost use Rattle.wl_server.specs.NotedOnce.{CleanupNotesAll, EachIsNoted, FinishNotesAtOnce, HaveNotes};
 ghost use Rattle.wl_server.specs.PartStep.{over, over_scripts, share_of};
 ghost use Rattle.wl_server.specs.Runs.{AreIsolated, IsIsolated, Leads, Performs};
 ghost use Rattle.wl_server.specs.Server.{ServerState, Stored, new_server};
@@ -133,4 +134,23 @@ pub fn log_is_what_was_sent<T: Transport, U, G: GlobalHandler<C>, C>()
 pub fn log_of_a_script_is_what_was_sent<U, G: GlobalHandler<C>, C>()
     ensures { (table : List InterfaceRow) (steps : List (RunEntry (Step Script U G C) (Reply Script U))) (after : ServerState Script U G C) →
         Performs (over_scripts G.views) (new_server table) steps after → HaveSpelledLogs (over_scripts G.views) table steps after }
+{}
+
+/// The law of a server's notes, over every transport.
+///
+/// Over every run of calls of a new server, the objects of a client that left with user data are those that its notes tell
+/// of as destroyed, those that were handed out, that were made, and that wait for the next cleanup; none of them left
+/// twice. The end of a client is told of once if it was killed, and else never. After a cleanup that succeeds no note waits,
+/// and by the end of a request none begins to.
+pub fn each_object_that_leaves_is_noted_once<T: Transport, U, G: GlobalHandler<C>, C>()
+    ensures noted { (table : List InterfaceRow) (run : List (Entry T U G C)) (after : ServerState T U G C) →
+        Leads (over T.sends T.receives G.views) (new_server table) run after → EachIsNoted run after }
+    ensures cleanup { CleanupNotesAll U (over {C = C} T.sends T.receives G.views) }
+    ensures finish { FinishNotesAtOnce U (over {C = C} T.sends T.receives G.views) }
+{}
+
+/// The same over the transport by script, of steps with their replies.
+pub fn each_object_of_a_script_is_noted_once<U, G: GlobalHandler<C>, C>()
+    ensures { (table : List InterfaceRow) (steps : List (RunEntry (Step Script U G C) (Reply Script U))) (after : ServerState Script U G C) →
+        Performs (over_scripts G.views) (new_server table) steps after → HaveNotes (over_scripts G.views) table steps after }
 {}

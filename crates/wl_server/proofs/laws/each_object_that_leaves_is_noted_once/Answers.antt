@@ -1,0 +1,12 @@
+use Rattle.wl_server.specs.NotedLaws.{each_is_noted}
+use Rattle.wl_server.specs.NotedSoon.{cleanup_notes_all, finish_notes_at_once}
+use Rattle.wl_server.proofs.laws.each_object_that_leaves_is_noted_once.Goals as goal
+
+pub returns-clause-noted : goal.returns-clause-noted
+returns-clause-noted g c = λ table run after leads. each_is_noted _ table run after leads
+
+pub returns-clause-cleanup : goal.returns-clause-cleanup
+returns-clause-cleanup g c = λ before after e out by call id. cleanup_notes_all _ before after e out by call id
+
+pub returns-clause-finish : goal.returns-clause-finish
+returns-clause-finish g c = λ before after e target u answer by call id. finish_notes_at_once _ before after e target u answer by call id
