@@ -71,3 +71,5 @@ pub mod NotedOnce
 pub mod NotedLaws
 pub mod Performing
 pub mod NotedSoon
+pub mod Accounts
+pub mod AccountLaws

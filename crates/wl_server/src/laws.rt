@@ -12,6 +12,7 @@ ghost use Rattle.wl_server.specs.declared.error.InsertClientError.{InsertClientE
 ghost use Rattle.wl_server.specs.declared.error.InsertClientError.TheVariants as insert;
 ghost use Rattle.wl_server.specs.declared.step.Reply.{Reply};
 ghost use Rattle.wl_server.specs.declared.step.Step.{Step};
+ghost use Rattle.wl_server.specs.Accounts.{AreAccountedFor};
 ghost use Rattle.wl_server.specs.Globals.{CreatesGlobal, Globals};
 ghost use Rattle.wl_server.specs.Ids.{ClientParts, GlobalParts};
 ghost use Rattle.wl_server.specs.Outcome.{ClientsHaveOneOutcome, OffersHaveOneOutcome, OwnRunsHaveOneOutcome, StepsHaveOneOutcome};
@@ -153,4 +154,11 @@ pub fn each_object_that_leaves_is_noted_once<T: Transport, U, G: GlobalHandler<C
 pub fn each_object_of_a_script_is_noted_once<U, G: GlobalHandler<C>, C>()
     ensures { (table : List InterfaceRow) (steps : List (RunEntry (Step Script U G C) (Reply Script U))) (after : ServerState Script U G C) →
         Performs (over_scripts G.views) (new_server table) steps after → HaveNotes (over_scripts G.views) table steps after }
+{}
+
+/// Steps over the transport by script have one history, of which all the laws of runs hold: isolation, identity, log equals
+/// bytes, and each note once.
+pub fn each_client_of_a_script_is_accounted_for<U, G: GlobalHandler<C>, C>()
+    ensures { (table : List InterfaceRow) (steps : List (RunEntry (Step Script U G C) (Reply Script U))) (after : ServerState Script U G C) →
+        Performs (over_scripts G.views) (new_server table) steps after → AreAccountedFor (over_scripts G.views) table steps after }
 {}

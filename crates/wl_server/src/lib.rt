@@ -75,6 +75,8 @@ pub use laws::{
     log_of_a_script_is_what_was_sent, servers_that_are_the_same_answer_alike,
     what_is_shared_has_one_outcome,
     each_client_is_alone, each_client_of_a_script_is_alone, each_id_names_its_own_object,
+    each_client_is_alone, each_client_of_a_script_is_accounted_for,
+    each_client_of_a_script_is_alone, each_id_names_its_own_object,
     each_id_of_a_script_names_its_own_object, each_object_of_a_script_is_noted_once,
     each_object_that_leaves_is_noted_once, log_is_what_was_sent, log_of_a_script_is_what_was_sent,
 };
