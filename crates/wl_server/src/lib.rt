@@ -69,16 +69,12 @@ pub use global_id::{GlobalId, GlobalInfo};
 pub use handler::{GlobalHandler, ShownToAll};
 pub use laws::{
     each_client_has_one_outcome, each_client_is_alone, each_client_of_a_script_has_one_outcome,
-    each_client_of_a_script_is_alone, each_id_names_its_own_object,
-    each_id_of_a_script_names_its_own_object, each_run_of_a_server_has_one_outcome,
-    each_run_of_a_server_over_scripts_has_one_outcome, log_is_what_was_sent,
-    log_of_a_script_is_what_was_sent, servers_that_are_the_same_answer_alike,
+    each_client_of_a_script_is_accounted_for, each_client_of_a_script_is_alone,
+    each_id_names_its_own_object, each_id_of_a_script_names_its_own_object,
+    each_object_of_a_script_is_noted_once, each_object_that_leaves_is_noted_once,
+    each_run_of_a_server_has_one_outcome, each_run_of_a_server_over_scripts_has_one_outcome,
+    log_is_what_was_sent, log_of_a_script_is_what_was_sent, servers_that_are_the_same_answer_alike,
     what_is_shared_has_one_outcome,
-    each_client_is_alone, each_client_of_a_script_is_alone, each_id_names_its_own_object,
-    each_client_is_alone, each_client_of_a_script_is_accounted_for,
-    each_client_of_a_script_is_alone, each_id_names_its_own_object,
-    each_id_of_a_script_names_its_own_object, each_object_of_a_script_is_noted_once,
-    each_object_that_leaves_is_noted_once, log_is_what_was_sent, log_of_a_script_is_what_was_sent,
 };
 pub use note::{DisconnectReason, Note};
 pub use object_id::ObjectId;
