@@ -5,6 +5,7 @@ mod hex;
 mod link;
 mod message;
 mod quad;
+mod server;
 mod wire;
 
 use std::process::Abort;

@@ -1,5 +1,5 @@
 -- A cleanup leaves as many slots as there were.
-use Rattle.std.proofs.Common.{◌≡◌, ◌∙◌, List, ℕ, length, Option, Result, Bool, true, ap, map, sym}
+use Rattle.std.proofs.Common.{◌≡◌, ◌∙◌, List, ℕ, length, Option, Result, Bool, ap, sym}
 use Rattle.std.proofs.lemmas.List.{length-map}
 use Rattle.wl_wire.specs.declared.error.IoFault.{IoFault}
 use Rattle.wl_link.specs.Exchange.{Queue}

@@ -1,5 +1,5 @@
 -- Gathering leaves as many slots as there were.
-use Rattle.std.proofs.Common.{◌≡◌, ◌∙◌, List, length, map, Option, Result, Ok, Err, false, IfOk, OnErr, ap, sym}
+use Rattle.std.proofs.Common.{◌≡◌, ◌∙◌, List, length, Option, Result, Ok, Err, false, IfOk, OnErr, ap, sym}
 use Rattle.std.proofs.lemmas.List.{length-map}
 use Rattle.wl_wire.specs.declared.error.OutOfMemory.{OutOfMemory}
 use Rattle.wl_server.specs.declared.note.Note.{Note}

@@ -1,4 +1,4 @@
-use Rattle.std.proofs.Common.{◌≡◌, ◌<◌, ◌≤◌, Option, List, Some, arith, subst}
+use Rattle.std.proofs.Common.{◌≡◌, Option, List, Some, arith, subst}
 use Rattle.wl_server.specs.Client.{IsInserted}
 use Rattle.wl_server.specs.Inserting.{IsPut}
 use Rattle.wl_server.specs.Server.{Stored}

@@ -1,4 +1,4 @@
-use Rattle.std.proofs.Common.{◌≡◌, None, false, map}
+use Rattle.std.proofs.Common.{None, false, map}
 use Rattle.wl_server.proofs.client.Client.new.Goals as goal
 
 pub returns : goal.returns

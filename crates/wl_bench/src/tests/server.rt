@@ -1,0 +1,14 @@
+//! The tests of `wl_server`: runs of a server over scripts, each compared with what its calls have to answer.
+//!
+//! A run is a list of `Act`s, and `log_of` makes its calls, each by `replay`.
+
+mod arrivals;
+mod example;
+mod globals;
+mod hostile;
+mod notes;
+mod one_client;
+mod run;
+mod steps;
+mod told;
+mod values;

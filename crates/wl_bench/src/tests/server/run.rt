@@ -1,0 +1,291 @@
+//! The one owner of a server: it makes the calls of a run and looks at what they left.
+
+use super::steps::{Call, Made, arrive, step};
+use super::told::{object, reply};
+use super::values::{Named, Shown, Thing, Who};
+use crate::tests::message::padded;
+use crate::tests::quad::{QUAD, quad_table};
+use std::alloc::Global;
+use std::fmt::Write;
+use std::test::Fail;
+use wl_link::Memory;
+use wl_server::{Backend, Step};
+use wl_wire::InterfaceId;
+
+/// A server of the runs.
+type Server = Backend<Memory, u32, Shown, bool>;
+
+/// A call of a run, or a look.
+#[derive(Clone, Copy)]
+pub enum Act {
+    /// Makes the call, for which there is to be memory, and tells its reply.
+    Do(Call),
+    /// Makes the call, for which there has to be no memory.
+    InWant(Call),
+    /// Puts the bytes and zeros behind them, of that length in all, behind what is to arrive, each byte by itself.
+    ArriveBytewise(Who, &'static [u8], usize),
+    /// Puts a bind of the global 1 behind what is to arrive, with a name of 1400 bytes 0xFF.
+    ArriveLongBind(Who),
+    /// Creates so many globals.
+    Globals(u32),
+    /// Makes the calls, and tells nothing of them.
+    Quietly(&'static [Call]),
+    /// Looks at something.
+    Look(Look),
+}
+
+/// What is looked at.
+#[derive(Clone, Copy)]
+pub enum Look {
+    /// The version of an object.
+    Info(Thing),
+    /// The data of an object.
+    Data(Thing),
+    /// The text of an object's id.
+    Text(Thing),
+    /// The id of the object of that interface at a number.
+    At(Who, InterfaceId, u32),
+    /// A global: its interface, its version, and whether it is disabled.
+    Global(Named),
+    /// The name of a global for a client.
+    Name(Named, Who),
+    /// How many arrivals a client's script has left.
+    Arrivals(Who),
+    /// How many bytes each send took of a client.
+    Lengths(Who),
+    /// The slots of the live clients, counted from 1.
+    Clients,
+}
+
+/// Makes the steps, for which there is to be memory.
+fn made(server: &mut Server, steps: Vec<Made>) -> Result<(), Fail> {
+    match server.replay(steps) {
+        Ok(_) => Ok(()),
+        Err(_) => Err(Fail::new("memory was refused")),
+    }
+}
+
+/// Makes the call by itself, and tells its reply.
+fn perform(alloc: Global, server: &mut Server, log: &mut String, call: Call) -> Result<(), Fail> {
+    let mut steps = Vec::new(alloc);
+    steps.push(step(alloc, call)?)?;
+    match server.replay(steps) {
+        Ok(replies) => {
+            for one in replies.as_slice() {
+                reply(log, one)?;
+            }
+            Ok(())
+        }
+        Err(_) => Err(Fail::new("memory was refused")),
+    }
+}
+
+/// Makes the calls, one by one, and tells nothing of them.
+fn quietly(alloc: Global, server: &mut Server, calls: &[Call]) -> Result<(), Fail> {
+    for call in calls {
+        let mut unheard = String::new(alloc);
+        perform(alloc, server, &mut unheard, *call)?;
+    }
+    Ok(())
+}
+
+/// Makes the call, which has to meet a want of memory.
+fn in_want(alloc: Global, server: &mut Server, log: &mut String, call: Call) -> Result<(), Fail> {
+    let mut steps = Vec::new(alloc);
+    steps.push(step(alloc, call)?)?;
+    match server.replay(steps) {
+        Ok(_) => Err(Fail::new("the want of memory is not told")),
+        Err(stopped) => Ok(writeln!(log, "stopped at {}", stopped.step)?),
+    }
+}
+
+/// The steps by which the bytes arrive, each by itself.
+fn bytewise(alloc: Global, who: Who, bytes: &[u8]) -> Result<Vec<Made>, Fail> {
+    let mut steps = Vec::new(alloc);
+    for byte in bytes {
+        steps.push(arrive(alloc, who, &[*byte])?)?;
+    }
+    Ok(steps)
+}
+
+/// Puts the bytes and zeros behind them, of that length in all, behind what is to arrive, each byte by itself.
+fn arrive_bytewise(
+    alloc: Global,
+    server: &mut Server,
+    who: Who,
+    bytes: &[u8],
+    len: usize,
+) -> Result<(), Fail> {
+    let bytes = padded(alloc, bytes, len)?;
+    let steps = bytewise(alloc, who, bytes.as_slice())?;
+    made(server, steps)
+}
+
+/// Puts a bind of the global 1 behind what is to arrive, with a name of 1400 bytes 0xFF.
+fn arrive_long_bind(alloc: Global, server: &mut Server, who: Who) -> Result<(), Fail> {
+    let mut bytes = Vec::from_slice(
+        alloc,
+        &[2, 0, 0, 0, 0, 0, 0x94, 5, 1, 0, 0, 0, 0x79, 5, 0, 0],
+    )?;
+    for _ in 0..1400 {
+        bytes.push(0xFF)?;
+    }
+    bytes.extend_from_slice(&[0, 0, 0, 0, 3, 0, 0, 0, 3, 0, 0, 0])?;
+    let mut steps = Vec::new(alloc);
+    steps.push(Step::Arrive(who.id(), bytes, Vec::new(alloc)))?;
+    made(server, steps)
+}
+
+/// Creates so many globals.
+fn globals(alloc: Global, server: &mut Server, count: u32) -> Result<(), Fail> {
+    for _ in 0..count {
+        let mut unheard = String::new(alloc);
+        perform(alloc, server, &mut unheard, Call::Global(QUAD, 3))?;
+    }
+    Ok(())
+}
+
+/// Tells the version of the object.
+fn info(server: &Server, log: &mut String, of: Thing) -> Result<(), Fail> {
+    match server.object_info(&of.id()) {
+        Ok(info) => writeln!(log, "version {}", info.version)?,
+        Err(error) => writeln!(log, "{error}")?,
+    }
+    Ok(())
+}
+
+/// Tells the data of the object.
+fn data(server: &Server, log: &mut String, of: Thing) -> Result<(), Fail> {
+    match server.get_object_data(&of.id()) {
+        Ok(data) => writeln!(log, "data {data}")?,
+        Err(error) => writeln!(log, "{error}")?,
+    }
+    Ok(())
+}
+
+/// Tells the text of the object's id.
+fn text(alloc: Global, server: &Server, log: &mut String, of: Thing) -> Result<(), Fail> {
+    let text = of.id().display(alloc, server.protocol())?;
+    Ok(writeln!(log, "{text}")?)
+}
+
+/// Tells the object of that interface at the number.
+fn at(
+    server: &Server,
+    log: &mut String,
+    who: Who,
+    interface: InterfaceId,
+    number: u32,
+) -> Result<(), Fail> {
+    match server.object_for_protocol_id(&who.id(), interface, number) {
+        Ok(id) => {
+            object(log, id)?;
+            writeln!(log)?;
+        }
+        Err(error) => writeln!(log, "{error}")?,
+    }
+    Ok(())
+}
+
+/// Tells the global.
+fn global(server: &Server, log: &mut String, of: Named) -> Result<(), Fail> {
+    match server.global_info(&of.id()) {
+        Ok(info) => writeln!(
+            log,
+            "interface {}, version {}, disabled: {}",
+            info.interface.0, info.version, info.disabled
+        )?,
+        Err(error) => writeln!(log, "{error}")?,
+    }
+    Ok(())
+}
+
+/// Tells the name of the global for the client.
+fn name(server: &Server, log: &mut String, of: Named, who: Who) -> Result<(), Fail> {
+    match server.global_name(&of.id(), &who.id()) {
+        Some(name) => writeln!(log, "name {name}")?,
+        None => writeln!(log, "no name")?,
+    }
+    Ok(())
+}
+
+/// Tells how many arrivals the client's script has left.
+fn arrivals(server: &Server, log: &mut String, who: Who) -> Result<(), Fail> {
+    match server.transport(&who.id()) {
+        Ok(script) => writeln!(log, "{} arrivals", script.arrivals_left())?,
+        Err(error) => writeln!(log, "{error}")?,
+    }
+    Ok(())
+}
+
+/// Tells how many bytes each send took of the client.
+fn lengths(server: &Server, log: &mut String, who: Who) -> Result<(), Fail> {
+    match server.transport(&who.id()) {
+        Ok(script) => {
+            for (bytes, _) in script.sent() {
+                writeln!(log, "{} bytes", bytes.len())?;
+            }
+        }
+        Err(error) => writeln!(log, "{error}")?,
+    }
+    Ok(())
+}
+
+/// Tells the slots of the live clients, one digit for each, counted from 1.
+fn clients(server: &Server, log: &mut String) -> Result<(), Fail> {
+    let mut slots: u64 = 0;
+    server.with_all_clients(|id| {
+        slots = slots
+            .wrapping_mul(10)
+            .wrapping_add(u64::from(id.slot()))
+            .wrapping_add(1)
+    });
+    Ok(writeln!(log, "live: {slots}")?)
+}
+
+/// Looks at it.
+fn look_at(alloc: Global, server: &Server, log: &mut String, at_what: Look) -> Result<(), Fail> {
+    match at_what {
+        Look::Info(of) => info(server, log, of),
+        Look::Data(of) => data(server, log, of),
+        Look::Text(of) => text(alloc, server, log, of),
+        Look::At(who, interface, number) => at(server, log, who, interface, number),
+        Look::Global(of) => global(server, log, of),
+        Look::Name(of, who) => name(server, log, of, who),
+        Look::Arrivals(who) => arrivals(server, log, who),
+        Look::Lengths(who) => lengths(server, log, who),
+        Look::Clients => clients(server, log),
+    }
+}
+
+/// Makes the calls, and tells what they answer.
+fn perform_all(
+    alloc: Global,
+    server: &mut Server,
+    log: &mut String,
+    acts: &[Act],
+) -> Result<(), Fail> {
+    for act in acts {
+        match *act {
+            Act::Do(call) => perform(alloc, server, log, call)?,
+            Act::InWant(call) => in_want(alloc, server, log, call)?,
+            Act::ArriveBytewise(who, bytes, len) => {
+                arrive_bytewise(alloc, server, who, bytes, len)?
+            }
+            Act::ArriveLongBind(who) => arrive_long_bind(alloc, server, who)?,
+            Act::Globals(count) => globals(alloc, server, count)?,
+            Act::Quietly(calls) => quietly(alloc, server, calls)?,
+            Act::Look(what) => look_at(alloc, server, log, what)?,
+        }
+    }
+    Ok(())
+}
+
+/// The log of a run of a new server.
+pub fn log_of(alloc: Global, acts: &[Act]) -> Result<String, Fail> {
+    let mut log = String::new(alloc);
+    let protocol = quad_table(alloc)?;
+    let mut server = Backend::new(alloc, protocol);
+    perform_all(alloc, &mut server, &mut log, acts)?;
+    Ok(log)
+}
