@@ -50,6 +50,15 @@ pub fn flush_killed<T: Transport + Drop, U: Drop, C: Drop>(
     refused
 }
 
+impl<T: Drop, U: Drop, C: Drop> Client<T, U, C> {
+    /// Its transport, where all else of it is given up.
+    fn into_transport(self) -> T
+        ensures { result ≡ self.part.link.transport }
+    {
+        self.socket.into_transport()
+    }
+}
+
 /// A killed client leaves its slot: its objects are noted, and its transport is given.
 fn leave_at<T: Drop, U: Drop, C: Drop>(
     slot: u32,
@@ -77,7 +86,7 @@ fn leave_at<T: Drop, U: Drop, C: Drop>(
     let id = ClientId::from_parts(slot, client.serial);
     end_objects(&mut client.objects, &id, numbers, notes);
     if let Some(client) = place.take() {
-        given.push_reserved((id, client.socket.into_transport()));
+        given.push_reserved((id, client.into_transport()));
     }
 }
 
@@ -154,6 +163,23 @@ pub struct Room<T> {
     pub given: Vec<(ClientId, T)>,
 }
 
+/// Makes room for the notes of a cleanup. The answer is at least how many are gathered, and room for the numbers of the
+/// objects that are noted.
+fn notes_room<T: Drop, U: Drop, C: Drop>(
+    clients: &[Option<Client<T, U, C>>],
+    notes: &mut Vec<Note<U>>,
+) -> Result<(usize, Vec<u32>), OutOfMemory>
+    ensures room { OnOk result (vec_len notes.new + count_leaving true clients.now + length (collected ends_at 0 clients.now) ≤ vec_capacity notes.new) }
+    ensures numbers { IfOk result (λ made. length (collected ends_at 0 clients.now) ≤ vec_capacity made.1) }
+    ensures items { notes.new.items ≡ notes.old.items }
+{
+    let gathered = count_notes(clients, true);
+    let ends = count_ends(clients);
+    let numbers = Vec::with_capacity(*notes.allocator(), ends)?;
+    notes.reserve(gathered.saturating_add(ends))?;
+    Ok((gathered, numbers))
+}
+
 /// Makes the room that a cleanup takes, and that for its notes.
 pub fn room_for<T: Drop, U: Drop, C: Drop>(
     clients: &[Option<Client<T, U, C>>],
@@ -167,12 +193,9 @@ pub fn room_for<T: Drop, U: Drop, C: Drop>(
     ensures items { notes.new.items ≡ notes.old.items }
 {
     let alloc = *notes.allocator();
-    let gathered = count_notes(clients, true);
+    let (gathered, numbers) = notes_room(clients, notes)?;
     let turns = turns_of(alloc, clients, true, gathered)?;
-    let ends = count_ends(clients);
-    let numbers = Vec::with_capacity(alloc, ends)?;
     let given = Vec::with_capacity(alloc, count_given(clients))?;
-    notes.reserve(gathered.saturating_add(ends))?;
     Ok(Room {
         turns,
         numbers,
