@@ -1,8 +1,8 @@
 //! The server's session of the Wayland protocol: clients, their objects by id, globals, requests, events.
 //!
-//! So far it has the types that a server and its program speak in. What each call does to them stands in `specs`:
-//! `specs/Part` has what is held of one client, `specs/PartStep` what a call does to it, `specs/Steps` what it does to a
-//! server, and `specs/Runs` calls one after another.
+//! A [`Backend`] is a server. Each of its calls is one step of its definition: `specs/Part` has what is held of one client,
+//! `specs/PartStep` what a call does to it, `specs/Steps` what it does to a server, and `specs/Runs` calls one after another.
+//! The page of this crate, `README.md`, has an example and the order of the refusals.
 #![tactic(auto)]
 
 mod action;
