@@ -23,9 +23,3 @@ IsFresh s = IsConnected fixed_rows (record { arrivals = []; answers = []; sent =
 -- `wl_display.sync` with the new object 2
 abbrev pub request_bytes : List ℕ
 request_bytes = 0x01 ∷ 0 ∷ 0 ∷ 0 ∷ 0x00 ∷ 0 ∷ 0x0c ∷ 0 ∷ 0x02 ∷ 0 ∷ 0 ∷ 0 ∷ []
-
--- `wl_callback.done` with the serial 0, and `wl_display.delete_id` of object 2
-abbrev pub answer_bytes : List ℕ
-answer_bytes =
-    0x02 ∷ 0 ∷ 0 ∷ 0 ∷ 0x00 ∷ 0 ∷ 0x0c ∷ 0 ∷ 0x00 ∷ 0 ∷ 0 ∷ 0
-    ∷ 0x01 ∷ 0 ∷ 0 ∷ 0 ∷ 0x01 ∷ 0 ∷ 0x0c ∷ 0 ∷ 0x02 ∷ 0 ∷ 0 ∷ 0 ∷ []

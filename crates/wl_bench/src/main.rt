@@ -11,12 +11,10 @@ mod stop;
 mod sync;
 
 use hex::hex_line;
-use std::alloc::Global;
 use std::process::ExitCode;
 use std::rt::Env;
 use std::{env, io};
 use stop::Stop;
-use wl_wire::Protocol;
 
 /// What the arguments ask for.
 enum Command {
@@ -44,27 +42,19 @@ fn requested(rt: &(impl Env + AllocGlobal)) -> Result<Command, Stop> {
     }
 }
 
-/// The line of the client's request.
-fn request_line(alloc: Global) -> Result<String, Stop> {
-    let request = sync::request(alloc)?;
-    Ok(hex_line(alloc, request.as_slice())?)
-}
-
-/// The line of the server's answer.
-fn answer_line(alloc: Global) -> Result<String, Stop> {
-    let table = Protocol::new(alloc, Vec::new(alloc))?;
-    let answer = sync::answer(alloc, &table)?;
-    Ok(hex_line(alloc, answer.as_slice())?)
+/// Prints a line of bytes.
+fn print_bytes(rt: &(impl Print + AllocGlobal), bytes: &[u8]) -> Result<(), Stop> {
+    let line = hex_line(rt.alloc(), bytes)?;
+    println!(rt; "{line}")?;
+    Ok(())
 }
 
 /// Prints the first exchange.
 fn print_sync(rt: &(impl Print + AllocGlobal)) -> Result<(), Stop> {
-    let alloc = rt.alloc();
-    let request = request_line(alloc)?;
-    let answer = answer_line(alloc)?;
-    println!(rt; "{request}")?;
-    println!(rt; "{answer}")?;
-    Ok(())
+    let request = sync::request(rt.alloc())?;
+    let answer = sync::answer(rt.alloc(), request.as_slice())?;
+    print_bytes(rt, request.as_slice())?;
+    print_bytes(rt, answer.as_slice())
 }
 
 fn run(rt: &(impl Env + Print + AllocGlobal)) -> Result<(), Stop> {

@@ -3,7 +3,9 @@
 use std::alloc::{AllocError, AllocFailed};
 use std::io;
 use wl_client::{FlushError, RequestError};
-use wl_wire::{MessageWriteError, OutOfMemory, TableError};
+use wl_link::ArriveError;
+use wl_server::{InsertClientError, InvalidId};
+use wl_wire::{IoFault, OutOfMemory, TableError};
 
 /// Why the program ends before its work is done.
 #[derive(Clone, Copy, Debug, PartialEq, Eq)]
@@ -44,8 +46,8 @@ impl From<TableError> for Stop {
     }
 }
 
-impl From<MessageWriteError> for Stop {
-    fn from(_e: MessageWriteError) -> Stop {
+impl From<IoFault> for Stop {
+    fn from(_e: IoFault) -> Stop {
         Stop::Failed
     }
 }
@@ -58,6 +60,24 @@ impl From<RequestError> for Stop {
 
 impl From<FlushError> for Stop {
     fn from(_e: FlushError) -> Stop {
+        Stop::Failed
+    }
+}
+
+impl From<ArriveError> for Stop {
+    fn from(_e: ArriveError) -> Stop {
+        Stop::Failed
+    }
+}
+
+impl From<InsertClientError> for Stop {
+    fn from(_e: InsertClientError) -> Stop {
+        Stop::Failed
+    }
+}
+
+impl From<InvalidId> for Stop {
+    fn from(_e: InvalidId) -> Stop {
         Stop::Failed
     }
 }

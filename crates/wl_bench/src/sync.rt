@@ -1,104 +1,18 @@
 //! The first exchange of a client and a server: `wl_display.sync`, and its answer.
 
-ghost use Rattle.std.specs.Prelude.{◌≡◌, ◌++◌, IfOk, OnOk};
-ghost use Rattle.wl_wire.specs.declared.argument.Argument.TheVariants.{Uint};
-ghost use Rattle.wl_wire.specs.Message.{content, spelling};
-ghost use Rattle.wl_bench.specs.Sync.{IsFresh, one_argument, all_bytes, request_bytes, answer_bytes};
+ghost use Rattle.std.specs.Prelude.{◌≡◌, IfOk, OnOk};
+ghost use Rattle.wl_bench.specs.Sync.{IsFresh, all_bytes, request_bytes};
 
 use crate::stop::Stop;
 use smallvec::SmallVec;
 use std::alloc::Global;
 use wl_client::{Backend, ObjectId};
 use wl_link::Memory;
-use wl_wire::{
-    Argument, ArgumentType, InterfaceId, Message, Protocol, Token, WL_CALLBACK_INTERFACE,
-    WL_DISPLAY_INTERFACE, check_for_signature, message_size, write_to_buffers,
-};
-
-/// The object of `wl_display`.
-const DISPLAY: u32 = 1;
-
-/// The first object that a client makes.
-const CALLBACK: u32 = 2;
+use wl_server::{ActionError, ClientId, ShownToAll};
+use wl_wire::{Argument, IoFault, Message, Protocol};
 
 /// The opcode of `wl_display.sync`.
 const SYNC: u16 = 0;
-
-/// The opcode of `wl_display.delete_id`.
-const DELETE_ID: u16 = 1;
-
-/// The opcode of `wl_callback.done`.
-const DONE: u16 = 0;
-
-/// A message of one argument.
-fn one(
-    alloc: Global,
-    sender_id: u32,
-    opcode: u16,
-    argument: Argument<u32, Token>,
-) -> Result<Message<u32, Token>, Stop>
-    ensures { IfOk result (λ m. content m ≡ one_argument sender_id opcode argument) }
-{
-    let mut args = SmallVec::new(alloc);
-    args.push(argument)?;
-    Ok(Message {
-        sender_id,
-        opcode,
-        args,
-    })
-}
-
-/// The message's bytes.
-fn spelled(alloc: Global, message: &Message<u32, Token>) -> Result<Vec<u8>, Stop>
-    ensures { IfOk result (λ v. v.items ≡ spelling (content message.now)) }
-{
-    let size = message_size(message).ok_or(Stop::Failed)?;
-    let mut bytes = Vec::from_elem(alloc, 0, size)?;
-    let mut tokens = Vec::new(alloc);
-    write_to_buffers(message, &mut bytes, &mut tokens)?;
-    Ok(bytes)
-}
-
-/// Appends the message's bytes, where the table has a message of that signature.
-fn append(
-    out: &mut Vec<u8>,
-    signature: Option<&[ArgumentType]>,
-    message: &Message<u32, Token>,
-) -> Result<(), Stop>
-    ensures { OnOk result (out.new.items ≡ out.old.items ++ spelling (content message.now)) }
-{
-    let signature = signature.ok_or(Stop::Failed)?;
-    if !check_for_signature(signature, message.args.as_slice()) {
-        return Err(Stop::Failed);
-    }
-    let bytes = spelled(*out.allocator(), message)?;
-    out.extend_from_slice(&bytes)?;
-    Ok(())
-}
-
-/// Appends an event of one number, where the table has an event of that signature.
-fn append_event(
-    out: &mut Vec<u8>,
-    signature: Option<&[ArgumentType]>,
-    sender_id: u32,
-    opcode: u16,
-    number: u32,
-) -> Result<(), Stop>
-    ensures { OnOk result (out.new.items ≡ out.old.items ++ spelling (one_argument sender_id opcode (Uint number))) }
-{
-    let event = one(*out.allocator(), sender_id, opcode, Argument::Uint(number))?;
-    append(out, signature, &event)
-}
-
-/// The signature of an event that the table has.
-fn event_signature(
-    table: &Protocol,
-    interface: InterfaceId,
-    opcode: u16,
-) -> Option<&[ArgumentType]> {
-    let event = table.get(interface)?.events.get(usize::from(opcode))?;
-    Some(event.signature.as_slice())
-}
 
 /// All bytes that were sent over the transport.
 fn sent_bytes(alloc: Global, transport: &Memory) -> Result<Vec<u8>, Stop>
@@ -156,14 +70,37 @@ pub fn request(alloc: Global) -> Result<Vec<u8>, Stop>
     sync_bytes(alloc, &mut client)
 }
 
-/// The bytes of the server's answer: the callback is done, and its number is free again.
-pub fn answer(alloc: Global, table: &Protocol) -> Result<Vec<u8>, Stop>
-    ensures { IfOk result (λ v. v.items ≡ answer_bytes) }
-{
-    let mut out = Vec::new(alloc);
-    let done = event_signature(table, WL_CALLBACK_INTERFACE, DONE);
-    append_event(&mut out, done, CALLBACK, DONE, 0)?;
-    let delete_id = event_signature(table, WL_DISPLAY_INTERFACE, DELETE_ID);
-    append_event(&mut out, delete_id, DISPLAY, DELETE_ID, CALLBACK)?;
-    Ok(out)
+/// A server over transports by script, whose objects and clients have no data.
+type Server = wl_server::Backend<Memory, (), ShownToAll, ()>;
+
+/// A transport from which these bytes come.
+fn bringing(alloc: Global, bytes: &[u8]) -> Result<Memory, Stop> {
+    let mut transport = Memory::new(alloc);
+    transport.arrive(Vec::from_slice(alloc, bytes)?, Vec::new(alloc))?;
+    Ok(transport)
+}
+
+/// Reads and handles what came of a client, for which the server hands nothing out, and sends the answer.
+fn serve(server: &mut Server, client: &ClientId) -> Result<(), Stop> {
+    match server.next_action(client) {
+        Err(ActionError::Io(IoFault::WouldBlock)) => {}
+        _ => return Err(Stop::Failed),
+    }
+    Ok(server.flush(Some(*client))?)
+}
+
+/// All bytes that a server sends to a new client of which these come.
+fn answer_to(alloc: Global, server: &mut Server, request: &[u8]) -> Result<Vec<u8>, Stop> {
+    let transport = bringing(alloc, request)?;
+    let client = server.insert_client(transport, ())?;
+    serve(server, &client)?;
+    sent_bytes(alloc, server.transport(&client)?)
+}
+
+/// The bytes that a fresh server sends to its first client for its first request.
+///
+/// For a `wl_display.sync` these are two events: the callback is done, and its number is free again.
+pub fn answer(alloc: Global, request: &[u8]) -> Result<Vec<u8>, Stop> {
+    let mut server = Server::new(alloc, Protocol::new(alloc, Vec::new(alloc))?);
+    answer_to(alloc, &mut server, request)
 }

@@ -6,6 +6,7 @@ ghost use Rattle.wl_link.specs.Runs.{Entry, entries};
 ghost use Rattle.wl_link.specs.Script.{Script};
 ghost use Rattle.wl_server.specs.declared.step.Reply.{Reply};
 ghost use Rattle.wl_server.specs.declared.step.Step.{Step};
+ghost use Rattle.wl_server.specs.Accounts.{AreAccountedFor};
 ghost use Rattle.wl_server.specs.Backend.{Calls};
 ghost use Rattle.wl_server.specs.PartStep.{over_scripts};
 ghost use Rattle.wl_server.specs.Performing.{IsOfAll, IsOfClient, IsOfGlobals, IsOfObject, IsOfReading, IsOfScript};
@@ -211,7 +212,8 @@ impl<U: Drop, G: GlobalHandler<C> + Drop, C: Drop> Backend<Memory, U, G, C> {
     ///
     /// The run joins the runs before it. So what is held of each client that was inserted since the server was made is
     /// what its own steps and the shared ones lead to alone, begun with the id that it got; no other client's steps
-    /// matter to it.
+    /// matter to it. Each id of an object that was handed out names its own object and no later one, what a client's
+    /// transport took is what was put for it, and each object that left with user data is noted once.
     pub fn replay(
         &mut self,
         steps: Vec<Step<Memory, U, G, C>>,
@@ -225,6 +227,9 @@ impl<U: Drop, G: GlobalHandler<C> + Drop, C: Drop> Backend<Memory, U, G, C> {
         ensures isolated { IfOk result (λ replies. (table : List InterfaceRow) (run : List (Entry (Step Script U G C) (Reply Script U))) →
             Performs (over_scripts G.views) (new_server table) run self.old.server →
             AreIsolated (over_scripts G.views) table (run ++ entries steps.items replies.items) self.new.server) }
+        ensures accounted { IfOk result (λ replies. (table : List InterfaceRow) (run : List (Entry (Step Script U G C) (Reply Script U))) →
+            Performs (over_scripts G.views) (new_server table) run self.old.server →
+            AreAccountedFor (over_scripts G.views) table (run ++ entries steps.items replies.items) self.new.server) }
         ensures stopped { IfErr result (λ stopped. StopsAt (over_scripts G.views) self.old.server steps.items stopped.step stopped.replies.items self.new.server) }
         ensures refused { self.new.refused ≡ is_err result }
     {

@@ -6,7 +6,7 @@ use std::alloc::Global;
 use std::collections::VecDeque;
 use std::test::Fail;
 use wl_link::Transport;
-use wl_server::{Action, ActionError, Backend, ClientId, ShownToAll};
+use wl_server::{Action, ActionError, Backend, ClientId, ObjectId, ShownToAll};
 use wl_wire::{
     Argument, ArgumentType, Interface, InterfaceId, IoFault, MessageDesc, Protocol, Token,
 };
@@ -104,24 +104,33 @@ fn offering<'a>(alloc: Global) -> Result<Server<'a>, Fail> {
 }
 
 /// What a request asks to be added.
-fn asked(args: &[Argument<wl_server::ObjectId, Token>]) -> i32 {
+fn asked(args: &[Argument<ObjectId, Token>]) -> i32 {
     match args.first() {
         Some(Argument::Int(value)) => *value,
         _ => 0,
     }
 }
 
+/// Adds to a counter, which ends the request.
+fn add_to(
+    server: &mut Server<'_>,
+    client: &ClientId,
+    counter: &ObjectId,
+    value: i32,
+) -> Result<(), Fail> {
+    let count = *server.get_object_data(counter)?;
+    server.set_object_data(counter, count.wrapping_add(value))?;
+    Ok(server.finish_request(client, None)?)
+}
+
 /// Does what the action asks for, and ends it: a new counter is 0, and a request adds to its counter.
 fn act(server: &mut Server<'_>, client: &ClientId, action: Action) -> Result<(), Fail> {
     match action {
-        Action::Bind { .. } => server.finish_bind(client, 0)?,
+        Action::Bind { .. } => Ok(server.finish_bind(client, 0)?),
         Action::Request { sender, args, .. } => {
-            let count = *server.get_object_data(&sender)?;
-            server.set_object_data(&sender, count.wrapping_add(asked(args.as_slice())))?;
-            server.finish_request(client, None)?;
+            add_to(server, client, &sender, asked(args.as_slice()))
         }
     }
-    Ok(())
 }
 
 /// Does what the client asks for, until nothing more of it is there; a client gets eight turns.
@@ -149,12 +158,17 @@ fn inserted<'a>(
     Ok(server.insert_client(playback, ())?)
 }
 
+/// What the counter at object 3 is.
+fn count(server: &Server<'_>, client: &ClientId) -> Result<i32, Fail> {
+    let counter = server.object_for_protocol_id(client, COUNTER, 3)?;
+    Ok(*server.get_object_data(&counter)?)
+}
+
 /// What a counter at object 3 comes to, and how many bytes its client was sent.
 fn counted(server: &mut Server<'_>, client: &ClientId) -> Result<(i32, usize), Fail> {
     serve(server, client)?;
     server.flush(Some(*client))?;
-    let counter = server.object_for_protocol_id(client, COUNTER, 3)?;
-    let count = *server.get_object_data(&counter)?;
+    let count = count(server, client)?;
     Ok((count, server.transport(client)?.to_client.len()))
 }
 

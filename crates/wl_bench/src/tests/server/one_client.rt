@@ -171,6 +171,21 @@ fn events_are_refused(rt: HostRuntime) -> Result<(), Fail> {
         Act::Do(Call::Send(Event::Bare(MADE, 0))),
         Act::Do(Call::Flush(FIRST)),
         Act::Do(Call::TakeSent(FIRST)),
+    ];
+    tells(
+        &rt,
+        log_of(rt.alloc(), &acts),
+        "client 0, 1\nclient 1, 2\ncreated 4278190080, 1, 4 of 0\ncreated 4278190081, 2, 4 of 0\ndone\na new id is null\nan argument is an object of another client\nInvalid Id\nan argument has another interface\nthe interface has no event of that opcode\nthe arguments do not fit the event's signature\ndone\n00 00 00 ff 01 00 0c 00 01 00 00 ff\n",
+    )
+}
+
+/// An object of the server is looked up by its number and its interface.
+#[test]
+fn objects_are_looked_up(rt: HostRuntime) -> Result<(), Fail> {
+    let acts = [
+        Act::Do(Call::Insert(true)),
+        Act::Do(Call::Create(FIRST, QUAD, 3, 9)),
+        Act::Do(Call::Create(FIRST, QUAD, 3, 9)),
         Act::Look(Look::Text(MADE)),
         Act::Look(Look::At(FIRST, QUAD, 0xFF00_0001)),
         Act::Look(Look::At(FIRST, WL_REGISTRY_INTERFACE, 0xFF00_0001)),
@@ -178,7 +193,7 @@ fn events_are_refused(rt: HostRuntime) -> Result<(), Fail> {
     tells(
         &rt,
         log_of(rt.alloc(), &acts),
-        "client 0, 1\nclient 1, 2\ncreated 4278190080, 1, 4 of 0\ncreated 4278190081, 2, 4 of 0\ndone\na new id is null\nan argument is an object of another client\nInvalid Id\nan argument has another interface\nthe interface has no event of that opcode\nthe arguments do not fit the event's signature\ndone\n00 00 00 ff 01 00 0c 00 01 00 00 ff\nquad@4278190080[0]\n4278190081, 2, 4 of 0\nInvalid Id\n",
+        "client 0, 1\ncreated 4278190080, 1, 4 of 0\ncreated 4278190081, 2, 4 of 0\nquad@4278190080[0]\n4278190081, 2, 4 of 0\nInvalid Id\n",
     )
 }
 

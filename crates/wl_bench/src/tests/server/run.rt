@@ -9,7 +9,7 @@ use std::alloc::Global;
 use std::fmt::Write;
 use std::test::Fail;
 use wl_link::Memory;
-use wl_server::{Backend, Step};
+use wl_server::{Backend, Reply, Step};
 use wl_wire::InterfaceId;
 
 /// A server of the runs.
@@ -65,17 +65,26 @@ fn made(server: &mut Server, steps: Vec<Made>) -> Result<(), Fail> {
     }
 }
 
-/// Makes the call by itself, and tells its reply.
-fn perform(alloc: Global, server: &mut Server, log: &mut String, call: Call) -> Result<(), Fail> {
+/// The call as a run.
+fn alone(alloc: Global, call: Call) -> Result<Vec<Made>, Fail> {
     let mut steps = Vec::new(alloc);
     steps.push(step(alloc, call)?)?;
+    Ok(steps)
+}
+
+/// Tells the replies.
+fn tell(log: &mut String, replies: &[Reply<Memory, u32>]) -> Result<(), Fail> {
+    for one in replies {
+        reply(log, one)?;
+    }
+    Ok(())
+}
+
+/// Makes the call by itself, and tells its reply.
+fn perform(alloc: Global, server: &mut Server, log: &mut String, call: Call) -> Result<(), Fail> {
+    let steps = alone(alloc, call)?;
     match server.replay(steps) {
-        Ok(replies) => {
-            for one in replies.as_slice() {
-                reply(log, one)?;
-            }
-            Ok(())
-        }
+        Ok(replies) => tell(log, replies.as_slice()),
         Err(_) => Err(Fail::new("memory was refused")),
     }
 }
@@ -91,8 +100,7 @@ fn quietly(alloc: Global, server: &mut Server, calls: &[Call]) -> Result<(), Fai
 
 /// Makes the call, which has to meet a want of memory.
 fn in_want(alloc: Global, server: &mut Server, log: &mut String, call: Call) -> Result<(), Fail> {
-    let mut steps = Vec::new(alloc);
-    steps.push(step(alloc, call)?)?;
+    let steps = alone(alloc, call)?;
     match server.replay(steps) {
         Ok(_) => Err(Fail::new("the want of memory is not told")),
         Err(stopped) => Ok(writeln!(log, "stopped at {}", stopped.step)?),
@@ -258,6 +266,17 @@ fn look_at(alloc: Global, server: &Server, log: &mut String, at_what: Look) -> R
     }
 }
 
+/// Puts something behind what is to arrive, or makes calls, and tells nothing of it.
+fn prepare(alloc: Global, server: &mut Server, act: Act) -> Result<(), Fail> {
+    match act {
+        Act::ArriveBytewise(who, bytes, len) => arrive_bytewise(alloc, server, who, bytes, len),
+        Act::ArriveLongBind(who) => arrive_long_bind(alloc, server, who),
+        Act::Globals(count) => globals(alloc, server, count),
+        Act::Quietly(calls) => quietly(alloc, server, calls),
+        _ => Ok(()),
+    }
+}
+
 /// Makes the calls, and tells what they answer.
 fn perform_all(
     alloc: Global,
@@ -269,13 +288,8 @@ fn perform_all(
         match *act {
             Act::Do(call) => perform(alloc, server, log, call)?,
             Act::InWant(call) => in_want(alloc, server, log, call)?,
-            Act::ArriveBytewise(who, bytes, len) => {
-                arrive_bytewise(alloc, server, who, bytes, len)?
-            }
-            Act::ArriveLongBind(who) => arrive_long_bind(alloc, server, who)?,
-            Act::Globals(count) => globals(alloc, server, count)?,
-            Act::Quietly(calls) => quietly(alloc, server, calls)?,
             Act::Look(what) => look_at(alloc, server, log, what)?,
+            _ => prepare(alloc, server, *act)?,
         }
     }
     Ok(())

@@ -69,25 +69,39 @@ fn global(log: &mut String, answer: &Result<GlobalId, GlobalError>) -> Result<()
     Ok(())
 }
 
+/// Tells an object behind this.
+fn named(log: &mut String, before: &str, id: ObjectId) -> Result<(), Fail> {
+    write!(log, "{before}")?;
+    object(log, id)
+}
+
+/// Tells a string by its length.
+fn string(log: &mut String, text: Option<usize>) -> Result<(), Fail> {
+    match text {
+        Some(len) => Ok(write!(log, ": string of {len}")?),
+        None => Ok(write!(log, ": no string")?),
+    }
+}
+
+/// Tells an argument that is a number or a descriptor.
+fn number(log: &mut String, arg: &Argument<ObjectId, Token>) -> Result<(), Fail> {
+    match arg {
+        Argument::Int(value) | Argument::Fixed(value) => Ok(write!(log, ": {value}")?),
+        Argument::Uint(value) => Ok(write!(log, ": {value}")?),
+        Argument::Fd(token) => Ok(write!(log, ": fd {}", token.0)?),
+        _ => Ok(()),
+    }
+}
+
 /// Tells an argument of a request.
 fn argument(log: &mut String, arg: &Argument<ObjectId, Token>) -> Result<(), Fail> {
     match arg {
-        Argument::Int(value) | Argument::Fixed(value) => write!(log, ": {value}")?,
-        Argument::Uint(value) => write!(log, ": {value}")?,
-        Argument::NewId(id) => {
-            write!(log, ": new ")?;
-            object(log, *id)?;
-        }
-        Argument::Object(id) => {
-            write!(log, ": object ")?;
-            object(log, *id)?;
-        }
-        Argument::Str(Some(text)) => write!(log, ": string of {}", text.as_bytes().len())?,
-        Argument::Str(None) => write!(log, ": no string")?,
-        Argument::Array(bytes) => write!(log, ": {} bytes", bytes.as_slice().len())?,
-        Argument::Fd(token) => write!(log, ": fd {}", token.0)?,
+        Argument::NewId(id) => named(log, ": new ", *id),
+        Argument::Object(id) => named(log, ": object ", *id),
+        Argument::Str(text) => string(log, text.as_ref().map(|text| text.as_bytes().len())),
+        Argument::Array(bytes) => Ok(write!(log, ": {} bytes", bytes.as_slice().len())?),
+        _ => number(log, arg),
     }
-    Ok(())
 }
 
 /// Tells a request: its opcode, its sender, its arguments, whether it ends its sender, and what it made.
@@ -189,24 +203,31 @@ fn bind_finished(log: &mut String, answer: &Result<(), FinishRefused<u32>>) -> R
     Ok(())
 }
 
-/// Tells the clients that were taken out, each with the number of sends that its transport recorded.
+/// Tells a client that was taken out, and the number of sends that its transport recorded.
+fn taken_out(log: &mut String, id: ClientId, transport: &Memory) -> Result<(), Fail> {
+    write!(log, " client ")?;
+    client(log, id)?;
+    Ok(write!(log, " with {} sends", transport.sent().len())?)
+}
+
+/// Tells the clients that were taken out.
+fn all_taken_out(log: &mut String, out: &[(ClientId, Memory)]) -> Result<(), Fail> {
+    write!(log, "out:")?;
+    for (id, transport) in out {
+        taken_out(log, *id, transport)?;
+    }
+    Ok(writeln!(log)?)
+}
+
+/// Tells the answer to a cleanup.
 fn cleaned(
     log: &mut String,
     answer: &Result<Vec<(ClientId, Memory)>, OutOfMemory>,
 ) -> Result<(), Fail> {
     match answer {
-        Ok(out) => {
-            write!(log, "out:")?;
-            for (id, transport) in out.as_slice() {
-                write!(log, " client ")?;
-                client(log, *id)?;
-                write!(log, " with {} sends", transport.sent().len())?;
-            }
-            writeln!(log)?;
-        }
-        Err(error) => writeln!(log, "{error}")?,
+        Ok(out) => all_taken_out(log, out.as_slice()),
+        Err(error) => Ok(writeln!(log, "{error}")?),
     }
-    Ok(())
 }
 
 /// Tells why a client was killed.
@@ -225,26 +246,33 @@ fn reason(log: &mut String, reason: &DisconnectReason) -> Result<(), Fail> {
     Ok(())
 }
 
+/// Tells that a client was inserted.
+fn initialized(log: &mut String, id: ClientId) -> Result<(), Fail> {
+    write!(log, "initialized ")?;
+    client(log, id)
+}
+
+/// Tells the end of a client.
+fn disconnected(log: &mut String, id: ClientId, why: &DisconnectReason) -> Result<(), Fail> {
+    write!(log, "disconnected ")?;
+    client(log, id)?;
+    write!(log, ": ")?;
+    reason(log, why)
+}
+
+/// Tells the end of an object.
+fn destroyed(log: &mut String, id: ObjectId, data: u32) -> Result<(), Fail> {
+    named(log, "destroyed ", id)?;
+    Ok(write!(log, " with {data}")?)
+}
+
 /// Tells a note.
 fn note(log: &mut String, note: &Note<u32>) -> Result<(), Fail> {
     match note {
-        Note::Initialized(id) => {
-            write!(log, "initialized ")?;
-            client(log, *id)?;
-        }
-        Note::Disconnected(id, why) => {
-            write!(log, "disconnected ")?;
-            client(log, *id)?;
-            write!(log, ": ")?;
-            reason(log, why)?;
-        }
-        Note::Destroyed(_, id, data) => {
-            write!(log, "destroyed ")?;
-            object(log, *id)?;
-            write!(log, " with {data}")?;
-        }
+        Note::Initialized(id) => initialized(log, *id),
+        Note::Disconnected(id, why) => disconnected(log, *id, why),
+        Note::Destroyed(_, id, data) => destroyed(log, *id, *data),
     }
-    Ok(writeln!(log)?)
 }
 
 /// Tells the notes, a line each.
@@ -253,6 +281,7 @@ fn notes(log: &mut String, answer: &Result<Vec<Note<u32>>, OutOfMemory>) -> Resu
         Ok(notes) => {
             for one in notes.as_slice() {
                 note(log, one)?;
+                writeln!(log)?;
             }
         }
         Err(error) => writeln!(log, "{error}")?,

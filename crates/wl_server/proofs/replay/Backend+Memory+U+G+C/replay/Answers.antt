@@ -2,6 +2,8 @@ use Rattle.std.proofs.Common.{ℕ, ◌++◌, ◌∙◌, ap, subst, sym}
 use Rattle.std.proofs.lemmas.Bool.{false≢true}
 use Rattle.wl_link.specs.RunLaws.{joins}
 use Rattle.wl_link.specs.Runs.{entries}
+use Rattle.wl_link.specs.ScriptLaws.{script_within_offer}
+use Rattle.wl_server.specs.AccountLaws.{are_accounted_for}
 use Rattle.wl_server.specs.IsolationLaw.{are_isolated}
 use Rattle.wl_server.specs.PartStep.{over_scripts}
 use Rattle.wl_server.specs.Runs.{StopsAt}
@@ -33,4 +35,10 @@ returns-clause-joined g c begun run before =
 pub returns-clause-isolated : goal.returns-clause-isolated
 returns-clause-isolated g c table run before =
     are_isolated (over_scripts g.G.GlobalHandler.views) table (run ++ entries c.args.steps.items c.perform_all.new.replies.items) c.perform_all.new.self.server
+    (returns-clause-joined g c (new_server table) run before)
+
+pub returns-clause-accounted : goal.returns-clause-accounted
+returns-clause-accounted g c table run before =
+    are_accounted_for (over_scripts g.G.GlobalHandler.views) (record { law = script_within_offer }) table
+    (run ++ entries c.args.steps.items c.perform_all.new.replies.items) c.perform_all.new.self.server
     (returns-clause-joined g c (new_server table) run before)
