@@ -1,5 +1,5 @@
 -- What the functions that go through a request say to those that answer it.
-use Rattle.std.specs.Prelude.{◌≡◌, ℕ, List, [], ◌∷◌, map, Bool, false, ◌&&◌, nat_le, nat_lt, Option, None, Some, Result, Ok, Err}
+use Rattle.std.specs.Prelude.{◌≡◌, ⊤, ℕ, List, [], ◌∷◌, map, Bool, false, ◌&&◌, nat_le, nat_lt, Option, None, Some, Result, Ok, Err}
 use Rattle.std.specs.Option.{option_map_or}
 use Rattle.std.specs.Str.{bytes_eq}
 use Rattle.wl_wire.specs.declared.argument.Argument.{Argument}
@@ -8,7 +8,7 @@ use Rattle.wl_wire.specs.declared.argument.Token.{Token}
 use Rattle.wl_wire.specs.Argument.{WireArgument}
 use Rattle.wl_wire.specs.declared.error.MessageParseError.{MessageParseError}
 use Rattle.wl_wire.specs.Message.{WireMessage}
-use Rattle.wl_wire.specs.Table.{InterfaceRow, MessageRow, message_row, name_of}
+use Rattle.wl_wire.specs.Table.{InterfaceRow, MessageRow, holds_zero, message_row, name_of}
 use Rattle.wl_link.specs.declared.object.Object.{Object}
 use Rattle.wl_link.specs.Identity.{Id}
 use Rattle.wl_link.specs.Link.{LinkState}
@@ -64,6 +64,15 @@ text_of table (broke.InvalidNewId n) = new_id_text n
 text_of table (broke.RefusedBind g version name) = bind_text (option_map_or (λ t. t) name.now []) version g
 text_of table (broke.SinceLater opcode version since i n) = since_text opcode version since (name_of table i.0) n
 text_of table (broke.WrongArgument i desc wrong) = fault_text table i (message_row desc.now) wrong
+
+-- the name of the request that has a wrong argument holds no zero, so that its text is a string
+abbrev pub HasName : Breach → Type 0
+HasName (broke.WrongArgument i desc wrong) = holds_zero (message_row desc.now).name ≡ false
+HasName _ = ⊤
+
+abbrev pub HasNames : Response → Type 0
+HasNames (response.Breaks b) = HasName b
+HasNames _ = ⊤
 
 -- what the end of an action has to know of it
 abbrev pub opened_of : Found → OpenAction

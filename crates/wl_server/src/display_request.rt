@@ -9,7 +9,7 @@ ghost use Rattle.wl_wire.specs.declared.argument.Token.{Token as TokenParts};
 ghost use Rattle.wl_link.specs.Identity.{Id};
 ghost use Rattle.wl_server.specs.Ids.{IdParts};
 ghost use Rattle.wl_server.specs.Reading.{display_request as request_verdict, made_at, registers, syncs};
-ghost use Rattle.wl_server.specs.Responses.{core_with, only_new_id, response_to};
+ghost use Rattle.wl_server.specs.Responses.{HasNames, core_with, only_new_id, response_to};
 ghost use Rattle.wl_server.specs.Telling.{Core};
 ghost use Rattle.wl_server.specs.Turns.{around_of};
 
@@ -36,7 +36,8 @@ pub fn display_request<'m, U: Drop, G: GlobalHandler<C>, C>(
 ) -> Response<'m>
     requires can_make { list_any (λ x. is_new_id (type_of x)) message.now.args.items ≡ true → objects.old.reserved ≡ true }
     requires can_register { list_any (λ x. is_new_id (type_of x)) message.now.args.items ≡ true → vec_len registries.old < vec_capacity registries.old }
-    ensures { (c : Core U C) (args : List (Arg IdParts TokenParts))
+    ensures names { HasNames result }
+    ensures responds { (c : Core U C) (args : List (Arg IdParts TokenParts))
         → request_verdict (around_of G.views around.now) (core_with c info.now objects.old.store last_serial.old registries.old.items) message.now.opcode message.now.args.items
         ≡ response_to (around_of G.views around.now) (core_with c info.now objects.new.store last_serial.new registries.new.items) result args }
 {
@@ -68,7 +69,8 @@ fn sync<'m, U: Drop, G: GlobalHandler<C>, C>(
     number: u32,
 ) -> Response<'m>
     requires { objects.old.reserved ≡ true }
-    ensures { (c : Core U C) (registries : List Id) (args : List (Arg IdParts TokenParts))
+    ensures names { HasNames result }
+    ensures responds { (c : Core U C) (registries : List Id) (args : List (Arg IdParts TokenParts))
         → (let before : Core U C = core_with c info.now objects.old.store last_serial.old registries in
         made_at (around_of G.views around.now) before number (syncs (around_of G.views around.now) before number))
         ≡ response_to (around_of G.views around.now) (core_with c info.now objects.new.store last_serial.new registries) result args }
@@ -100,7 +102,8 @@ fn get_registry<'m, U: Drop, G: GlobalHandler<C>, C>(
 ) -> Response<'m>
     requires can_make { objects.old.reserved ≡ true }
     requires can_register { vec_len registries.old < vec_capacity registries.old }
-    ensures { (c : Core U C) (args : List (Arg IdParts TokenParts))
+    ensures names { HasNames result }
+    ensures responds { (c : Core U C) (args : List (Arg IdParts TokenParts))
         → (let before : Core U C = core_with c info.now objects.old.store last_serial.old registries.old.items in
         made_at (around_of G.views around.now) before number (registers (around_of G.views around.now) before number))
         ≡ response_to (around_of G.views around.now) (core_with c info.now objects.new.store last_serial.new registries.new.items) result args }

@@ -46,7 +46,6 @@ mod remove_global;
 mod replay;
 mod request;
 mod request_fault;
-mod request_text;
 mod response;
 mod script;
 mod send_event;

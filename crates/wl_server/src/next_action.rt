@@ -78,6 +78,7 @@ impl<T: Transport + Drop, U: Drop, C: Drop> Client<T, U, C> {
         ensures waited { Waited T.sends T.receives (around_of G.views around.now) self.old reading.old (option_map (λ r. action_of r args.new.items) result) self.new reading.new }
         ensures inline { INLINE_ARGS ≤ args.new.capacity }
     {
+        // That the count is a number of 64 bits is known of this.
         let _read = reading.read;
         loop {
             match self.turn(numbers, around, reading, args) {
@@ -129,6 +130,7 @@ impl<T: Transport + Drop, U: Drop, C: Drop> Client<T, U, C> {
         requires inline { INLINE_ARGS ≤ args.old.capacity }
         ensures { EndsAs T.sends T.receives (around_of G.views around.now) self.old reading.old (action_of result args.new.items) self.new reading.new }
     {
+        // That the count is a number of 64 bits is known of this.
         let _read = reading.read;
         while reading.turns_left > 0 {
             if let Some(end) = self.handle_waiting(numbers, around, reading, args) {

@@ -5,7 +5,7 @@ ghost use Rattle.smallvec.specs.SmallVec.{HasRoomFor};
 ghost use Rattle.wl_wire.specs.Argument.{Matches};
 ghost use Rattle.wl_wire.specs.Asked.{creates as row_creates};
 ghost use Rattle.wl_wire.specs.Message.{content};
-ghost use Rattle.wl_wire.specs.Table.{message_row};
+ghost use Rattle.wl_wire.specs.Table.{holds_zero, message_row};
 ghost use Rattle.wl_link.specs.declared.object.Object.{Object as ObjectOf};
 ghost use Rattle.wl_link.specs.Identity.{Id};
 ghost use Rattle.wl_link.specs.Store.{held};
@@ -13,7 +13,7 @@ ghost use Rattle.wl_server.specs.declared.kept.Kept.{Kept as KeptOf};
 ghost use Rattle.wl_server.specs.Conversion.{EndsWhole, objects_of_map};
 ghost use Rattle.wl_server.specs.Reading.{other_request as request_verdict};
 ghost use Rattle.wl_server.specs.Requests.{Wrong, convert as outcome_of, start};
-ghost use Rattle.wl_server.specs.Responses.{core_with, response_to};
+ghost use Rattle.wl_server.specs.Responses.{HasNames, core_with, response_to};
 ghost use Rattle.wl_server.specs.Telling.{Core};
 ghost use Rattle.wl_server.specs.Turns.{around_of};
 
@@ -88,7 +88,9 @@ pub fn other_request<'m, U: Drop, G: GlobalHandler<C>, C>(
     requires kinds { Matches desc.now.signature.items message.old.args.items }
     requires empty { args.old.items ≡ [] }
     requires room { HasRoomFor args.old (length message.old.args.items) }
+    requires name { holds_zero (message_row desc.now).name ≡ false }
     ensures capacity { args.new.capacity ≡ args.old.capacity }
+    ensures names { HasNames result }
     ensures responds { (x : ObjectOf (KeptOf U)) (c : Core U C) (registries : List Id) → held objects.old.store message.old.sender_id ≡ Some x
         → request_verdict (around_of G.views around.now) (core_with c info.now objects.old.store last_serial.old registries) (content message.old) x (message_row desc.now)
         ≡ response_to (around_of G.views around.now) (core_with c info.now objects.new.store last_serial.new registries) result args.new.items }

@@ -10,7 +10,7 @@ ghost use Rattle.wl_link.specs.Identity.{Id};
 ghost use Rattle.wl_link.specs.Store.{held};
 ghost use Rattle.wl_server.specs.Ids.{IdParts};
 ghost use Rattle.wl_server.specs.Reading.{binds, binds_to, made_at, registry_request as request_verdict};
-ghost use Rattle.wl_server.specs.Responses.{allows, bind_of, bind_parts, core_with, response_to};
+ghost use Rattle.wl_server.specs.Responses.{HasNames, allows, bind_of, bind_parts, core_with, response_to};
 ghost use Rattle.wl_server.specs.Telling.{Core};
 ghost use Rattle.wl_server.specs.Turns.{around_of};
 
@@ -90,7 +90,8 @@ pub fn registry_request<'m, U: Drop, G: GlobalHandler<C> + Drop, C>(
     message: &'m Message<u32, Token>,
 ) -> Response<'m>
     requires { list_any (λ x. is_new_id (type_of x)) message.now.args.items ≡ true → objects.old.reserved ≡ true }
-    ensures { (c : Core U C) (registries : List Id) (args : List (Arg IdParts TokenParts))
+    ensures names { HasNames result }
+    ensures responds { (c : Core U C) (registries : List Id) (args : List (Arg IdParts TokenParts))
         → request_verdict (around_of G.views around.now) (core_with c info.now objects.old.store last_serial.old registries) message.now.args.items
         ≡ response_to (around_of G.views around.now) (core_with c info.now objects.new.store last_serial.new registries) result args }
 {
@@ -109,7 +110,8 @@ fn bind_to<'m, U: Drop, G: GlobalHandler<C> + Drop, C>(
     bind: &Bind<'m>,
 ) -> Response<'m>
     requires { objects.old.reserved ≡ true }
-    ensures { (c : Core U C) (registries : List Id) (args : List (Arg IdParts TokenParts))
+    ensures names { HasNames result }
+    ensures responds { (c : Core U C) (registries : List Id) (args : List (Arg IdParts TokenParts))
         → binds_to (around_of G.views around.now) (core_with c info.now objects.old.store last_serial.old registries) bind.now.global bind.now.interface.now bind.now.version bind.now.number (held around.now.globals.now.store bind.now.global)
         ≡ response_to (around_of G.views around.now) (core_with c info.now objects.new.store last_serial.new registries) result args }
 {
@@ -133,7 +135,8 @@ fn make_bound<'m, U: Drop, G: GlobalHandler<C>, C>(
     global: &Object<KeptGlobal<G>>,
 ) -> Response<'m>
     requires { objects.old.reserved ≡ true }
-    ensures { (c : Core U C) (registries : List Id) (args : List (Arg IdParts TokenParts))
+    ensures names { HasNames result }
+    ensures responds { (c : Core U C) (registries : List Id) (args : List (Arg IdParts TokenParts))
         → (let before : Core U C = core_with c info.now objects.old.store last_serial.old registries in
         made_at (around_of G.views around.now) before bind.now.number (binds (around_of G.views around.now) before bind.now.global bind.now.version bind.now.number global.now))
         ≡ response_to (around_of G.views around.now) (core_with c info.now objects.new.store last_serial.new registries) result args }

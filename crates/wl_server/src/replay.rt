@@ -2,7 +2,7 @@
 
 ghost use Rattle.std.specs.Prelude.{◌≡◌, ◌++◌, List, [], true, false, IfOk, IfErr, IsOk, is_err, length};
 ghost use Rattle.wl_wire.specs.Table.{InterfaceRow};
-ghost use Rattle.wl_link.specs.Runs.{Entry, entries};
+ghost use Rattle.wl_link.specs.Runs.{AllSame, Entry, entries};
 ghost use Rattle.wl_link.specs.Script.{Script};
 ghost use Rattle.wl_server.specs.declared.step.Reply.{Reply};
 ghost use Rattle.wl_server.specs.declared.step.Step.{Step};
@@ -12,6 +12,7 @@ ghost use Rattle.wl_server.specs.PartStep.{over_scripts};
 ghost use Rattle.wl_server.specs.Performing.{IsOfAll, IsOfClient, IsOfGlobals, IsOfObject, IsOfReading, IsOfScript};
 ghost use Rattle.wl_server.specs.Runs.{AreIsolated, Performs, StopsAt};
 ghost use Rattle.wl_server.specs.Server.{ServerState, new_server};
+ghost use Rattle.wl_server.specs.WholeOutcome.{SameServer, WholeReply};
 
 use crate::backend::Backend;
 use crate::handler::GlobalHandler;
@@ -213,7 +214,8 @@ impl<U: Drop, G: GlobalHandler<C> + Drop, C: Drop> Backend<Memory, U, G, C> {
     /// The run joins the runs before it. So what is held of each client that was inserted since the server was made is
     /// what its own steps and the shared ones lead to alone, begun with the id that it got; no other client's steps
     /// matter to it. Each id of an object that was handed out names its own object and no later one, what a client's
-    /// transport took is what was put for it, and each object that left with user data is noted once.
+    /// transport took is what was put for it, and each object that left with user data is noted once. The same steps give
+    /// the same replies of any server that is the same to its program, and leave one that is, where neither run stops.
     pub fn replay(
         &mut self,
         steps: Vec<Step<Memory, U, G, C>>,
@@ -230,6 +232,10 @@ impl<U: Drop, G: GlobalHandler<C> + Drop, C: Drop> Backend<Memory, U, G, C> {
         ensures accounted { IfOk result (λ replies. (table : List InterfaceRow) (run : List (Entry (Step Script U G C) (Reply Script U))) →
             Performs (over_scripts G.views) (new_server table) run self.old.server →
             AreAccountedFor (over_scripts G.views) table (run ++ entries steps.items replies.items) self.new.server) }
+        ensures outcome { IfOk result (λ replies. (same other : ServerState Script U G C) (others : List (Reply Script U)) →
+            SameServer self.old.server same → length others ≡ length steps.items →
+            Performs (over_scripts G.views) same (entries steps.items others) other →
+            AllSame WholeReply replies.items others × SameServer self.new.server other) }
         ensures stopped { IfErr result (λ stopped. StopsAt (over_scripts G.views) self.old.server steps.items stopped.step stopped.replies.items self.new.server) }
         ensures refused { self.new.refused ≡ is_err result }
     {

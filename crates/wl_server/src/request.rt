@@ -8,7 +8,7 @@ ghost use Rattle.wl_wire.specs.declared.error.IoFault.TheVariants as io;
 ghost use Rattle.wl_wire.specs.Argument.{Matches};
 ghost use Rattle.wl_wire.specs.Asked.{creates as row_creates};
 ghost use Rattle.wl_wire.specs.Message.{content};
-ghost use Rattle.wl_wire.specs.Table.{message_row};
+ghost use Rattle.wl_wire.specs.Table.{holds_zero, message_row};
 ghost use Rattle.wl_link.specs.declared.object.Object.{Object as ObjectOf};
 ghost use Rattle.wl_link.specs.Puts.{lacked_memory};
 ghost use Rattle.wl_link.specs.Store.{held};
@@ -21,7 +21,7 @@ ghost use Rattle.wl_server.specs.Globals.{shown};
 ghost use Rattle.wl_server.specs.Ids.{IdParts};
 ghost use Rattle.wl_server.specs.Part.{id_of};
 ghost use Rattle.wl_server.specs.Reading.{breaks, garbled, hands_out, replies, request_to};
-ghost use Rattle.wl_server.specs.Responses.{code_of, core_with, opened_of, response_to, text_of};
+ghost use Rattle.wl_server.specs.Responses.{HasName, HasNames, code_of, core_with, opened_of, response_to, text_of};
 ghost use Rattle.wl_server.specs.Telling.{Core, Kills, core_of, deletions, done_message, global_message};
 ghost use Rattle.wl_server.specs.Turns.{Acts, Ended, IsHandled, Live, around_of, found_with, turned};
 
@@ -35,9 +35,9 @@ use crate::note::DisconnectReason;
 use crate::note_numbers::NoteNumbers;
 use crate::object_id::ObjectId;
 use crate::other_request::other_request;
+use crate::protocol_error::{bind_text, fault_text, new_id_text, since_text};
 use crate::registry::Registry;
 use crate::registry_request::registry_request;
-use crate::request_text::{bind_text, fault_text, new_id_text, since_text};
 use crate::response::{Breach, Response};
 use crate::surroundings::Surroundings;
 use crate::telling::{DISPLAY, put_done};
@@ -67,7 +67,9 @@ pub fn request<'m, U: Drop, G: GlobalHandler<C> + Drop, C>(
     requires kinds { Matches desc.now.signature.items message.old.args.items }
     requires empty { args.old.items ≡ [] }
     requires room { HasRoomFor args.old (length message.old.args.items) }
+    requires name { holds_zero (message_row desc.now).name ≡ false }
     ensures capacity { args.new.capacity ≡ args.old.capacity }
+    ensures names { HasNames result }
     ensures responds { (x : ObjectOf (KeptOf U)) (c : Core U C) → held objects.old.store message.old.sender_id ≡ Some x
         → request_to (around_of G.views around.now) (core_with c info.now objects.old.store last_serial.old registries.old.items) (content message.old) x (message_row desc.now)
         ≡ response_to (around_of G.views around.now) (core_with c info.now objects.new.store last_serial.new registries.new.items) result args.new.items }
@@ -93,6 +95,7 @@ fn breach_text(
     protocol: &Protocol,
     breach: &Breach<'_>,
 ) -> Result<CString, OutOfMemory>
+    requires { HasName breach.now }
     ensures { IfOk result (λ s. s ≡ text_of protocol.now breach.now) }
 {
     match breach {
@@ -101,8 +104,7 @@ fn breach_text(
             bind_text(alloc, interface, *version, *global)
         }
         Breach::SinceLater(opcode, version, since, interface, number) => {
-            let interface = protocol.name(*interface);
-            since_text(alloc, *opcode, *version, *since, interface, *number)
+            since_text(alloc, protocol, *opcode, *version, *since, *interface, *number)
         }
         Breach::WrongArgument(interface, desc, wrong) => {
             fault_text(alloc, protocol, *interface, desc, *wrong)
@@ -204,7 +206,8 @@ impl<T: Transport + Drop, U: Drop, C: Drop> Client<T, U, C> {
         around: &Surroundings<'_, G>,
         breach: &Breach<'_>,
     ) -> NoAction
-        requires { self.old.part.is_killed ≡ false }
+        requires live { self.old.part.is_killed ≡ false }
+        requires name { HasName breach.now }
         ensures { IsHandled T.sends (breaks (around_of G.views around.now) (core_of self.old.part) (code_of breach.now) (text_of around.now.protocol.now breach.now)) self.old (Ended result) self.new }
     {
         let alloc = *self.registries.allocator();
@@ -254,7 +257,8 @@ impl<T: Transport + Drop, U: Drop, C: Drop> Client<T, U, C> {
         around: &Surroundings<'_, G>,
         response: &Response<'_>,
     ) -> TurnEnd
-        requires { Live self.old.part }
+        requires live { Live self.old.part }
+        requires names { HasNames response.now }
         ensures { (args : List (Arg IdParts TokenParts)) → IsHandled T.sends (response_to (around_of G.views around.now) (core_of self.old.part) response.now args) self.old (turned result args) self.new }
     {
         match response {

@@ -1,12 +1,12 @@
 //! One turn of a reading: the message at the front is taken off the link and handled.
 
-ghost use Rattle.std.specs.Prelude.{◌≡◌, ◌≢◌, ◌≤◌, ◌<◌, List, [], true, false, None, Some, Ok, Err, length, vec_len, vec_capacity, IfOk, OnErr, OnOk, option_copied, option_map};
+ghost use Rattle.std.specs.Prelude.{◌≡◌, ◌≢◌, ◌≤◌, ◌<◌, List, [], true, false, None, Some, Ok, Err, length, vec_len, vec_capacity, IfOk, IfSome, OnErr, OnOk, option_copied, option_map};
 ghost use Rattle.smallvec.specs.SmallVec.{HasRoomFor};
 ghost use Rattle.wl_wire.specs.Argument.{Matches};
 ghost use Rattle.wl_wire.specs.Asked.{creates as row_creates};
 ghost use Rattle.wl_wire.specs.Message.{content};
 ghost use Rattle.wl_wire.specs.Parse.{IsThere};
-ghost use Rattle.wl_wire.specs.Table.{message_row};
+ghost use Rattle.wl_wire.specs.Table.{holds_zero, message_row};
 ghost use Rattle.wl_link.specs.Link.{ReadOne, read_into};
 ghost use Rattle.wl_link.specs.Store.{held};
 ghost use Rattle.wl_server.specs.Reading.{row_asks, row_in};
@@ -14,7 +14,7 @@ ghost use Rattle.wl_wire.specs.declared.argument.Argument.{Argument as Arg};
 ghost use Rattle.wl_wire.specs.declared.argument.Token.{Token as TokenParts};
 ghost use Rattle.wl_server.specs.declared.action.Reading.{Reading as ReadingOf};
 ghost use Rattle.wl_server.specs.Ids.{IdParts};
-ghost use Rattle.wl_server.specs.Responses.{TookRequest};
+ghost use Rattle.wl_server.specs.Responses.{HasNames, TookRequest};
 ghost use Rattle.wl_server.specs.Turns.{IsHeader, Live, NotTaken, TookWith, Turns, around_of, turned};
 
 use crate::action::Reading;
@@ -73,7 +73,8 @@ fn request_desc<'p, U: Drop>(
     sender: u32,
     opcode: u16,
 ) -> Option<&'p MessageDesc>
-    ensures { option_map message_row (option_copied result) ≡ row_in protocol.now (held objects.now.store sender) opcode }
+    ensures row { option_map message_row (option_copied result) ≡ row_in protocol.now (held objects.now.store sender) opcode }
+    ensures name { IfSome result (λ desc. holds_zero (message_row desc.now).name ≡ false) }
 {
     let object = objects.find(sender)?;
     let interface = protocol.get(object.interface)?;
@@ -163,6 +164,7 @@ fn take<'p, T: Drop, U: Drop>(
     requires place { INLINE_ARGS ≤ message.old.args.capacity }
     ensures took { TookWith protocol.now objects.old.store socket.old result (content message.new) socket.new }
     ensures matches { IfOk result (λ desc. Matches desc.now.signature.items message.new.args.items) }
+    ensures name { IfOk result (λ desc. holds_zero (message_row desc.now).name ≡ false) }
     ensures fewer { OnOk result (length socket.new.incoming.bytes < length socket.old.incoming.bytes) }
     ensures store { objects.new.store ≡ objects.old.store }
     ensures registries { registries.new.items ≡ registries.old.items }
@@ -206,6 +208,7 @@ fn take_request<'m, T: Drop, U: Drop, G: GlobalHandler<C> + Drop, C>(
     requires place { INLINE_ARGS ≤ message.old.args.capacity }
     ensures took { TookRequest (around_of G.views around.now) info.now objects.old.store last_serial.old registries.old.items socket.old result args.new.items
         objects.new.store last_serial.new registries.new.items socket.new }
+    ensures names { IfOk result HasNames }
     ensures fewer { OnOk result (length socket.new.incoming.bytes < length socket.old.incoming.bytes) }
     ensures inline { INLINE_ARGS ≤ args.new.capacity }
 {

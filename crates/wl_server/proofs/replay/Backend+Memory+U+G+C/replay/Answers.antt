@@ -5,10 +5,12 @@ use Rattle.wl_link.specs.Runs.{entries}
 use Rattle.wl_link.specs.ScriptLaws.{script_within_offer}
 use Rattle.wl_server.specs.AccountLaws.{are_accounted_for}
 use Rattle.wl_server.specs.IsolationLaw.{are_isolated}
+use Rattle.wl_server.specs.MoveLaws.{scripts_determined}
 use Rattle.wl_server.specs.PartStep.{over_scripts}
 use Rattle.wl_server.specs.Runs.{StopsAt}
 use Rattle.wl_server.specs.Server.{new_server}
 use Rattle.wl_server.specs.Steps.{StepOf}
+use Rattle.wl_server.specs.WholeRuns.{performance_one}
 use Rattle.wl_server.proofs.replay.Backend+Memory+U+G+C.replay.Goals as goal
 
 pub returns-then-self-clause-stopped : goal.returns-then-self-clause-stopped
@@ -42,3 +44,9 @@ returns-clause-accounted g c table run before =
     are_accounted_for (over_scripts g.G.GlobalHandler.views) (record { law = script_within_offer }) table
     (run ++ entries c.args.steps.items c.perform_all.new.replies.items) c.perform_all.new.self.server
     (returns-clause-joined g c (new_server table) run before)
+
+pub returns-clause-outcome : goal.returns-clause-outcome
+returns-clause-outcome g c same other others alike many leads =
+    performance_one (over_scripts g.G.GlobalHandler.views) (scripts_determined g.G.GlobalHandler.views)
+    c.args.self.now.server same c.perform_all.new.self.server other c.args.steps.items c.perform_all.new.replies.items others
+    (returns-clause-count g c) many alike (returns-clause-steps g c) leads
