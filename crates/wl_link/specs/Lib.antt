@@ -14,6 +14,7 @@ pub mod Storage
 pub mod FlushLaws
 pub mod WriteLaws
 pub mod ReadLaws
+pub mod TakenLaws
 pub mod Kept
 pub mod KeptLaws
 pub mod OneLaws

@@ -16,7 +16,6 @@ mod Posting
 mod EventFaults
 mod Inserting
 mod Gathering
-mod Taking
 mod Ending
 mod Outgoing
 mod CleanedSlots

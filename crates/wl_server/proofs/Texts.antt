@@ -14,6 +14,9 @@ use Rattle.wl_wire.specs.Asked.{request_in, request_row}
 use Rattle.wl_wire.specs.Text.{HasNoZero}
 use Rattle.wl_server.specs.Errors.{new_id_text, since_text}
 use Rattle.wl_wire.specs.Table.{InterfaceRow, IsAcceptedTable, MessageRow, anonymous_row, callback_row, display_row, registry_row, fixed_rows, holds_zero, messages, name_of}
+use Rattle.wl_link.specs.declared.object.Object.{Object}
+use Rattle.wl_server.specs.declared.kept.Kept.{Kept}
+use Rattle.wl_server.specs.Reading.{row_in}
 
 abbrev pub IsFree : List ℕ → Type 0
 IsFree text = holds_zero text ≡ false
@@ -220,3 +223,9 @@ one_name interface request rest = sym (append_assoc interface (codes "." ++ requ
 -- a name that was looked up in the table
 pub free_found : (table : List InterfaceRow) (i : InterfaceId) (name : List ℕ) → IsAcceptedTable table → name ≡ name_of table i.0 → IsFree name
 free_found table i name accepted is = ap holds_zero is ∙ free_name table accepted i.0
+
+-- the name of a request that was looked up for an object
+pub free_looked_up : {U : Type 0} (table : List InterfaceRow) (accepted : IsAcceptedTable table) (x : Option (Object (Kept U))) (opcode : ℕ) (row : MessageRow)
+    → Some row ≡ row_in table x opcode → IsFree row.name
+free_looked_up table accepted None opcode row is = absurd (none_some (sym is))
+free_looked_up table accepted (Some x) opcode row is = free_request table accepted x.interface opcode row (sym is)

@@ -1,6 +1,6 @@
 //! The requests to objects that are neither displays nor registries.
 
-ghost use Rattle.std.specs.Prelude.{◌≡◌, List, [], true, Some, MatchResult, length};
+ghost use Rattle.std.specs.Prelude.{◌≡◌, List, [], true, false, Some, MatchResult, length};
 ghost use Rattle.smallvec.specs.SmallVec.{HasRoomFor};
 ghost use Rattle.wl_wire.specs.Argument.{Matches};
 ghost use Rattle.wl_wire.specs.Asked.{creates as row_creates};

@@ -6,7 +6,7 @@ ghost use Rattle.wl_wire.specs.Argument.{Matches};
 ghost use Rattle.wl_wire.specs.Asked.{creates as row_creates};
 ghost use Rattle.wl_wire.specs.Message.{content};
 ghost use Rattle.wl_wire.specs.Parse.{IsThere};
-ghost use Rattle.wl_wire.specs.Table.{holds_zero, message_row};
+ghost use Rattle.wl_wire.specs.Table.{IsAcceptedTable, holds_zero, message_row};
 ghost use Rattle.wl_link.specs.Link.{ReadOne, read_into};
 ghost use Rattle.wl_link.specs.Store.{held};
 ghost use Rattle.wl_server.specs.Reading.{row_asks, row_in};
@@ -74,7 +74,7 @@ fn request_desc<'p, U: Drop>(
     opcode: u16,
 ) -> Option<&'p MessageDesc>
     ensures row { option_map message_row (option_copied result) ≡ row_in protocol.now (held objects.now.store sender) opcode }
-    ensures name { IfSome result (λ desc. holds_zero (message_row desc.now).name ≡ false) }
+    ensures accepted { IfSome result (λ _. IsAcceptedTable protocol.now) }
 {
     let object = objects.find(sender)?;
     let interface = protocol.get(object.interface)?;

@@ -1,7 +1,7 @@
 use Rattle.std.proofs.Common.{arith, ap, length, subst}
 use Rattle.wl_wire.specs.Message.{content}
 use Rattle.wl_wire.specs.Parse.{IsThere}
-use Rattle.wl_client.proofs.Handling.{as_many, read_there}
+use Rattle.wl_link.specs.TakenLaws.{as_many, read_there}
 use Rattle.wl_client.proofs.turn.take.Goals as goal
 
 -- what was read was there whole

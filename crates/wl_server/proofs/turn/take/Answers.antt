@@ -1,7 +1,10 @@
 use Rattle.std.proofs.Common.{arith, ap, length, subst}
 use Rattle.wl_wire.specs.Message.{content}
 use Rattle.wl_wire.specs.Parse.{IsThere}
-use Rattle.wl_server.proofs.Taking.{as_many, read_there}
+use Rattle.wl_wire.specs.Table.{message_row}
+use Rattle.wl_link.specs.Store.{held}
+use Rattle.wl_link.specs.TakenLaws.{as_many, read_there}
+use Rattle.wl_server.proofs.Texts.{free_looked_up}
 use Rattle.wl_server.proofs.turn.take.Goals as goal
 
 -- what was read was there whole
@@ -21,3 +24,9 @@ pub returns-clause-can_register : goal.returns-clause-can_register
 returns-clause-can_register g c =
     let there = read_there _ _ (content c.read_under.new.message) _ c.in_ok-read_under.ensures.read in
     c.in-Ok.ensures.can_register (subst (λ s. IsThere c.args.socket.now.incoming.bytes s c.args.socket.now.incoming.tokens) c.as_slice-signature.ensures.value there)
+
+-- the table is an accepted one
+pub returns-clause-name : goal.returns-clause-name
+returns-clause-name g c =
+    free_looked_up c.args.protocol.now c.in-Some.ensures.accepted (held c.args.objects.now.store c.args.header.0) c.args.header.1
+    (message_row c.in-Some.desc.now) c.in-Some.ensures.row
