@@ -1,6 +1,6 @@
 -- That a reading has room for each message of a client that may come; and that each receive over the transport by script
 -- brings a byte or would block, so that a full storage kills no client.
-use Rattle.std.proofs.Common.{◌≡◌, ◌≢◌, ◌⊎◌, ℕ, Bool, true, false, List, [], ◌∷◌, ◌++◌, append-nil, length, map, Option, None, Some, is_some, Result, Ok, Err, is_ok, MatchResult, refl, sym, ap, subst, ◌∙◌, true≢false}
+use Rattle.std.proofs.Common.{◌≡◌, ◌≢◌, ◌⊎◌, ℕ, Bool, true, false, List, [], ◌∷◌, ◌++◌, append-nil, length, map, Option, None, Some, Result, Ok, Err, is_ok, MatchResult, refl, sym, ap, subst, ◌∙◌, true≢false}
 use mathlib.Core.Logic.{inl, inr}
 use Rattle.std.proofs.lemmas.Option.{same_Some}
 use Rattle.wl_wire.specs.declared.error.IoFault.{IoFault}
@@ -36,7 +36,6 @@ use Rattle.wl_server.specs.PartStep.{Asked, Call, PartCall, ReadsFor, World, aro
 use Rattle.wl_server.specs.Reading.{Around, NextAction, action_content, exchanges_in, faulted, new_reading, server}
 use Rattle.wl_server.specs.Room.{BringsNone, HasRoom, LeavesRoom}
 use Rattle.wl_server.specs.Server.{Seen, ServerState, seen}
-use Rattle.wl_server.specs.Steps.{Entry, OneStep}
 use Rattle.wl_server.specs.Telling.{Core, Told, deeds_in, deeds_of, end_deeds, part_of, reader_part}
 use Rattle.wl_server.specs.Turns.{ReadsIn}
 
