@@ -1,6 +1,6 @@
 //! Requests that are longer than the storage in which they arrive is at first.
 
-use super::arrivals::{GIVE_65532, GIVE_5000};
+use super::arrivals::{GIVE_5000, GIVE_65532};
 use super::hostile::BOUND;
 use super::run::{Act, Look, log_of};
 use super::steps::Call;
