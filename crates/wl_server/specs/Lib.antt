@@ -73,3 +73,5 @@ pub mod Performing
 pub mod NotedSoon
 pub mod Accounts
 pub mod AccountLaws
+pub mod Room
+pub mod RoomLaws

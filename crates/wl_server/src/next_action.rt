@@ -5,9 +5,10 @@ ghost use Rattle.wl_server.specs.declared.step.Reply.TheVariants as reply;
 ghost use Rattle.wl_server.specs.declared.step.Step.TheVariants as step;
 ghost use Rattle.wl_server.specs.Backend.{Calls};
 ghost use Rattle.wl_server.specs.Client.{Does};
-ghost use Rattle.wl_server.specs.PartStep.{over};
+ghost use Rattle.wl_server.specs.PartStep.{Asked, over};
 ghost use Rattle.wl_server.specs.Reading.{NextAction, action_content, new_reading};
 ghost use Rattle.wl_server.specs.Deeds.{handed};
+ghost use Rattle.wl_server.specs.Room.{HasRoom};
 ghost use Rattle.wl_server.specs.Turns.{EndsAs, Fills, Live, Waited, action_of, around_of, found_with};
 
 use crate::action::{Action, Reading};
@@ -188,8 +189,12 @@ impl<T: Transport + Drop, U: Drop, G: GlobalHandler<C> + Drop, C: Drop> Backend<
     /// `WouldBlock` or `OutOfMemory`; `Io(WouldBlock)` also where no whole message waits after the last receive;
     /// `Io(OutOfMemory)` where there is no memory for the message at the front or for a receive. After the last two what
     /// was handled stays handled, and what waits is read by the next call.
+    ///
+    /// A message that is no longer than the client's limit or 65536 bytes, whichever is less, and whose tokens come no later
+    /// than its last byte, does not kill the client by a full storage.
     pub fn next_action(&mut self, id: &ClientId) -> Result<Action, ActionError>
-        ensures { Calls (over T.sends T.receives G.views) self.old (step.NextAction id.now) (reply.NextAction result) self.new }
+        ensures read { Calls (over T.sends T.receives G.views) self.old (step.NextAction id.now) (reply.NextAction result) self.new }
+        ensures room { HasRoom (over T.sends T.receives G.views) self.old.server (Asked (step.NextAction id.now) (reply.NextAction result)) self.new.server }
     {
         let mut reading = Reading::new();
         self.read_client(id, &mut reading)
@@ -202,7 +207,8 @@ impl<T: Transport + Drop, U: Drop, G: GlobalHandler<C> + Drop, C: Drop> Backend<
         id: &ClientId,
         reading: &mut Reading,
     ) -> Result<Action, ActionError>
-        ensures { Calls (over T.sends T.receives G.views) self.old (step.NextActionWithin id.now reading.old) (reply.NextActionWithin result reading.new) self.new }
+        ensures read { Calls (over T.sends T.receives G.views) self.old (step.NextActionWithin id.now reading.old) (reply.NextActionWithin result reading.new) self.new }
+        ensures room { HasRoom (over T.sends T.receives G.views) self.old.server (Asked (step.NextActionWithin id.now reading.old) (reply.NextActionWithin result reading.new)) self.new.server }
     {
         self.read_client(id, reading)
     }

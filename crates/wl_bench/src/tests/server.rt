@@ -6,6 +6,7 @@ mod arrivals;
 mod example;
 mod globals;
 mod hostile;
+mod long;
 mod notes;
 mod one_client;
 mod run;

@@ -56,6 +56,16 @@ pub static GIVE_TOO_LONG: [u8; 16] = [3, 0, 0, 0, 4, 0, 16, 0, 100, 0, 0, 0, 97,
 /// `quad.give`, by object 3, of no string and one byte.
 pub static GIVE: [u8; 20] = [3, 0, 0, 0, 4, 0, 20, 0, 0, 0, 0, 0, 1, 0, 0, 0, 1, 0, 0, 0];
 
+/// The front of `quad.give`, by object 3, of 5000 bytes: of the string `a`, and of 4980 bytes, which are still to come.
+pub static GIVE_5000: [u8; 20] = [
+    3, 0, 0, 0, 4, 0, 0x88, 0x13, 2, 0, 0, 0, 97, 0, 0, 0, 0x74, 0x13, 0, 0,
+];
+
+/// The same of 65532 bytes, of which 65512 are still to come.
+pub static GIVE_65532: [u8; 20] = [
+    3, 0, 0, 0, 4, 0, 0xFC, 0xFF, 2, 0, 0, 0, 97, 0, 0, 0, 0xE8, 0xFF, 0, 0,
+];
+
 /// A header whose sender nobody knows, of a length that is never there.
 pub static UNKNOWN_SENDER: [u8; 8] = [99, 0, 0, 0, 0, 0, 255, 255];
 

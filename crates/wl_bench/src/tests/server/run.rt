@@ -1,6 +1,6 @@
 //! The one owner of a server: it makes the calls of a run and looks at what they left.
 
-use super::steps::{Call, Made, arrive, step};
+use super::steps::{Call, Made, arrive, arrive_with, step};
 use super::told::{object, reply};
 use super::values::{Named, Shown, Thing, Who};
 use crate::tests::message::padded;
@@ -24,6 +24,9 @@ pub enum Act {
     InWant(Call),
     /// Puts the bytes and zeros behind them, of that length in all, behind what is to arrive, each byte by itself.
     ArriveBytewise(Who, &'static [u8], usize),
+    /// Puts the bytes and zeros behind them, of that length in all, behind what is to arrive, in chunks of 4096 bytes, and
+    /// the descriptor with the first of them.
+    ArriveInChunks(Who, &'static [u8], usize, i32),
     /// Puts a bind of the global 1 behind what is to arrive, with a name of 1400 bytes 0xFF.
     ArriveLongBind(Who),
     /// Creates so many globals.
@@ -126,6 +129,31 @@ fn arrive_bytewise(
 ) -> Result<(), Fail> {
     let bytes = padded(alloc, bytes, len)?;
     let steps = bytewise(alloc, who, bytes.as_slice())?;
+    made(server, steps)
+}
+
+/// The steps by which the bytes arrive in chunks of 4096, with the descriptor at the first of them.
+fn chunked(alloc: Global, who: Who, bytes: &[u8], descriptor: i32) -> Result<Vec<Made>, Fail> {
+    let mut steps = Vec::new(alloc);
+    let (first, others) = bytes.split_at(bytes.len().min(4096));
+    steps.push(arrive_with(alloc, who, first, descriptor)?)?;
+    for chunk in others.chunks(4096) {
+        steps.push(arrive(alloc, who, chunk)?)?;
+    }
+    Ok(steps)
+}
+
+/// Puts the bytes and zeros behind them, of that length in all, behind what is to arrive, in chunks of 4096 bytes, and the
+/// descriptor with the first of them.
+fn arrive_in_chunks(
+    alloc: Global,
+    server: &mut Server,
+    who: Who,
+    (bytes, len): (&[u8], usize),
+    descriptor: i32,
+) -> Result<(), Fail> {
+    let bytes = padded(alloc, bytes, len)?;
+    let steps = chunked(alloc, who, bytes.as_slice(), descriptor)?;
     made(server, steps)
 }
 
@@ -270,6 +298,9 @@ fn look_at(alloc: Global, server: &Server, log: &mut String, at_what: Look) -> R
 fn prepare(alloc: Global, server: &mut Server, act: Act) -> Result<(), Fail> {
     match act {
         Act::ArriveBytewise(who, bytes, len) => arrive_bytewise(alloc, server, who, bytes, len),
+        Act::ArriveInChunks(who, bytes, len, descriptor) => {
+            arrive_in_chunks(alloc, server, who, (bytes, len), descriptor)
+        }
         Act::ArriveLongBind(who) => arrive_long_bind(alloc, server, who),
         Act::Globals(count) => globals(alloc, server, count),
         Act::Quietly(calls) => quietly(alloc, server, calls),

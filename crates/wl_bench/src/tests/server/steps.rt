@@ -90,7 +90,7 @@ pub fn arrive(alloc: Global, who: Who, bytes: &[u8]) -> Result<Made, Fail> {
 }
 
 /// The step by which the bytes arrive with the descriptor.
-fn arrive_with(alloc: Global, who: Who, bytes: &[u8], descriptor: i32) -> Result<Made, Fail> {
+pub fn arrive_with(alloc: Global, who: Who, bytes: &[u8], descriptor: i32) -> Result<Made, Fail> {
     let bytes = Vec::from_slice(alloc, bytes)?;
     let tokens = Vec::from_slice(alloc, &[Token(descriptor)])?;
     Ok(Step::Arrive(who.id(), bytes, tokens))

@@ -1,0 +1,5 @@
+use Rattle.wl_server.specs.RoomLaws.{within_has_room}
+use Rattle.wl_server.proofs.backend.Backend.next_action_within.Goals as goal
+
+pub returns-clause-room : goal.returns-clause-room
+returns-clause-room g c = within_has_room _ _ _ _ _ _
