@@ -46,3 +46,4 @@ mod OutcomeRows
 mod Visiting
 mod Changing
 mod ReadingCalls
+mod AnnouncedRows

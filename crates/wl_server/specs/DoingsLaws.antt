@@ -108,7 +108,7 @@ module _ {U : Type 0} where
   done_end (Some reason) = refl
 
   -- the exchanges of a reading
-  done_turns : (turns : List Turn) → (es : List Sending) × (rs : List (Result Queue IoFault)) × (done (exchanges_in turns) ≡ exchanging es rs)
+  pub done_turns : (turns : List Turn) → (es : List Sending) × (rs : List (Result Queue IoFault)) × (done (exchanges_in turns) ≡ exchanging es rs)
   done_turns [] = ([], [], refl)
   done_turns (Received r ∷ turns) =
       let (es, rs, is) = done_turns turns in (es, r ∷ rs, ap (λ (d : Doings U). record d { came = r ∷ d.came }) is)
@@ -133,7 +133,7 @@ module _ {U : Type 0} where
   abbrev pub told_deeds : List (Told U) → List (Deed U)
   told_deeds events = deeds_in (map HandedOut events)
 
-  deeds_both : (gave others : List (Given (Told U))) → deeds_in (gave ++ others) ≡ deeds_in gave ++ deeds_in others
+  pub deeds_both : (gave others : List (Given (Told U))) → deeds_in (gave ++ others) ≡ deeds_in gave ++ deeds_in others
   deeds_both [] others = refl
   deeds_both (Queued m ∷ gave) others = ap (λ (did : List (Deed U)). Put m ∷ did) (deeds_both gave others)
   deeds_both (HandedOut (Did d) ∷ gave) others = ap (λ (did : List (Deed U)). d ∷ did) (deeds_both gave others)

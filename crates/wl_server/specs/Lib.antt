@@ -73,3 +73,13 @@ pub mod Performing
 pub mod NotedSoon
 pub mod Accounts
 pub mod AccountLaws
+pub mod RequestCases
+pub mod Announced
+pub mod AnnouncementLaws
+pub mod ShownLaws
+pub mod Watching
+pub mod WatchedVerdicts
+pub mod WatchedReadings
+pub mod WatchedCalls
+pub mod WatchedGlobals
+pub mod AnnouncedLaw

@@ -104,7 +104,7 @@ module _ {T U G C : Type 0} (sends : T → Queue → Result ℕ IoFault → T �
   faulted_ends c fault.InvalidInput calm = ends_killed sends receives a.client c ConnectionClosed calm
   faulted_ends c (fault.Other n) calm = ends_killed sends receives a.client c ConnectionClosed calm
 
-  gave_none : (left : ℕ) (mid : ReaderPart T (Core U C)) (rest : Gives (Told U)) → Stops sends (server a) left mid rest → rest.gave ≡ []
+  pub gave_none : (left : ℕ) (mid : ReaderPart T (Core U C)) (rest : Gives (Told U)) → Stops sends (server a) left mid rest → rest.gave ≡ []
   gave_none left mid rest ends =
       elim (either_bool (reads_on mid.core) ends) [
         | inl (inl h) ↦ ap (λ (o : Gives (Told U)). o.gave) h.2
