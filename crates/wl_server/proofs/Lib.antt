@@ -45,3 +45,4 @@ mod OutcomeRows
 mod Visiting
 mod Changing
 mod ReadingCalls
+mod AnnouncedRows

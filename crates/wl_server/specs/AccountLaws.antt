@@ -6,6 +6,7 @@ use Rattle.wl_link.specs.Runs.{Entry as RunEntry}
 use Rattle.wl_server.specs.declared.step.Reply.{Reply}
 use Rattle.wl_server.specs.declared.step.Step.{Step}
 use Rattle.wl_server.specs.Accounts.{AreAccountedFor}
+use Rattle.wl_server.specs.AnnouncedLaw.{each_announces}
 use Rattle.wl_server.specs.IdentityLaws.{each_has_own_ids}
 use Rattle.wl_server.specs.IsolationLaw.{are_isolated}
 use Rattle.wl_server.specs.LogLaws.{each_log}
@@ -25,6 +26,7 @@ are_accounted_for w within table steps after performs =
         isolated = isolated;
         ids = each_has_own_ids w table run after leads;
         logs = each_log w within table run after leads;
+        announcements = each_announces w table run after leads;
         notes = each_is_noted w table run after leads;
       },
     )

@@ -4,6 +4,7 @@ use Rattle.wl_wire.specs.Table.{InterfaceRow}
 use Rattle.wl_link.specs.Runs.{Entry as RunEntry}
 use Rattle.wl_server.specs.declared.step.Reply.{Reply}
 use Rattle.wl_server.specs.declared.step.Step.{Step}
+use Rattle.wl_server.specs.Announced.{EachAnnouncesShown}
 use Rattle.wl_server.specs.Identified.{EachHasOwnIds}
 use Rattle.wl_server.specs.Logged.{EachLogIsSpelled}
 use Rattle.wl_server.specs.NotedOnce.{EachIsNoted}
@@ -12,12 +13,13 @@ use Rattle.wl_server.specs.Runs.{AreOf, IsIsolated, Leads}
 use Rattle.wl_server.specs.Server.{ServerState, new_server}
 use Rattle.wl_server.specs.Steps.{Entry}
 
--- Each client is alone, has ids of its own, took and is to be sent what was put, and is noted. The deeds are the same in
--- all of it: what is said of what was put is said of what was sent.
+-- Each client is alone, has ids of its own, took and is to be sent what was put, was announced what it is shown, and is
+-- noted. The deeds are the same in all of it: what is said of what was put is said of what was sent.
 pub record IsAccountedFor {T U G C : Type 0} (w : World T G C) (table : List InterfaceRow) (run : List (Entry T U G C)) (after : ServerState T U G C) : Type 0 where
   pub isolated : IsIsolated w table run after
   pub ids : EachHasOwnIds w table run after
   pub logs : EachLogIsSpelled run after
+  pub announcements : EachAnnouncesShown w run after
   pub notes : EachIsNoted run after
 
 -- steps of a new server, with these replies, are the calls of a run of which that holds

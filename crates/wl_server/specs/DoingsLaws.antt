@@ -108,7 +108,7 @@ module _ {U : Type 0} where
   done_end (Some reason) = refl
 
   -- the exchanges of a reading
-  done_turns : (turns : List Turn) → (es : List Sending) × (rs : List (Result Queue IoFault)) × (done (exchanges_in turns) ≡ exchanging es rs)
+  pub done_turns : (turns : List Turn) → (es : List Sending) × (rs : List (Result Queue IoFault)) × (done (exchanges_in turns) ≡ exchanging es rs)
   done_turns [] = ([], [], refl)
   done_turns (Received r ∷ turns) =
       let (es, rs, is) = done_turns turns in (es, r ∷ rs, ap (λ (d : Doings U). record d { came = r ∷ d.came }) is)

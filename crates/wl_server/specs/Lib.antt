@@ -75,3 +75,13 @@ pub mod Accounts
 pub mod AccountLaws
 pub mod Room
 pub mod RoomLaws
+pub mod RequestCases
+pub mod Announced
+pub mod AnnouncementLaws
+pub mod ShownLaws
+pub mod Watching
+pub mod WatchedVerdicts
+pub mod WatchedReadings
+pub mod WatchedCalls
+pub mod WatchedGlobals
+pub mod AnnouncedLaw

@@ -60,7 +60,7 @@ module _ {U : Type 0} where
       go false None e = absurd (none_some e)
       go false (Some y) e = one (eqb y.value.serial id.serial) y e
 
-  named_serial : (store : Store (Kept U)) (id : IdParts) (x : Object (Kept U)) → named store id ≡ Some x → x.value.serial ≡ id.serial
+  pub named_serial : (store : Store (Kept U)) (id : IdParts) (x : Object (Kept U)) → named store id ≡ Some x → x.value.serial ≡ id.serial
   named_serial store id x e = go (eqb id.number 0) (held store id.number) e
     where
       one : (c : Bool) (y : Object (Kept U)) → eqb y.value.serial id.serial ≡ c → cond c (Some y) None ≡ Some x → x.value.serial ≡ id.serial
@@ -101,7 +101,7 @@ not_zero n least zero = omega (arith, least, zero)
 
 module _ {U : Type 0} where
   -- what a check grants is the object that the id names
-  granted_named : (client : ClientParts) (store : Store (Kept U)) (table : List InterfaceRow) (m : SessionMessage) (g : Object (Kept U) × Bool) → event_check client store table m ≡ Ok g
+  pub granted_named : (client : ClientParts) (store : Store (Kept U)) (table : List InterfaceRow) (m : SessionMessage) (g : Object (Kept U) × Bool) → event_check client store table m ≡ Ok g
       → named store m.sender ≡ Some g.0
   granted_named client store table m g e = go (named store m.sender) e
     where
@@ -134,7 +134,7 @@ module _ {U : Type 0} where
       go (Some x) e =
           rewritten_other store id.number (with_user_data u x) n (λ same. none_some (sym free ∙ ap (held store) same ∙ named_held store id x e)) ∙ free
 
-  ended_named : (store : Store (Kept U)) (id : IdParts) (b : Bool) (x : Object (Kept U)) → ended_by store id b ≡ Some x → named store id ≡ Some x
+  pub ended_named : (store : Store (Kept U)) (id : IdParts) (b : Bool) (x : Object (Kept U)) → ended_by store id b ≡ Some x → named store id ≡ Some x
   ended_named store id true x e = e
   ended_named store id false x e = absurd (none_some e)
 

@@ -2,7 +2,6 @@
 use Rattle.std.proofs.Common.{◌≡◌, ◌≢◌, ◌⊎◌, ℕ, Bool, true, false, not, ◌&&◌, cond, eqb, List, [], ◌∷◌, ◌++◌, map, Option, None, Some, is_some, Result, Ok, Err, refl, sym, ap, subst, ◌∙◌, append-nil, true≢false}
 use mathlib.Core.Logic.{inl, inr}
 use Rattle.std.specs.Prelude.{nat_lt, if◌then◌else◌}
-use Rattle.std.specs.Option.{option_map_or}
 use Rattle.wl_wire.specs.declared.argument.Argument.{Argument}
 use Rattle.wl_wire.specs.declared.argument.Argument.TheVariants as arg
 use Rattle.wl_wire.specs.declared.argument.Token.{Token}
@@ -12,7 +11,7 @@ use Rattle.wl_wire.specs.declared.interface.InterfaceId.{InterfaceId}
 use Rattle.wl_wire.specs.Argument.{WireArgument}
 use Rattle.wl_wire.specs.Asked.{fits, next_interface}
 use Rattle.wl_wire.specs.Message.{WireMessage}
-use Rattle.wl_wire.specs.Table.{MessageRow, callback_id, display_id, name_of, registry_id}
+use Rattle.wl_wire.specs.Table.{MessageRow, callback_id, name_of, registry_id}
 use Rattle.wl_link.specs.declared.object.Object.{Object}
 use Rattle.wl_link.specs.Exchange.{Queue}
 use Rattle.wl_link.specs.Identity.{Objects}
@@ -33,12 +32,13 @@ use Rattle.wl_server.specs.BaseMoves.{Doings, Found, HandedId, IsAmong, New, all
 use Rattle.wl_server.specs.Deeds.{Acted, Deed, Handed, Remembered}
 use Rattle.wl_server.specs.Deeds as deeds
 use Rattle.wl_server.specs.DoingsLaws.{IsQuiet, done, told_deeds}
-use Rattle.wl_server.specs.Errors.{bind_text, error_of, fault_text, new_id_text, since_text}
+use Rattle.wl_server.specs.Errors.{error_of, fault_text, since_text}
 use Rattle.wl_server.specs.Globals.{global_at}
 use Rattle.wl_server.specs.Ids.{IdParts}
 use Rattle.wl_server.specs.MovesOfVerdicts.{Comes, Go, IsCalm, Lands, at, ends_killed, lands_at, lands_not, lands_then}
 use Rattle.wl_server.specs.Part.{Part, display_of, id_at, last_possible_serial, null_id}
-use Rattle.wl_server.specs.Reading.{Around, binds, binds_to, breaks, converted, display_request, garbled, hands_out, made_at, may_bind, new_at, other_request, registers, registry_request, replies, request, row_in, server, stops_if, synced, syncs, with_registry}
+use Rattle.wl_server.specs.Reading.{Around, binds, breaks, converted, garbled, hands_out, new_at, other_request, registers, replies, server, stops_if, synced, syncs, with_registry}
+use Rattle.wl_server.specs.RequestCases.{request_case}
 use Rattle.wl_server.specs.Requests.{Converted, Converting, Outcome, Whole, Wrong, allows_null, convert, convert_one, going_on, is_valid_new, kinds_after, made_id, made_object, object_found, start, with_made, with_new_argument, with_object_argument}
 use Rattle.wl_server.specs.Telling.{Core, Did, Stops, Told, closed_down, objects_in, with_objects}
 
@@ -65,7 +65,7 @@ argument_ids_both (arg.Array _ ∷ args) others = argument_ids_both args others
 argument_ids_both (arg.Fd _ ∷ args) others = argument_ids_both args others
 
 -- a number that a client may use holds none, and is not 0
-valid_new : {U : Type 0} (o : Objects (Kept U)) (n : ℕ) → is_valid_new o n ≡ true → (held o.store n ≡ None) × (n ≢ 0)
+pub valid_new : {U : Type 0} (o : Objects (Kept U)) (n : ℕ) → is_valid_new o n ≡ true → (held o.store n ≡ None) × (n ≢ 0)
 valid_new o n valid =
     let free = (both (is_free o.store n) (not (eqb o.last_serial last_possible_serial)) (both (not (is_server_number n)) _ valid).1).0 in (
       not_some (held o.store n) _ free,
@@ -244,13 +244,6 @@ module _ {T U G C : Type 0} (sends : T → Queue → Result ℕ IoFault → T �
     starved = inl refl;
   }
 
-  made_comes : (c : Core U C) (n : ℕ) (v : Verdict (Core U C) (Told U)) → IsQuietCore c → (is_valid_new (objects_in c) n ≡ true → Come c v) → Come c (made_at a c n v)
-  made_comes c n v calm comes = go (is_valid_new (objects_in c) n) refl
-    where
-      go : (b : Bool) → is_valid_new (objects_in c) n ≡ b → Come c (cond b v (breaks a c 0 (new_id_text n)))
-      go true valid = comes valid
-      go false valid = breaks_here c 0 (new_id_text n) calm
-
   -- ---- requests to a display and to a registry
 
   syncs_comes : (c : Core U C) (n : ℕ) → IsQuietCore c → is_valid_new (objects_in c) n ≡ true → Come c (syncs a c n)
@@ -303,67 +296,6 @@ module _ {T U G C : Type 0} (sends : T → Queue → Result ℕ IoFault → T �
 
       h : Handed
       h = deeds.Bind (global_at g x) id
-
-  module _ where
-    display_comes : (c : Core U C) (opcode : ℕ) (args : List WireArgument) → IsQuietCore c → Come c (display_request a c opcode args)
-    display_comes c opcode (arg.NewId n ∷ []) calm = made_comes c n _ calm (λ valid. go (eqb opcode 0) valid)
-      where
-        go : (b : Bool) → is_valid_new (objects_in c) n ≡ true → Come c (cond b (syncs a c n) (registers a c n))
-        go true valid = syncs_comes c n calm valid
-        go false valid = registers_comes c n calm valid
-    display_comes c opcode [] calm = garbled_comes c calm
-    display_comes c opcode (arg.Int z ∷ args) calm = garbled_comes c calm
-    display_comes c opcode (arg.Uint k ∷ args) calm = garbled_comes c calm
-    display_comes c opcode (arg.Fixed z ∷ args) calm = garbled_comes c calm
-    display_comes c opcode (arg.Str text ∷ args) calm = garbled_comes c calm
-    display_comes c opcode (arg.Object k ∷ args) calm = garbled_comes c calm
-    display_comes c opcode (arg.Array bytes ∷ args) calm = garbled_comes c calm
-    display_comes c opcode (arg.Fd token ∷ args) calm = garbled_comes c calm
-    display_comes c opcode (arg.NewId n ∷ b ∷ args) calm = garbled_comes c calm
-
-    binds_to_comes : (c : Core U C) (g : ℕ) (name : Option (List ℕ)) (version n : ℕ) (x : Option (Object (KeptGlobal G))) → IsQuietCore c → Come c (binds_to a c g name version n x)
-    binds_to_comes c g name version n None calm = breaks_here c 0 _ calm
-    binds_to_comes c g name version n (Some x) calm = go (may_bind a c g name version x)
-      where
-        go : (b : Bool) → Come c (cond b (made_at a c n (binds a c g version n x)) (breaks a c 0 (bind_text (option_map_or (λ t. t) name []) version g)))
-        go true = made_comes c n _ calm (λ valid. binds_comes c g version n x calm valid)
-        go false = breaks_here c 0 _ calm
-
-    registry_comes : (c : Core U C) (args : List WireArgument) → IsQuietCore c → Come c (registry_request a c args)
-    registry_comes c (arg.Uint g ∷ arg.Str name ∷ arg.Uint version ∷ arg.NewId n ∷ []) calm = binds_to_comes c g name version n (held a.globals.store g) calm
-    registry_comes c [] calm = garbled_comes c calm
-    registry_comes c (arg.Int z ∷ args) calm = garbled_comes c calm
-    registry_comes c (arg.Fixed z ∷ args) calm = garbled_comes c calm
-    registry_comes c (arg.Str text ∷ args) calm = garbled_comes c calm
-    registry_comes c (arg.Object k ∷ args) calm = garbled_comes c calm
-    registry_comes c (arg.NewId k ∷ args) calm = garbled_comes c calm
-    registry_comes c (arg.Array bytes ∷ args) calm = garbled_comes c calm
-    registry_comes c (arg.Fd token ∷ args) calm = garbled_comes c calm
-    registry_comes c (arg.Uint g ∷ []) calm = garbled_comes c calm
-    registry_comes c (arg.Uint g ∷ arg.Int z ∷ args) calm = garbled_comes c calm
-    registry_comes c (arg.Uint g ∷ arg.Uint k ∷ args) calm = garbled_comes c calm
-    registry_comes c (arg.Uint g ∷ arg.Fixed z ∷ args) calm = garbled_comes c calm
-    registry_comes c (arg.Uint g ∷ arg.Object k ∷ args) calm = garbled_comes c calm
-    registry_comes c (arg.Uint g ∷ arg.NewId k ∷ args) calm = garbled_comes c calm
-    registry_comes c (arg.Uint g ∷ arg.Array bytes ∷ args) calm = garbled_comes c calm
-    registry_comes c (arg.Uint g ∷ arg.Fd token ∷ args) calm = garbled_comes c calm
-    registry_comes c (arg.Uint g ∷ arg.Str name ∷ []) calm = garbled_comes c calm
-    registry_comes c (arg.Uint g ∷ arg.Str name ∷ arg.Int z ∷ args) calm = garbled_comes c calm
-    registry_comes c (arg.Uint g ∷ arg.Str name ∷ arg.Fixed z ∷ args) calm = garbled_comes c calm
-    registry_comes c (arg.Uint g ∷ arg.Str name ∷ arg.Str text ∷ args) calm = garbled_comes c calm
-    registry_comes c (arg.Uint g ∷ arg.Str name ∷ arg.Object k ∷ args) calm = garbled_comes c calm
-    registry_comes c (arg.Uint g ∷ arg.Str name ∷ arg.NewId k ∷ args) calm = garbled_comes c calm
-    registry_comes c (arg.Uint g ∷ arg.Str name ∷ arg.Array bytes ∷ args) calm = garbled_comes c calm
-    registry_comes c (arg.Uint g ∷ arg.Str name ∷ arg.Fd token ∷ args) calm = garbled_comes c calm
-    registry_comes c (arg.Uint g ∷ arg.Str name ∷ arg.Uint version ∷ []) calm = garbled_comes c calm
-    registry_comes c (arg.Uint g ∷ arg.Str name ∷ arg.Uint version ∷ arg.Int z ∷ args) calm = garbled_comes c calm
-    registry_comes c (arg.Uint g ∷ arg.Str name ∷ arg.Uint version ∷ arg.Uint k ∷ args) calm = garbled_comes c calm
-    registry_comes c (arg.Uint g ∷ arg.Str name ∷ arg.Uint version ∷ arg.Fixed z ∷ args) calm = garbled_comes c calm
-    registry_comes c (arg.Uint g ∷ arg.Str name ∷ arg.Uint version ∷ arg.Str text ∷ args) calm = garbled_comes c calm
-    registry_comes c (arg.Uint g ∷ arg.Str name ∷ arg.Uint version ∷ arg.Object k ∷ args) calm = garbled_comes c calm
-    registry_comes c (arg.Uint g ∷ arg.Str name ∷ arg.Uint version ∷ arg.Array bytes ∷ args) calm = garbled_comes c calm
-    registry_comes c (arg.Uint g ∷ arg.Str name ∷ arg.Uint version ∷ arg.Fd token ∷ args) calm = garbled_comes c calm
-    registry_comes c (arg.Uint g ∷ arg.Str name ∷ arg.Uint version ∷ arg.NewId n ∷ b ∷ args) calm = garbled_comes c calm
 
   -- ---- other requests
 
@@ -421,20 +353,11 @@ module _ {T U G C : Type 0} (sends : T → Queue → Result ℕ IoFault → T �
 
   -- ---- a message
 
-  request_comes : (c : Core U C) (m : WireMessage) (receiver : Option (Object (Kept U))) (row : Option MessageRow) → IsQuietCore c → held c.store m.sender ≡ receiver
-      → Come c (request a c m receiver row)
-  request_comes c m None row calm holds = garbled_comes c calm
-  request_comes c m (Some receiver) None calm holds = garbled_comes c calm
-  request_comes c m (Some receiver) (Some row) calm holds = go (eqb receiver.interface.0 display_id.0) (eqb receiver.interface.0 registry_id.0) refl
-    where
-      go : (b t : Bool) → eqb receiver.interface.0 registry_id.0 ≡ t
-          → Come c (cond b (display_request a c m.opcode m.args) (cond t (registry_request a c m.args) (other_request a c m receiver row)))
-      go true t is = display_comes c m.opcode m.args calm
-      go false true is = registry_comes c m.args calm
-      go false false is = other_comes c m receiver row calm holds is
-
   pub handles_comes : (c : Core U C) (m : WireMessage) → IsQuietCore c → Come c ((server a).handles c m)
-  handles_comes c m calm = request_comes c m (held c.store m.sender) (row_in a.table (held c.store m.sender) m.opcode) calm refl
+  handles_comes c m calm =
+      request_case a c (Come c) (garbled_comes c calm) (λ code text. breaks_here c code text calm) (λ n valid. syncs_comes c n calm valid)
+      (λ n valid. registers_comes c n calm valid) (λ g version n x valid. binds_comes c g version n x calm valid) m
+      (λ receiver row holds other. other_comes c m receiver row calm holds other)
 
   pub malformed_comes : (c : Core U C) → IsQuietCore c → Come c ((server a).malformed c)
   malformed_comes c calm = garbled_comes c calm

@@ -13,6 +13,7 @@ ghost use Rattle.wl_server.specs.declared.error.InsertClientError.TheVariants as
 ghost use Rattle.wl_server.specs.declared.step.Reply.{Reply};
 ghost use Rattle.wl_server.specs.declared.step.Step.{Step};
 ghost use Rattle.wl_server.specs.Accounts.{AreAccountedFor};
+ghost use Rattle.wl_server.specs.Announced.{EachAnnouncesShown, HaveAnnouncements};
 ghost use Rattle.wl_server.specs.Globals.{CreatesGlobal, Globals};
 ghost use Rattle.wl_server.specs.Ids.{ClientParts, GlobalParts};
 ghost use Rattle.wl_server.specs.Outcome.{ClientsHaveOneOutcome, OffersHaveOneOutcome, OwnRunsHaveOneOutcome, StepsHaveOneOutcome};
@@ -156,8 +157,25 @@ pub fn each_object_of_a_script_is_noted_once<U, G: GlobalHandler<C>, C>()
         Performs (over_scripts G.views) (new_server table) steps after → HaveNotes (over_scripts G.views) table steps after }
 {}
 
+/// The law of announcements, over every transport.
+///
+/// Over every run of calls of a new server, while a client is live: on each registry that `get_registry` made for it, the
+/// globals that were announced and not taken back, by the messages of this object that were put, are exactly the enabled
+/// globals that the client may see. That is promised of a registry of which the program itself sends no event, and which it
+/// does not destroy.
+pub fn registries_announce_what_is_shown<T: Transport, U, G: GlobalHandler<C>, C>()
+    ensures { (table : List InterfaceRow) (run : List (Entry T U G C)) (after : ServerState T U G C) →
+        Leads (over T.sends T.receives G.views) (new_server table) run after → EachAnnouncesShown (over T.sends T.receives G.views) run after }
+{}
+
+/// The same over the transport by script, of steps with their replies.
+pub fn registries_of_a_script_announce_what_is_shown<U, G: GlobalHandler<C>, C>()
+    ensures { (table : List InterfaceRow) (steps : List (RunEntry (Step Script U G C) (Reply Script U))) (after : ServerState Script U G C) →
+        Performs (over_scripts G.views) (new_server table) steps after → HaveAnnouncements (over_scripts G.views) table steps after }
+{}
+
 /// Steps over the transport by script have one history, of which all the laws of runs hold: isolation, identity, log equals
-/// bytes, and each note once.
+/// bytes, announcements, and each note once.
 pub fn each_client_of_a_script_is_accounted_for<U, G: GlobalHandler<C>, C>()
     ensures { (table : List InterfaceRow) (steps : List (RunEntry (Step Script U G C) (Reply Script U))) (after : ServerState Script U G C) →
         Performs (over_scripts G.views) (new_server table) steps after → AreAccountedFor (over_scripts G.views) table steps after }

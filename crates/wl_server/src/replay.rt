@@ -214,8 +214,9 @@ impl<U: Drop, G: GlobalHandler<C> + Drop, C: Drop> Backend<Memory, U, G, C> {
     /// The run joins the runs before it. So what is held of each client that was inserted since the server was made is
     /// what its own steps and the shared ones lead to alone, begun with the id that it got; no other client's steps
     /// matter to it. Each id of an object that was handed out names its own object and no later one, what a client's
-    /// transport took is what was put for it, and each object that left with user data is noted once. The same steps give
-    /// the same replies of any server that is the same to its program, and leave one that is, where neither run stops.
+    /// transport took is what was put for it, what its registries announced is what it is shown, and each object that
+    /// left with user data is noted once. The same steps give the same replies of any server that is the same to its
+    /// program, and leave one that is, where neither run stops.
     pub fn replay(
         &mut self,
         steps: Vec<Step<Memory, U, G, C>>,

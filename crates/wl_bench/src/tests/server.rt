@@ -2,6 +2,7 @@
 //!
 //! A run is a list of `Act`s, and `log_of` makes its calls, each by `replay`.
 
+mod announced;
 mod arrivals;
 mod example;
 mod globals;
