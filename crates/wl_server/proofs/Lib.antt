@@ -43,6 +43,7 @@ mod TakingNotes
 mod GatheredSlots
 mod Turning
 mod OutcomeRows
+mod CutRows
 mod Visiting
 mod Changing
 mod ReadingCalls

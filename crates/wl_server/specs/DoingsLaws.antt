@@ -133,7 +133,7 @@ module _ {U : Type 0} where
   abbrev pub told_deeds : List (Told U) → List (Deed U)
   told_deeds events = deeds_in (map HandedOut events)
 
-  deeds_both : (gave others : List (Given (Told U))) → deeds_in (gave ++ others) ≡ deeds_in gave ++ deeds_in others
+  pub deeds_both : (gave others : List (Given (Told U))) → deeds_in (gave ++ others) ≡ deeds_in gave ++ deeds_in others
   deeds_both [] others = refl
   deeds_both (Queued m ∷ gave) others = ap (λ (did : List (Deed U)). Put m ∷ did) (deeds_both gave others)
   deeds_both (HandedOut (Did d) ∷ gave) others = ap (λ (did : List (Deed U)). d ∷ did) (deeds_both gave others)

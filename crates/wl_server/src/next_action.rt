@@ -5,9 +5,11 @@ ghost use Rattle.wl_server.specs.declared.step.Reply.TheVariants as reply;
 ghost use Rattle.wl_server.specs.declared.step.Step.TheVariants as step;
 ghost use Rattle.wl_server.specs.Backend.{Calls};
 ghost use Rattle.wl_server.specs.Client.{Does};
-ghost use Rattle.wl_server.specs.PartStep.{over};
+ghost use Rattle.wl_server.specs.Cutting.{CutsReading};
+ghost use Rattle.wl_server.specs.PartStep.{around, over};
 ghost use Rattle.wl_server.specs.Reading.{NextAction, action_content, new_reading};
 ghost use Rattle.wl_server.specs.Deeds.{handed};
+ghost use Rattle.wl_server.specs.Server.{seen};
 ghost use Rattle.wl_server.specs.Turns.{EndsAs, Fills, Live, Waited, action_of, around_of, found_with};
 
 use crate::action::{Action, Reading};
@@ -186,8 +188,13 @@ impl<T: Transport + Drop, U: Drop, G: GlobalHandler<C> + Drop, C: Drop> Backend<
     /// `WouldBlock` or `OutOfMemory`; `Io(WouldBlock)` also where no whole message waits after the last receive;
     /// `Io(OutOfMemory)` where there is no memory for the message at the front or for a receive. After the last two what
     /// was handled stays handled, and what waits is read by the next call.
+    ///
+    /// Where each receive brings a byte or would block, and memory is not refused, it does not matter how bytes and tokens
+    /// were cut into receives.
     pub fn next_action(&mut self, id: &ClientId) -> Result<Action, ActionError>
-        ensures { Calls (over T.sends T.receives G.views) self.old (step.NextAction id.now) (reply.NextAction result) self.new }
+        ensures cutting { CutsReading (around (over T.sends T.receives G.views) id.now self.old.server.offer) T.sends T.receives new_reading
+            (seen id.now self.old.server) (action_content result) self.new.refused (seen id.now self.new.server) }
+        ensures read { Calls (over T.sends T.receives G.views) self.old (step.NextAction id.now) (reply.NextAction result) self.new }
     {
         let mut reading = Reading::new();
         self.read_client(id, &mut reading)
@@ -200,7 +207,9 @@ impl<T: Transport + Drop, U: Drop, G: GlobalHandler<C> + Drop, C: Drop> Backend<
         id: &ClientId,
         reading: &mut Reading,
     ) -> Result<Action, ActionError>
-        ensures { Calls (over T.sends T.receives G.views) self.old (step.NextActionWithin id.now reading.old) (reply.NextActionWithin result reading.new) self.new }
+        ensures cutting { CutsReading (around (over T.sends T.receives G.views) id.now self.old.server.offer) T.sends T.receives reading.old
+            (seen id.now self.old.server) (action_content result) self.new.refused (seen id.now self.new.server) }
+        ensures read { Calls (over T.sends T.receives G.views) self.old (step.NextActionWithin id.now reading.old) (reply.NextActionWithin result reading.new) self.new }
     {
         self.read_client(id, reading)
     }

@@ -12,6 +12,7 @@ ghost use Rattle.wl_server.specs.PartStep.{over_scripts};
 ghost use Rattle.wl_server.specs.Performing.{IsOfAll, IsOfClient, IsOfGlobals, IsOfObject, IsOfReading, IsOfScript};
 ghost use Rattle.wl_server.specs.Runs.{AreIsolated, Performs, StopsAt};
 ghost use Rattle.wl_server.specs.Server.{ServerState, new_server};
+ghost use Rattle.wl_server.specs.Stretches.{AreCut};
 
 use crate::backend::Backend;
 use crate::handler::GlobalHandler;
@@ -213,7 +214,9 @@ impl<U: Drop, G: GlobalHandler<C> + Drop, C: Drop> Backend<Memory, U, G, C> {
     /// The run joins the runs before it. So what is held of each client that was inserted since the server was made is
     /// what its own steps and the shared ones lead to alone, begun with the id that it got; no other client's steps
     /// matter to it. Each id of an object that was handed out names its own object and no later one, what a client's
-    /// transport took is what was put for it, and each object that left with user data is noted once.
+    /// transport took is what was put for it, and each object that left with user data is noted once. A stretch of a client's
+    /// own steps in which bytes arrive, and actions are read and finished, gives what is served of all that arrived,
+    /// however it was cut.
     pub fn replay(
         &mut self,
         steps: Vec<Step<Memory, U, G, C>>,
@@ -230,6 +233,9 @@ impl<U: Drop, G: GlobalHandler<C> + Drop, C: Drop> Backend<Memory, U, G, C> {
         ensures accounted { IfOk result (λ replies. (table : List InterfaceRow) (run : List (Entry (Step Script U G C) (Reply Script U))) →
             Performs (over_scripts G.views) (new_server table) run self.old.server →
             AreAccountedFor (over_scripts G.views) table (run ++ entries steps.items replies.items) self.new.server) }
+        ensures cutting { IfOk result (λ replies. (begun : ServerState Script U G C) (run : List (Entry (Step Script U G C) (Reply Script U))) →
+            Performs (over_scripts G.views) begun run self.old.server →
+            AreCut G.views begun (run ++ entries steps.items replies.items) self.new.server) }
         ensures stopped { IfErr result (λ stopped. StopsAt (over_scripts G.views) self.old.server steps.items stopped.step stopped.replies.items self.new.server) }
         ensures refused { self.new.refused ≡ is_err result }
     {

@@ -8,6 +8,7 @@ use Rattle.wl_server.specs.IsolationLaw.{are_isolated}
 use Rattle.wl_server.specs.PartStep.{over_scripts}
 use Rattle.wl_server.specs.Runs.{StopsAt}
 use Rattle.wl_server.specs.Server.{new_server}
+use Rattle.wl_server.specs.StretchLaws.{are_cut}
 use Rattle.wl_server.specs.Steps.{StepOf}
 use Rattle.wl_server.proofs.replay.Backend+Memory+U+G+C.replay.Goals as goal
 
@@ -42,3 +43,8 @@ returns-clause-accounted g c table run before =
     are_accounted_for (over_scripts g.G.GlobalHandler.views) (record { law = script_within_offer }) table
     (run ++ entries c.args.steps.items c.perform_all.new.replies.items) c.perform_all.new.self.server
     (returns-clause-joined g c (new_server table) run before)
+
+pub returns-clause-cutting : goal.returns-clause-cutting
+returns-clause-cutting g c begun run before =
+    are_cut g.G.GlobalHandler.views begun c.perform_all.new.self.server (run ++ entries c.args.steps.items c.perform_all.new.replies.items)
+    (returns-clause-joined g c begun run before)
