@@ -2,6 +2,7 @@
 use Rattle.std.proofs.Common.{◌≡◌, ◌≢◌, ℕ, zero, suc, ◌<◌, Bool, true, false, List, [], ◌∷◌, ◌++◌, append-nil, Option, None, Some, is_some, Result, Ok, Err, is_ok, MatchResult, MatchBool, refl, sym, ap, subst, ◌∙◌, true≢false, arith, length, take, drop, cond, eqb}
 use Rattle.std.specs.Prelude.{nat_le}
 use Rattle.std.proofs.lemmas.Bool.{leb-true, leb-false}
+use Rattle.std.proofs.lemmas.Option.{same_Some}
 use Rattle.std.proofs.lemmas.List.{take_all, take-append-drop, length-drop}
 use mathlib.Core.Logic.{inl, inr}
 use Rattle.wl_wire.specs.declared.argument.Token.{Token}
@@ -11,11 +12,13 @@ use Rattle.wl_wire.specs.declared.error.MessageParseError.TheVariants as errors
 use Rattle.wl_link.specs.Exchange.{Queue, joined}
 use Rattle.wl_link.specs.Link.{FilledBy, LinkState, count_of, counted_answer}
 use Rattle.wl_link.specs.Puts.{lacked_memory}
-use Rattle.wl_link.specs.Reader.{Gives, Halts, Handled, IsFed, Lacks, Part, Reader, Reads, Received, Turn, Unread, came_by, stops, with_link}
+use Rattle.wl_link.specs.Reader.{AllFed, Gives, Halts, Handled, IsFed, Lacks, Part, Reader, Reads, Received, Turn, Unread, came_by, stops, with_link}
 use Rattle.wl_link.specs.Script.{Script, ScriptReceives, arrivals_after, given}
 use Rattle.wl_link.specs.Stretch.{AllPieces, left_over}
+use Rattle.wl_link.specs.CuttingLaws.{byte_came}
 use Rattle.wl_link.specs.LaterLaws.{refused_there}
 use Rattle.wl_link.specs.QueueLaws.{joined_assoc, joined_nothing}
+use Rattle.wl_link.specs.ServedLaws.{both_false}
 
 pub left_over_more : (arrivals : List (Result Queue IoFault)) (r : Result Queue IoFault) → left_over (arrivals ++ r ∷ []) ≡ joined (left_over arrivals) (came_by r)
 left_over_more [] r = joined_nothing (came_by r)
@@ -118,6 +121,9 @@ module _ {T Core Event Finish : Type 0} (sends : T → Queue → Result ℕ IoFa
   abbrev stopped_of : Gives Event → Option IoFault
   stopped_of o = o.stopped
 
+  abbrev refused_of : Gives Event → Bool
+  refused_of o = o.refused
+
   -- a receive that failed because the transport would block left what waits
   blocked : (p : Part T Core) (link : LinkState T) (r : Result Queue IoFault) (f : IoFault) → counted_answer (count_of r) ≡ Err f → f ≡ fault.WouldBlock
       → FilledBy receives p.link r (counted_answer (count_of r)) link → link.incoming ≡ p.link.incoming
@@ -152,3 +158,25 @@ module _ {T Core Event Finish : Type 0} (sends : T → Queue → Result ℕ IoFa
       reading_waits left mid turns rest more (sym (ap stopped_of split) ∙ waits)
   reading_waits left p (Unread es ∷ turns) out (on, (v, link, first, lacked, mid, rest, found, carried, split, more)) waits =
       reading_waits left mid turns rest more (sym (ap stopped_of split) ∙ waits)
+
+  -- a reading that was fed stops only because the transport would block, or for want of memory
+  pub fed_blocks : (left : ℕ) (p : Part T Core) (turns : List Turn) (out : Gives Event) → Reads sends reader receives left p turns out after → AllFed turns
+      → out.refused ≡ false → (f : IoFault) → out.stopped ≡ Some f → f ≡ fault.WouldBlock
+  fed_blocks left p [] out (same, ends) fed ample f stopped = go (reader.reads_on p.core) ends
+    where
+      go : (b : Bool) → MatchBool b (Halts sends reader left p out) (out ≡ stops None false left) → f ≡ fault.WouldBlock
+      go true (inl (lacks, none, is)) = same_Some f fault.WouldBlock (sym stopped ∙ ap stopped_of is)
+      go true (inr (inl (asks, is))) = absurd (true≢false (sym (ap refused_of is) ∙ ample))
+      go true (inr (inr (lacks, (n, one, is)))) = absurd (true≢false (sym (ap refused_of is) ∙ ample))
+      go false is = absurd (none_is_some (sym (ap stopped_of is) ∙ stopped))
+  fed_blocks left p (Received (Ok came) ∷ turns) out (on, lacks, (n, is, (link, filled, finds, h))) (fed, others) ample f stopped =
+      fed_blocks n (with_link p link) turns out
+      (subst (λ (c : Result (Unit {0}) IoFault). MatchResult c (λ _. Reads sends reader receives n (with_link p link) turns out after)
+      (λ f. (turns ≡ []) × (out ≡ stops (Some f) (lacked_memory (Err f)) n) × (after ≡ record { core = reader.faulted p.core f; link = link }))) (byte_came came fed) h)
+      others ample f stopped
+  fed_blocks left p (Received (Err g) ∷ turns) out (on, lacks, (n, is, (link, filled, finds, (none, ends, same)))) (blocked', others) ample f stopped =
+      sym (same_Some g f (sym (ap stopped_of ends) ∙ stopped)) ∙ blocked'
+  fed_blocks left p (Handled es ∷ turns) out (on, (v, link, first, lacked, mid, rest, found, carried, split, more)) fed ample f stopped =
+      fed_blocks left mid turns rest more fed (both_false lacked rest.refused (sym ample ∙ ap refused_of split)).1 f (sym (ap stopped_of split) ∙ stopped)
+  fed_blocks left p (Unread es ∷ turns) out (on, (v, link, first, lacked, mid, rest, found, carried, split, more)) fed ample f stopped =
+      fed_blocks left mid turns rest more fed (both_false lacked rest.refused (sym ample ∙ ap refused_of split)).1 f (sym (ap stopped_of split) ∙ stopped)

@@ -112,7 +112,7 @@ module _ {Core Event Finish : Type 0} (reader : Reader Core Event Finish) (ends_
       record { core = others.core ∙ one.core; link = others.link ∙ ap (λ (l : LinkState Script). with_transport l after.link.transport) one.link }
 
   -- so no receive found the storage full, if none is seen to have at the end
-  roomy_before : (before after : Part Script Core) (acts : List (Act Event Finish)) → DoesAll reader before acts after → NotFull reader after → NotFull reader before
+  pub roomy_before : (before after : Part Script Core) (acts : List (Act Event Finish)) → DoesAll reader before acts after → NotFull reader after → NotFull reader before
   roomy_before before after acts does roomy core is lacks =
       let over = acts_over before after acts (subst (IsOver reader) (sym is) (ends_by.over core)) does in
       let incoming : after.link.incoming ≡ before.link.incoming = ap (λ (l : LinkState Script). l.incoming) over.link in
@@ -176,6 +176,13 @@ module _ {Core Event Finish : Type 0} (reader : Reader Core Event Finish) (ends_
             = (gave, [], served_with after rest, finishes, one, sym (append-nil gave), (refl, refl, refl)) in
             (1, subst (λ (l : List (Result Queue IoFault)). Serves ScriptSends reader 1 (part_as before (joined (left_over l) rest) (side_of before)) (u ∷ finishes) gave (served_with after rest) finishes) sent.arrivals serves);
       }
+
+  -- so each arrival that is left over brings a byte, or says that the transport would block
+  pub acts_pieces : (before after : Part Script Core) (acts : List (Act Event Finish)) → DoesAll reader before acts after → AllPieces (arrivals_of before) → NotFull reader after
+      → AllPieces (arrivals_of after)
+  acts_pieces before after [] same all roomy = subst (λ (x : Part Script Core). AllPieces (arrivals_of x)) (sym same) all
+  acts_pieces before after (a ∷ acts) (mid, first, rest) all roomy =
+      acts_pieces mid after acts rest (act_comes before mid a first all (roomy_before mid after acts rest roomy)).pieces roomy
 
   -- what each reading that was fed keeps, and each end, a stretch keeps
   module _ (P : Core → Type 0)

@@ -42,6 +42,7 @@ mod TakingNotes
 mod GatheredSlots
 mod Turning
 mod OutcomeRows
+mod CutRows
 mod Visiting
 mod Changing
 mod ReadingCalls

@@ -260,7 +260,7 @@ module _ {T U G C : Type 0} where
       (subst (λ (o : Offer G). Alone w id o mid (mine id run) after) (offer_of_other id offer e.call is) rest)
 
   -- what is held of a client that was inserted before is what its own calls and the shared ones lead to
-  alone_run : (w : World T G C) (id : ClientParts) (before after : ServerState T U G C) (run : List (Entry T U G C)) → id.serial ≤ before.last_client
+  pub alone_run : (w : World T G C) (id : ClientParts) (before after : ServerState T U G C) (run : List (Entry T U G C)) → id.serial ≤ before.last_client
       → Leads w before run after → Alone w id before.offer (seen id before) (mine id run) (seen id after)
   alone_run w id before after [] born same = ap (λ (s : ServerState T U G C). seen id s) same
   alone_run w id before after (e ∷ run) born (mid, by, leads) =
@@ -351,7 +351,7 @@ module _ {T U G C : Type 0} where
   }
 
   -- steps with their replies have deeds, of each client
-  performed : (w : World T G C) (before after : ServerState T U G C) (steps : List (RunEntry (Step T U G C) (Reply T U))) → Performs w before steps after
+  pub performed : (w : World T G C) (before after : ServerState T U G C) (steps : List (RunEntry (Step T U G C) (Reply T U))) → Performs w before steps after
       → (run : List (Entry T U G C)) × AreOf steps run × Leads w before run after
   performed w before after [] same = ([], tt, same)
   performed w before after (r ∷ steps) (mid, (e, call, refused, by), leads) =

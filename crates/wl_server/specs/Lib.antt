@@ -37,6 +37,7 @@ pub mod Backend
 pub mod Lookups
 pub mod IsolationLaw
 pub mod ReaderLaws
+pub mod Cutting
 pub mod EventChecks
 pub mod Ending
 pub mod BaseMoves
@@ -63,6 +64,10 @@ pub mod BaseMovesLaw
 pub mod Identified
 pub mod ChangeLaws
 pub mod ReplyLaws
+pub mod CuttingLaws
+pub mod Stretches
+pub mod AnswerLaws
+pub mod StretchLaws
 pub mod OwnRuns
 pub mod IdentityLaws
 pub mod Logged

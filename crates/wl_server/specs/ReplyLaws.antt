@@ -66,7 +66,7 @@ module _ {U : Type 0} where
         (among_first (all_action_ids (acted_in (deeds_in gave))) [] i among))
 
 -- a step that is about a client is one of its part
-own_step : {T U C : Type 0} (b : Bool) (s : Seen T U C) (R : Part T U C → Part T U C → Type 0) (missing : Type 0) (lacked : Bool) (did : List (Deed U)) (t : Seen T U C)
+pub own_step : {T U C : Type 0} (b : Bool) (s : Seen T U C) (R : Part T U C → Part T U C → Type 0) (missing : Type 0) (lacked : Bool) (did : List (Deed U)) (t : Seen T U C)
     → b ≡ true → OfClient b s R missing lacked did t → OnPart s R missing lacked did t
 own_step true s R missing lacked did t is h = h
 own_step false s R missing lacked did t is h = absurd (true≢false (sym is))

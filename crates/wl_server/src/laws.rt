@@ -1,11 +1,15 @@
 //! What follows from the definitions of a server alone. Each function has a law as its contract, and does nothing.
 
-ghost use Rattle.std.specs.Prelude.{◌≡◌, ◌≢◌, ℕ, List, Option, Result, Err};
+ghost use Rattle.std.specs.Prelude.{◌≡◌, ◌≢◌, ◌∷◌, ℕ, false, List, Option, Some, Result, Err};
 ghost use Rattle.wl_wire.specs.Table.{InterfaceRow};
 ghost use Rattle.wl_wire.specs.declared.interface.InterfaceId.{InterfaceId};
+ghost use Rattle.wl_link.specs.Exchange.{Queue, Sending, nothing};
 ghost use Rattle.wl_link.specs.OneLaws.{IsFunction, IsReceiveFunction};
+ghost use Rattle.wl_link.specs.Reader.{AllFed, Ends, Given, Gives, Reads, Turn, came_in, sends_in};
+ghost use Rattle.wl_link.specs.Reader.{Part as ReaderPart};
 ghost use Rattle.wl_link.specs.Runs.{Entry as RunEntry};
 ghost use Rattle.wl_link.specs.Script.{Script};
+ghost use Rattle.wl_link.specs.Served.{Answers};
 ghost use Rattle.wl_server.specs.declared.error.GlobalError.{GlobalError};
 ghost use Rattle.wl_server.specs.declared.error.GlobalError.TheVariants as global;
 ghost use Rattle.wl_server.specs.declared.error.InsertClientError.{InsertClientError};
@@ -14,17 +18,22 @@ ghost use Rattle.wl_server.specs.declared.step.Reply.{Reply};
 ghost use Rattle.wl_server.specs.declared.step.Step.{Step};
 ghost use Rattle.wl_server.specs.Accounts.{AreAccountedFor};
 ghost use Rattle.wl_server.specs.Announced.{EachAnnouncesShown, HaveAnnouncements};
-ghost use Rattle.wl_server.specs.Globals.{CreatesGlobal, Globals};
+ghost use Rattle.wl_server.specs.Cutting.{GoesOn, IsServed};
+ghost use Rattle.wl_server.specs.Globals.{CreatesGlobal, Globals, Offer};
 ghost use Rattle.wl_server.specs.Ids.{ClientParts, GlobalParts};
 ghost use Rattle.wl_server.specs.Outcome.{ClientsHaveOneOutcome, OffersHaveOneOutcome, OwnRunsHaveOneOutcome, StepsHaveOneOutcome};
 ghost use Rattle.wl_server.specs.Identified.{EachHasOwnIds, HaveOwnIds};
 ghost use Rattle.wl_server.specs.Logged.{EachLogIsSpelled, HaveSpelledLogs};
 ghost use Rattle.wl_server.specs.NotedOnce.{CleanupNotesAll, EachIsNoted, FinishNotesAtOnce, HaveNotes};
-ghost use Rattle.wl_server.specs.PartStep.{over, over_scripts, share_of};
-ghost use Rattle.wl_server.specs.Runs.{AreIsolated, IsIsolated, Leads, Performs};
-ghost use Rattle.wl_server.specs.Server.{ServerState, Stored, new_server};
+ghost use Rattle.wl_server.specs.Part.{Part};
+ghost use Rattle.wl_server.specs.PartStep.{around, over, over_scripts, share_of};
+ghost use Rattle.wl_server.specs.Reading.{Around, reads_on, server};
+ghost use Rattle.wl_server.specs.Runs.{Alone, AreIsolated, IsIsolated, Leads, Own, Performs, history};
+ghost use Rattle.wl_server.specs.Server.{Seen, ServerState, Stored, new_server};
 ghost use Rattle.wl_server.specs.ShareLaws.{RiseBySlot};
 ghost use Rattle.wl_server.specs.Steps.{Entry, InsertsNext};
+ghost use Rattle.wl_server.specs.Stretches.{IsServed as IsRunServed, IsStretch, IsStretchWithin, SameLeft, answered, arrived, beside_exchanges, finished};
+ghost use Rattle.wl_server.specs.Telling.{Core, Finish, Told};
 ghost use Rattle.wl_server.specs.WholeOutcome.{AnswersAlike, PerformancesHaveOneOutcome, RunsHaveOneOutcome, SameServer};
 
 use crate::handler::GlobalHandler;
@@ -179,4 +188,45 @@ pub fn registries_of_a_script_announce_what_is_shown<U, G: GlobalHandler<C>, C>(
 pub fn each_client_of_a_script_is_accounted_for<U, G: GlobalHandler<C>, C>()
     ensures { (table : List InterfaceRow) (steps : List (RunEntry (Step Script U G C) (Reply Script U))) (after : ServerState Script U G C) →
         Performs (over_scripts G.views) (new_server table) steps after → AreAccountedFor (over_scripts G.views) table steps after }
+{}
+
+/// The law of cutting, for every transport.
+///
+/// In a reading in which memory is not refused, let each receive bring a byte, or say that the transport would block.
+/// Whatever comes later, and whatever later sends are answered: what is served of the client before it, over what was
+/// received and then the rest, is what the reading gave, followed by what is served of the client after it over the rest.
+/// The end of an action is the next of the finishes. What is served is determined.
+pub fn cutting_does_not_matter_to_a_client<T: Transport, U, G, C>()
+    ensures reading { (a : Around G C) (left : ℕ) (before after : ReaderPart T (Core U C)) (turns : List Turn) (out : Gives (Told U)) →
+        Reads T.sends (server a) T.receives left before turns out after → AllFed turns → out.refused ≡ false →
+        (finishes : List (Finish U)) → GoesOn a before (came_in turns) (sends_in turns) finishes out.gave after finishes }
+    ensures finish { (a : Around G C) (before after : ReaderPart T (Core U C)) (u : Finish U) (es : List Sending) (gave : List (Given (Told U))) →
+        reads_on before.core ≡ false → Ends T.sends (server a) before u es gave false after →
+        (finishes : List (Finish U)) → GoesOn a before nothing es (u ∷ finishes) gave after finishes }
+    ensures one { (a : Around G C) (before : ReaderPart T (Core U C)) (more : Queue) (answers : Answers) (finishes : List (Finish U))
+        (gave others : List (Given (Told U))) (x y : _) →
+        IsServed a before more answers finishes gave x → IsServed a before more answers finishes others y → (gave ≡ others) × (x ≡ y) }
+{}
+
+/// The same over a stretch of a client's own run, over the transport by script: what it gives, and what it leads to, is
+/// what is served of all that arrived, joined, with the finishes that were accepted. So two stretches over which the same
+/// bytes and tokens arrive, however they are cut, and the same finishes are accepted, do the same, answer the same, and lead
+/// to the same.
+///
+/// A stretch begins with a live client. Each arrival brings a byte or says that the transport would block, memory is not
+/// refused, and no receive found the storage full. None does where each message is no longer than the incoming storage may
+/// become, and its tokens come no later than its last byte.
+pub fn cutting_does_not_matter_to_a_run<U, G: GlobalHandler<C>, C>()
+    ensures served { (id : ClientParts) (offer : Offer G) (before after : Seen Script U C) (p q : Part Script U C) (run : List (Own Script U G C)) →
+        before.part ≡ Some p → after.part ≡ Some q → Alone (over_scripts G.views) id offer before run after →
+        IsStretch (around (over_scripts G.views) id offer) p run q → IsRunServed (around (over_scripts G.views) id offer) p run q }
+    ensures within { (id : ClientParts) (offer : Offer G) (before after : Seen Script U C) (p q : Part Script U C) (run : List (Own Script U G C)) →
+        before.part ≡ Some p → after.part ≡ Some q → Alone (over_scripts G.views) id offer before run after →
+        IsStretchWithin (around (over_scripts G.views) id offer) p run q → IsStretch (around (over_scripts G.views) id offer) p run q }
+    ensures same { (id : ClientParts) (offer : Offer G) (before after other : Seen Script U C) (p q r : Part Script U C) (run others : List (Own Script U G C)) →
+        before.part ≡ Some p → after.part ≡ Some q → other.part ≡ Some r →
+        Alone (over_scripts G.views) id offer before run after → Alone (over_scripts G.views) id offer before others other →
+        IsStretch (around (over_scripts G.views) id offer) p run q → IsStretch (around (over_scripts G.views) id offer) p others r →
+        arrived run ≡ arrived others → finished run ≡ finished others →
+        (beside_exchanges (history run) ≡ beside_exchanges (history others)) × (answered run ≡ answered others) × SameLeft q r }
 {}

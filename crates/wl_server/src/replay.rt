@@ -12,6 +12,7 @@ ghost use Rattle.wl_server.specs.PartStep.{over_scripts};
 ghost use Rattle.wl_server.specs.Performing.{IsOfAll, IsOfClient, IsOfGlobals, IsOfObject, IsOfReading, IsOfScript};
 ghost use Rattle.wl_server.specs.Runs.{AreIsolated, Performs, StopsAt};
 ghost use Rattle.wl_server.specs.Server.{ServerState, new_server};
+ghost use Rattle.wl_server.specs.Stretches.{AreCut};
 ghost use Rattle.wl_server.specs.WholeOutcome.{SameServer, WholeReply};
 
 use crate::backend::Backend;
@@ -215,8 +216,9 @@ impl<U: Drop, G: GlobalHandler<C> + Drop, C: Drop> Backend<Memory, U, G, C> {
     /// what its own steps and the shared ones lead to alone, begun with the id that it got; no other client's steps
     /// matter to it. Each id of an object that was handed out names its own object and no later one, what a client's
     /// transport took is what was put for it, what its registries announced is what it is shown, and each object that
-    /// left with user data is noted once. The same steps give the same replies of any server that is the same to its
-    /// program, and leave one that is, where neither run stops.
+    /// left with user data is noted once. A stretch of a client's own steps in which bytes arrive, and actions are read and
+    /// finished, gives what is served of all that arrived, however it was cut. The same steps give the same replies of any
+    /// server that is the same to its program, and leave one that is, where neither run stops.
     pub fn replay(
         &mut self,
         steps: Vec<Step<Memory, U, G, C>>,
@@ -237,6 +239,9 @@ impl<U: Drop, G: GlobalHandler<C> + Drop, C: Drop> Backend<Memory, U, G, C> {
             SameServer self.old.server same → length others ≡ length steps.items →
             Performs (over_scripts G.views) same (entries steps.items others) other →
             AllSame WholeReply replies.items others × SameServer self.new.server other) }
+        ensures cutting { IfOk result (λ replies. (begun : ServerState Script U G C) (run : List (Entry (Step Script U G C) (Reply Script U))) →
+            Performs (over_scripts G.views) begun run self.old.server →
+            AreCut G.views begun (run ++ entries steps.items replies.items) self.new.server) }
         ensures stopped { IfErr result (λ stopped. StopsAt (over_scripts G.views) self.old.server steps.items stopped.step stopped.replies.items self.new.server) }
         ensures refused { self.new.refused ≡ is_err result }
     {

@@ -1,4 +1,5 @@
 use Rattle.std.proofs.Common.{◌≡◌, ◌∙◌, false, Result, Err, refl, sym}
+use Rattle.wl_server.specs.CuttingLaws.{finish_bind_cuts}
 use Rattle.wl_server.specs.declared.error.FinishError.TheVariants as finish
 use Rattle.wl_server.specs.declared.error.FinishRefused.{FinishRefused}
 use Rattle.wl_server.specs.Finish.{FinishesBind}
@@ -20,8 +21,8 @@ own id u answer = record { offer = λ o. refl; last = refl; client = λ b. tt; g
 abbrev Unknown : {U : Type 0} → U → Result (Unit {0}) (FinishRefused U) → Type 0
 Unknown u answer = answer ≡ Err (record { error = finish.InvalidId; user_data = u })
 
-pub returns-then-not-is_stored : goal.returns-then-not-is_stored
-returns-then-not-is_stored g c = rw (← c.self.view_is)
+pub returns-then-not-is_stored-clause-finished : goal.returns-then-not-is_stored-clause-finished
+returns-then-not-is_stored-clause-finished g c = rw (← c.self.view_is)
     (not_stored _ _ _ _ (own _ _ _) c.args.client.now (finishes c.args.user_data (Err (record { error = finish.InvalidId; user_data = c.args.user_data })))
     (Unknown c.args.user_data (Err (record { error = finish.InvalidId; user_data = c.args.user_data }))) (λ i l d b a h. (_, refl, h))
     (sym c.is_stored.ensures.stored ∙ c.if-not-is_stored.true) refl)
@@ -33,8 +34,14 @@ pub unreachable-requires : goal.unreachable-requires
 unreachable-requires g c =
     slot_not_empty c.self.inside.clients.items c.args.client.now c.slot.result _ (sym c.is_stored.ensures.stored ∙ c.if-not-is_stored.false) c.slot.ensures c.index_mut.ensures.value c.in-None.is
 
-pub returns : goal.returns
-returns g c = rw (← c.self.view_is)
+pub returns-clause-finished : goal.returns-clause-finished
+returns-clause-finished g c = rw (← c.self.view_is)
     (done_at _ _ _ _ (own _ _ _) c.args.client.now (finishes c.args.user_data c.finish_bind.result) (Unknown c.args.user_data c.finish_bind.result) (λ i l d b a h. (_, refl, h))
     c.slot.result c.index_mut.result.now c.in-Some.stored c.finish_bind.new.self false (sym c.is_stored.ensures.stored ∙ c.if-not-is_stored.false) c.slot.ensures
     c.index_mut.ensures.value c.in-Some.is c.finish_bind.ensures)
+
+pub returns-then-not-is_stored-clause-cutting : goal.returns-then-not-is_stored-clause-cutting
+returns-then-not-is_stored-clause-cutting g c = finish_bind_cuts _ _ _ _ _ _ _ (returns-then-not-is_stored-clause-finished g c)
+
+pub returns-clause-cutting : goal.returns-clause-cutting
+returns-clause-cutting g c = finish_bind_cuts _ _ _ _ _ _ _ (returns-clause-finished g c)

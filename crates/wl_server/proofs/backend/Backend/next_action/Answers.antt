@@ -1,5 +1,9 @@
+use Rattle.wl_server.specs.CuttingLaws.{next_action_cuts}
 use Rattle.wl_server.specs.RoomLaws.{next_has_room}
 use Rattle.wl_server.proofs.backend.Backend.next_action.Goals as goal
 
 pub returns-clause-room : goal.returns-clause-room
 returns-clause-room g c = next_has_room _ _ _ _ _
+
+pub returns-clause-cutting : goal.returns-clause-cutting
+returns-clause-cutting g c = next_action_cuts _ _ _ _ _ _ (c.read_client.ensures.fresh c.new-reading.ensures)

@@ -8,7 +8,7 @@ pub returns-in-NextActionWithin : goal.returns-in-NextActionWithin
 returns-in-NextActionWithin g c = rw c.in-NextActionWithin.is (over_script g.G.GlobalHandler.views _ _ _ _ _ c.next_action_within-answer.ensures.read)
 
 pub returns-in-FinishRequest : goal.returns-in-FinishRequest
-returns-in-FinishRequest g c = rw c.in-FinishRequest.is (over_script g.G.GlobalHandler.views _ _ _ _ _ c.finish_request.ensures)
+returns-in-FinishRequest g c = rw c.in-FinishRequest.is (over_script g.G.GlobalHandler.views _ _ _ _ _ c.finish_request.ensures.finished)
 
 pub returns-in-FinishBind : goal.returns-in-FinishBind
-returns-in-FinishBind g c = rw c.in-FinishBind.is (over_script g.G.GlobalHandler.views _ _ _ _ _ c.finish_bind.ensures)
+returns-in-FinishBind g c = rw c.in-FinishBind.is (over_script g.G.GlobalHandler.views _ _ _ _ _ c.finish_bind.ensures.finished)

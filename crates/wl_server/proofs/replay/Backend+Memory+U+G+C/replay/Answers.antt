@@ -9,6 +9,7 @@ use Rattle.wl_server.specs.MoveLaws.{scripts_determined}
 use Rattle.wl_server.specs.PartStep.{over_scripts}
 use Rattle.wl_server.specs.Runs.{StopsAt}
 use Rattle.wl_server.specs.Server.{new_server}
+use Rattle.wl_server.specs.StretchLaws.{are_cut}
 use Rattle.wl_server.specs.Steps.{StepOf}
 use Rattle.wl_server.specs.WholeRuns.{performance_one}
 use Rattle.wl_server.proofs.replay.Backend+Memory+U+G+C.replay.Goals as goal
@@ -50,3 +51,8 @@ returns-clause-outcome g c same other others alike many leads =
     performance_one (over_scripts g.G.GlobalHandler.views) (scripts_determined g.G.GlobalHandler.views)
     c.args.self.now.server same c.perform_all.new.self.server other c.args.steps.items c.perform_all.new.replies.items others
     (returns-clause-count g c) many alike (returns-clause-steps g c) leads
+
+pub returns-clause-cutting : goal.returns-clause-cutting
+returns-clause-cutting g c begun run before =
+    are_cut g.G.GlobalHandler.views begun c.perform_all.new.self.server (run ++ entries c.args.steps.items c.perform_all.new.replies.items)
+    (returns-clause-joined g c begun run before)

@@ -1,0 +1,59 @@
+-- That it does not matter to a client of a server how its bytes and tokens are cut: what its readings and the ends of its
+-- actions give is what is served of all that came, joined.
+--
+-- What is served is said of the client as a reader, over a transport that answers each send as it is told, and from which
+-- nothing is received any more.
+use Rattle.std.specs.Prelude.{◌≡◌, ℕ, Bool, false, List, ◌∷◌, ◌++◌, map, None, Some, Result, Ok}
+use Rattle.wl_wire.specs.declared.error.IoFault.{IoFault}
+use Rattle.wl_link.specs.Exchange.{Queue, Sending, nothing}
+use Rattle.wl_link.specs.Reader.{AllFed, Ends, Given, Gives, Reads, Turn, came_in, sends_in}
+use Rattle.wl_link.specs.Reader.{Part as ReaderPart}
+use Rattle.wl_link.specs.Served.{Answers, GoesOnAs, Served, Told as AsTold}
+use Rattle.wl_server.specs.declared.action.Reading.{Reading}
+use Rattle.wl_server.specs.declared.error.ActionError.{ActionError}
+use Rattle.wl_server.specs.declared.error.FinishRefused.{FinishRefused}
+use Rattle.wl_server.specs.Deeds.{Deed, Handed, Sent, notes_in}
+use Rattle.wl_server.specs.Part.{Part}
+use Rattle.wl_server.specs.Reading.{Around, answered, exchanges_in, server}
+use Rattle.wl_server.specs.Server.{Seen}
+use Rattle.wl_server.specs.Telling.{Core, Finish, Told, deeds_of, part_of, reader_part}
+
+module _ {T U G C : Type 0} (a : Around G C) where
+  -- With this behind what waits, these answers to the sends, and the data of these finishes, a client is given this and
+  -- comes to this.
+  abbrev pub IsServed : ReaderPart T (Core U C) → Queue → Answers → List (Finish U) → List (Given (Told U)) → ReaderPart Answers (Core U C) → Type 0
+  IsServed p more answers finishes gave end = Served AsTold (server a) p more answers finishes gave end
+
+  -- Whatever comes later, and whatever later sends are answered: what is served of the one over what came and then the
+  -- rest, with the answers to these sends before the later ones, is what was given, followed by what is served of the other
+  -- over the rest.
+  abbrev pub GoesOn : ReaderPart T (Core U C) → Queue → List Sending → List (Finish U) → List (Given (Told U)) → ReaderPart T (Core U C)
+      → List (Finish U) → Type 0
+  GoesOn before came es finishes gave after left = GoesOnAs AsTold (server a) before came es finishes gave after left
+
+  -- what is held of a client that a call left so, with these deeds
+  abbrev pub seen_after : Seen T U C → ReaderPart T (Core U C) → List (Deed U) → Seen T U C
+  seen_after before end did = record { part = Some (part_of end); made = before.made ++ notes_in did }
+
+  -- A reading of a live client with no action open, in which memory is not refused, is some turns with this answer. Where
+  -- each of its receives brought a byte or would have blocked, the client before it goes on as the client after it, behind
+  -- what it gave: what was put, what was done, and the action or why nothing more is read.
+  abbrev pub CutsReading : (T → Queue → Result ℕ IoFault → T → Type 0) → (T → ℕ → Result Queue IoFault → T → Type 0) → Reading → Seen T U C
+      → Result Handed ActionError → Bool → Seen T U C → Type 0
+  CutsReading sends receives r before answer refused after =
+      (p : Part T U C) → before.part ≡ Some p → p.is_killed ≡ false → p.action ≡ None → refused ≡ false →
+      (turns : List Turn) × (out : Gives (Told U)) × (end : ReaderPart T (Core U C))
+      × Reads sends (server a) receives r.turns_left (reader_part p) turns out end
+      × (answer ≡ answered out.stopped out.gave)
+      × (after ≡ seen_after before end (deeds_of (exchanges_in turns) out.gave end.core))
+      × (AllFed turns → (finishes : List (Finish U)) → GoesOn (reader_part p) (came_in turns) (sends_in turns) finishes out.gave end finishes)
+
+  -- an accepted finish of a live client is the next of the finishes
+  abbrev pub CutsFinish : {D : Type 0} → (T → Queue → Result ℕ IoFault → T → Type 0) → Finish U → Seen T U C → Result (Unit {0}) (FinishRefused D)
+      → Seen T U C → Type 0
+  CutsFinish sends u before answer after =
+      (p : Part T U C) → before.part ≡ Some p → p.is_killed ≡ false → answer ≡ Ok tt →
+      (es : List Sending) × (gave : List (Given (Told U))) × (end : ReaderPart T (Core U C))
+      × Ends sends (server a) (reader_part p) u es gave false end
+      × (after ≡ seen_after before end (deeds_of (map Sent es) gave end.core))
+      × ((finishes : List (Finish U)) → GoesOn (reader_part p) nothing es (u ∷ finishes) gave end finishes)
