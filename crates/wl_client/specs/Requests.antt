@@ -87,17 +87,13 @@ abbrev pub argument_fault : {U : Type 0} → Store (Kept U) → ArgumentType →
 argument_fault store (kind.Object null) asked (arg.Object id) = object_fault store null asked id
 argument_fault store _ asked _ = None
 
-abbrev pub fault_or : Option RequestError → Option RequestError → Option RequestError
-fault_or None other = other
-fault_or (Some e) other = Some e
-
--- why the first of the arguments that is refused is, from left to right
-abbrev pub first_fault : {U : Type 0} → Store (Kept U) → List ArgumentType → List InterfaceId → List (Argument IdParts Token)
-    → Option RequestError
-first_fault store [] asked args = None
-first_fault store (k ∷ kinds) asked [] = None
-first_fault store (k ∷ kinds) asked (a ∷ args) =
-    fault_or (argument_fault store k (next_interface asked) a) (first_fault store kinds (left_after a asked) args)
+-- why each of the arguments is refused, from left to right
+abbrev pub argument_faults : {U : Type 0} → Store (Kept U) → List ArgumentType → List InterfaceId → List (Argument IdParts Token)
+    → List (Option RequestError)
+argument_faults store [] asked args = []
+argument_faults store (k ∷ kinds) asked [] = []
+argument_faults store (k ∷ kinds) asked (a ∷ args) =
+    argument_fault store k (next_interface asked) a ∷ argument_faults store kinds (left_after a asked) args
 
 -- why a request that creates an object is refused for what it creates, in the order in which that is looked at
 abbrev pub child_refusals : List InterfaceRow → MessageRow → ℕ → Option Spec → Bool → List (Argument IdParts Token) → List (Option RequestError)
@@ -128,8 +124,7 @@ module _ {U : Type 0} (table : List InterfaceRow) (store : Store (Kept U)) where
       when sender.value.client_destroyed refused.InvalidId
       ∷ when (not (matches row.signature m.args)) refused.BadSignature
       ∷ (if creates row then first_refusal (child_refusals table row sender.version spec has_data m.args) else None)
-      ∷ first_fault store row.signature row.arg_interfaces m.args
-      ∷ []
+      ∷ argument_faults store row.signature row.arg_interfaces m.args
 
   -- an opcode that the sender's interface lacks is looked at before that
   abbrev pub checked_row : Object (Kept U) → Option MessageRow → SessionMessage → Bool → Option Spec → Result Granted RequestError

@@ -96,6 +96,7 @@ impl<T: Transport + Drop, U: Drop> Backend<T, U> {
         };
         match self.read_event(&mut event) {
             Ok(()) => {
+                // What `read_event` promises does not speak of it.
                 self.refused = false;
                 Ok(event)
             }

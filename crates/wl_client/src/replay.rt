@@ -16,7 +16,8 @@ use crate::step::{Reply, Step, Stopped};
 use wl_link::Memory;
 
 impl<U: Drop> Backend<Memory, U> {
-    /// Makes the call of a step of the transport by script.
+    /// Makes the call of a step of the transport by script. It is apart from `perform`, since one match over all steps
+    /// makes a derivation for the borrow checker that is too large.
     fn perform_script(&mut self, step: Step<U>) -> Reply<U>
         requires { IsOfScript step }
         ensures { StepOf self.old.session step result self.new.refused self.new.session }

@@ -1,11 +1,11 @@
 //! Which requests are refused, and the numbers of those that are sent.
 
-ghost use Rattle.std.specs.Prelude.{◌≡◌, option_copied, option_map};
+ghost use Rattle.std.specs.Prelude.{◌≡◌};
 ghost use Rattle.std.specs.List.{list_all};
 ghost use Rattle.wl_wire.specs.Table.{message_row};
-ghost use Rattle.wl_wire.specs.Asked.{creates, left_after, matches, next_interface, request_row};
+ghost use Rattle.wl_wire.specs.Asked.{creates, left_after, matches, next_interface};
 ghost use Rattle.wl_link.specs.Refusals.{first_refusal};
-ghost use Rattle.wl_client.specs.Requests.{child_of, child_refusals, is_placeholder, object_fault, argument_fault, first_fault, grant, refusals, request_check, session_content};
+ghost use Rattle.wl_client.specs.Requests.{child_of, child_refusals, is_placeholder, argument_fault, argument_faults, refusals, request_check, session_content};
 
 use crate::error::RequestError;
 use crate::kept::Kept;
@@ -52,28 +52,6 @@ fn are_placeholders(args: &[Argument<ObjectId, Token>]) -> bool
     args.iter().all(|arg| is_placeholder(arg))
 }
 
-/// Why an object argument is refused, where the signature says this of null and the table asks for this interface.
-fn object_fault<U: Drop>(
-    objects: &ObjectMap<Kept<U>>,
-    null: AllowNull,
-    asked: InterfaceId,
-    id: &ObjectId,
-) -> Option<RequestError>
-    ensures { result ≡ object_fault objects.now.store null asked id.now }
-{
-    if id.protocol_id() == 0 {
-        return match null {
-            AllowNull::Yes => None,
-            AllowNull::No => Some(RequestError::NullObject),
-        };
-    }
-    match live_in(objects, id) {
-        None => Some(RequestError::InvalidId),
-        Some(object) if same_interface_or_anonymous(asked, object.interface) => None,
-        Some(_) => Some(RequestError::WrongInterface),
-    }
-}
-
 /// Why an argument of that type is refused, where the table asks for this interface next.
 fn argument_fault<U: Drop>(
     objects: &ObjectMap<Kept<U>>,
@@ -85,7 +63,17 @@ fn argument_fault<U: Drop>(
 {
     match (kind, arg) {
         (ArgumentType::Object(null), Argument::Object(id)) => {
-            object_fault(objects, null, asked, id)
+            if id.protocol_id() == 0 {
+                return match null {
+                    AllowNull::Yes => None,
+                    AllowNull::No => Some(RequestError::NullObject),
+                };
+            }
+            match live_in(objects, id) {
+                None => Some(RequestError::InvalidId),
+                Some(object) if same_interface_or_anonymous(asked, object.interface) => None,
+                Some(_) => Some(RequestError::WrongInterface),
+            }
         }
         _ => None,
     }
@@ -118,7 +106,7 @@ fn first_fault<U: Drop>(
     interfaces: &[InterfaceId],
     args: &[Argument<ObjectId, Token>],
 ) -> Option<RequestError>
-    ensures { result ≡ first_fault objects.now.store signature.now interfaces.now args.now }
+    ensures { result ≡ first_refusal (argument_faults objects.now.store signature.now interfaces.now args.now) }
 {
     let mut asked = interfaces;
     for (kind, arg) in signature.iter().zip(args) {
@@ -205,31 +193,6 @@ fn refusal<U: Drop>(
     first_fault(objects, &desc.signature, &desc.arg_interfaces, args)
 }
 
-/// What the request is granted, where it is not refused.
-fn grant(desc: &MessageDesc, version: u32, spec: Option<(InterfaceId, u32)>) -> Granted
-    ensures { result ≡ grant (message_row desc.now) version spec }
-{
-    let child = if creates(desc) {
-        child_of(desc, version, spec)
-    } else {
-        None
-    };
-    Granted {
-        child,
-        is_destructor: desc.is_destructor,
-    }
-}
-
-/// The description of the request of that opcode.
-fn request_desc(protocol: &Protocol, interface: InterfaceId, opcode: u16) -> Option<&MessageDesc>
-    ensures { option_map message_row (option_copied result) ≡ request_row protocol.now interface opcode }
-{
-    match protocol.get(interface) {
-        Some(row) => row.requests.get(opcode as usize),
-        None => None,
-    }
-}
-
 /// What the request is granted, or the first reason for which it is refused.
 pub(crate) fn check_request<U: Drop>(
     protocol: &Protocol,
@@ -243,13 +206,24 @@ pub(crate) fn check_request<U: Drop>(
     let Some(sender) = named_in(objects, &message.sender_id) else {
         return Err(RequestError::InvalidId);
     };
-    let Some(desc) = request_desc(protocol, sender.interface, message.opcode) else {
+    let Some(interface) = protocol.get(sender.interface) else {
         return Err(RequestError::UnknownOpcode);
     };
-    match refusal(protocol, objects, sender, desc, message, has_data, spec) {
-        Some(error) => Err(error),
-        None => Ok(grant(desc, sender.version, spec)),
+    let Some(desc) = interface.requests.get(message.opcode as usize) else {
+        return Err(RequestError::UnknownOpcode);
+    };
+    if let Some(error) = refusal(protocol, objects, sender, desc, message, has_data, spec) {
+        return Err(error);
     }
+    let child = if creates(desc) {
+        child_of(desc, sender.version, spec)
+    } else {
+        None
+    };
+    Ok(Granted {
+        child,
+        is_destructor: desc.is_destructor,
+    })
 }
 
 /// The numbers that a request's ids have on the wire: each its own, and this one for the object that it creates.

@@ -143,13 +143,6 @@ fn end_sender<U: Drop>(
     }
 }
 
-/// Whether there was no memory for the request.
-fn lacks_memory(answer: &Result<ObjectId, RequestError>) -> bool
-    ensures { result ≡ refused_request answer.now }
-{
-    matches!(answer, Err(RequestError::OutOfMemory))
-}
-
 impl<T: Transport + Drop, U: Drop> Backend<T, U> {
     /// The next object of the client, with its number; nothing is changed.
     fn next_object(
@@ -173,7 +166,7 @@ impl<T: Transport + Drop, U: Drop> Backend<T, U> {
 
     /// Sends a request that was not refused: makes room for what the session keeps of it, writes it, and then puts the
     /// new object and gives up the sender, where the request creates the one or ends the other. Where there is no
-    /// memory, neither is done.
+    /// memory, neither is done. The new object is lent, so that an early return has nothing to drop.
     fn send(
         &mut self,
         message: &Message<ObjectId, Token>,
@@ -273,7 +266,7 @@ impl<T: Transport + Drop, U: Drop> Backend<T, U> {
             Ok(granted) => self.send_granted(&message, granted, user_data),
             Err(error) => Err(error),
         };
-        self.refused = lacks_memory(&answer);
+        self.refused = matches!(answer, Err(RequestError::OutOfMemory));
         answer
     }
 }

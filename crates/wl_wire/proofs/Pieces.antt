@@ -1,5 +1,5 @@
 -- How long the pieces of arguments are, and how one is written behind another.
-use Rattle.std.proofs.Common.{◌≡◌, ℕ, ◌+◌, ◌-◌, ◌≤◌, ◌<◌, List, [], ◌∷◌, ◌++◌, length, get_or, map, take, drop, replicate, Some, None, refl, sym, ap, subst, ◌∙◌, append_assoc, arith, length-append, add-zero, zero-add}
+use Rattle.std.proofs.Common.{◌≡◌, ℕ, zero, suc, ◌+◌, ◌*◌, ◌-◌, ◌≤◌, ◌<◌, List, [], ◌∷◌, ◌++◌, length, get_or, map, take, drop, replicate, Some, None, refl, sym, ap, subst, ◌∙◌, append_assoc, arith, length-append, add-zero, zero-add, true≢false}
 use Rattle.std.proofs.lemmas.List.{length-map, get_or-map, append-nil, length-replicate, replicate-append-replicate, take_more, length-take-le, length-drop, take_at, drop_at, drop-drop, take-append-drop, take-append-le, take-take, drop-append-le, drop-replicate}
 use Rattle.std.proofs.lemmas.Grind.{flat_map-append}
 use Rattle.std.proofs.lemmas.List.Sums.{sum_by-cons, sum_by_push}
@@ -10,8 +10,8 @@ use Rattle.wl_wire.specs.declared.argument.Token.{Token}
 use Rattle.wl_wire.specs.declared.message.Message.{Message}
 use Rattle.wl_wire.specs.Argument.{WireArgument}
 use Rattle.wl_wire.specs.MapIds.{numbered, with_ids}
-use Rattle.wl_wire.specs.Message.{IsArgument, content, word, pad_len, counted, piece, pieces, token, tokens}
-use Rattle.wl_wire.specs.Buffer.{overwritten, counted_len, piece_len, token_count}
+use Rattle.wl_wire.specs.Message.{content, word, pad_len, counted, piece, pieces, token, tokens}
+use Rattle.wl_wire.specs.Buffer.{IsWord, overwritten, counted_len, piece_len, token_count}
 use Rattle.wl_wire.specs.Laws.{length-word}
 
 word-zero : word 0 ≡ replicate 4 0
@@ -108,15 +108,47 @@ length-tokens-more args i a lt is =
     let whole : tokens (take (i + 1) args) ++ tokens (drop (i + 1) args) ≡ tokens args = sym (flat_map-append token (take (i + 1) args) (drop (i + 1) args)) ∙ ap tokens (take-append-drop (i + 1) args) in
     omega (arith, ap length whole, length-append (tokens (take (i + 1) args)) (tokens (drop (i + 1) args)), ap length (tokens-more args i a lt is), length-append (tokens (take i args)) (token a))
 
--- each of so many arguments, and one more, is one of its type
-all_behind : (args : List WireArgument) (a : WireArgument) → AllByRecursion IsArgument args → IsArgument a → AllByRecursion IsArgument (args ++ a ∷ [])
-all_behind [] a all one = (one, tt)
-all_behind (b ∷ args) a all one = (all.0, all_behind args a all.1 one)
+module _ {A : Type 0} (P : A → Type 0) where
+  all_behind : (xs : List A) (x : A) → AllByRecursion P xs → P x → AllByRecursion P (xs ++ x ∷ [])
+  all_behind [] x all one = (one, tt)
+  all_behind (y ∷ xs) x all one = (all.0, all_behind xs x all.1 one)
 
-pub values-more : (args : List WireArgument) (i : ℕ) (a : WireArgument) → i < length args → a ≡ get_or args i a
-    → AllByRecursion IsArgument (take i args) → IsArgument a → AllByRecursion IsArgument (take (i + 1) args)
-values-more args i a lt is all one =
-    subst (AllByRecursion IsArgument) (sym (take_more args i a lt ∙ ap (λ (x : WireArgument). take i args ++ x ∷ []) (sym is))) (all_behind (take i args) a all one)
+  -- what holds of each of so many, and of one more, holds of each of these
+  pub all-more : (xs : List A) (i : ℕ) (x : A) → i < length xs → x ≡ get_or xs i x → AllByRecursion P (take i xs) → P x → AllByRecursion P (take (i + 1) xs)
+  all-more xs i x lt is all one =
+      subst (AllByRecursion P) (sym (take_more xs i x lt ∙ ap (λ (y : A). take i xs ++ y ∷ []) (sym is))) (all_behind (take i xs) x all one)
+
+  -- what holds of each holds of the one that is looked at
+  pub all-at : (xs : List A) (i : ℕ) (x : A) → AllByRecursion P xs → i < length xs → x ≡ get_or xs i x → P x
+  all-at [] i x all lt is = absurd (omega arith)
+  all-at (y ∷ xs) zero x all lt is = subst P (sym is) all.0
+  all-at (y ∷ xs) (suc i) x all lt is = all-at xs i x all.1 (omega arith) is
+
+-- ---- words
+
+-- a word has no token and four bytes
+tokens_of_word : {Id : Type 0} (object_number new_number : Id → ℕ) (a : Argument Id Token) → IsWord a → token (with_ids object_number new_number a) ≡ []
+tokens_of_word f g (arg.Fd t) is = absurd (true≢false (sym is))
+tokens_of_word f g _ is = refl
+
+word-len : {Id : Type 0} (a : Argument Id Token) → IsWord a → piece_len a ≡ 4
+word-len (arg.Str text) is = absurd (true≢false (sym is))
+word-len (arg.Array bytes) is = absurd (true≢false (sym is))
+word-len (arg.Fd t) is = absurd (true≢false (sym is))
+word-len _ is = refl
+
+sum_of_words : {Id : Type 0} (args : List (Argument Id Token)) → AllByRecursion IsWord args → sum_by piece_len args ≡ 4 * length args
+sum_of_words [] all = refl
+sum_of_words (a ∷ args) all = omega (arith, sum_by-cons piece_len a args, word-len a all.0, sum_of_words args all.1)
+
+pub tokens_of_words : {Id : Type 0} (object_number new_number : Id → ℕ) (args : List (Argument Id Token)) → AllByRecursion IsWord args
+    → tokens (map (with_ids object_number new_number) args) ≡ []
+tokens_of_words f g [] all = refl
+tokens_of_words f g (a ∷ args) all = rw (tokens_of_word f g a all.0, tokens_of_words f g args all.1) refl
+
+pub words_len : {Id : Type 0} (object_number new_number : Id → ℕ) (args : List (Argument Id Token)) → AllByRecursion IsWord args
+    → length (pieces (map (with_ids object_number new_number) args)) ≡ 4 * length args
+words_len f g args all = length_pieces f g args ∙ sum_of_words args all
 
 -- ---- one write behind another is one write
 
@@ -204,15 +236,25 @@ overwritten-more old now new args i at a lt is room at-is now-is new-is =
     ∙ overwritten-append old 8 (pieces (take i args)) (piece a) (omega (arith, length-pieces-more args i a lt is))
     ∙ ap (overwritten old 8) (sym (pieces-more args i a lt is))
 
--- a header of two words, and what follows it
-pub overwritten-header : (old a b rest : List ℕ) → length a ≡ 4 → length b ≡ 4 → 8 + length rest ≤ length old
-    → overwritten (overwritten (overwritten old 0 a) 4 b) 8 rest ≡ (a ++ b ++ rest) ++ drop (8 + length rest) old
-overwritten-header old a b rest a-len b-len le =
-    let both-len : length (a ++ b) ≡ 8 = omega (arith, length-append a b) in
-    let whole-len : length ((a ++ b) ++ rest) ≡ 8 + length rest = omega (arith, length-append (a ++ b) rest) in
-    let first : overwritten (overwritten old 0 a) 4 b ≡ overwritten old 0 (a ++ b)
-    = subst (λ (k : ℕ). overwritten (overwritten old 0 a) k b ≡ overwritten old 0 (a ++ b)) (omega arith) (overwritten-append old 0 a b (omega arith)) in
-    let second : overwritten (overwritten old 0 (a ++ b)) 8 rest ≡ overwritten old 0 ((a ++ b) ++ rest)
-    = subst (λ (k : ℕ). overwritten (overwritten old 0 (a ++ b)) k rest ≡ overwritten old 0 ((a ++ b) ++ rest)) (omega arith) (overwritten-append old 0 (a ++ b) rest (omega arith)) in
-    ap (λ (p : List ℕ). overwritten p 8 rest) first ∙ second ∙ overwritten-front old ((a ++ b) ++ rest)
-    ∙ ap (λ (k : ℕ). ((a ++ b) ++ rest) ++ drop k old) whole-len
+-- two words at the front
+pub overwritten-two : (old a b : List ℕ) → length a ≡ 4 → length b ≡ 4 → 8 ≤ length old → overwritten (overwritten old 0 a) 4 b ≡ overwritten old 0 (a ++ b)
+overwritten-two old a b a-len b-len le =
+    subst (λ (k : ℕ). overwritten (overwritten old 0 a) k b ≡ overwritten old 0 (a ++ b)) (omega arith) (overwritten-append old 0 a b (omega arith))
+
+-- a header, and what follows it
+pub overwritten-header : (old head rest : List ℕ) → length head ≡ 8 → 8 + length rest ≤ length old → overwritten (overwritten old 0 head) 8 rest ≡ (head ++ rest) ++ drop (8 + length rest) old
+overwritten-header old head rest head-len le =
+    let whole-len : length (head ++ rest) ≡ 8 + length rest = omega (arith, length-append head rest) in
+    let whole : overwritten (overwritten old 0 head) 8 rest ≡ overwritten old 0 (head ++ rest)
+    = subst (λ (k : ℕ). overwritten (overwritten old 0 head) k rest ≡ overwritten old 0 (head ++ rest)) (omega arith) (overwritten-append old 0 head rest (omega arith)) in
+    whole ∙ overwritten-front old (head ++ rest) ∙ ap (λ (k : ℕ). (head ++ rest) ++ drop k old) whole-len
+
+pub length-header : (sender size-opcode : ℕ) → length (word sender ++ word size-opcode) ≡ 8
+length-header sender size-opcode = omega (arith, length-append (word sender) (word size-opcode), length-word sender, length-word size-opcode)
+
+-- one more word is written behind the others
+pub overwritten-more-word : (old now new : List ℕ) (args : List WireArgument) (i at n : ℕ) (a : WireArgument) → i < length args → a ≡ get_or args i a
+    → piece a ≡ word n → 8 + length (pieces args) ≤ length old → at ≡ 8 + length (pieces (take i args)) → now ≡ overwritten old 8 (pieces (take i args)) → new ≡ overwritten now at (word n)
+    → new ≡ overwritten old 8 (pieces (take (i + 1) args))
+overwritten-more-word old now new args i at n a lt is spelled room at-is now-is new-is =
+    overwritten-more old now new args i at a lt is room at-is now-is (new-is ∙ ap (overwritten now at) (sym spelled))

@@ -1,5 +1,5 @@
 -- Writing into a slice, as the functions inside the writer say it.
-use Rattle.std.specs.Prelude.{ℕ, ◌+◌, List, ◌++◌, length, take, drop, Some}
+use Rattle.std.specs.Prelude.{Bool, true, false, IsTrue, ℕ, ◌+◌, List, ◌++◌, length, take, drop, Some}
 use Rattle.wl_wire.specs.declared.argument.Argument.TheVariants as arg
 use Rattle.wl_wire.specs.declared.argument.Argument.{Argument}
 use Rattle.wl_wire.specs.declared.argument.Token.{Token}
@@ -24,3 +24,13 @@ piece_len _ = 4
 abbrev pub token_count : {Id : Type 0} → Argument Id Token → ℕ
 token_count (arg.Fd _) = 1
 token_count _ = 0
+
+-- whether the argument is a word: a number or the id of an object
+abbrev pub is_word : {Id : Type 0} → Argument Id Token → Bool
+is_word (arg.Str _) = false
+is_word (arg.Array _) = false
+is_word (arg.Fd _) = false
+is_word _ = true
+
+abbrev pub IsWord : {Id : Type 0} → Argument Id Token → Type 0
+IsWord a = IsTrue (is_word a)

@@ -1,11 +1,11 @@
 //! Writing a message as bytes and tokens.
 
-ghost use Rattle.std.specs.Prelude.{◌≡◌, ◌≢◌, ◌↔◌, ◌+◌, ◌*◌, ◌<◌, ◌≤◌, ◌^◌, ◌++◌, [], Err, length, drop, map, nat_le, replicate, IfOk, OnOk, OnErr, MatchOption, vec_len, vec_capacity};
+ghost use Rattle.std.specs.Prelude.{◌≡◌, ◌≢◌, ◌↔◌, ◌+◌, ◌-◌, ◌*◌, ◌<◌, ◌≤◌, ◌^◌, ◌++◌, [], Err, length, drop, map, nat_le, replicate, IfOk, IsTrue, OnOk, OnErr, MatchOption, vec_len, vec_capacity};
 ghost use Rattle.wl_wire.specs.declared.error.MessageWriteError.TheVariants.{OutOfMemory};
 ghost use Rattle.std.specs.List.{AllByRecursion, sum_by};
-ghost use Rattle.wl_wire.specs.Message.{content, IsArgument, IsMessage, counted, piece, pieces, size, spelling, token, tokens, word};
+ghost use Rattle.wl_wire.specs.Message.{content, IsArgument, IsMessage, counted, pad_len, piece, pieces, size, spelling, token, tokens, word};
 ghost use Rattle.wl_wire.specs.MapIds.{numbered, with_ids};
-ghost use Rattle.wl_wire.specs.Buffer.{overwritten, counted_len, piece_len, token_count};
+ghost use Rattle.wl_wire.specs.Buffer.{IsWord, is_word, overwritten, counted_len, piece_len, token_count};
 
 use crate::argument::{Argument, Token};
 use crate::error::MessageWriteError;
@@ -17,20 +17,15 @@ use std::alloc::AllocError;
 /// The most bytes that a message may have: its length is a number of 16 bits.
 const MAX_MESSAGE_SIZE: usize = 65535;
 
+/// The most words behind the header of a message.
+const MAX_WORDS: usize = (MAX_MESSAGE_SIZE - 8) / 4;
+
 impl From<AllocError> for MessageWriteError {
     ghost from_gives = { λ _ e. e ≡ OutOfMemory };
 
     fn from(_e: AllocError) -> MessageWriteError {
         MessageWriteError::OutOfMemory
     }
-}
-
-/// How many bytes so many counted ones take, with their count and their padding.
-fn counted_len(len: usize) -> usize
-    requires { len ≤ 2 ^ 63 }
-    ensures { result ≡ counted_len len }
-{
-    4 + len + padding(len)
 }
 
 /// How many bytes a message takes, and how many tokens.
@@ -40,35 +35,32 @@ struct Measure {
     tokens: usize,
 }
 
-/// What arguments take: so many words, so many bytes of counted ones, and so many tokens.
+/// What arguments take that are not a word each: so many bytes behind that word, and so many tokens in its place.
 #[derive(Clone, Copy)]
 struct Count {
-    words: usize,
-    counted: usize,
+    behind: usize,
     tokens: usize,
 }
 
 impl Count {
-    /// Counts in a string or an array of so many bytes, and answers whether the counted ones are still few enough.
+    /// Counts in a string or an array of so many bytes, and answers whether those behind are still few enough.
     fn add_counted(&mut self, len: usize) -> bool
-        requires small { self.old.counted ≤ 65535 }
+        requires small { self.old.behind ≤ 65535 }
         requires len { len ≤ 2 ^ 63 }
-        ensures counts { self.new ≡ record self.old { counted = self.old.counted + counted_len len } }
-        ensures fits { result ≡ nat_le self.new.counted 65535 }
+        ensures counts { self.new ≡ record self.old { behind = self.old.behind + len + pad_len len } }
+        ensures fits { result ≡ nat_le self.new.behind 65535 }
     {
-        self.counted += counted_len(len);
-        self.counted <= MAX_MESSAGE_SIZE
+        self.behind += len + padding(len);
+        self.behind <= MAX_MESSAGE_SIZE
     }
 
-    /// Counts the argument in, and answers whether the counted bytes are still few enough.
+    /// Counts the argument in, and answers whether the bytes behind words are still few enough.
     fn add<Id>(&mut self, arg: &Argument<Id, Token>) -> bool
-        requires small { self.old.counted ≤ 65535 }
-        requires few_words { self.old.words < usize.MAX }
+        requires small { self.old.behind ≤ 65535 }
         requires few_tokens { self.old.tokens < usize.MAX }
-        ensures bytes { 4 * self.new.words + self.new.counted ≡ 4 * self.old.words + self.old.counted + piece_len arg.now }
-        ensures words { self.new.words ≤ self.old.words + 1 }
+        ensures bytes { self.new.behind + 4 + 4 * self.old.tokens ≡ self.old.behind + 4 * self.new.tokens + piece_len arg.now }
         ensures tokens { self.new.tokens ≡ self.old.tokens + token_count arg.now }
-        ensures fits { result ≡ nat_le self.new.counted 65535 }
+        ensures fits { result ≡ nat_le self.new.behind 65535 }
     {
         match arg {
             Argument::Str(Some(text)) => self.add_counted(text.as_bytes().len() + 1),
@@ -77,22 +69,21 @@ impl Count {
                 self.tokens += 1;
                 true
             }
-            _ => {
-                self.words += 1;
-                true
-            }
+            _ => true,
         }
     }
 
-    /// How much a message of such arguments takes; `None` where it takes more than a message may have.
-    fn measure(self) -> Option<Measure>
-        requires { self.counted ≤ 65535 }
-        ensures { MatchOption result (65535 < 8 + (4 * self.words + self.counted)) (λ m. (m.bytes ≡ 8 + (4 * self.words + self.counted)) × (m.bytes ≤ 65535) × (m.tokens ≡ self.tokens)) }
+    /// How much a message of so many such arguments takes; `None` where it takes more than a message may have.
+    fn measure(self, args: usize) -> Option<Measure>
+        requires behind { self.behind ≤ 65535 }
+        requires tokens { self.tokens ≤ args }
+        ensures { MatchOption result (65535 < 8 + (4 * (args - self.tokens) + self.behind)) (λ m. (m.bytes ≡ 8 + (4 * (args - self.tokens) + self.behind)) × (m.bytes ≤ 65535) × (m.tokens ≡ self.tokens)) }
     {
-        if self.words > MAX_MESSAGE_SIZE / 4 {
+        let words = args - self.tokens;
+        if words > MAX_WORDS {
             return None;
         }
-        let bytes = 8 + 4 * self.words + self.counted;
+        let bytes = 8 + 4 * words + self.behind;
         if bytes > MAX_MESSAGE_SIZE {
             return None;
         }
@@ -100,6 +91,20 @@ impl Count {
             bytes,
             tokens: self.tokens,
         })
+    }
+}
+
+/// Whether the argument is a word: a number or the id of an object.
+fn is_word<Id>(arg: &Argument<Id, Token>) -> bool
+    ensures { result ≡ is_word arg.now }
+{
+    match arg {
+        Argument::Int(_)
+        | Argument::Uint(_)
+        | Argument::Fixed(_)
+        | Argument::Object(_)
+        | Argument::NewId(_) => true,
+        Argument::Str(_) | Argument::Array(_) | Argument::Fd(_) => false,
     }
 }
 
@@ -143,23 +148,18 @@ fn put_counted(payload: &mut [u8], at: usize, bytes: &[u8], ending: usize) -> us
     last + 4
 }
 
-/// Writes the argument's bytes at that place, and answers the place behind them; appends its token, if it has one.
+/// Writes the argument's bytes at that place, and answers the place behind them.
 #[tactic(auto, unfolding(crate::specs::Message::piece))]
 fn put_argument<Id, N: Numbering<Id>>(
     payload: &mut [u8],
     at: usize,
-    fds: &mut Vec<Token>,
     arg: &Argument<Id, Token>,
     numbers: &N,
 ) -> usize
     requires room { at + piece_len (with_ids (N.object_number numbers.now) (N.new_number numbers.now) arg.now) ≤ length payload.old }
     requires small { piece_len (with_ids (N.object_number numbers.now) (N.new_number numbers.now) arg.now) ≤ 65535 }
-    requires reserved { vec_len fds.old + length (token (with_ids (N.object_number numbers.now) (N.new_number numbers.now) arg.now)) ≤ vec_capacity fds.old }
     ensures bytes { payload.new ≡ overwritten payload.old at (piece (with_ids (N.object_number numbers.now) (N.new_number numbers.now) arg.now)) }
     ensures next { result ≡ at + piece_len (with_ids (N.object_number numbers.now) (N.new_number numbers.now) arg.now) }
-    ensures items { fds.new.items ≡ fds.old.items ++ token (with_ids (N.object_number numbers.now) (N.new_number numbers.now) arg.now) }
-    ensures len { vec_len fds.new ≡ vec_len fds.old + length (token (with_ids (N.object_number numbers.now) (N.new_number numbers.now) arg.now)) }
-    ensures capacity { vec_capacity fds.new ≡ vec_capacity fds.old }
     ensures value { IsArgument (with_ids (N.object_number numbers.now) (N.new_number numbers.now) arg.now) }
 {
     match arg {
@@ -171,32 +171,76 @@ fn put_argument<Id, N: Numbering<Id>>(
         Argument::Object(id) => put_word(payload, at, numbers.number_object(id)),
         Argument::NewId(id) => put_word(payload, at, numbers.number_new(id)),
         Argument::Array(bytes) => put_counted(payload, at, bytes.as_slice(), 0),
-        Argument::Fd(fd) => {
-            fds.push_reserved(*fd);
-            at
-        }
+        Argument::Fd(_) => at,
     }
 }
 
-/// Writes the arguments' bytes behind a header of eight, and appends their tokens.
+/// Writes the arguments' bytes behind a header of eight.
 fn put_arguments<Id, N: Numbering<Id>>(
     payload: &mut [u8],
-    fds: &mut Vec<Token>,
     args: &[Argument<Id, Token>],
     numbers: &N,
 )
     requires bytes { 8 + length (pieces (map (with_ids (N.object_number numbers.now) (N.new_number numbers.now)) args.now)) ≤ length payload.old }
     requires small { length (pieces (map (with_ids (N.object_number numbers.now) (N.new_number numbers.now)) args.now)) ≤ 65535 }
-    requires tokens { vec_len fds.old + length (tokens (map (with_ids (N.object_number numbers.now) (N.new_number numbers.now)) args.now)) ≤ vec_capacity fds.old }
     ensures bytes { payload.new ≡ overwritten payload.old 8 (pieces (map (with_ids (N.object_number numbers.now) (N.new_number numbers.now)) args.now)) }
-    ensures tokens { fds.new.items ≡ fds.old.items ++ tokens (map (with_ids (N.object_number numbers.now) (N.new_number numbers.now)) args.now) }
-    ensures capacity { vec_capacity fds.new ≡ vec_capacity fds.old }
     ensures values { AllByRecursion IsArgument (map (with_ids (N.object_number numbers.now) (N.new_number numbers.now)) args.now) }
 {
     let mut at = 8;
     for arg in args {
-        at = put_argument(payload, at, fds, arg, numbers);
+        at = put_argument(payload, at, arg, numbers);
     }
+}
+
+/// Appends the argument's token, if it has one; the numbers change nothing.
+fn push_token<Id, N: Numbering<Id>>(fds: &mut Vec<Token>, arg: &Argument<Id, Token>, _numbers: &N)
+    requires reserved { vec_len fds.old + length (token (with_ids (N.object_number _numbers.now) (N.new_number _numbers.now) arg.now)) ≤ vec_capacity fds.old }
+    ensures items { fds.new.items ≡ fds.old.items ++ token (with_ids (N.object_number _numbers.now) (N.new_number _numbers.now) arg.now) }
+    ensures len { vec_len fds.new ≡ vec_len fds.old + length (token (with_ids (N.object_number _numbers.now) (N.new_number _numbers.now) arg.now)) }
+    ensures capacity { vec_capacity fds.new ≡ vec_capacity fds.old }
+{
+    if let Argument::Fd(fd) = arg {
+        fds.push_reserved(*fd);
+    }
+}
+
+/// Appends the arguments' tokens; the numbers change nothing.
+fn push_tokens<Id, N: Numbering<Id>>(
+    fds: &mut Vec<Token>,
+    args: &[Argument<Id, Token>],
+    numbers: &N,
+)
+    requires reserved { vec_len fds.old + length (tokens (map (with_ids (N.object_number numbers.now) (N.new_number numbers.now)) args.now)) ≤ vec_capacity fds.old }
+    ensures items { fds.new.items ≡ fds.old.items ++ tokens (map (with_ids (N.object_number numbers.now) (N.new_number numbers.now)) args.now) }
+    ensures capacity { vec_capacity fds.new ≡ vec_capacity fds.old }
+{
+    for arg in args {
+        push_token(fds, arg, numbers);
+    }
+}
+
+/// Appends the arguments' tokens, which are so many.
+///
+/// Few messages have one, so this is no part of what writes the others.
+#[inline(never)]
+fn append_tokens<Id, N: Numbering<Id>>(
+    fds: &mut Vec<Token>,
+    args: &[Argument<Id, Token>],
+    count: usize,
+    numbers: &N,
+) -> Result<(), AllocError>
+    requires count { count ≡ length (tokens (map (with_ids (N.object_number numbers.now) (N.new_number numbers.now)) args.now)) }
+    ensures items { OnOk result (fds.new.items ≡ fds.old.items ++ tokens (map (with_ids (N.object_number numbers.now) (N.new_number numbers.now)) args.now)) }
+    ensures memory { OnErr result (vec_capacity fds.old < vec_len fds.old + count) }
+    ensures unchanged { OnErr result (fds.new.items ≡ fds.old.items) }
+    ensures refused_room { OnErr result (vec_capacity fds.new ≡ vec_capacity fds.old) }
+    ensures room { vec_len fds.old + count ≤ vec_capacity fds.old → vec_capacity fds.new ≡ vec_capacity fds.old }
+{
+    if count > fds.capacity() - fds.len() {
+        fds.reserve(count)?;
+    }
+    push_tokens(fds, args, numbers);
+    Ok(())
 }
 
 /// How much a message of these arguments takes; `None` where it takes more than a message may have.
@@ -204,8 +248,7 @@ fn count_of<Id>(args: &[Argument<Id, Token>]) -> Option<Measure>
     ensures { MatchOption result (65535 < 8 + sum_by piece_len args.now) (λ m. (m.bytes ≡ 8 + sum_by piece_len args.now) × (m.bytes ≤ 65535) × (m.tokens ≡ sum_by token_count args.now)) }
 {
     let mut count = Count {
-        words: 0,
-        counted: 0,
+        behind: 0,
         tokens: 0,
     };
     for arg in args {
@@ -213,15 +256,15 @@ fn count_of<Id>(args: &[Argument<Id, Token>]) -> Option<Measure>
             return None;
         }
     }
-    count.measure()
+    count.measure(args.len())
 }
 
-/// How much the message takes with these numbers for its ids, which change nothing; `None` where it takes more than a
-/// message may have.
-fn measure_of<Id, N: Numbering<Id>>(message: &Message<Id, Token>, _numbers: &N) -> Option<Measure>
-    ensures { MatchOption result (65535 < size (numbered (N.object_number _numbers.now) (N.new_number _numbers.now) message.now)) (λ m. (m.bytes ≡ size (numbered (N.object_number _numbers.now) (N.new_number _numbers.now) message.now)) × (m.bytes ≤ 65535) × (m.tokens ≡ length (tokens (numbered (N.object_number _numbers.now) (N.new_number _numbers.now) message.now).args))) }
+/// How much a message of these arguments takes with these numbers for its ids, which change nothing; `None` where it
+/// takes more than a message may have.
+fn measure_of<Id, N: Numbering<Id>>(args: &[Argument<Id, Token>], _numbers: &N) -> Option<Measure>
+    ensures { MatchOption result (65535 < 8 + length (pieces (map (with_ids (N.object_number _numbers.now) (N.new_number _numbers.now)) args.now))) (λ m. (m.bytes ≡ 8 + length (pieces (map (with_ids (N.object_number _numbers.now) (N.new_number _numbers.now)) args.now))) × (m.bytes ≤ 65535) × (m.tokens ≡ length (tokens (map (with_ids (N.object_number _numbers.now) (N.new_number _numbers.now)) args.now)))) }
 {
-    count_of(message.args.as_slice())
+    count_of(args)
 }
 
 /// How many bytes the message takes with these numbers for its ids; `None` where it takes more than 65535.
@@ -231,7 +274,7 @@ pub fn numbered_size<Id, N: Numbering<Id>>(
 ) -> Option<usize>
     ensures { MatchOption result (65535 < size (numbered (N.object_number numbers.now) (N.new_number numbers.now) message.now)) (λ n. n ≡ size (numbered (N.object_number numbers.now) (N.new_number numbers.now) message.now)) }
 {
-    let measure = measure_of(message, numbers)?;
+    let measure = measure_of(message.args.as_slice(), numbers)?;
     Some(measure.bytes)
 }
 
@@ -240,6 +283,148 @@ pub fn message_size(message: &Message<u32, Token>) -> Option<usize>
     ensures { MatchOption result (65535 < size (content message.now)) (λ n. n ≡ size (content message.now)) }
 {
     numbered_size(message, &OwnNumbers)
+}
+
+/// Writes the header of a message of so many bytes.
+fn put_header(payload: &mut [u8], sender: u32, size: usize, opcode: u16)
+    requires size { size ≤ 65535 }
+    requires room { 8 ≤ length payload.old }
+    ensures { payload.new ≡ overwritten payload.old 0 (word sender ++ word (size * 65536 + opcode)) }
+{
+    put_word(payload, 0, sender);
+    put_word(payload, 4, size as u32 * 65536 + u32::from(opcode));
+}
+
+/// Whether each argument is a word: a number or the id of an object.
+fn are_words<Id>(args: &[Argument<Id, Token>]) -> bool
+    ensures { IsTrue result → AllByRecursion IsWord args.now }
+{
+    for arg in args {
+        if !is_word(arg) {
+            return false;
+        }
+    }
+    true
+}
+
+/// The word that the argument is.
+#[tactic(auto, unfolding(crate::specs::Message::piece))]
+fn word_of<Id, N: Numbering<Id>>(arg: &Argument<Id, Token>, numbers: &N) -> u32
+    requires word { IsWord arg.now }
+    ensures bytes { piece (with_ids (N.object_number numbers.now) (N.new_number numbers.now) arg.now) ≡ word result }
+    ensures value { IsArgument (with_ids (N.object_number numbers.now) (N.new_number numbers.now) arg.now) }
+{
+    match arg {
+        Argument::Int(n) => n.cast_unsigned(),
+        Argument::Uint(n) => *n,
+        Argument::Fixed(n) => n.cast_unsigned(),
+        Argument::Object(id) => numbers.number_object(id),
+        Argument::NewId(id) => numbers.number_new(id),
+        Argument::Str(_) | Argument::Array(_) | Argument::Fd(_) => unreachable!(),
+    }
+}
+
+/// Writes words behind a header of eight bytes.
+fn put_words<Id, N: Numbering<Id>>(payload: &mut [u8], args: &[Argument<Id, Token>], numbers: &N)
+    requires words { AllByRecursion IsWord args.now }
+    requires room { 8 + 4 * length args.now ≤ length payload.old }
+    ensures bytes { payload.new ≡ overwritten payload.old 8 (pieces (map (with_ids (N.object_number numbers.now) (N.new_number numbers.now)) args.now)) }
+    ensures values { AllByRecursion IsArgument (map (with_ids (N.object_number numbers.now) (N.new_number numbers.now)) args.now) }
+{
+    let mut at = 8;
+    for arg in args {
+        at = put_word(payload, at, word_of(arg, numbers));
+    }
+}
+
+/// How much a message of these words takes with these numbers for its ids, which change nothing; `None` where it takes
+/// more than a message may have.
+fn size_of_words<Id, N: Numbering<Id>>(args: &[Argument<Id, Token>], _numbers: &N) -> Option<usize>
+    requires { AllByRecursion IsWord args.now }
+    ensures { MatchOption result (65535 < 8 + length (pieces (map (with_ids (N.object_number _numbers.now) (N.new_number _numbers.now)) args.now))) (λ n. (n ≡ 8 + length (pieces (map (with_ids (N.object_number _numbers.now) (N.new_number _numbers.now)) args.now))) × (n ≤ 65535)) }
+{
+    if args.len() > MAX_WORDS {
+        return None;
+    }
+    Some(8 + 4 * args.len())
+}
+
+/// Writes a message of words alone at the front of `payload`, with these numbers for its ids.
+///
+/// Most messages are of words alone. Their length follows from how many they are.
+fn write_words<Id, N: Numbering<Id>>(
+    message: &Message<Id, Token>,
+    numbers: &N,
+    payload: &mut [u8],
+) -> Result<usize, MessageWriteError>
+    requires words { AllByRecursion IsWord message.now.args.items }
+    ensures written { IfOk result (λ n. (n ≡ size (numbered (N.object_number numbers.now) (N.new_number numbers.now) message.now)) × (payload.new ≡ spelling (numbered (N.object_number numbers.now) (N.new_number numbers.now) message.now) ++ drop n payload.old)) }
+    ensures message { OnOk result (IsMessage (numbered (N.object_number numbers.now) (N.new_number numbers.now) message.now)) }
+    ensures too_long { (result ≡ Err MessageWriteError.TooLong) ↔ (65535 < size (numbered (N.object_number numbers.now) (N.new_number numbers.now) message.now)) }
+    ensures too_small { (result ≡ Err MessageWriteError.BufferTooSmall) ↔ ((size (numbered (N.object_number numbers.now) (N.new_number numbers.now) message.now) ≤ 65535) × (length payload.old < size (numbered (N.object_number numbers.now) (N.new_number numbers.now) message.now))) }
+    ensures memory { result ≢ Err MessageWriteError.OutOfMemory }
+    ensures unchanged { OnErr result (payload.new ≡ payload.old) }
+{
+    let args = message.args.as_slice();
+    let Some(bytes) = size_of_words(args, numbers) else {
+        return Err(MessageWriteError::TooLong);
+    };
+    if payload.len() < bytes {
+        return Err(MessageWriteError::BufferTooSmall);
+    }
+    put_header(
+        payload,
+        numbers.number_object(&message.sender_id),
+        bytes,
+        message.opcode,
+    );
+    put_words(payload, args, numbers);
+    Ok(bytes)
+}
+
+/// Writes the message at the front of `payload`, with these numbers for its ids, and appends its tokens to `fds`,
+/// whatever its arguments are.
+///
+/// It stands apart, so that a message of words alone pays for none of it.
+#[inline(never)]
+fn write_mixed<Id, N: Numbering<Id>>(
+    message: &Message<Id, Token>,
+    numbers: &N,
+    payload: &mut [u8],
+    fds: &mut Vec<Token>,
+) -> Result<usize, MessageWriteError>
+    ensures written { IfOk result (λ n. (n ≡ size (numbered (N.object_number numbers.now) (N.new_number numbers.now) message.now)) × (payload.new ≡ spelling (numbered (N.object_number numbers.now) (N.new_number numbers.now) message.now) ++ drop n payload.old)) }
+    ensures tokens { OnOk result (fds.new.items ≡ fds.old.items ++ tokens (numbered (N.object_number numbers.now) (N.new_number numbers.now) message.now).args) }
+    ensures message { OnOk result (IsMessage (numbered (N.object_number numbers.now) (N.new_number numbers.now) message.now)) }
+
+    ensures too_long { (result ≡ Err MessageWriteError.TooLong) ↔ (65535 < size (numbered (N.object_number numbers.now) (N.new_number numbers.now) message.now)) }
+    ensures too_small { (result ≡ Err MessageWriteError.BufferTooSmall) ↔ ((size (numbered (N.object_number numbers.now) (N.new_number numbers.now) message.now) ≤ 65535) × (length payload.old < size (numbered (N.object_number numbers.now) (N.new_number numbers.now) message.now))) }
+
+    ensures memory { (result ≡ Err MessageWriteError.OutOfMemory) → (vec_capacity fds.old < vec_len fds.old + length (tokens (numbered (N.object_number numbers.now) (N.new_number numbers.now) message.now).args)) }
+    ensures no_tokens { tokens (numbered (N.object_number numbers.now) (N.new_number numbers.now) message.now).args ≡ [] → result ≢ Err MessageWriteError.OutOfMemory }
+    ensures unchanged { OnErr result ((payload.new ≡ payload.old) × (fds.new.items ≡ fds.old.items)) }
+
+    ensures refused_room { OnErr result (vec_capacity fds.new ≡ vec_capacity fds.old) }
+    ensures room { vec_len fds.old + length (tokens (numbered (N.object_number numbers.now) (N.new_number numbers.now) message.now).args) ≤ vec_capacity fds.old → vec_capacity fds.new ≡ vec_capacity fds.old }
+{
+    let args = message.args.as_slice();
+    let Some(measure) = measure_of(args, numbers) else {
+        return Err(MessageWriteError::TooLong);
+    };
+    if payload.len() < measure.bytes {
+        return Err(MessageWriteError::BufferTooSmall);
+    }
+    if measure.tokens > 0 {
+        append_tokens(fds, args, measure.tokens, numbers)?;
+    }
+    put_header(
+        payload,
+        numbers.number_object(&message.sender_id),
+        measure.bytes,
+        message.opcode,
+    );
+    put_arguments(payload, args, numbers);
+    Ok(measure.bytes)
 }
 
 /// Writes the message at the front of `payload`, with these numbers for its ids, and appends its tokens to `fds`.
@@ -265,20 +450,10 @@ pub fn write_numbered<Id, N: Numbering<Id>>(
     ensures refused_room { OnErr result (vec_capacity fds.new ≡ vec_capacity fds.old) }
     ensures room { vec_len fds.old + length (tokens (numbered (N.object_number numbers.now) (N.new_number numbers.now) message.now).args) ≤ vec_capacity fds.old → vec_capacity fds.new ≡ vec_capacity fds.old }
 {
-    let Some(measure) = measure_of(message, numbers) else {
-        return Err(MessageWriteError::TooLong);
-    };
-    if payload.len() < measure.bytes {
-        return Err(MessageWriteError::BufferTooSmall);
+    if are_words(message.args.as_slice()) {
+        return write_words(message, numbers, payload);
     }
-    if measure.tokens > fds.capacity() - fds.len() {
-        fds.reserve(measure.tokens)?;
-    }
-    let opcode = message.opcode;
-    put_word(payload, 0, numbers.number_object(&message.sender_id));
-    put_word(payload, 4, measure.bytes as u32 * 65536 + u32::from(opcode));
-    put_arguments(payload, fds, message.args.as_slice(), numbers);
-    Ok(measure.bytes)
+    write_mixed(message, numbers, payload, fds)
 }
 
 /// Writes the message at the front of `payload`, and appends its tokens to `fds`.

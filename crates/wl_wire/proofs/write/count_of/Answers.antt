@@ -11,7 +11,6 @@ loop-arg-preserved g c =
     let tokens = sum_by-more token_count c.args.args.now i a c.loop-arg-test.true c.arg-item.is in record {
       bytes = omega (arith, c.loop-arg.invariant.bytes, c.add.ensures.bytes, sum_by-more piece_len c.args.args.now i a c.loop-arg-test.true c.arg-item.is);
       small = leb-true _ _ (sym c.add.ensures.fits ∙ c.if-not-add.false);
-      words = omega (arith, c.loop-arg.invariant.words, c.add.ensures.words);
       tokens = omega (arith, c.loop-arg.invariant.tokens, c.add.ensures.tokens, tokens);
       few = omega (arith, c.loop-arg.invariant.few, c.add.ensures.tokens, token_count-few a);
     }

@@ -5,9 +5,8 @@ use Rattle.wl_wire.proofs.write.count_of.Given as goal
 
 abbrev pub invariant-loop-arg : goal.invariant-loop-arg
 invariant-loop-arg g l = record {
-  bytes : 4 * l.count.words + l.count.counted ≡ sum_by piece_len (take l.arg-index l.args);
-  small : l.count.counted ≤ 65535;
-  words : l.count.words ≤ l.arg-index;
+  bytes : l.count.behind + 4 * l.arg-index ≡ 4 * l.count.tokens + sum_by piece_len (take l.arg-index l.args);
+  small : l.count.behind ≤ 65535;
   tokens : l.count.tokens ≡ sum_by token_count (take l.arg-index l.args);
   few : l.count.tokens ≤ l.arg-index;
 }

@@ -1,6 +1,6 @@
-use Rattle.std.proofs.Common.{◌≡◌, ◌+◌, ◌++◌, length, map, take, vec_len, vec_capacity}
+use Rattle.std.proofs.Common.{◌≡◌, ◌+◌, length, map, take}
 use Rattle.std.specs.List.{AllByRecursion}
-use Rattle.wl_wire.specs.Message.{IsArgument, pieces, tokens}
+use Rattle.wl_wire.specs.Message.{IsArgument, pieces}
 use Rattle.wl_wire.specs.MapIds.{with_ids}
 use Rattle.wl_wire.specs.Buffer.{overwritten}
 use Rattle.wl_wire.proofs.write.put_arguments.Given as goal
@@ -10,7 +10,4 @@ invariant-loop-arg g l =
     let args = map (with_ids (g.N.Numbering.object_number l.numbers) (g.N.Numbering.new_number l.numbers)) l.args in
     (l.at ≡ 8 + length (pieces (take l.arg-index args)))
     × (l.payload ≡ overwritten l.fn.payload 8 (pieces (take l.arg-index args)))
-    × (l.fds.items ≡ l.fn.fds.items ++ tokens (take l.arg-index args))
-    × (vec_len l.fds ≡ vec_len l.fn.fds + length (tokens (take l.arg-index args)))
-    × (vec_capacity l.fds ≡ vec_capacity l.fn.fds)
     × AllByRecursion IsArgument (take l.arg-index args)

@@ -1,0 +1,22 @@
+use Rattle.std.proofs.Common.{◌≡◌, ◌+◌, ◌*◌, ◌++◌, sym, subst, arith}
+use Rattle.std.specs.List.{AllByRecursion}
+use Rattle.wl_wire.specs.Buffer.{IsWord}
+use Rattle.wl_wire.specs.MapIds.{numbered}
+use Rattle.wl_wire.specs.Message.{word, pieces, size}
+use Rattle.wl_wire.proofs.Pieces.{length-header, overwritten-header, words_len}
+use Rattle.wl_wire.proofs.write.write_words.Goals as goal
+
+pub put_words-requires-clause-room : goal.put_words-requires-clause-room
+put_words-requires-clause-room g c =
+    let args = c.as_slice-args.result.now in
+    let words : AllByRecursion IsWord args = subst (AllByRecursion IsWord) (sym c.as_slice-args.ensures) c.requires.words in
+    omega (arith, words_len (g.N.Numbering.object_number c.args.numbers.now) (g.N.Numbering.new_number c.args.numbers.now) args words, c.in-Some.ensures.0, c.if-payload-bytes.false, c.put_header.auto.payload)
+
+pub returns-clause-written : goal.returns-clause-written
+returns-clause-written g c =
+    let m = numbered (g.N.Numbering.object_number c.args.numbers.now) (g.N.Numbering.new_number c.args.numbers.now) c.args.message.now in
+    let bytes-is : c.in-Some.bytes ≡ size m = rw c.as_slice-args.ensures at c.in-Some.ensures.0 in (
+      bytes-is,
+      rw (c.put_words.ensures.bytes, c.put_header.ensures, c.number_object.ensures, c.as_slice-args.ensures, bytes-is)
+          (overwritten-header c.args.payload.now (word m.sender ++ word (size m * 65536 + m.opcode)) (pieces m.args) (length-header _ _) (omega (arith, bytes-is, c.if-payload-bytes.false))),
+    )
