@@ -1,6 +1,6 @@
 //! What registries are told, over whole runs.
 
-use super::arrivals::{GET_REGISTRY, GET_REGISTRY_AT_3};
+use super::arrivals::{BIND, GET_REGISTRY, GET_REGISTRY_AT_3};
 use super::run::{Act, Look, log_of};
 use super::steps::Call;
 use super::values::{FIRST, Named, SECOND};
@@ -51,6 +51,37 @@ fn two_registries_are_told(rt: HostRuntime) -> Result<(), Fail> {
         &rt,
         log_of(rt.alloc(), &acts),
         "client 0, 1\nglobal 1, 1\nIo error: would block\ndone\n02 00 00 00 00 00 1c 00 01 00 00 00 05 00 00 00 71 75 61 64 00 00 00 00 03 00 00 00\nglobal 2, 2\ndone\n02 00 00 00 00 00 1c 00 02 00 00 00 05 00 00 00 71 75 61 64 00 00 00 00 02 00 00 00\nIo error: would block\ndone\n03 00 00 00 00 00 1c 00 01 00 00 00 05 00 00 00 71 75 61 64 00 00 00 00 03 00 00 00 03 00 00 00 00 00 1c 00 02 00 00 00 05 00 00 00 71 75 61 64 00 00 00 00 02 00 00 00\ndone\n02 00 00 00 01 00 0c 00 01 00 00 00 03 00 00 00 01 00 0c 00 01 00 00 00\nglobal 1, 3\ndone\n02 00 00 00 00 00 1c 00 01 00 00 00 05 00 00 00 71 75 61 64 00 00 00 00 01 00 00 00 03 00 00 00 00 00 1c 00 01 00 00 00 05 00 00 00 71 75 61 64 00 00 00 00 01 00 00 00\n",
+    )
+}
+
+/// A client that may not see a global is told nothing of it, and cannot bind it while it is enabled; another is told of it,
+/// and that it is gone.
+#[test]
+fn hidden_global_is_asked_for(rt: HostRuntime) -> Result<(), Fail> {
+    let acts = [
+        Act::Do(Call::Insert(false)),
+        Act::Do(Call::Insert(true)),
+        Act::Do(Call::Arrive(FIRST, &GET_REGISTRY)),
+        Act::Do(Call::Next(FIRST)),
+        Act::Do(Call::Arrive(SECOND, &GET_REGISTRY)),
+        Act::Do(Call::Next(SECOND)),
+        Act::Do(Call::Global(QUAD, 3)),
+        Act::Do(Call::FlushAll),
+        Act::Do(Call::TakeSent(FIRST)),
+        Act::Do(Call::TakeSent(SECOND)),
+        Act::Do(Call::Arrive(FIRST, &BIND)),
+        Act::Do(Call::Next(FIRST)),
+        Act::Do(Call::TakeSent(FIRST)),
+        Act::Do(Call::TakeSent(SECOND)),
+        Act::Do(Call::Disable(GLOBAL)),
+        Act::Do(Call::FlushAll),
+        Act::Do(Call::TakeSent(FIRST)),
+        Act::Do(Call::TakeSent(SECOND)),
+    ];
+    tells(
+        &rt,
+        log_of(rt.alloc(), &acts),
+        "client 0, 1\nclient 1, 2\nIo error: would block\nIo error: would block\nglobal 1, 1\ndone\n02 00 00 00 00 00 1c 00 01 00 00 00 05 00 00 00 71 75 61 64 00 00 00 00 03 00 00 00\nIo error: broken pipe\n01 00 00 00 00 00 44 00 01 00 00 00 00 00 00 00 30 00 00 00 49 6e 76 61 6c 69 64 20 62 69 6e 64 69 6e 67 20 6f 66 20 71 75 61 64 20 76 65 72 73 69 6f 6e 20 33 20 66 6f 72 20 67 6c 6f 62 61 6c 20 31 2e 00\ndone\n02 00 00 00 01 00 0c 00 01 00 00 00\n",
     )
 }
 
