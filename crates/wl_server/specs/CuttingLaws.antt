@@ -146,13 +146,13 @@ module _ {T U G C : Type 0} (w : World T G C) (id : ClientParts) (offer : Offer 
       )
 
   -- a finish that is what the reader makes of these data
-  seen_ends : {D : Type 0} (u : Finish U) (answer : Result (Unit {0}) (FinishRefused D)) (lacked : Bool) (did : List (Deed U)) (p q : Part T U C)
+  seen_ends : (u : Finish U) (lacked : Bool) (did : List (Deed U)) (p q : Part T U C)
       → lacked ≡ false → EndsAlike w.sends here p u lacked did q → after ≡ record { part = Some q; made = before.made ++ notes_in did }
       → (es : List Sending) × (gave : List (Given (Told U))) × (end : ReaderPart T (Core U C))
       × Ends w.sends (server here) (reader_part p) u es gave false end
       × (after ≡ seen_after here before end (deeds_of (map Sent es) gave end.core))
       × ((finishes : List (Finish U)) → GoesOn here (reader_part p) nothing es (u ∷ finishes) gave end finishes)
-  seen_ends u answer lacked did p q unlacked (es, gave, end, (v, taken, carried), did_so, ends) same =
+  seen_ends u lacked did p q unlacked (es, gave, end, (v, taken, carried), did_so, ends) same =
       let by : Ends w.sends (server here) (reader_part p) u es gave false end
       = (v, taken, subst (λ (b : Bool). CarriesOut w.sends (server here) v p.link es gave b end) unlacked carried) in (
         es,
@@ -170,7 +170,7 @@ module _ {T U G C : Type 0} (w : World T G C) (id : ClientParts) (offer : Offer 
   seen_finishes u answer lacked did h p there live accepted =
       let (q, next, same) = of_part _ _ lacked did p there (own_step (same_client id id) before _ _ lacked did after (same_self id) h) in
       let done = subst (λ (r : Result (Unit {0}) (FinishRefused (Option U))). FinishesRequest w.sends id p u r lacked did q) accepted next in
-      seen_ends (OfRequest u) answer lacked did p q (accepted_ample w.sends id p u lacked did q done) (request_ends_alike w.sends here p u lacked did q live done) same
+      seen_ends (OfRequest u) lacked did p q (accepted_ample w.sends id p u lacked did q done) (request_ends_alike w.sends here p u lacked did q live done) same
 
   pub seen_finishes_bind : (u : U) (answer : Result (Unit {0}) (FinishRefused U)) (lacked : Bool) (did : List (Deed U))
       → OfClient (same_client id id) before (λ p q. FinishesBind p u answer lacked did q)
@@ -179,7 +179,7 @@ module _ {T U G C : Type 0} (w : World T G C) (id : ClientParts) (offer : Offer 
   seen_finishes_bind u answer lacked did h p there live accepted =
       let (q, next, same) = of_part _ _ lacked did p there (own_step (same_client id id) before _ _ lacked did after (same_self id) h) in
       let done = subst (λ (r : Result (Unit {0}) (FinishRefused U)). FinishesBind p u r lacked did q) accepted next in
-      seen_ends (OfBind u) answer lacked did p q (bound_ample p u lacked did q done) (bind_ends_alike w.sends here p u lacked did q live done) same
+      seen_ends (OfBind u) lacked did p q (bound_ample p u lacked did q done) (bind_ends_alike w.sends here p u lacked did q live done) same
 
 -- ---- the calls of a server
 

@@ -48,7 +48,7 @@ use Rattle.wl_server.specs.IsolationLaw.{alone_run, performed}
 use Rattle.wl_server.specs.Moves.{ArrivesWith, Becomes, done}
 use Rattle.wl_server.specs.Moves as moves
 use Rattle.wl_server.specs.Part.{Part, with_link}
-use Rattle.wl_server.specs.PartStep.{Asked, Call, PartCall, World, around, lacks_move, over_scripts}
+use Rattle.wl_server.specs.PartStep.{Asked, Call, OfClient, PartCall, World, around, lacks_move, over_scripts}
 use Rattle.wl_server.specs.ReaderLaws.{EndsAlike, bind_ends_alike, request_ends_alike}
 use Rattle.wl_server.specs.Reading.{Around, NextAction, ReadsNone, ReadsTo, action_content, answered as answered_so, exchanges_in, new_reading, reads_on, row_in, server}
 use Rattle.wl_server.specs.ReplyLaws.{own_step}
@@ -355,61 +355,50 @@ module _ {G C : Type 0} (views : G → ClientParts → C → GlobalParts → Boo
         → q ≡ with_link (part_of s) (with_transport s.link t) → q ≡ part_of (with_arrival s r)
     moved_on s r t q is to = to ∙ ap (λ (x : Script). with_link (part_of s) (with_transport s.link x)) is
 
+    -- the part makes a step, and so does the client as a reader
+    stepped : (s : ReaderPart Script (Core U C)) (before after : Seen Script U C) (call : Call Script U G C) (did : List (Deed U)) (b : Bool)
+        (R : Part Script U C → Part Script U C → Type 0) (missing : Type 0) → b ≡ true → before.part ≡ Some (part_of s) → OfClient b before R missing false did after
+        → ((q : Part Script U C) → R (part_of s) q → Acts s call did q) → Stepped s call did after
+    stepped s before after call did b R missing about there h acts =
+        let (q, by, same) = of_part w id offer before after R missing false did (part_of s) there (own_step b before R missing false did after about h) in
+        (q, ap (λ (x : Seen Script U C). x.part) same, acts q by)
+
     step_acts : (s : ReaderPart Script (Core U C)) (before after : Seen Script U C) (call : Call Script U G C) (did : List (Deed U)) → before.part ≡ Some (part_of s)
         → concerns id call ≡ true → IsHeard call → PartCall w id offer call before false did after → IsSound s.core → Stepped s call did after
     step_acts s before after (Asked (step.Arrive target bytes tokens) answer) did there about (some, taken) (r, is, h) sound =
-        let (q, (unasked, none, (t, moved, to)), same) = of_part w id offer before after _ _ false did (part_of s) there (own_step _ before _ _ false did after about h) in
+        stepped s before after (Asked (step.Arrive target bytes tokens) answer) did _ _ _ about there h
+        (λ q (unasked, none, (t, moved, to)).
         let chunk : Queue = record { bytes = bytes.items; tokens = tokens.items } in
-        let arrives = subst (λ (x : Result (Unit {0}) ScriptError). ArrivesWith s.link.transport chunk (done x) t) (ap arrive_answer (sym is ∙ taken)) moved in (
-          q,
-          ap (λ (x : Seen Script U C). x.part) same,
-          acts_arrived s (Asked (step.Arrive target bytes tokens) answer) did q (Ok chunk) some (moved_on s (Ok chunk) t q arrives.2 to) none sound refl refl refl,
-        )
+        let arrives = subst (λ (x : Result (Unit {0}) ScriptError). ArrivesWith s.link.transport chunk (done x) t) (ap arrive_answer (sym is ∙ taken)) moved in
+        acts_arrived s (Asked (step.Arrive target bytes tokens) answer) did q (Ok chunk) some (moved_on s (Ok chunk) t q arrives.2 to) none sound refl refl refl)
     step_acts s before after (Asked (step.ArriveFault target f) answer) did there about blocked (r, is, h) sound =
-        let (q, (unasked, none, (t, moved, to)), same) = of_part w id offer before after _ _ false did (part_of s) there (own_step _ before _ _ false did after about h) in (
-          q,
-          ap (λ (x : Seen Script U C). x.part) same,
-          acts_arrived s (Asked (step.ArriveFault target f) answer) did q (Err f) blocked (moved_on s (Err f) t q (became _ _ r t unasked moved) to) none sound refl refl refl,
-        )
+        stepped s before after (Asked (step.ArriveFault target f) answer) did _ _ _ about there h
+        (λ q (unasked, none, (t, moved, to)).
+        acts_arrived s (Asked (step.ArriveFault target f) answer) did q (Err f) blocked (moved_on s (Err f) t q (became _ _ r t unasked moved) to) none sound refl refl refl)
     step_acts s before after (Asked (step.NextAction target) answer) did there about heard (r, left, is, h) sound =
-        let (q, next, same) = of_part w id offer before after _ _ false did (part_of s) there (own_step _ before _ _ false did after about h) in (
-          q,
-          ap (λ (x : Seen Script U C). x.part) same,
-          read_acts s (Asked (step.NextAction target) answer) did q sound refl new_reading left (action_content r) (ap (λ (x : Reply Script U). reading_by (asked (step.NextAction target) x)) is) refl next,
-        )
+        stepped s before after (Asked (step.NextAction target) answer) did _ _ _ about there h
+        (λ q next. read_acts s (Asked (step.NextAction target) answer) did q sound refl new_reading left (action_content r)
+        (ap (λ (x : Reply Script U). reading_by (asked (step.NextAction target) x)) is) refl next)
     step_acts s before after (Asked (step.NextActionWithin target reading) answer) did there about heard (r, left, is, h) sound =
-        let (q, next, same) = of_part w id offer before after _ _ false did (part_of s) there (own_step _ before _ _ false did after about h) in (
-          q,
-          ap (λ (x : Seen Script U C). x.part) same,
-          read_acts s (Asked (step.NextActionWithin target reading) answer) did q sound refl reading left (action_content r)
-              (ap (λ (x : Reply Script U). reading_by (asked (step.NextActionWithin target reading) x)) is) refl next,
-        )
+        stepped s before after (Asked (step.NextActionWithin target reading) answer) did _ _ _ about there h
+        (λ q next. read_acts s (Asked (step.NextActionWithin target reading) answer) did q sound refl reading left (action_content r)
+        (ap (λ (x : Reply Script U). reading_by (asked (step.NextActionWithin target reading) x)) is) refl next)
     step_acts s before after (Asked (step.FinishRequest target u) answer) did there about heard (Ok tt, is, h) sound =
-        let (q, next, same) = of_part w id offer before after _ _ false did (part_of s) there (own_step _ before _ _ false did after about h) in (
-          q,
-          ap (λ (x : Seen Script U C). x.part) same,
-          request_acts s (Asked (step.FinishRequest target u) answer) did q sound refl u (ap (λ (x : Reply Script U). finished_by (asked (step.FinishRequest target u) x)) is) refl next,
-        )
+        stepped s before after (Asked (step.FinishRequest target u) answer) did _ _ _ about there h
+        (λ q next. request_acts s (Asked (step.FinishRequest target u) answer) did q sound refl u
+        (ap (λ (x : Reply Script U). finished_by (asked (step.FinishRequest target u) x)) is) refl next)
     step_acts s before after (Asked (step.FinishRequest target u) answer) did there about heard (Err e, is, h) sound =
-        let (q, next, same) = of_part w id offer before after _ _ false did (part_of s) there (own_step _ before _ _ false did after about h) in (
-          q,
-          ap (λ (x : Seen Script U C). x.part) same,
-          refused_acts s (Asked (step.FinishRequest target u) answer) did q sound refl (request_refused ScriptSends id (part_of s) u e did q next)
-              (ap (λ (x : Reply Script U). finished_by (asked (step.FinishRequest target u) x)) is) refl,
-        )
+        stepped s before after (Asked (step.FinishRequest target u) answer) did _ _ _ about there h
+        (λ q next. refused_acts s (Asked (step.FinishRequest target u) answer) did q sound refl (request_refused ScriptSends id (part_of s) u e did q next)
+        (ap (λ (x : Reply Script U). finished_by (asked (step.FinishRequest target u) x)) is) refl)
     step_acts s before after (Asked (step.FinishBind target u) answer) did there about heard (Ok tt, is, h) sound =
-        let (q, next, same) = of_part w id offer before after _ _ false did (part_of s) there (own_step _ before _ _ false did after about h) in (
-          q,
-          ap (λ (x : Seen Script U C). x.part) same,
-          bind_acts s (Asked (step.FinishBind target u) answer) did q sound refl u (ap (λ (x : Reply Script U). finished_by (asked (step.FinishBind target u) x)) is) refl next,
-        )
+        stepped s before after (Asked (step.FinishBind target u) answer) did _ _ _ about there h
+        (λ q next. bind_acts s (Asked (step.FinishBind target u) answer) did q sound refl u
+        (ap (λ (x : Reply Script U). finished_by (asked (step.FinishBind target u) x)) is) refl next)
     step_acts s before after (Asked (step.FinishBind target u) answer) did there about heard (Err e, is, h) sound =
-        let (q, next, same) = of_part w id offer before after _ _ false did (part_of s) there (own_step _ before _ _ false did after about h) in (
-          q,
-          ap (λ (x : Seen Script U C). x.part) same,
-          refused_acts s (Asked (step.FinishBind target u) answer) did q sound refl (bind_refused (part_of s) u e did q next)
-              (ap (λ (x : Reply Script U). finished_by (asked (step.FinishBind target u) x)) is) refl,
-        )
+        stepped s before after (Asked (step.FinishBind target u) answer) did _ _ _ about there h
+        (λ q next. refused_acts s (Asked (step.FinishBind target u) answer) did q sound refl (bind_refused (part_of s) u e did q next)
+        (ap (λ (x : Reply Script U). finished_by (asked (step.FinishBind target u) x)) is) refl)
     step_acts s before after _ did there about heard h sound = absurd heard
 
     heard_offer : (call : Call Script U G C) → IsHeard call → offer_after offer call ≡ offer
