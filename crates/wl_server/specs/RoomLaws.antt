@@ -1,25 +1,18 @@
--- That a reading has room for each message of a client that may come; and that each receive over the transport by script
--- brings a byte or would block, so that a full storage kills no client.
-use Rattle.std.proofs.Common.{◌≡◌, ◌≢◌, ◌⊎◌, ℕ, Bool, true, false, List, [], ◌∷◌, ◌++◌, append-nil, length, map, Option, None, Some, Result, Ok, Err, is_ok, MatchResult, refl, sym, ap, subst, ◌∙◌, true≢false}
+-- That a reading has room for each message of a client that may come.
+use Rattle.std.proofs.Common.{◌≡◌, ◌≢◌, ◌⊎◌, ℕ, Bool, List, [], ◌∷◌, ◌++◌, append-nil, length, map, Option, None, Some, Result, Ok, Err, is_ok, MatchResult, refl, sym, ap, subst, ◌∙◌, true≢false}
 use mathlib.Core.Logic.{inl, inr}
 use Rattle.std.proofs.lemmas.Option.{same_Some}
 use Rattle.wl_wire.specs.declared.error.IoFault.{IoFault}
 use Rattle.wl_wire.specs.declared.error.IoFault.TheVariants as fault
-use Rattle.wl_wire.specs.declared.error.MessageParseError.TheVariants as parse
 use Rattle.wl_link.specs.Branches.{either_bool, either_option, either_result}
 use Rattle.wl_link.specs.Exchange.{Queue, Sending}
 use Rattle.wl_link.specs.LengthLaws.{failed_finds}
-use Rattle.wl_link.specs.Link.{FindsRoom, FrontFits, LinkState, count_of, counted_answer}
+use Rattle.wl_link.specs.Link.{FindsRoom, LinkState, count_of, counted_answer}
 use Rattle.wl_link.specs.Puts.{Said, lacked_memory}
-use Rattle.wl_link.specs.RanLaws.{ran}
-use Rattle.wl_link.specs.Reader.{AllFed, CarriesOut, Given, Gives, Handled, IsFed, Reads, Received, Turn, Unread, Verdict, behind, stops, with_link}
+use Rattle.wl_link.specs.Reader.{CarriesOut, Given, Gives, Handled, Reads, Received, Turn, Unread, Verdict, behind, stops, with_link}
 use Rattle.wl_link.specs.Reader.{Part as ReaderPart}
-use Rattle.wl_link.specs.Script.{Script, ScriptReceives, ScriptSends}
-use Rattle.wl_link.specs.Store.{Store}
-use Rattle.wl_link.specs.Stretch.{AllPieces, NotFull}
 use Rattle.wl_server.specs.declared.action.Reading.{Reading}
 use Rattle.wl_server.specs.declared.error.ActionError.{ActionError}
-use Rattle.wl_server.specs.declared.kept.Kept.{Kept}
 use Rattle.wl_server.specs.declared.note.DisconnectReason.{DisconnectReason}
 use Rattle.wl_server.specs.declared.step.Reply.{Reply}
 use Rattle.wl_server.specs.declared.step.Step.TheVariants as step
@@ -36,8 +29,7 @@ use Rattle.wl_server.specs.PartStep.{Asked, Call, PartCall, ReadsFor, World, aro
 use Rattle.wl_server.specs.Reading.{Around, NextAction, action_content, exchanges_in, faulted, new_reading, server}
 use Rattle.wl_server.specs.Room.{BringsNone, HasRoom, LeavesRoom}
 use Rattle.wl_server.specs.Server.{Seen, ServerState, seen}
-use Rattle.wl_server.specs.Telling.{Core, Told, deeds_in, deeds_of, end_deeds, part_of, reader_part}
-use Rattle.wl_server.specs.Turns.{ReadsIn}
+use Rattle.wl_server.specs.Telling.{Core, Told, deeds_in, deeds_of, end_deeds, reader_part}
 
 -- ---- a receive
 
@@ -83,26 +75,6 @@ no_more rs others none nor = ap (λ (l : List (Result Queue IoFault)). l ++ othe
 -- what the turns received
 abbrev pub received : Type 0 → List Turn → List (Result Queue IoFault)
 received U turns = came_in (exchanges_in {U = U} turns)
-
--- they were fed exactly where each of these was
-pub fed_each : (U : Type 0) (turns : List Turn) → AllFed turns → (r : Result Queue IoFault) → IsAmong (received U turns) r → IsFed r
-fed_each U [] fed r among = absurd among
-fed_each U (Received s ∷ turns) (some, fed) r (inl same) = subst IsFed same some
-fed_each U (Received s ∷ turns) (some, fed) r (inr later) = fed_each U turns fed r later
-fed_each U (Handled es ∷ turns) fed r among =
-    fed_each U turns fed r (subst (λ (rs : List (Result Queue IoFault)). IsAmong rs r) (none_sent {U = U} es (exchanges_in turns)) among)
-fed_each U (Unread es ∷ turns) fed r among =
-    fed_each U turns fed r (subst (λ (rs : List (Result Queue IoFault)). IsAmong rs r) (none_sent {U = U} es (exchanges_in turns)) among)
-
-pub each_fed : (U : Type 0) (turns : List Turn) → ((r : Result Queue IoFault) → IsAmong (received U turns) r → IsFed r) → AllFed turns
-each_fed U [] each = tt
-each_fed U (Received s ∷ turns) each = (each s (inl refl), each_fed U turns (λ r later. each r (inr later)))
-each_fed U (Handled es ∷ turns) each =
-    each_fed U turns
-    (λ r among. each r (subst (λ (rs : List (Result Queue IoFault)). IsAmong rs r) (sym (none_sent {U = U} es (exchanges_in turns))) among))
-each_fed U (Unread es ∷ turns) each =
-    each_fed U turns
-    (λ r among. each r (subst (λ (rs : List (Result Queue IoFault)). IsAmong rs r) (sym (none_sent {U = U} es (exchanges_in turns))) among))
 
 -- ---- a reading
 
@@ -229,43 +201,3 @@ module _ {T U G C : Type 0} (w : World T G C) where
   within_has_room before after target reading answer e id p call by there =
       let (r, left, is, h) = subst (λ (c : Call T U G C). PartCall w id before.offer c (seen id before) (e.lacks id) (e.did id) (seen id after)) call (by.each id) in
       reads_for_room id target before.offer reading (action_content r) left (seen id before) (seen id after) (e.lacks id) (e.did id) p h there
-
--- ---- over the transport by script
-
-module _ {U G C : Type 0} (a : Around G C) where
-  -- the message at the front waits whole for its tokens
-  abbrev pub WaitsForTokens : Part Script U C → Type 0
-  WaitsForTokens p = ReadsIn a.table p.store p.link (Err parse.MissingFD) p.link
-
-  -- Where no such message waits in the end, and none that is longer than the incoming storage may become, each receive of a
-  -- reading brought a byte, or would block: it found no full storage.
-  pub script_feeds : (left : ℕ) (p after : ReaderPart Script (Core U C)) (turns : List Turn) (out : Gives (Told U)) → out.refused ≡ false
-      → Reads ScriptSends (server a) ScriptReceives left p turns out after → AllPieces p.link.transport.arrivals → FrontFits after.link
-      → (after.core.is_killed ≡ true → WaitsForTokens (part_of after) → ⊥) → AllFed turns
-  script_feeds left p after turns out calm reads pieces fits in_time = (ran (server a) after roomy left p turns out calm reads pieces).fed
-    where
-      roomy : NotFull (server a) after
-      roomy core is lacks =
-          inr (
-            fits,
-            λ late. in_time (ap (λ (c : Core U C). c.is_killed) is)
-                (subst (λ (store : Store (Kept U)). ReadsIn a.table store after.link (Err parse.MissingFD) after.link) (sym (ap (λ (c : Core U C). c.store) is)) late),
-          )
-
-  pub next_action_fed : (reading : Reading) (p : Part Script U C) (answer : Result Handed ActionError) (left : Reading) (did : List (Deed U)) (q : Part Script U C)
-      → NextAction ScriptSends ScriptReceives a reading p answer left false did q → AllPieces p.link.transport.arrivals → FrontFits q.link
-      → (q.is_killed ≡ true → WaitsForTokens q → ⊥) → (r : Result Queue IoFault) → IsAmong (came_in did) r → IsFed r
-  next_action_fed reading p answer left did q h pieces fits in_time r among =
-      elim (either_option p.action h) [
-        | inr (action, is_open, (is, same, calm, none, stays)) ↦ absurd (subst (λ (ds : List (Deed U)). IsAmong (came_in ds) r) none among)
-        | inl (shut, g) ↦
-            elim (either_bool p.is_killed g) [
-              | inl (is, same, calm, none, stays) ↦ absurd (subst (λ (ds : List (Deed U)). IsAmong (came_in ds) r) none among)
-              | inr (turns, out, end, reads, is, same, calm, did_so, after) ↦
-                  let came : came_in did ≡ received U turns = ap came_in did_so ∙ received_deeds ScriptSends ScriptReceives a reading.turns_left p end turns out reads in
-                  let fits' = subst (λ (x : Part Script U C). FrontFits x.link) after fits in
-                  let in_time' = subst (λ (x : Part Script U C). x.is_killed ≡ true → WaitsForTokens x → ⊥) after in_time in
-                  fed_each U turns (script_feeds reading.turns_left (reader_part p) end turns out (sym calm) reads pieces fits' in_time') r
-                  (subst (λ (rs : List (Result Queue IoFault)). IsAmong rs r) came among)
-            ]
-      ]
