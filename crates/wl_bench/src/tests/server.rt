@@ -3,6 +3,7 @@
 //! A run is a list of `Act`s, and `log_of` makes its calls, each by `replay`.
 
 mod arrivals;
+mod cutting;
 mod example;
 mod globals;
 mod hostile;
