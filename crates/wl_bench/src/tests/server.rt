@@ -4,6 +4,7 @@
 
 mod announced;
 mod arrivals;
+mod cutting;
 mod example;
 mod globals;
 mod hostile;
