@@ -1,1 +1,5 @@
 mod FirstSync
+mod HexWords
+mod Lines
+mod Numbers
+mod Rows

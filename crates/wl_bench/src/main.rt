@@ -1,43 +1,57 @@
 //! The program `wl-bench`.
 //!
-//! `wl-bench sync` prints the bytes that a fresh client sends for its first `wl_display.sync`, and those of the server's
-//! answer, a line each.
-//! It ends with status 0; with 2 and its usage on standard error where the arguments are others; with 3 and `failed`
-//! there where memory, input or output failed.
+//! `wl-bench sync` prints the bytes that a fresh client sends for its first `wl_display.sync`, and those of the
+//! server's answer, a line each. `wl-bench run` drives a server by the lines of its standard input, and prints what
+//! each comes to. It ends with status 0; with 2 and its usage on standard error where the arguments are others, or
+//! the number of the first line that is no command; with 3 and `failed` there where memory, input or output failed.
 #![tactic(auto)]
 
+mod answer;
+mod command;
+mod commands;
 mod hex;
+mod known;
 mod stop;
 mod sync;
+mod table;
+mod words;
 
+use commands::run_commands;
 use hex::hex_line;
+use std::io::BufReader;
 use std::process::ExitCode;
 use std::rt::Env;
 use std::{env, io};
 use stop::Stop;
 
 /// What the arguments ask for.
-enum Command {
+enum Program {
     Sync,
+    Run,
     Other,
 }
 
-/// The command that the arguments name, the first of which is the program's name.
-fn command_of(mut args: env::Args) -> Command {
+/// The program that the arguments name, the first of which is the name of this one.
+fn program_of(mut args: env::Args) -> Program {
     let _program = args.next();
-    let is_sync = args.next().is_some_and(|word| word.as_str() == "sync");
-    if is_sync && args.next().is_none() {
-        Command::Sync
-    } else {
-        Command::Other
+    let Some(word) = args.next() else {
+        return Program::Other;
+    };
+    if args.next().is_some() {
+        return Program::Other;
+    }
+    match word.as_str() {
+        "sync" => Program::Sync,
+        "run" => Program::Run,
+        _ => Program::Other,
     }
 }
 
-/// The command that the program was given. Arguments that are no text name none.
-fn requested(rt: &(impl Env + AllocGlobal)) -> Result<Command, Stop> {
+/// The program that is asked for. Arguments that are no text name none.
+fn requested(rt: &(impl Env + AllocGlobal)) -> Result<Program, Stop> {
     match env::args(rt) {
-        Ok(args) => Ok(command_of(args)),
-        Err(error) if error.kind() == io::ErrorKind::InvalidData => Ok(Command::Other),
+        Ok(args) => Ok(program_of(args)),
+        Err(error) if error.kind() == io::ErrorKind::InvalidData => Ok(Program::Other),
         Err(_) => Err(Stop::Failed),
     }
 }
@@ -57,10 +71,18 @@ fn print_sync(rt: &(impl Print + AllocGlobal)) -> Result<(), Stop> {
     print_bytes(rt, answer.as_slice())
 }
 
-fn run(rt: &(impl Env + Print + AllocGlobal)) -> Result<(), Stop> {
+/// Runs the commands of the standard input.
+fn drive(rt: &(impl Input + Print + AllocGlobal)) -> Result<(), Stop> {
+    let alloc = rt.alloc();
+    let mut reader = BufReader::new(alloc, rt.reader())?;
+    run_commands(alloc, &mut reader, &mut io::writer(rt))
+}
+
+fn run(rt: &(impl Env + Input + Print + AllocGlobal)) -> Result<(), Stop> {
     match requested(rt)? {
-        Command::Sync => print_sync(rt),
-        Command::Other => Err(Stop::Usage),
+        Program::Sync => print_sync(rt),
+        Program::Run => drive(rt),
+        Program::Other => Err(Stop::Usage),
     }
 }
 
@@ -69,6 +91,10 @@ fn main(rt: HostRuntime) -> ExitCode {
         Ok(()) => ExitCode::SUCCESS,
         Err(Stop::Usage) => {
             let _ = eprintln!(rt; "usage: wl-bench sync | run");
+            ExitCode::from(2)
+        }
+        Err(Stop::BadLine(number)) => {
+            let _ = eprintln!(rt; "line {number}: bad command");
             ExitCode::from(2)
         }
         Err(Stop::Failed) => {

@@ -10,13 +10,20 @@ use wl_wire::{IoFault, OutOfMemory, TableError};
 /// Why the program ends before its work is done.
 #[derive(Clone, Copy, Debug, PartialEq, Eq)]
 pub enum Stop {
-    /// The arguments name no command.
+    /// The arguments name no program.
     Usage,
+    /// This line of the input, counted from 1, is no command.
+    BadLine(u64),
     /// Memory, input or output failed.
     Failed,
 }
 
 impl From<AllocError> for Stop {
+    ghost use Rattle.std.specs.Prelude.{◌≡◌};
+    ghost use Rattle.wl_bench.specs.declared.stop.Stop.TheVariants.{Failed};
+
+    ghost from_gives = { λ _ e. e ≡ Failed };
+
     fn from(_e: AllocError) -> Stop {
         Stop::Failed
     }

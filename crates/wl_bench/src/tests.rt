@@ -1,6 +1,7 @@
 //! The tests of the program and of the crates that it stands on, by crate and topic.
 
 mod client;
+mod commands;
 mod hex;
 mod link;
 mod message;

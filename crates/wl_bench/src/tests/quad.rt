@@ -1,11 +1,10 @@
 //! A table with two interfaces of the program's own: `quad`, of version 3, and `pair`.
 
-use std::alloc::{AllocError, Global};
+pub use crate::table::QUAD;
+use crate::table::{Kind, Row, push_interface, push_quad};
+use std::alloc::Global;
 use std::test::Fail;
-use wl_wire::{AllowNull, ArgumentType, Interface, InterfaceId, MessageDesc, Protocol};
-
-/// The interface `quad`, the first of the program's own.
-pub const QUAD: InterfaceId = InterfaceId(4);
+use wl_wire::{AllowNull, ArgumentType, InterfaceId, Protocol};
 
 /// The interface `pair`.
 pub const PAIR: InterfaceId = InterfaceId(5);
@@ -25,98 +24,6 @@ pub const GIVE: u16 = 4;
 /// The opcode of `pair.join`.
 pub const JOIN: u16 = 0;
 
-/// What a message does to objects beside its arguments.
-#[derive(Clone, Copy)]
-enum Kind {
-    /// It neither makes nor ends an object.
-    Plain,
-    /// It makes a `quad`.
-    Maker,
-    /// It ends its object.
-    Destructor,
-}
-
-/// A message of the table as plain data. Its object arguments are of `quad`.
-#[derive(Clone, Copy)]
-struct Row {
-    name: &'static str,
-    since: u32,
-    kind: Kind,
-    signature: &'static [ArgumentType],
-    objects: &'static [InterfaceId],
-}
-
-/// The requests of `quad`.
-static QUAD_REQUESTS: [Row; 5] = [
-    Row {
-        name: "poke",
-        since: 1,
-        kind: Kind::Plain,
-        signature: &[ArgumentType::Int],
-        objects: &[],
-    },
-    Row {
-        name: "make",
-        since: 2,
-        kind: Kind::Maker,
-        signature: &[ArgumentType::NewId],
-        objects: &[],
-    },
-    Row {
-        name: "destroy",
-        since: 1,
-        kind: Kind::Destructor,
-        signature: &[],
-        objects: &[],
-    },
-    Row {
-        name: "link",
-        since: 1,
-        kind: Kind::Plain,
-        signature: &[
-            ArgumentType::Object(AllowNull::Yes),
-            ArgumentType::Object(AllowNull::No),
-        ],
-        objects: &[QUAD, QUAD],
-    },
-    Row {
-        name: "give",
-        since: 1,
-        kind: Kind::Plain,
-        signature: &[
-            ArgumentType::Str(AllowNull::No),
-            ArgumentType::Array,
-            ArgumentType::Fd,
-        ],
-        objects: &[],
-    },
-];
-
-/// The events of `quad`.
-static QUAD_EVENTS: [Row; 3] = [
-    Row {
-        name: "moved",
-        since: 1,
-        kind: Kind::Plain,
-        signature: &[ArgumentType::Int],
-        objects: &[],
-    },
-    Row {
-        name: "made",
-        since: 1,
-        kind: Kind::Maker,
-        signature: &[ArgumentType::NewId],
-        objects: &[],
-    },
-    Row {
-        name: "gone",
-        since: 1,
-        kind: Kind::Destructor,
-        signature: &[],
-        objects: &[],
-    },
-];
-
 /// The message of `pair` of that name, its request or its event.
 fn joining(name: &'static str) -> Row {
     Row {
@@ -134,69 +41,10 @@ fn joining(name: &'static str) -> Row {
     }
 }
 
-/// The description of the message.
-fn described(alloc: Global, row: &Row) -> Result<MessageDesc, AllocError> {
-    let child_interface = match row.kind {
-        Kind::Maker => Some(QUAD),
-        Kind::Plain | Kind::Destructor => None,
-    };
-    Ok(MessageDesc {
-        name: String::from_str(alloc, row.name)?,
-        signature: Vec::from_slice(alloc, row.signature)?,
-        since: row.since,
-        is_destructor: matches!(row.kind, Kind::Destructor),
-        child_interface,
-        arg_interfaces: Vec::from_slice(alloc, row.objects)?,
-    })
-}
-
-/// Puts the descriptions of the messages behind the others.
-fn push_messages(
-    alloc: Global,
-    messages: &mut Vec<MessageDesc>,
-    rows: &[Row],
-) -> Result<(), AllocError> {
-    for row in rows {
-        messages.push(described(alloc, row)?)?;
-    }
-    Ok(())
-}
-
-/// The interface of that name and version, without messages yet.
-fn named(alloc: Global, name: &str, version: u32) -> Result<Interface, AllocError> {
-    Ok(Interface {
-        name: String::from_str(alloc, name)?,
-        version,
-        requests: Vec::new(alloc),
-        events: Vec::new(alloc),
-    })
-}
-
-/// Puts an interface with these requests and events behind the others.
-fn push_interface(
-    alloc: Global,
-    interfaces: &mut Vec<Interface>,
-    (name, version): (&str, u32),
-    requests: &[Row],
-    events: &[Row],
-) -> Result<(), AllocError> {
-    let mut interface = named(alloc, name, version)?;
-    push_messages(alloc, &mut interface.requests, requests)?;
-    push_messages(alloc, &mut interface.events, events)?;
-    interfaces.push(interface)?;
-    Ok(())
-}
-
 /// The table.
 pub fn quad_table(alloc: Global) -> Result<Protocol, Fail> {
     let mut interfaces = Vec::new(alloc);
-    push_interface(
-        alloc,
-        &mut interfaces,
-        ("quad", 3),
-        &QUAD_REQUESTS,
-        &QUAD_EVENTS,
-    )?;
+    push_quad(alloc, &mut interfaces)?;
     push_interface(
         alloc,
         &mut interfaces,

@@ -1,0 +1,12 @@
+use Rattle.std.proofs.Common.{rules, ◌≡◌, ◌≢◌, ◌<◌, ℕ, List, length, codes}
+use Rattle.wl_bench.specs.Commands.{AreNumbers}
+use Rattle.wl_bench.proofs.Numbers.{tokens_found}
+use Rattle.wl_bench.proofs.words.chunk_tokens.Goals as goal
+
+pub returns-in-Some : goal.returns-in-Some
+returns-in-Some c =
+    let word = c.args.word.now in
+    let filled : word ≢ codes "-" = search rules in
+    let are : AreNumbers c.in-Some.numbers.items word = search rules in
+    let tokens = rw c.as_slice.ensures.value at c.tokens_of.ensures in
+    tokens_found word c.in-Some.numbers.items c.tokens_of.result filled are tokens

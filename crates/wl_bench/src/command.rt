@@ -1,0 +1,199 @@
+//! The commands of a bench, and which lines are commands.
+//!
+//! A line is cut at its spaces, and its words are those of one command or of none: so a word is never empty, and no
+//! other space stands anywhere. Numbers are decimal, without a sign or leading zeros, and at most 4294967295.
+
+ghost use Rattle.std.specs.Prelude.{◌∷◌, ℕ, [], List, map, codes, IfOk};
+ghost use Rattle.std.specs.Borrow.{Bor};
+ghost use Rattle.wl_bench.specs.Commands.{Finds, IsCommand, IsLine};
+
+use crate::words::{chunk_bytes, chunk_tokens, fault, number, numbers};
+use std::alloc::{AllocError, Global};
+use wl_wire::{IoFault, Token};
+
+/// What a line asks for.
+#[derive(Drop)]
+pub enum Command {
+    /// `client`: inserts a client over a new script.
+    Insert,
+    /// A command about the client that was inserted last at a slot.
+    Client(u32, ClientCommand),
+    /// `global <interface> <version>`: creates a global, by its interface's name.
+    Create(String, u32),
+    /// `disable <name>`: the global of that name is announced no more.
+    Disable(u32),
+    /// `remove <name>`: the global of that name is removed.
+    Remove(u32),
+    /// `flush`: sends what waits of all clients.
+    Flush,
+    /// `cleanup`: takes out the clients that were killed.
+    Cleanup,
+    /// `notes`: takes what was noted.
+    Notes,
+}
+
+/// What a line asks for of a client.
+#[derive(Drop)]
+pub enum ClientCommand {
+    /// `in <slot> <hex> <tokens>`: these bytes and tokens arrive of it.
+    Arrive(Vec<u8>, Vec<Token>),
+    /// `read <slot>`: reads of it, up to an action or a fault.
+    Read,
+    /// `finish <slot>`: ends its open action.
+    Finish,
+    /// `kill <slot>`: kills it.
+    Kill,
+    /// `accept <slot> <counts>`: how many bytes the next sends to it take.
+    Accept(Vec<u32>),
+    /// `fail <slot> in <fault>`: a receive that fails.
+    FailIn(IoFault),
+    /// `fail <slot> out <fault>`: a send that fails.
+    FailOut(IoFault),
+}
+
+/// The command of one word.
+fn bare(name: &str) -> Option<Command>
+    ensures { Finds IsCommand (name.now ∷ []) result }
+{
+    match name {
+        "client" => Some(Command::Insert),
+        "flush" => Some(Command::Flush),
+        "cleanup" => Some(Command::Cleanup),
+        "notes" => Some(Command::Notes),
+        _ => None,
+    }
+}
+
+/// The command of a word and a number.
+fn numbered(name: &str, word: &str) -> Option<Command>
+    ensures { Finds IsCommand (name.now ∷ word.now ∷ []) result }
+{
+    let number = number(word)?;
+    match name {
+        "read" => Some(Command::Client(number, ClientCommand::Read)),
+        "finish" => Some(Command::Client(number, ClientCommand::Finish)),
+        "disable" => Some(Command::Disable(number)),
+        "remove" => Some(Command::Remove(number)),
+        "kill" => Some(Command::Client(number, ClientCommand::Kill)),
+        _ => None,
+    }
+}
+
+/// The command `global`, of these arguments.
+fn global(alloc: Global, interface: &str, version: &str) -> Result<Option<Command>, AllocError>
+    ensures { IfOk result (Finds IsCommand (codes "global" ∷ interface.now ∷ version.now ∷ [])) }
+{
+    if interface.is_empty() {
+        return Ok(None);
+    }
+    let Some(version) = number(version) else {
+        return Ok(None);
+    };
+    let interface = String::from_str(alloc, interface)?;
+    Ok(Some(Command::Create(interface, version)))
+}
+
+/// The command `accept`, of these arguments.
+fn accept(alloc: Global, slot: &str, counts: &str) -> Result<Option<Command>, AllocError>
+    ensures { IfOk result (Finds IsCommand (codes "accept" ∷ slot.now ∷ counts.now ∷ [])) }
+{
+    let Some(slot) = number(slot) else {
+        return Ok(None);
+    };
+    match numbers(alloc, counts)? {
+        Some(counts) => Ok(Some(Command::Client(slot, ClientCommand::Accept(counts)))),
+        None => Ok(None),
+    }
+}
+
+/// The command `fail`, of these arguments.
+fn fail(slot: &str, side: &str, name: &str) -> Option<Command>
+    ensures { Finds IsCommand (codes "fail" ∷ slot.now ∷ side.now ∷ name.now ∷ []) result }
+{
+    let slot = number(slot)?;
+    let fault = fault(name)?;
+    match side {
+        "in" => Some(Command::Client(slot, ClientCommand::FailIn(fault))),
+        "out" => Some(Command::Client(slot, ClientCommand::FailOut(fault))),
+        _ => None,
+    }
+}
+
+/// The command `in`, of these arguments.
+fn arrive(
+    alloc: Global,
+    slot: &str,
+    bytes: &str,
+    tokens: &str,
+) -> Result<Option<Command>, AllocError>
+    ensures { IfOk result (Finds IsCommand (codes "in" ∷ slot.now ∷ bytes.now ∷ tokens.now ∷ [])) }
+{
+    let Some(slot) = number(slot) else {
+        return Ok(None);
+    };
+    let Some(bytes) = chunk_bytes(alloc, bytes)? else {
+        return Ok(None);
+    };
+    match chunk_tokens(alloc, tokens)? {
+        Some(tokens) => Ok(Some(Command::Client(slot, ClientCommand::Arrive(bytes, tokens)))),
+        None => Ok(None),
+    }
+}
+
+/// The command of three words.
+fn of_three(
+    alloc: Global,
+    name: &str,
+    first: &str,
+    second: &str,
+) -> Result<Option<Command>, AllocError>
+    ensures { IfOk result (Finds IsCommand (name.now ∷ first.now ∷ second.now ∷ [])) }
+{
+    match name {
+        "global" => global(alloc, first, second),
+        "accept" => accept(alloc, first, second),
+        _ => Ok(None),
+    }
+}
+
+/// The command of four words.
+fn of_four(
+    alloc: Global,
+    name: &str,
+    first: &str,
+    second: &str,
+    third: &str,
+) -> Result<Option<Command>, AllocError>
+    ensures { IfOk result (Finds IsCommand (name.now ∷ first.now ∷ second.now ∷ third.now ∷ [])) }
+{
+    match name {
+        "in" => arrive(alloc, first, second, third),
+        "fail" => Ok(fail(first, second, third)),
+        _ => Ok(None),
+    }
+}
+
+/// The command of these words.
+fn command_of(alloc: Global, words: &[&str]) -> Result<Option<Command>, AllocError>
+    ensures { IfOk result (Finds IsCommand (map (λ (w : Bor (List ℕ)). w.now) words.now)) }
+{
+    match *words {
+        [] => Ok(None),
+        [name] => Ok(bare(name)),
+        [name, word] => Ok(numbered(name, word)),
+        [name, first, second] => of_three(alloc, name, first, second),
+        [name, first, second, third] => of_four(alloc, name, first, second, third),
+        _ => Ok(None),
+    }
+}
+
+/// The command that a line is, without the line feed at its end; none where it is no command.
+pub fn parse_line(alloc: Global, line: &[u8]) -> Result<Option<Command>, AllocError>
+    ensures { IfOk result (Finds IsLine line.now) }
+{
+    let Ok(text) = str::from_utf8(line) else {
+        return Ok(None);
+    };
+    let words: Vec<&str> = text.split(' ').collect(alloc)?;
+    command_of(alloc, &words)
+}

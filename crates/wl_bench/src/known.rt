@@ -1,0 +1,273 @@
+//! What a bench knows of the server that it drives, and the steps that each command is.
+
+use crate::answer::print_sends;
+use crate::command::{ClientCommand, Command};
+use crate::stop::Stop;
+use crate::table::interface_named;
+use std::alloc::Global;
+use std::collections::BTreeMap;
+use wl_link::Memory;
+use wl_server::{Action, Backend, ClientId, DisconnectReason, GlobalId, Reply, ShownToAll, Step};
+use wl_wire::Protocol;
+
+/// A server over transports by script. The data of an object is the number of an input line.
+pub type Server = Backend<Memory, u64, ShownToAll, ()>;
+
+/// A step of the server.
+pub type Made = Step<Memory, u64, ShownToAll, ()>;
+
+/// The reply to a step.
+pub type Told = Reply<Memory, u64>;
+
+/// What is open of a client.
+#[derive(Clone, Copy)]
+enum Open {
+    /// No action.
+    Nothing,
+    /// A request, which made an object or did not.
+    Request { made: bool },
+    /// A bind.
+    Bind,
+}
+
+/// The client that was inserted last at a slot.
+#[derive(Clone, Copy)]
+struct Seat {
+    client: ClientId,
+    open: Open,
+}
+
+/// Whose transports are looked at behind a command, for what they were sent.
+#[derive(Clone, Copy)]
+pub enum Heard {
+    /// None: the command sends nothing.
+    Nobody,
+    /// That of the client at a slot: the command does nothing to others.
+    Client(u32),
+    /// Those of all clients.
+    Everybody,
+}
+
+/// The clients by slot, and the globals by name: of each the one that was made last.
+#[derive(Drop)]
+pub struct Known {
+    seats: BTreeMap<u32, Seat>,
+    globals: BTreeMap<u32, GlobalId>,
+}
+
+impl Known {
+    /// Nothing is known.
+    pub fn new(alloc: Global) -> Self {
+        Known {
+            seats: BTreeMap::new(alloc),
+            globals: BTreeMap::new(alloc),
+        }
+    }
+
+    /// The client at the slot. A line that names a slot at which none was inserted is no command.
+    fn seat(&self, slot: u32, line: u64) -> Result<Seat, Stop> {
+        match self.seats.get(&slot) {
+            Some(seat) => Ok(*seat),
+            None => Err(Stop::BadLine(line)),
+        }
+    }
+
+    /// The global that was created last under the name. Where none was, the id names none: no global has the serial 0.
+    fn global(&self, name: u32) -> GlobalId {
+        match self.globals.get(&name) {
+            Some(global) => *global,
+            None => GlobalId::from_parts(name, 0),
+        }
+    }
+
+    /// Puts the call of a command behind the steps.
+    fn push_call(
+        &self,
+        alloc: Global,
+        table: &Protocol,
+        command: Command,
+        line: u64,
+        steps: &mut Vec<Made>,
+    ) -> Result<(), Stop> {
+        match command {
+            Command::Insert => push(steps, Step::InsertClient(Memory::new(alloc), ())),
+            Command::Client(slot, command) => {
+                push_client_call(self.seat(slot, line)?, command, line, steps)
+            }
+            Command::Create(name, version) => {
+                let interface = interface_named(table, name.as_str());
+                push(steps, Step::CreateGlobal(interface, version, ShownToAll))
+            }
+            Command::Disable(name) => push(steps, Step::DisableGlobal(self.global(name))),
+            Command::Remove(name) => push(steps, Step::RemoveGlobal(self.global(name))),
+            Command::Flush => push(steps, Step::Flush(None)),
+            Command::Cleanup => push(steps, Step::Cleanup),
+            Command::Notes => push(steps, Step::TakeNotes),
+        }
+    }
+
+    /// Puts the steps that take each client's record of what it was sent behind the others.
+    fn push_hearing(&self, heard: Heard, line: u64, steps: &mut Vec<Made>) -> Result<(), Stop> {
+        match heard {
+            Heard::Nobody => Ok(()),
+            Heard::Client(slot) => push(steps, Step::TakeSent(self.seat(slot, line)?.client)),
+            Heard::Everybody => {
+                for seat in self.seats.values() {
+                    push(steps, Step::TakeSent(seat.client))?;
+                }
+                Ok(())
+            }
+        }
+    }
+
+    /// Puts the steps of a command into the list, which is empty, and answers whose transports the last of them look
+    /// at.
+    pub fn plan(
+        &self,
+        alloc: Global,
+        table: &Protocol,
+        command: Command,
+        line: u64,
+        steps: &mut Vec<Made>,
+    ) -> Result<Heard, Stop> {
+        let heard = heard_behind(&command);
+        self.push_call(alloc, table, command, line, steps)?;
+        self.push_hearing(heard, line, steps)?;
+        Ok(heard)
+    }
+
+    /// Keeps what is open of the client at the slot.
+    fn keep_open(&mut self, slot: u32, open: Open) {
+        if let Some(seat) = self.seats.get_mut(&slot) {
+            seat.open = open;
+        }
+    }
+
+    /// Keeps the client as the one that was inserted last at its slot.
+    fn keep_client(&mut self, client: ClientId) -> Result<(), Stop> {
+        let seat = Seat {
+            client,
+            open: Open::Nothing,
+        };
+        self.seats.insert(client.slot(), seat)?;
+        Ok(())
+    }
+
+    /// Keeps what a later command has to know of the reply to one.
+    pub fn keep(&mut self, heard: Heard, reply: &Told) -> Result<(), Stop> {
+        match (heard, reply) {
+            (_, Reply::InsertClient(Ok(client))) => self.keep_client(*client)?,
+            (_, Reply::CreateGlobal(Ok(global))) => {
+                self.globals.insert(global.name(), *global)?;
+            }
+            (Heard::Client(slot), Reply::NextAction(Ok(action))) => {
+                self.keep_open(slot, opened(action));
+            }
+            (Heard::Client(slot), Reply::FinishRequest(Ok(())) | Reply::FinishBind(Ok(()))) => {
+                self.keep_open(slot, Open::Nothing);
+            }
+            _ => {}
+        }
+        Ok(())
+    }
+
+    /// Prints what each client was sent, by rising slot, of the replies to the steps that took their records.
+    fn print_all_sends(&self, text: &mut String, replies: &[Told]) -> Result<(), Stop> {
+        for (slot, reply) in self.seats.keys().zip(replies) {
+            if let Reply::TakeSent(Ok(sends)) = reply {
+                print_sends(text, *slot, sends.as_slice())?;
+            }
+        }
+        Ok(())
+    }
+
+    /// Prints what clients were sent, of the replies to the steps of a command.
+    pub fn print_heard(
+        &self,
+        text: &mut String,
+        heard: Heard,
+        replies: &[Told],
+    ) -> Result<(), Stop> {
+        match (heard, replies) {
+            (Heard::Nobody, [Reply::Cleanup(Ok(out))]) => print_taken_out(text, out.as_slice()),
+            (Heard::Client(slot), [.., Reply::TakeSent(Ok(sends))]) => {
+                Ok(print_sends(text, slot, sends.as_slice())?)
+            }
+            (Heard::Everybody, [_, taken @ ..]) => self.print_all_sends(text, taken),
+            _ => Ok(()),
+        }
+    }
+}
+
+/// Whose transports are looked at behind a command.
+fn heard_behind(command: &Command) -> Heard {
+    match command {
+        Command::Insert | Command::Notes | Command::Cleanup => Heard::Nobody,
+        Command::Client(slot, _) => Heard::Client(*slot),
+        Command::Create(..) | Command::Disable(_) | Command::Remove(_) | Command::Flush => {
+            Heard::Everybody
+        }
+    }
+}
+
+/// Puts a step behind the others.
+fn push(steps: &mut Vec<Made>, step: Made) -> Result<(), Stop> {
+    Ok(steps.push(step)?)
+}
+
+/// Puts the steps by which the next sends take so many bytes behind the others.
+fn push_counts(client: ClientId, counts: &[u32], steps: &mut Vec<Made>) -> Result<(), Stop> {
+    for count in counts {
+        push(steps, Step::Accept(client, *count as usize))?;
+    }
+    Ok(())
+}
+
+/// Puts the calls of a command about a client behind the steps.
+fn push_client_call(
+    seat: Seat,
+    command: ClientCommand,
+    line: u64,
+    steps: &mut Vec<Made>,
+) -> Result<(), Stop> {
+    let client = seat.client;
+    match command {
+        ClientCommand::Arrive(bytes, tokens) => push(steps, Step::Arrive(client, bytes, tokens)),
+        ClientCommand::Read => push(steps, Step::NextAction(client)),
+        ClientCommand::Finish => push(steps, finish(seat, line)),
+        ClientCommand::Kill => {
+            let reason = DisconnectReason::ConnectionClosed;
+            push(steps, Step::KillClient(client, reason))
+        }
+        ClientCommand::Accept(counts) => push_counts(client, counts.as_slice(), steps),
+        ClientCommand::FailIn(fault) => push(steps, Step::ArriveFault(client, fault)),
+        ClientCommand::FailOut(fault) => push(steps, Step::AcceptFault(client, fault)),
+    }
+}
+
+/// Prints what the clients that were taken out had been sent.
+fn print_taken_out(text: &mut String, out: &[(ClientId, Memory)]) -> Result<(), Stop> {
+    for (client, transport) in out {
+        print_sends(text, client.slot(), transport.sent())?;
+    }
+    Ok(())
+}
+
+/// What an action leaves open.
+fn opened(action: &Action) -> Open {
+    match action {
+        Action::Request { created, .. } => Open::Request {
+            made: created.is_some(),
+        },
+        Action::Bind { .. } => Open::Bind,
+    }
+}
+
+/// The step that ends what is open of a client. Where an object was made, it gets the number of the line as its data.
+fn finish(seat: Seat, line: u64) -> Made {
+    match seat.open {
+        Open::Bind => Step::FinishBind(seat.client, line),
+        Open::Request { made: true } => Step::FinishRequest(seat.client, Some(line)),
+        Open::Request { made: false } | Open::Nothing => Step::FinishRequest(seat.client, None),
+    }
+}

@@ -1,0 +1,179 @@
+//! The table of interfaces of the program: the fixed ones, and `quad`, of version 3.
+
+use crate::stop::Stop;
+use std::alloc::{AllocError, Global};
+use wl_wire::{AllowNull, ArgumentType, Interface, InterfaceId, MessageDesc, Protocol};
+
+/// The interface `quad`, the first of the program's own.
+pub const QUAD: InterfaceId = InterfaceId(4);
+
+/// What a message does to objects beside its arguments.
+#[derive(Clone, Copy)]
+pub enum Kind {
+    /// It neither makes nor ends an object.
+    Plain,
+    /// It makes a `quad`.
+    Maker,
+    /// It ends its object.
+    Destructor,
+}
+
+/// A message of the table as plain data. Its object arguments are of `quad`.
+#[derive(Clone, Copy)]
+pub struct Row {
+    pub name: &'static str,
+    pub since: u32,
+    pub kind: Kind,
+    pub signature: &'static [ArgumentType],
+    pub objects: &'static [InterfaceId],
+}
+
+/// The requests of `quad`.
+static QUAD_REQUESTS: [Row; 5] = [
+    Row {
+        name: "poke",
+        since: 1,
+        kind: Kind::Plain,
+        signature: &[ArgumentType::Int],
+        objects: &[],
+    },
+    Row {
+        name: "make",
+        since: 2,
+        kind: Kind::Maker,
+        signature: &[ArgumentType::NewId],
+        objects: &[],
+    },
+    Row {
+        name: "destroy",
+        since: 1,
+        kind: Kind::Destructor,
+        signature: &[],
+        objects: &[],
+    },
+    Row {
+        name: "link",
+        since: 1,
+        kind: Kind::Plain,
+        signature: &[
+            ArgumentType::Object(AllowNull::Yes),
+            ArgumentType::Object(AllowNull::No),
+        ],
+        objects: &[QUAD, QUAD],
+    },
+    Row {
+        name: "give",
+        since: 1,
+        kind: Kind::Plain,
+        signature: &[
+            ArgumentType::Str(AllowNull::No),
+            ArgumentType::Array,
+            ArgumentType::Fd,
+        ],
+        objects: &[],
+    },
+];
+
+/// The events of `quad`.
+static QUAD_EVENTS: [Row; 3] = [
+    Row {
+        name: "moved",
+        since: 1,
+        kind: Kind::Plain,
+        signature: &[ArgumentType::Int],
+        objects: &[],
+    },
+    Row {
+        name: "made",
+        since: 1,
+        kind: Kind::Maker,
+        signature: &[ArgumentType::NewId],
+        objects: &[],
+    },
+    Row {
+        name: "gone",
+        since: 1,
+        kind: Kind::Destructor,
+        signature: &[],
+        objects: &[],
+    },
+];
+
+/// The description of the message.
+fn described(alloc: Global, row: &Row) -> Result<MessageDesc, AllocError> {
+    let child_interface = match row.kind {
+        Kind::Maker => Some(QUAD),
+        Kind::Plain | Kind::Destructor => None,
+    };
+    Ok(MessageDesc {
+        name: String::from_str(alloc, row.name)?,
+        signature: Vec::from_slice(alloc, row.signature)?,
+        since: row.since,
+        is_destructor: matches!(row.kind, Kind::Destructor),
+        child_interface,
+        arg_interfaces: Vec::from_slice(alloc, row.objects)?,
+    })
+}
+
+/// Puts the descriptions of the messages behind the others.
+fn push_messages(
+    alloc: Global,
+    messages: &mut Vec<MessageDesc>,
+    rows: &[Row],
+) -> Result<(), AllocError> {
+    for row in rows {
+        messages.push(described(alloc, row)?)?;
+    }
+    Ok(())
+}
+
+/// The interface of that name and version, without messages yet.
+fn named(alloc: Global, name: &str, version: u32) -> Result<Interface, AllocError> {
+    Ok(Interface {
+        name: String::from_str(alloc, name)?,
+        version,
+        requests: Vec::new(alloc),
+        events: Vec::new(alloc),
+    })
+}
+
+/// Puts an interface with these requests and events behind the others.
+pub fn push_interface(
+    alloc: Global,
+    interfaces: &mut Vec<Interface>,
+    (name, version): (&str, u32),
+    requests: &[Row],
+    events: &[Row],
+) -> Result<(), AllocError> {
+    let mut interface = named(alloc, name, version)?;
+    push_messages(alloc, &mut interface.requests, requests)?;
+    push_messages(alloc, &mut interface.events, events)?;
+    interfaces.push(interface)?;
+    Ok(())
+}
+
+/// Puts `quad` behind the others.
+pub fn push_quad(alloc: Global, interfaces: &mut Vec<Interface>) -> Result<(), AllocError> {
+    push_interface(alloc, interfaces, ("quad", 3), &QUAD_REQUESTS, &QUAD_EVENTS)
+}
+
+/// The table.
+pub fn bench_table(alloc: Global) -> Result<Protocol, Stop> {
+    let mut interfaces = Vec::new(alloc);
+    push_quad(alloc, &mut interfaces)?;
+    Ok(Protocol::new(alloc, interfaces)?)
+}
+
+/// How many interfaces the table has.
+const INTERFACES: usize = 5;
+
+/// The interface of that name, and one outside the table where none has it.
+pub fn interface_named(table: &Protocol, name: &str) -> InterfaceId {
+    for number in 0..INTERFACES {
+        let interface = InterfaceId(number);
+        if table.name(interface) == name {
+            return interface;
+        }
+    }
+    InterfaceId(INTERFACES)
+}

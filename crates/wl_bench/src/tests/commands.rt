@@ -1,0 +1,30 @@
+//! The tests of `wl-bench run`: lines that drive a server, and what is printed.
+
+mod bad;
+mod calls;
+mod conversations;
+
+use crate::commands::run_commands;
+use crate::stop::Stop;
+use std::alloc::Global;
+use std::test::Fail;
+
+/// The output, and behind it how the run ended where that was not at the end of the input.
+fn told(output: Vec<u8>, end: Result<(), Stop>) -> Result<String, Fail> {
+    let mut text = String::from_utf8(output)?;
+    match end {
+        Ok(()) => {}
+        Err(Stop::BadLine(number)) => writeln!(text, "line {number}: bad command")?,
+        Err(Stop::Failed) => writeln!(text, "failed")?,
+        Err(Stop::Usage) => writeln!(text, "usage")?,
+    }
+    Ok(text)
+}
+
+/// What is printed of these lines.
+fn printed(alloc: Global, lines: &[u8]) -> Result<String, Fail> {
+    let mut reader = lines;
+    let mut output = Vec::new(alloc);
+    let end = run_commands(alloc, &mut reader, &mut output);
+    told(output, end)
+}

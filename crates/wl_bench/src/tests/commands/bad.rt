@@ -1,0 +1,239 @@
+//! Lines that are no commands.
+
+use super::printed;
+use crate::tests::tells;
+use std::process::Abort;
+use std::test::Fail;
+
+/// Fails where one of the lines is a command, behind a line that inserts a client.
+fn are_bad(rt: &(impl Abort + AllocGlobal), lines: &[&[u8]]) -> Result<(), Fail> {
+    for line in lines {
+        let mut input = Vec::from_slice(rt.alloc(), b"client\n")?;
+        input.extend_from_slice(line)?;
+        let output = printed(rt.alloc(), input.as_slice());
+        tells(rt, output, "client 0 1\nline 2: bad command\n")?;
+    }
+    Ok(())
+}
+
+/// A line with an empty word.
+#[test]
+fn empty_words(rt: HostRuntime) -> Result<(), Fail> {
+    are_bad(
+        &rt,
+        &[
+            b"global  3",
+            b"read  0",
+            b"read 0 ",
+            b" read 0",
+            b"in 0  -",
+            b"in 0 - ",
+            b"client ",
+            b" ",
+            b" client",
+            b"accept 0 ",
+            b"fail 0 in ",
+            b"global  ",
+            b"disable ",
+        ],
+    )
+}
+
+/// A line with a word that is no command, or in the wrong number.
+#[test]
+fn unknown_words(rt: HostRuntime) -> Result<(), Fail> {
+    are_bad(
+        &rt,
+        &[
+            b"Client",
+            b"quit",
+            b"client 0",
+            b"flush 0",
+            b"cleanup 0",
+            b"notes 0",
+            b"read",
+            b"finish",
+            b"kill",
+            b"disable",
+            b"remove",
+            b"global",
+            b"global quad",
+            b"global quad 3 3",
+            b"in",
+            b"in 0",
+            b"in 0 -",
+            b"in 0 - - -",
+            b"accept",
+            b"accept 0",
+            b"accept 0 1 2",
+            b"fail",
+            b"fail 0",
+            b"fail 0 in",
+            b"fail 0 in Pipe 5",
+            b"read 0 0",
+        ],
+    )
+}
+
+/// A line with a command of another program.
+#[test]
+fn other_programs(rt: HostRuntime) -> Result<(), Fail> {
+    are_bad(&rt, &[b"dispatch 0", b"record", b"replay", b"1 client"])
+}
+
+/// A line with a number that is written otherwise.
+#[test]
+fn numbers(rt: HostRuntime) -> Result<(), Fail> {
+    are_bad(
+        &rt,
+        &[
+            b"read 00",
+            b"read +0",
+            b"read -0",
+            b"read 0x0",
+            b"read 0.",
+            b"read a",
+            b"read 4294967296",
+            b"read 18446744073709551616",
+            b"kill 01",
+            b"disable 01",
+            b"disable -1",
+            b"remove +1",
+            b"global quad 03",
+            b"global quad x",
+            b"global nothing x",
+            b"accept 0 01",
+            b"accept 0 -",
+            b"accept 0 4294967296",
+            b"finish 00",
+        ],
+    )
+}
+
+/// A line with bytes that are written otherwise.
+#[test]
+fn bytes(rt: HostRuntime) -> Result<(), Fail> {
+    are_bad(
+        &rt,
+        &[
+            b"in 0 0 -",
+            b"in 0 000 -",
+            b"in 0 0A -",
+            b"in 0 FF -",
+            b"in 0 0g -",
+            b"in 0 g0 -",
+            b"in 0 0- -",
+            b"in 0 -- -",
+            b"in 0 0x00 -",
+            b"in 0 00,00 -",
+        ],
+    )
+}
+
+/// A line with tokens that are written otherwise.
+#[test]
+fn tokens(rt: HostRuntime) -> Result<(), Fail> {
+    are_bad(
+        &rt,
+        &[
+            b"in 0 - 2147483648",
+            b"in 0 - 4294967296",
+            b"in 0 - -1",
+            b"in 0 - +1",
+            b"in 0 - 01",
+            b"in 0 - 1,",
+            b"in 0 - ,1",
+            b"in 0 - 1,,2",
+            b"in 0 - ,",
+            b"in 0 - -,1",
+            b"in 0 - 1;2",
+        ],
+    )
+}
+
+/// A line with a fault that is none.
+#[test]
+fn faults(rt: HostRuntime) -> Result<(), Fail> {
+    are_bad(
+        &rt,
+        &[
+            b"fail 0 in OutOfMemory",
+            b"fail 0 in pipe",
+            b"fail 0 in Other(5)",
+            b"fail 0 in Io",
+            b"fail 0 up Pipe",
+            b"fail 0 In Pipe",
+            b"fail 0 out",
+            b"fail in 0 Pipe",
+        ],
+    )
+}
+
+/// A line with another character.
+#[test]
+fn characters(rt: HostRuntime) -> Result<(), Fail> {
+    are_bad(
+        &rt,
+        &[
+            b"client\r",
+            b"client\t",
+            b"\tclient",
+            b"read\t0",
+            b"read 0\r",
+            b"client\0",
+            b"read 0\0",
+            b"client,",
+            b"read \xd9\xa0",
+            b"\xef\xbb\xbfclient",
+            b"client\xc2\xa0",
+        ],
+    )
+}
+
+/// A line with no text.
+#[test]
+fn no_text(rt: HostRuntime) -> Result<(), Fail> {
+    are_bad(
+        &rt,
+        &[
+            b"global \xff 3",
+            b"client\xff",
+            b"\xc3",
+            b"global \xed\xa0\x80 1",
+        ],
+    )
+}
+
+/// A line with a slot at which no client was inserted.
+#[test]
+fn slots(rt: HostRuntime) -> Result<(), Fail> {
+    are_bad(
+        &rt,
+        &[
+            b"read 1",
+            b"finish 1",
+            b"kill 1",
+            b"in 1 - -",
+            b"accept 1 5",
+            b"fail 1 in Pipe",
+            b"fail 1 out Pipe",
+            b"read 4294967295",
+        ],
+    )
+}
+
+/// The commands before the first bad line are carried out, and none behind it; empty lines count.
+#[test]
+fn first_bad_line(rt: HostRuntime) -> Result<(), Fail> {
+    let alloc = rt.alloc();
+    tells(
+        &rt,
+        printed(alloc, b"read 0\nclient\n"),
+        "line 1: bad command\n",
+    )?;
+    tells(
+        &rt,
+        printed(alloc, b"\nclient\n\nread 0\nquit\nclient\n"),
+        "client 0 1\nfault WouldBlock\nline 5: bad command\n",
+    )
+}
