@@ -2,6 +2,7 @@
 //!
 //! A run is a list of `Act`s, and `log_of` makes its calls, each by `replay`.
 
+mod arguments;
 mod arrivals;
 mod example;
 mod globals;
@@ -10,5 +11,6 @@ mod notes;
 mod one_client;
 mod run;
 mod steps;
+mod storages;
 mod told;
 mod values;

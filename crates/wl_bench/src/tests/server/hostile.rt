@@ -14,7 +14,7 @@ use std::test::Fail;
 use wl_wire::IoFault;
 
 /// A client with a registry, by `wl_display.get_registry`, and a `quad` of version 3, by `wl_registry.bind`.
-static BOUND: [Call; 8] = [
+pub static BOUND: [Call; 8] = [
     Call::Insert(true),
     Call::Global(QUAD, 3),
     Call::Arrive(FIRST, &[1, 0, 0, 0, 1, 0, 12, 0, 2, 0, 0, 0]),

@@ -24,6 +24,8 @@ pub enum Act {
     InWant(Call),
     /// Puts the bytes and zeros behind them, of that length in all, behind what is to arrive, each byte by itself.
     ArriveBytewise(Who, &'static [u8], usize),
+    /// Puts so many zeros behind what is to arrive.
+    ArriveZeros(Who, usize),
     /// Puts a bind of the global 1 behind what is to arrive, with a name of 1400 bytes 0xFF.
     ArriveLongBind(Who),
     /// Creates so many globals.
@@ -126,6 +128,14 @@ fn arrive_bytewise(
 ) -> Result<(), Fail> {
     let bytes = padded(alloc, bytes, len)?;
     let steps = bytewise(alloc, who, bytes.as_slice())?;
+    made(server, steps)
+}
+
+/// Puts so many zeros behind what is to arrive.
+fn arrive_zeros(alloc: Global, server: &mut Server, who: Who, len: usize) -> Result<(), Fail> {
+    let zeros = padded(alloc, &[], len)?;
+    let mut steps = Vec::new(alloc);
+    steps.push(arrive(alloc, who, zeros.as_slice())?)?;
     made(server, steps)
 }
 
@@ -270,6 +280,7 @@ fn look_at(alloc: Global, server: &Server, log: &mut String, at_what: Look) -> R
 fn prepare(alloc: Global, server: &mut Server, act: Act) -> Result<(), Fail> {
     match act {
         Act::ArriveBytewise(who, bytes, len) => arrive_bytewise(alloc, server, who, bytes, len),
+        Act::ArriveZeros(who, len) => arrive_zeros(alloc, server, who, len),
         Act::ArriveLongBind(who) => arrive_long_bind(alloc, server, who),
         Act::Globals(count) => globals(alloc, server, count),
         Act::Quietly(calls) => quietly(alloc, server, calls),
