@@ -3,6 +3,7 @@
 //! A run is a list of `Act`s, and `log_of` makes its calls, each by `replay`.
 
 mod announced;
+mod arguments;
 mod arrivals;
 mod cutting;
 mod example;
@@ -13,5 +14,6 @@ mod notes;
 mod one_client;
 mod run;
 mod steps;
+mod storages;
 mod told;
 mod values;

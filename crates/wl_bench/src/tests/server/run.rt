@@ -27,6 +27,8 @@ pub enum Act {
     /// Puts the bytes and zeros behind them, of that length in all, behind what is to arrive, in chunks of 4096 bytes, and
     /// the descriptor with the first of them.
     ArriveInChunks(Who, &'static [u8], usize, i32),
+    /// Puts so many zeros behind what is to arrive.
+    ArriveZeros(Who, usize),
     /// Puts a bind of the global 1 behind what is to arrive, with a name of 1400 bytes 0xFF.
     ArriveLongBind(Who),
     /// Creates so many globals.
@@ -154,6 +156,14 @@ fn arrive_in_chunks(
 ) -> Result<(), Fail> {
     let bytes = padded(alloc, bytes, len)?;
     let steps = chunked(alloc, who, bytes.as_slice(), descriptor)?;
+    made(server, steps)
+}
+
+/// Puts so many zeros behind what is to arrive.
+fn arrive_zeros(alloc: Global, server: &mut Server, who: Who, len: usize) -> Result<(), Fail> {
+    let zeros = padded(alloc, &[], len)?;
+    let mut steps = Vec::new(alloc);
+    steps.push(arrive(alloc, who, zeros.as_slice())?)?;
     made(server, steps)
 }
 
@@ -301,6 +311,7 @@ fn prepare(alloc: Global, server: &mut Server, act: Act) -> Result<(), Fail> {
         Act::ArriveInChunks(who, bytes, len, descriptor) => {
             arrive_in_chunks(alloc, server, who, (bytes, len), descriptor)
         }
+        Act::ArriveZeros(who, len) => arrive_zeros(alloc, server, who, len),
         Act::ArriveLongBind(who) => arrive_long_bind(alloc, server, who),
         Act::Globals(count) => globals(alloc, server, count),
         Act::Quietly(calls) => quietly(alloc, server, calls),

@@ -6,7 +6,7 @@ use std::alloc::Global;
 use std::test::Fail;
 use wl_server::{ClientId, GlobalHandler, GlobalId, ObjectId};
 use wl_wire::{
-    Argument, INLINE_ARGS, InterfaceId, Message, Token, WL_CALLBACK_INTERFACE,
+    Argument, ByteArray, CString, INLINE_ARGS, InterfaceId, Message, Token, WL_CALLBACK_INTERFACE,
     WL_DISPLAY_INTERFACE, WL_REGISTRY_INTERFACE,
 };
 
@@ -84,6 +84,8 @@ pub enum Event {
     Made(Thing, Thing),
     /// An event of an object and an object, by its sender and its opcode.
     Pair(Thing, u16, Thing, Thing),
+    /// `pair.joined`, by its sender: of the object twice, the string `ab`, three bytes and the descriptor 9.
+    Joined(Thing, Thing),
 }
 
 impl Event {
@@ -91,7 +93,7 @@ impl Event {
     fn header(self) -> (Thing, u16) {
         match self {
             Event::Bare(sender, opcode) | Event::Pair(sender, opcode, _, _) => (sender, opcode),
-            Event::Moved(sender, _) => (sender, 0),
+            Event::Moved(sender, _) | Event::Joined(sender, _) => (sender, 0),
             Event::Made(sender, _) => (sender, 1),
         }
     }
@@ -100,8 +102,29 @@ impl Event {
 /// The arguments of a message.
 type Arguments = SmallVec<Argument<ObjectId, Token>, INLINE_ARGS>;
 
+/// The string `ab`.
+fn string(alloc: Global) -> Result<Argument<ObjectId, Token>, Fail> {
+    let text = CString::new(Vec::from_slice(alloc, b"ab")?)?;
+    Ok(Argument::Str(Some(text)))
+}
+
+/// Three bytes.
+fn bytes(alloc: Global) -> Result<Argument<ObjectId, Token>, Fail> {
+    let bytes = Vec::from_slice(alloc, &[1, 2, 3])?;
+    Ok(Argument::Array(ByteArray::new(bytes)))
+}
+
+/// Puts the arguments of `pair.joined` behind the others.
+fn push_joined(alloc: Global, args: &mut Arguments, object: Thing) -> Result<(), Fail> {
+    args.push(Argument::Object(object.id()))?;
+    args.push(Argument::Object(object.id()))?;
+    args.push(string(alloc)?)?;
+    args.push(bytes(alloc)?)?;
+    Ok(args.push(Argument::Fd(Token(9)))?)
+}
+
 /// Puts the event's arguments behind the others.
-fn push_arguments(args: &mut Arguments, event: Event) -> Result<(), Fail> {
+fn push_arguments(alloc: Global, args: &mut Arguments, event: Event) -> Result<(), Fail> {
     match event {
         Event::Bare(_, _) => {}
         Event::Moved(_, value) => args.push(Argument::Int(value))?,
@@ -110,6 +133,7 @@ fn push_arguments(args: &mut Arguments, event: Event) -> Result<(), Fail> {
             args.push(Argument::Object(first.id()))?;
             args.push(Argument::Object(second.id()))?;
         }
+        Event::Joined(_, object) => push_joined(alloc, args, object)?,
     }
     Ok(())
 }
@@ -117,7 +141,7 @@ fn push_arguments(args: &mut Arguments, event: Event) -> Result<(), Fail> {
 /// The event as a message.
 pub fn message(alloc: Global, event: Event) -> Result<Message<ObjectId, Token>, Fail> {
     let mut args = SmallVec::new(alloc);
-    push_arguments(&mut args, event)?;
+    push_arguments(alloc, &mut args, event)?;
     let (sender, opcode) = event.header();
     Ok(Message {
         sender_id: sender.id(),

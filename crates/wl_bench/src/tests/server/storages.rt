@@ -1,0 +1,195 @@
+//! Storages that have too little room: they grow as far as the program lets them.
+
+use super::arrivals::{DESTROY, SYNC_AT_4, SYNC_AT_5};
+use super::hostile::BOUND as WITH_A_QUAD;
+use super::run::{Act, Look, log_of};
+use super::steps::Call;
+use super::values::{BOUND, Event, FIRST, Named, Thing};
+use crate::tests::quad::{PAIR, QUAD};
+use crate::tests::tells;
+use std::alloc::Global;
+use std::test::Fail;
+
+/// `quad.give`, by object 3, of no string and 4984 bytes, as far as these.
+static LONG_GIVE: [u8; 16] = [3, 0, 0, 0, 4, 0, 0x88, 0x13, 0, 0, 0, 0, 0x78, 0x13, 0, 0];
+
+/// The `pair` that the server makes for the client behind those.
+const PAIRED: Thing = Thing(FIRST, 0xFF00_0000, 3, PAIR);
+
+/// Puts the acts by which the messages of so many globals, 28 bytes each, wait for a client in a storage of 4096 bytes,
+/// which may grow to the limit.
+fn push_globals(acts: &mut Vec<Act>, count: u32, limit: usize) -> Result<(), Fail> {
+    acts.push(Act::Quietly(&WITH_A_QUAD))?;
+    acts.push(Act::Globals(count))?;
+    Ok(acts.push(Act::Do(Call::Limit(FIRST, limit)))?)
+}
+
+/// Puts the calls, and the acts that tell how many bytes each send takes then.
+fn push_calls(acts: &mut Vec<Act>, calls: &[Call]) -> Result<(), Fail> {
+    for call in calls {
+        acts.push(Act::Do(*call))?;
+    }
+    acts.push(Act::Do(Call::Flush(FIRST)))?;
+    Ok(acts.push(Act::Look(Look::Lengths(FIRST)))?)
+}
+
+/// What is told of the calls where the messages of so many globals wait, and how many bytes each send takes then.
+fn behind_globals(alloc: Global, count: u32, limit: usize, calls: &[Call]) -> Result<String, Fail> {
+    let mut acts = Vec::new(alloc);
+    push_globals(&mut acts, count, limit)?;
+    push_calls(&mut acts, calls)?;
+    log_of(alloc, acts.as_slice())
+}
+
+/// The same where 4088 bytes wait.
+fn behind_4088_bytes(alloc: Global, limit: usize, calls: &[Call]) -> Result<String, Fail> {
+    behind_globals(alloc, 146, limit, calls)
+}
+
+/// What answers a sync: the callback's message, and its number where that message fits in.
+#[test]
+fn grows_for_a_sync(rt: HostRuntime) -> Result<(), Fail> {
+    let alloc = rt.alloc();
+    let sync = [Call::Arrive(FIRST, &SYNC_AT_4), Call::Next(FIRST)];
+    tells(
+        &rt,
+        behind_4088_bytes(alloc, 8192, &sync),
+        "Io error: would block\ndone\n4096 bytes\n16 bytes\n",
+    )?;
+    let moved_first = [
+        Call::Send(Event::Moved(BOUND, 7)),
+        Call::Send(Event::Moved(BOUND, 8)),
+        Call::Arrive(FIRST, &SYNC_AT_4),
+        Call::Next(FIRST),
+    ];
+    tells(
+        &rt,
+        behind_globals(alloc, 145, 8192, &moved_first),
+        "done\ndone\nIo error: would block\ndone\n4096 bytes\n12 bytes\n",
+    )
+}
+
+/// What answers other requests: the globals of a registry, and an error.
+#[test]
+fn grows_for_other_answers(rt: HostRuntime) -> Result<(), Fail> {
+    let alloc = rt.alloc();
+    let registry = [
+        Call::Arrive(FIRST, &[1, 0, 0, 0, 1, 0, 12, 0, 4, 0, 0, 0]),
+        Call::Next(FIRST),
+    ];
+    tells(
+        &rt,
+        behind_4088_bytes(alloc, 16384, &registry),
+        "Io error: would block\ndone\n4096 bytes\n4096 bytes\n12 bytes\n",
+    )?;
+    let wrong = [
+        Call::Arrive(FIRST, &SYNC_AT_5),
+        Call::Next(FIRST),
+        Call::Notes,
+    ];
+    tells(
+        &rt,
+        behind_4088_bytes(alloc, 8192, &wrong),
+        "Io error: broken pipe\ninitialized 0, 1\ndisconnected 0, 1: error 0 on wl_display 1: Invalid new_id: 5.\ndone\n4096 bytes\n32 bytes\n",
+    )
+}
+
+/// The number of an object that ends: by the program, by an event that fits in, and by a request.
+#[test]
+fn grows_for_the_number_of_an_object_that_ends(rt: HostRuntime) -> Result<(), Fail> {
+    let alloc = rt.alloc();
+    tells(
+        &rt,
+        behind_4088_bytes(alloc, 8192, &[Call::Destroy(BOUND)]),
+        "done\ndone\n4096 bytes\n4 bytes\n",
+    )?;
+    tells(
+        &rt,
+        behind_4088_bytes(alloc, 8192, &[Call::Send(Event::Bare(BOUND, 2))]),
+        "done\ndone\n4096 bytes\n12 bytes\n",
+    )?;
+    let finished = [
+        Call::Arrive(FIRST, &DESTROY),
+        Call::Next(FIRST),
+        Call::Finish(FIRST, None),
+    ];
+    tells(
+        &rt,
+        behind_4088_bytes(alloc, 8192, &finished),
+        "request 2 to 3, 2, 4 of 0, which ends it\nfinished\ndone\n4096 bytes\n4 bytes\n",
+    )
+}
+
+/// Events, with a descriptor and without; and one that goes behind a flush, where the storage may not grow.
+#[test]
+fn grows_for_events(rt: HostRuntime) -> Result<(), Fail> {
+    let alloc = rt.alloc();
+    tells(
+        &rt,
+        behind_4088_bytes(alloc, 8192, &[Call::Send(Event::Moved(BOUND, 7))]),
+        "done\ndone\n4096 bytes\n4 bytes\n",
+    )?;
+    let joined = [
+        Call::Create(FIRST, PAIR, 1, 5),
+        Call::Send(Event::Joined(PAIRED, BOUND)),
+    ];
+    tells(
+        &rt,
+        behind_4088_bytes(alloc, 8192, &joined),
+        "created 4278190080, 3, 5 of 0\ndone\ndone\n4096 bytes\n24 bytes\n",
+    )?;
+    tells(
+        &rt,
+        behind_4088_bytes(alloc, 4096, &joined),
+        "created 4278190080, 3, 5 of 0\ndone\ndone\n4088 bytes\n32 bytes\n",
+    )
+}
+
+/// A global that is created, and one that is announced no more.
+#[test]
+fn grows_for_globals(rt: HostRuntime) -> Result<(), Fail> {
+    let alloc = rt.alloc();
+    tells(
+        &rt,
+        behind_4088_bytes(alloc, 8192, &[Call::Global(QUAD, 3)]),
+        "global 148, 148\ndone\n4096 bytes\n20 bytes\n",
+    )?;
+    tells(
+        &rt,
+        behind_4088_bytes(alloc, 8192, &[Call::Disable(Named(1, 1))]),
+        "done\n4096 bytes\n4 bytes\n",
+    )?;
+    tells(
+        &rt,
+        behind_4088_bytes(alloc, 8192, &[Call::Remove(Named(1, 1))]),
+        "done\n4096 bytes\n4 bytes\n",
+    )
+}
+
+/// An error that the program posts.
+#[test]
+fn grows_for_a_posted_error(rt: HostRuntime) -> Result<(), Fail> {
+    let calls = [Call::PostError(BOUND, 7, "no"), Call::Notes];
+    tells(
+        &rt,
+        behind_4088_bytes(rt.alloc(), 8192, &calls),
+        "initialized 0, 1\ndisconnected 0, 1: error 7 on quad 3: no\ndone\n4096 bytes\n16 bytes\n",
+    )
+}
+
+/// A request of 5000 bytes, which the first storage cannot hold.
+#[test]
+fn grows_for_a_long_request(rt: HostRuntime) -> Result<(), Fail> {
+    let acts = [
+        Act::Do(Call::DefaultLimit(8192)),
+        Act::Quietly(&WITH_A_QUAD),
+        Act::Do(Call::ArriveWith(FIRST, &LONG_GIVE, 7)),
+        Act::ArriveZeros(FIRST, 4984),
+        Act::Do(Call::Next(FIRST)),
+    ];
+    tells(
+        &rt,
+        log_of(rt.alloc(), &acts),
+        "request 4 to 3, 2, 4 of 0: no string: 4984 bytes: fd 7\n",
+    )
+}
