@@ -9,6 +9,8 @@ use Rattle.wl_server.specs.declared.kept.KeptGlobal.{KeptGlobal}
 use Rattle.wl_server.specs.declared.note.Note.{Note}
 use Rattle.wl_server.specs.declared.step.Reply.{Reply}
 use Rattle.wl_server.specs.declared.step.Step.{Step}
+use Rattle.wl_server.specs.AccountLaws.{calls}
+use Rattle.wl_server.specs.Backend.{Calls}
 use Rattle.wl_server.specs.Client.{Does}
 use Rattle.wl_server.specs.Deeds.{Deed}
 use Rattle.wl_server.specs.Globals.{Offer}
@@ -77,13 +79,14 @@ module _ {T U G C : Type 0} (w : World T G C) (before : ServerState T U G C) (s 
           at false is = absurd (false≢true is)
 
   -- the same of a slot that was looked up
-  pub done_at : (n : ℕ) (x : Option (Stored T U C)) (c c' : Stored T U C) (lacked : Bool) → is_some (client_at target before.clients) ≡ true → n ≡ target.slot
+  pub done_at : {was : Bool} (n : ℕ) (x : Option (Stored T U C)) (c c' : Stored T U C) (lacked : Bool) → is_some (client_at target before.clients) ≡ true → n ≡ target.slot
       → x ≡ slice_index_or before.clients n x → x ≡ Some c → Does c (λ p did q. R target p lacked did q) c'
-      → StepOf w before s answer lacked (with_clients (slice_set before.clients n (Some c')))
+      → Calls w (record { server = before; refused = was }) s answer (record { server = with_clients (slice_set before.clients n (Some c')); refused = lacked })
   done_at n x c c' lacked some at value is does =
       let has = slot_has before.clients target n x c some at value is in
-      subst (λ (i : ℕ). StepOf w before s answer lacked (with_clients (slice_set before.clients i (Some c')))) (sym at)
-      (own_call c c' lacked has.0 has.1 does)
+      calls _ _ _ _ _
+      (subst (λ (i : ℕ). StepOf w before s answer lacked (with_clients (slice_set before.clients i (Some c')))) (sym at)
+      (own_call c c' lacked has.0 has.1 does))
 
   -- there is no such client
   no_such_client : client_at target before.clients ≡ None → missing → StepOf w before s answer false before
@@ -109,8 +112,9 @@ module _ {T U G C : Type 0} (w : World T G C) (before : ServerState T U G C) (s 
       was_refused (inl growth) = absurd (false≢true (sym own.growth ∙ growth))
       was_refused (inr (id, lacks)) = lacks
 
-  pub not_stored : is_some (client_at target before.clients) ≡ false → missing → StepOf w before s answer false before
-  not_stored none is = no_such_client (nothing (client_at target before.clients) none) is
+  pub not_stored : {was : Bool} → is_some (client_at target before.clients) ≡ false → missing
+      → Calls w (record { server = before; refused = was }) s answer (record { server = before; refused = false })
+  not_stored none is = calls _ _ _ _ _ (no_such_client (nothing (client_at target before.clients) none) is)
     where
       nothing : (o : Option (Stored T U C)) → is_some o ≡ false → o ≡ None
       nothing None h = refl

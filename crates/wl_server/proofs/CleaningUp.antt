@@ -9,6 +9,8 @@ use Rattle.wl_server.specs.declared.note.Happening.{Happening}
 use Rattle.wl_server.specs.declared.note.Note.{Note}
 use Rattle.wl_server.specs.declared.step.Reply.TheVariants as reply
 use Rattle.wl_server.specs.declared.step.Step.TheVariants as step
+use Rattle.wl_server.specs.AccountLaws.{calls}
+use Rattle.wl_server.specs.Backend.{Calls}
 use Rattle.wl_server.specs.Cleanup.{CleansUp}
 use Rattle.wl_server.specs.Ids.{ClientParts}
 use Rattle.wl_server.specs.Leaving.{FlushesKilled}
@@ -26,10 +28,10 @@ module _ {T U G C : Type 0} (w : World T G C) (before : ServerState T U G C) whe
   abbrev flush : Kind T U C
   flush id p lacked did q = FlushesKilled w.sends p lacked did q
 
-  pub cleaned_up : (refused : Bool) (clients' : List (Option (Stored T U C))) (notes' : List (Note U)) (out : Vec (ClientParts × T) Global) (given : List (ClientParts × T)) → out.items ≡ given
+  pub cleaned_up : {was : Bool} (refused : Bool) (clients' : List (Option (Stored T U C))) (notes' : List (Note U)) (out : Vec (ClientParts × T) Global) (given : List (ClientParts × T)) → out.items ≡ given
       → CleansUp w.sends before.clients before.notes refused clients' notes' given
-      → StepOf w before step.Cleanup (reply.Cleanup (Ok out)) refused (record before { clients = clients'; notes = notes' })
-  cleaned_up refused clients' notes' out given are by = (
+      → Calls w (record { server = before; refused = was }) step.Cleanup (reply.Cleanup (Ok out)) (record { server = record before { clients = clients'; notes = notes' }; refused = refused })
+  cleaned_up refused clients' notes' out given are by = calls _ _ _ _ _ (
     record { call = Asked step.Cleanup (reply.Cleanup (Ok out)); refused = refused; lacks = λ id. lacked id; did = λ id. (one id).0 },
     refl,
     refl,
@@ -79,7 +81,7 @@ module _ {T U G C : Type 0} (w : World T G C) (before : ServerState T U G C) whe
     },
   )
 
-  pub cleanup_starved : (e : OutOfMemory) (notes' : List (Note U)) → notes' ≡ before.notes
-      → StepOf w before step.Cleanup (reply.Cleanup (Err e)) true (record before { notes = notes' })
+  pub cleanup_starved : {was : Bool} (e : OutOfMemory) (notes' : List (Note U)) → notes' ≡ before.notes
+      → Calls w (record { server = before; refused = was }) step.Cleanup (reply.Cleanup (Err e)) (record { server = record before { notes = notes' }; refused = true })
   cleanup_starved e notes' same =
-      subst (λ (ns : List (Note U)). StepOf w before step.Cleanup (reply.Cleanup (Err e)) true (record before { notes = ns })) (sym same) (not_cleaned e)
+      calls _ _ _ _ _ (subst (λ (ns : List (Note U)). StepOf w before step.Cleanup (reply.Cleanup (Err e)) true (record before { notes = ns })) (sym same) (not_cleaned e))

@@ -9,6 +9,8 @@ use Rattle.std.proofs.lemmas.Option.{slice_get_past}
 use Rattle.wl_server.specs.declared.note.Happening.{Happening}
 use Rattle.wl_server.specs.declared.step.Reply.{Reply}
 use Rattle.wl_server.specs.declared.step.Step.{Step}
+use Rattle.wl_server.specs.AccountLaws.{calls}
+use Rattle.wl_server.specs.Backend.{Calls}
 use Rattle.wl_server.specs.Client.{Does}
 use Rattle.wl_server.specs.Deeds.{Deed}
 use Rattle.wl_server.specs.Globals.{Offer}
@@ -16,7 +18,7 @@ use Rattle.wl_server.specs.Ids.{ClientParts}
 use Rattle.wl_server.specs.PartStep.{Asked, Call, Feels, PartStep, World}
 use Rattle.wl_server.specs.Places.{AllFeel, FeltAt, PlaceFeels}
 use Rattle.wl_server.specs.Server.{Seen, ServerState, Stored, client_at, if_serial, seen_as, notes_of}
-use Rattle.wl_server.specs.Steps.{NumbersClient, NumbersGlobal, RisesBySlot, StepOf, inserted_by, lacks_growth, offer_after}
+use Rattle.wl_server.specs.Steps.{NumbersClient, NumbersGlobal, RisesBySlot, inserted_by, lacks_growth, offer_after}
 use Rattle.wl_server.proofs.Slots.{Kind, client_present, get_set_other, get_set_same, on_part, other_of, same_parts, slot_within}
 
 module _ {T U C : Type 0} (R : Kind T U C) where
@@ -187,13 +189,13 @@ module _ {T U G C : Type 0} (w : World T G C) (before : ServerState T U G C) (s 
   last n zero = omega (arith, zero)
 
   -- all clients felt it
-  pub felt_call : (R : Kind T U C) (refused : Bool) (offer : Offer G) (clients : List (Option (Stored T U C)))
+  pub felt_call : {was : Bool} (R : Kind T U C) (refused : Bool) (offer : Offer G) (clients : List (Option (Stored T U C)))
       → offer ≡ offer_after before.offer (Asked s answer) → NumbersGlobal before.offer (Asked s answer) → lacks_growth (Asked s answer) ≡ false
       → ((id : ClientParts) (lacked : Bool) (did : List (Deed U)) (b a : Seen T U C) → Feels b (λ p q. R id p lacked did q) lacked did a
       → PartStep w id before.offer s answer b lacked did a)
       → AllFeel R refused (length before.clients) before.clients clients
-      → StepOf w before s answer refused (record before { offer = offer; clients = clients })
-  felt_call R refused offer clients becomes numbers growth to all = (
+      → Calls w (record { server = before; refused = was }) s answer (record { server = record before { offer = offer; clients = clients }; refused = refused })
+  felt_call R refused offer clients becomes numbers growth to all = calls _ _ _ _ _ (
     record { call = Asked s answer; refused = refused; lacks = λ id. lacks_of R refused before.clients clients all id; did = λ id. (by id).0 },
     refl,
     refl,
@@ -216,10 +218,10 @@ module _ {T U G C : Type 0} (w : World T G C) (before : ServerState T U G C) (s 
       was_refused (inr (id, lacks)) = one_lacks R refused before.clients clients all id lacks
 
   -- no client made anything of it
-  pub unfelt_call : (refused : Bool) (offer : Offer G) → offer ≡ offer_after before.offer (Asked s answer) → NumbersGlobal before.offer (Asked s answer)
+  pub unfelt_call : {was : Bool} (refused : Bool) (offer : Offer G) → offer ≡ offer_after before.offer (Asked s answer) → NumbersGlobal before.offer (Asked s answer)
       → lacks_growth (Asked s answer) ≡ refused → ((id : ClientParts) (b : Seen T U C) → PartStep w id before.offer s answer b false [] b)
-      → StepOf w before s answer refused (record before { offer = offer })
-  unfelt_call refused offer becomes numbers growth to = (
+      → Calls w (record { server = before; refused = was }) s answer (record { server = record before { offer = offer }; refused = refused })
+  unfelt_call refused offer becomes numbers growth to = calls _ _ _ _ _ (
     record { call = Asked s answer; refused = refused; lacks = λ id. false; did = λ id. [] },
     refl,
     refl,

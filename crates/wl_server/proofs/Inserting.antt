@@ -13,6 +13,8 @@ use Rattle.wl_server.specs.declared.note.Happening.TheVariants.{Initialized}
 use Rattle.wl_server.specs.declared.note.Note.{Note}
 use Rattle.wl_server.specs.declared.step.Reply.TheVariants as reply
 use Rattle.wl_server.specs.declared.step.Step.TheVariants as step
+use Rattle.wl_server.specs.AccountLaws.{calls}
+use Rattle.wl_server.specs.Backend.{Calls}
 use Rattle.wl_server.specs.Client.{IsInserted}
 use Rattle.wl_server.specs.Deeds.{Noted}
 use Rattle.wl_server.specs.Globals.{Offer}
@@ -138,11 +140,12 @@ module _ {T U G C : Type 0} (w : World T G C) where
   -- ---- the step
 
   -- the client of this id was put at its slot
-  pub inserted : (before : ServerState T U G C) (transport : T) (info : C) (new : ClientParts) (s : Stored T U C) (clients' : List (Option (Stored T U C)))
+  pub inserted : {was : Bool} (before : ServerState T U G C) (transport : T) (info : C) (new : ClientParts) (s : Stored T U C) (clients' : List (Option (Stored T U C)))
       → IsLeastFree before.clients new.slot → before.last_client < last_possible_serial → new.serial ≡ before.last_client + 1
       → IsInserted new.serial transport (Some before.offer.default_limit) info s → IsPut before.clients new.slot s clients'
-      → StepOf w before (step.InsertClient transport info) (reply.InsertClient (Ok new)) false (record before { last_client = before.last_client + 1; clients = clients' })
-  inserted before transport info new s clients' free below serial is put = (
+      → Calls w (record { server = before; refused = was }) (step.InsertClient transport info) (reply.InsertClient (Ok new))
+      (record { server = record before { last_client = before.last_client + 1; clients = clients' }; refused = false })
+  inserted before transport info new s clients' free below serial is put = calls _ _ _ _ _ (
     record {
       call = Asked (step.InsertClient transport info) (reply.InsertClient (Ok new));
       refused = false;
@@ -167,9 +170,9 @@ module _ {T U G C : Type 0} (w : World T G C) where
       was_refused (inr (id, h)) = h
 
   -- no slot or no serial is left
-  pub not_inserted : (before : ServerState T U G C) (transport : T) (info : C) → LacksSlot before.last_client before.clients
-      → StepOf w before (step.InsertClient transport info) (reply.InsertClient (Err insert.Full)) false before
-  not_inserted before transport info lacks = (
+  pub not_inserted : {was : Bool} (before : ServerState T U G C) (transport : T) (info : C) → LacksSlot before.last_client before.clients
+      → Calls w (record { server = before; refused = was }) (step.InsertClient transport info) (reply.InsertClient (Err insert.Full)) (record { server = before; refused = false })
+  not_inserted before transport info lacks = calls _ _ _ _ _ (
     record { call = Asked (step.InsertClient transport info) (reply.InsertClient (Err insert.Full)); refused = false; lacks = λ id. false; did = λ id. [] },
     refl,
     refl,
@@ -207,9 +210,10 @@ module _ {T U G C : Type 0} (w : World T G C) where
     },
   )
 
-  pub insertion_starved : (before : ServerState T U G C) (transport : T) (info : C) (new : ClientParts) (clients' : List (Option (Stored T U C)))
+  pub insertion_starved : {was : Bool} (before : ServerState T U G C) (transport : T) (info : C) (new : ClientParts) (clients' : List (Option (Stored T U C)))
       → IsLeastFree before.clients new.slot → before.last_client < last_possible_serial → new.serial ≡ before.last_client + 1 → clients' ≡ before.clients
-      → StepOf w before (step.InsertClient transport info) (reply.InsertClient (Err insert.OutOfMemory)) true (record before { clients = clients' })
+      → Calls w (record { server = before; refused = was }) (step.InsertClient transport info) (reply.InsertClient (Err insert.OutOfMemory)) (record { server = record before { clients = clients' }; refused = true })
   insertion_starved before transport info new clients' free below serial same =
-      subst (λ (xs : List (Option (Stored T U C))). StepOf w before (step.InsertClient transport info) (reply.InsertClient (Err insert.OutOfMemory)) true (record before { clients = xs }))
-      (sym same) (starved_so before transport info new free below serial)
+      calls _ _ _ _ _
+      (subst (λ (xs : List (Option (Stored T U C))). StepOf w before (step.InsertClient transport info) (reply.InsertClient (Err insert.OutOfMemory)) true (record before { clients = xs }))
+      (sym same) (starved_so before transport info new free below serial))

@@ -6,6 +6,8 @@ use Rattle.wl_server.specs.declared.error.ScriptError.TheVariants as script
 use Rattle.wl_server.specs.declared.step.Reply.{Reply}
 use Rattle.wl_server.specs.declared.step.Step.{Step}
 use Rattle.wl_server.specs.declared.step.Step.TheVariants as step
+use Rattle.wl_server.specs.AccountLaws.{calls}
+use Rattle.wl_server.specs.Backend.{BackendState, Calls}
 use Rattle.wl_server.specs.Deeds.{Deed, notes_in}
 use Rattle.wl_server.specs.Globals.{Offer}
 use Rattle.wl_server.specs.Ids.{ClientParts, GlobalParts, same_client}
@@ -79,9 +81,9 @@ module _ {U G C : Type 0} (views : G → ClientParts → C → GlobalParts → B
     part_call (Asked s answer) before lacked did after h = part_step s answer before lacked did after h
     part_call (Changed target t) before lacked did after h = h
 
-  pub over_script : (before : ServerState Script U G C) (s : Step Script U G C) (answer : Reply Script U) (refused : Bool) (after : ServerState Script U G C)
+  step_over_script : (before : ServerState Script U G C) (s : Step Script U G C) (answer : Reply Script U) (refused : Bool) (after : ServerState Script U G C)
       → StepOf (by_script views) before s answer refused after → StepOf (over_scripts views) before s answer refused after
-  over_script before s answer refused after (e, call, is, one) = (
+  step_over_script before s answer refused after (e, call, is, one) = (
     e,
     call,
     is,
@@ -95,3 +97,7 @@ module _ {U G C : Type 0} (views : G → ClientParts → C → GlobalParts → B
       each = λ id. part_call id before.offer e.call _ _ _ _ (one.each id);
     },
   )
+
+  pub over_script : (before : BackendState Script U G C) (s : Step Script U G C) (answer : Reply Script U) (after : BackendState Script U G C)
+      → Calls (by_script views) before s answer after → Calls (over_scripts views) before s answer after
+  over_script before s answer after call = calls _ _ _ _ _ (step_over_script before.server s answer after.refused after.server call.step)

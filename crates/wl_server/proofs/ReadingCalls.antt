@@ -10,6 +10,7 @@ use Rattle.wl_server.specs.declared.error.ActionError.{ActionError}
 use Rattle.wl_server.specs.declared.error.ActionError.TheVariants.{Io}
 use Rattle.wl_server.specs.declared.step.Reply.TheVariants as reply
 use Rattle.wl_server.specs.declared.step.Step.TheVariants as step
+use Rattle.wl_server.specs.Backend.{Calls}
 use Rattle.wl_server.specs.Deeds.{Handed}
 use Rattle.wl_server.specs.Globals.{Offer}
 use Rattle.wl_server.specs.Client.{Does}
@@ -17,7 +18,6 @@ use Rattle.wl_server.specs.Ids.{ClientParts, GlobalParts}
 use Rattle.wl_server.specs.PartStep.{Asked, World, around, over}
 use Rattle.wl_server.specs.Reading.{NextAction, action_content, new_reading}
 use Rattle.wl_server.specs.Server.{ServerState, Stored, client_at}
-use Rattle.wl_server.specs.Steps.{StepOf}
 use Rattle.wl_server.proofs.Calls.{IsOwn, done_at, not_stored}
 use Rattle.wl_server.proofs.Slots.{Kind}
 
@@ -41,14 +41,14 @@ module _ {T U G C : Type 0} (sends : T → Queue → Result ℕ IoFault → T �
   reads from = reads_kind there before.offer from (action_content answer) r'
 
   -- there is no such client
-  pub next_missing : is_some (client_at id before.clients) ≡ false → action_content answer ≡ Err (Io fault.InvalidInput) → r' ≡ r → r ≡ new_reading
-      → StepOf there before (step.NextAction id) (reply.NextAction answer) false before
+  pub next_missing : {was : Bool} → is_some (client_at id before.clients) ≡ false → action_content answer ≡ Err (Io fault.InvalidInput) → r' ≡ r → r ≡ new_reading
+      → Calls there (record { server = before; refused = was }) (step.NextAction id) (reply.NextAction answer) (record { server = before; refused = false })
   next_missing none is same fresh =
       not_stored there before (step.NextAction id) (reply.NextAction answer) (own_next id answer) id (reads new_reading) _
       (λ i l d b a h. (answer, r', refl, h)) none (is, same ∙ fresh)
 
-  pub within_missing : is_some (client_at id before.clients) ≡ false → action_content answer ≡ Err (Io fault.InvalidInput) → r' ≡ r
-      → StepOf there before (step.NextActionWithin id r) (reply.NextActionWithin answer r') false before
+  pub within_missing : {was : Bool} → is_some (client_at id before.clients) ≡ false → action_content answer ≡ Err (Io fault.InvalidInput) → r' ≡ r
+      → Calls there (record { server = before; refused = was }) (step.NextActionWithin id r) (reply.NextActionWithin answer r') (record { server = before; refused = false })
   within_missing none is same =
       not_stored there before (step.NextActionWithin id r) (reply.NextActionWithin answer r') (own_within id r answer r') id (reads r) _
       (λ i l d b a h. (answer, r', refl, h)) none (is, same)
@@ -60,13 +60,15 @@ module _ {T U G C : Type 0} (sends : T → Queue → Result ℕ IoFault → T �
     abbrev after : ServerState T U G C
     after = record before { clients = slice_set before.clients n (Some c') }
 
-    pub next_done : r ≡ new_reading → StepOf there before (step.NextAction id) (reply.NextAction answer) lacked after
+    pub next_done : {was : Bool} → r ≡ new_reading
+        → Calls there (record { server = before; refused = was }) (step.NextAction id) (reply.NextAction answer) (record { server = after; refused = lacked })
     next_done fresh =
         done_at there before (step.NextAction id) (reply.NextAction answer) (own_next id answer) id (reads new_reading) _
         (λ i l d b a h. (answer, r', refl, h)) n x c c' lacked some at value is
         (subst (λ (from : Reading). Does c (λ p did q. NextAction sends receives (around there id before.offer) from p (action_content answer) r' lacked did q) c') fresh does)
 
-    pub within_done : StepOf there before (step.NextActionWithin id r) (reply.NextActionWithin answer r') lacked after
+    pub within_done : {was : Bool}
+        → Calls there (record { server = before; refused = was }) (step.NextActionWithin id r) (reply.NextActionWithin answer r') (record { server = after; refused = lacked })
     within_done =
         done_at there before (step.NextActionWithin id r) (reply.NextActionWithin answer r') (own_within id r answer r') id (reads r) _
         (λ i l d b a h. (answer, r', refl, h)) n x c c' lacked some at value is does

@@ -11,6 +11,8 @@ use Rattle.wl_server.specs.declared.note.Happening.{Happening}
 use Rattle.wl_server.specs.declared.note.Note.{Note}
 use Rattle.wl_server.specs.declared.step.Reply.TheVariants as reply
 use Rattle.wl_server.specs.declared.step.Step.TheVariants as step
+use Rattle.wl_server.specs.AccountLaws.{calls}
+use Rattle.wl_server.specs.Backend.{Calls}
 use Rattle.wl_server.specs.Deeds.{NoteTaken}
 use Rattle.wl_server.specs.Gathering.{AllLeft, Gathers, all_emptied, emptied, leaving}
 use Rattle.wl_server.specs.Globals.{Offer}
@@ -120,12 +122,13 @@ module _ {T U G C : Type 0} (w : World T G C) (before : ServerState T U G C) whe
       was_refused (inl h) = h
       was_refused (inr (id, h)) = h
 
-  pub notes_taken : (clients' : List (Option (Stored T U C))) (gathered : List (Note U)) (out : Vec (Note U) Global) (notes' : List (Note U)) → out.items ≡ gathered → notes' ≡ []
+  pub notes_taken : {was : Bool} (clients' : List (Option (Stored T U C))) (gathered : List (Note U)) (out : Vec (Note U) Global) (notes' : List (Note U)) → out.items ≡ gathered → notes' ≡ []
       → Gathers false before.clients before.notes clients' gathered → AllLeft false clients'
-      → StepOf w before step.TakeNotes (reply.TakeNotes (Ok out)) false (record before { clients = clients'; notes = notes' })
+      → Calls w (record { server = before; refused = was }) step.TakeNotes (reply.TakeNotes (Ok out)) (record { server = record before { clients = clients'; notes = notes' }; refused = false })
   notes_taken clients' gathered out notes' are none by left =
-      subst (λ (ns : List (Note U)). StepOf w before step.TakeNotes (reply.TakeNotes (Ok out)) false (record before { clients = clients'; notes = ns })) (sym none)
-      (taken_so clients' out (subst (λ (ns : List (Note U)). Gathers false before.clients before.notes clients' ns) (sym are) by) left)
+      calls _ _ _ _ _
+      (subst (λ (ns : List (Note U)). StepOf w before step.TakeNotes (reply.TakeNotes (Ok out)) false (record before { clients = clients'; notes = ns })) (sym none)
+      (taken_so clients' out (subst (λ (ns : List (Note U)). Gathers false before.clients before.notes clients' ns) (sym are) by) left))
 
   -- there is no memory for it
   not_taken : (e : OutOfMemory) → StepOf w before step.TakeNotes (reply.TakeNotes (Err e)) true before
@@ -144,8 +147,9 @@ module _ {T U G C : Type 0} (w : World T G C) (before : ServerState T U G C) whe
     },
   )
 
-  pub notes_starved : (e : OutOfMemory) (clients' : List (Option (Stored T U C))) (notes' : List (Note U)) → clients' ≡ before.clients → notes' ≡ before.notes
-      → StepOf w before step.TakeNotes (reply.TakeNotes (Err e)) true (record before { clients = clients'; notes = notes' })
+  pub notes_starved : {was : Bool} (e : OutOfMemory) (clients' : List (Option (Stored T U C))) (notes' : List (Note U)) → clients' ≡ before.clients → notes' ≡ before.notes
+      → Calls w (record { server = before; refused = was }) step.TakeNotes (reply.TakeNotes (Err e)) (record { server = record before { clients = clients'; notes = notes' }; refused = true })
   notes_starved e clients' notes' same same' =
-      subst (λ (xs : List (Option (Stored T U C))). StepOf w before step.TakeNotes (reply.TakeNotes (Err e)) true (record before { clients = xs; notes = notes' })) (sym same)
-      (subst (λ (ns : List (Note U)). StepOf w before step.TakeNotes (reply.TakeNotes (Err e)) true (record before { notes = ns })) (sym same') (not_taken e))
+      calls _ _ _ _ _
+      (subst (λ (xs : List (Option (Stored T U C))). StepOf w before step.TakeNotes (reply.TakeNotes (Err e)) true (record before { clients = xs; notes = notes' })) (sym same)
+      (subst (λ (ns : List (Note U)). StepOf w before step.TakeNotes (reply.TakeNotes (Err e)) true (record before { notes = ns })) (sym same') (not_taken e)))

@@ -1,32 +1,48 @@
--- That steps with their replies have one history, of which all the laws hold.
-use Rattle.std.proofs.Common.{List}
+-- That steps with their replies have one history, of which all the laws hold, and that each public call keeps it so.
+use Rattle.std.proofs.Common.{List, [], ◌∷◌, ◌++◌, refl}
 use Rattle.wl_wire.specs.Table.{InterfaceRow}
 use Rattle.wl_link.specs.KeptLaws.{Within}
 use Rattle.wl_link.specs.Runs.{Entry as RunEntry}
 use Rattle.wl_server.specs.declared.step.Reply.{Reply}
 use Rattle.wl_server.specs.declared.step.Step.{Step}
-use Rattle.wl_server.specs.Accounts.{AreAccountedFor}
+use Rattle.wl_server.specs.Accounts.{AreAccountedFor, IsAccountedFor, StaysAccountedFor}
 use Rattle.wl_server.specs.AnnouncedLaw.{each_announces}
+use Rattle.wl_server.specs.Backend.{BackendState, Calls}
 use Rattle.wl_server.specs.IdentityLaws.{each_has_own_ids}
-use Rattle.wl_server.specs.IsolationLaw.{are_isolated}
+use Rattle.wl_server.specs.IsolationLaw.{are_isolated, is_isolated, join_runs}
 use Rattle.wl_server.specs.LogLaws.{each_log}
 use Rattle.wl_server.specs.NotedLaws.{each_is_noted}
 use Rattle.wl_server.specs.PartStep.{World}
-use Rattle.wl_server.specs.Runs.{Performs}
+use Rattle.wl_server.specs.Runs.{Leads, Performs}
 use Rattle.wl_server.specs.Server.{ServerState, new_server}
+use Rattle.wl_server.specs.Steps.{Entry, OneStep, StepOf}
+
+pub is_accounted_for : {T U G C : Type 0} (w : World T G C) → Within w.sends → (table : List InterfaceRow) (run : List (Entry T U G C)) (after : ServerState T U G C)
+    → Leads w (new_server table) run after → IsAccountedFor w table run after
+is_accounted_for w within table run after leads = record {
+  isolated = is_isolated w table run after leads;
+  ids = each_has_own_ids w table run after leads;
+  logs = each_log w within table run after leads;
+  announcements = each_announces w table run after leads;
+  notes = each_is_noted w table run after leads;
+}
 
 pub are_accounted_for : {T U G C : Type 0} (w : World T G C) → Within w.sends → (table : List InterfaceRow) (steps : List (RunEntry (Step T U G C) (Reply T U)))
     (after : ServerState T U G C) → Performs w (new_server table) steps after → AreAccountedFor w table steps after
 are_accounted_for w within table steps after performs =
-    let (run, are, leads, isolated) = are_isolated w table steps after performs in (
-      run,
-      are,
-      leads,
-      record {
-        isolated = isolated;
-        ids = each_has_own_ids w table run after leads;
-        logs = each_log w within table run after leads;
-        announcements = each_announces w table run after leads;
-        notes = each_is_noted w table run after leads;
-      },
-    )
+    let (run, are, leads, isolated) = are_isolated w table steps after performs in (run, are, leads, is_accounted_for w within table run after leads)
+
+-- ---- a public call
+
+stays_accounted_for : {T U G C : Type 0} (w : World T G C) → Within w.sends → (before : ServerState T U G C) (e : Entry T U G C) (after : ServerState T U G C)
+    → OneStep w before e after → StaysAccountedFor w before e after
+stays_accounted_for w within before e after one table run leads =
+    let longer = join_runs w (new_server table) before after run (e ∷ []) leads (after, one, refl) in
+    (longer, is_accounted_for w within table (run ++ e ∷ []) after longer)
+
+pub calls : {T U G C : Type 0} (w : World T G C) (before : BackendState T U G C) (call : Step T U G C) (answer : Reply T U) (after : BackendState T U G C)
+    → StepOf w before.server call answer after.refused after.server → Calls w before call answer after
+calls w before call answer after (e, is, refused, one) = record {
+  step = (e, is, refused, one);
+  accounted = λ within. stays_accounted_for w within before.server e after.server one;
+}

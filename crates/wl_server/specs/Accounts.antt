@@ -1,5 +1,5 @@
 -- What holds of each client of a server over a run, of one and the same history of deeds.
-use Rattle.std.specs.Prelude.{List}
+use Rattle.std.specs.Prelude.{List, [], ◌∷◌, ◌++◌}
 use Rattle.wl_wire.specs.Table.{InterfaceRow}
 use Rattle.wl_link.specs.Runs.{Entry as RunEntry}
 use Rattle.wl_server.specs.declared.step.Reply.{Reply}
@@ -26,3 +26,10 @@ pub record IsAccountedFor {T U G C : Type 0} (w : World T G C) (table : List Int
 abbrev pub AreAccountedFor : {T U G C : Type 0} → World T G C → List InterfaceRow → List (RunEntry (Step T U G C) (Reply T U)) → ServerState T U G C → Type 0
 AreAccountedFor {T = T} {U = U} {G = G} {C = C} w table steps after =
     (run : List (Entry T U G C)) × AreOf steps run × Leads w (new_server table) run after × IsAccountedFor w table run after
+
+-- From one value of a server to the next: a run of a new server that led to the one leads, with this call behind it, to the
+-- other, and all that holds of it.
+abbrev pub StaysAccountedFor : {T U G C : Type 0} → World T G C → ServerState T U G C → Entry T U G C → ServerState T U G C → Type 0
+StaysAccountedFor {T = T} {U = U} {G = G} {C = C} w before e after =
+    (table : List InterfaceRow) (run : List (Entry T U G C)) → Leads w (new_server table) run before
+    → Leads w (new_server table) (run ++ e ∷ []) after × IsAccountedFor w table (run ++ e ∷ []) after

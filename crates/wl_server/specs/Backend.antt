@@ -1,7 +1,9 @@
 -- What contracts see of a backend: the server, and whether its last call met a want of memory.
 use Rattle.std.specs.Prelude.{Bool}
+use Rattle.wl_link.specs.KeptLaws.{Within}
 use Rattle.wl_server.specs.declared.step.Reply.{Reply}
 use Rattle.wl_server.specs.declared.step.Step.{Step}
+use Rattle.wl_server.specs.Accounts.{StaysAccountedFor}
 use Rattle.wl_server.specs.PartStep.{World}
 use Rattle.wl_server.specs.Server.{ServerState}
 use Rattle.wl_server.specs.Steps.{StepOf}
@@ -10,6 +12,8 @@ pub record BackendState (T U G C : Type 0) : Type 0 where
   pub server : ServerState T U G C
   pub refused : Bool
 
--- what a public call does: it is a step with this reply
-abbrev pub Calls : {T U G C : Type 0} → World T G C → BackendState T U G C → Step T U G C → Reply T U → BackendState T U G C → Type 0
-Calls w before call answer after = StepOf w before.server call answer after.refused after.server
+-- What a public call does: it is a step with this reply. And behind each run of calls of a new server that led here, all the
+-- laws of runs hold of the run with this call: of one history, over a transport that takes no more than it is offered.
+pub record Calls {T U G C : Type 0} (w : World T G C) (before : BackendState T U G C) (call : Step T U G C) (answer : Reply T U) (after : BackendState T U G C) : Type 0 where
+  pub step : StepOf w before.server call answer after.refused after.server
+  pub accounted : Within w.sends → StaysAccountedFor w before.server step.0 after.server

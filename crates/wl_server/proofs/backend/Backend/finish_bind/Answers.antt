@@ -41,7 +41,7 @@ returns-clause-finished g c = rw (← c.self.view_is)
     c.index_mut.ensures.value c.in-Some.is c.finish_bind.ensures)
 
 pub returns-then-not-is_stored-clause-cutting : goal.returns-then-not-is_stored-clause-cutting
-returns-then-not-is_stored-clause-cutting g c = finish_bind_cuts _ _ _ _ _ _ _ (returns-then-not-is_stored-clause-finished g c)
+returns-then-not-is_stored-clause-cutting g c = finish_bind_cuts _ _ _ _ _ _ _ (returns-then-not-is_stored-clause-finished g c).step
 
 pub returns-clause-cutting : goal.returns-clause-cutting
-returns-clause-cutting g c = finish_bind_cuts _ _ _ _ _ _ _ (returns-clause-finished g c)
+returns-clause-cutting g c = finish_bind_cuts _ _ _ _ _ _ _ (returns-clause-finished g c).step

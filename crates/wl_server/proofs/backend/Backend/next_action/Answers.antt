@@ -6,4 +6,7 @@ pub returns-clause-room : goal.returns-clause-room
 returns-clause-room g c = next_has_room _ _ _ _ _
 
 pub returns-clause-cutting : goal.returns-clause-cutting
-returns-clause-cutting g c = next_action_cuts _ _ _ _ _ _ (c.read_client.ensures.fresh c.new-reading.ensures)
+returns-clause-cutting g c = next_action_cuts _ _ _ _ _ _ (c.read_client.ensures.fresh c.new-reading.ensures).step
+
+pub returns-clause-read : goal.returns-clause-read
+returns-clause-read g c = c.read_client.ensures.fresh c.new-reading.ensures

@@ -6,4 +6,4 @@ pub returns-clause-room : goal.returns-clause-room
 returns-clause-room g c = within_has_room _ _ _ _ _ _
 
 pub returns-clause-cutting : goal.returns-clause-cutting
-returns-clause-cutting g c = next_action_within_cuts _ _ _ _ _ _ _ _ c.read_client.ensures.within
+returns-clause-cutting g c = next_action_within_cuts _ _ _ _ _ _ _ _ c.read_client.ensures.within.step

@@ -19,7 +19,7 @@ pub returns-then-self-clause-stopped : goal.returns-then-self-clause-stopped
 returns-then-self-clause-stopped g c refused =
     stops (StepOf (over_scripts g.G.GlobalHandler.views)) _ _ _ _ c.loop-step.replies.items c.loop-step.steps.items c.pop.new.self.items c.in-Some.step c.perform-reply.result
     c.in-Some.ensures.items c.loop-step.invariant.so_far
-    (subst (λ b. StepOf (over_scripts g.G.GlobalHandler.views) c.loop-step.self.server c.in-Some.step c.perform-reply.result b c.perform-reply.new.self.server) refused c.perform-reply.ensures)
+    (subst (λ b. StepOf (over_scripts g.G.GlobalHandler.views) c.loop-step.self.server c.in-Some.step c.perform-reply.result b c.perform-reply.new.self.server) refused c.perform-reply.ensures.step)
 
 pub loop-step-preserved : goal.loop-step-preserved
 loop-step-preserved g c =
@@ -28,7 +28,7 @@ loop-step-preserved g c =
     (record {
       so_far = more (StepOf (over_scripts g.G.GlobalHandler.views)) _ _ _ _ c.loop-step.replies.items c.loop-step.steps.items c.pop.new.self.items c.in-Some.step c.perform-reply.result
           c.in-Some.ensures.items c.loop-step.invariant.so_far
-          (subst (λ b. StepOf (over_scripts g.G.GlobalHandler.views) c.loop-step.self.server c.in-Some.step c.perform-reply.result b c.perform-reply.new.self.server) calm c.perform-reply.ensures);
+          (subst (λ b. StepOf (over_scripts g.G.GlobalHandler.views) c.loop-step.self.server c.in-Some.step c.perform-reply.result b c.perform-reply.new.self.server) calm c.perform-reply.ensures.step);
       room = omega (arith, c.loop-step.invariant.room, c.in-Some.ensures.len, c.push_reserved.ensures.len, c.push_reserved.ensures.capacity);
       fewer = omega (arith, c.loop-step.invariant.fewer, c.in-Some.ensures.len);
       calm = calm;

@@ -2,10 +2,10 @@ use Rattle.wl_server.proofs.OverScripts.{over_script}
 use Rattle.wl_server.proofs.replay.Backend+Memory+U+G+C.perform_global.Goals as goal
 
 pub returns-in-CreateGlobal : goal.returns-in-CreateGlobal
-returns-in-CreateGlobal g c = rw c.in-CreateGlobal.is (over_script g.G.GlobalHandler.views _ _ _ _ _ c.create_global.ensures)
+returns-in-CreateGlobal g c = rw c.in-CreateGlobal.is (over_script g.G.GlobalHandler.views _ _ _ _ c.create_global.ensures)
 
 pub returns-in-DisableGlobal : goal.returns-in-DisableGlobal
-returns-in-DisableGlobal g c = rw c.in-DisableGlobal.is (over_script g.G.GlobalHandler.views _ _ _ _ _ c.disable_global.ensures)
+returns-in-DisableGlobal g c = rw c.in-DisableGlobal.is (over_script g.G.GlobalHandler.views _ _ _ _ c.disable_global.ensures)
 
 pub returns-in-RemoveGlobal : goal.returns-in-RemoveGlobal
-returns-in-RemoveGlobal g c = rw c.in-RemoveGlobal.is (over_script g.G.GlobalHandler.views _ _ _ _ _ c.remove_global.ensures)
+returns-in-RemoveGlobal g c = rw c.in-RemoveGlobal.is (over_script g.G.GlobalHandler.views _ _ _ _ c.remove_global.ensures)
