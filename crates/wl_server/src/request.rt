@@ -104,7 +104,9 @@ fn breach_text(
             bind_text(alloc, interface, *version, *global)
         }
         Breach::SinceLater(opcode, version, since, interface, number) => {
-            since_text(alloc, protocol, *opcode, *version, *since, *interface, *number)
+            since_text(
+                alloc, protocol, *opcode, *version, *since, *interface, *number,
+            )
         }
         Breach::WrongArgument(interface, desc, wrong) => {
             fault_text(alloc, protocol, *interface, desc, *wrong)
