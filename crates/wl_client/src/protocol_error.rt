@@ -2,13 +2,14 @@
 
 ghost use Rattle.std.specs.Prelude.{◌≡◌, IfOk};
 ghost use Rattle.std.specs.String.{string_bytes};
+ghost use Rattle.wl_client.specs.declared.event_fault.EventFault.TheVariants as wrong;
 ghost use Rattle.wl_client.specs.Events.{error_of, fault_text as text_of_fault, told_error as error_told};
 
 use crate::event_fault::EventFault;
 use crate::kept::Kept;
 use std::alloc::Global;
 use wl_link::ObjectMap;
-use wl_wire::{CString, OutOfMemory, Protocol, ProtocolError, Text};
+use wl_wire::{CString, InterfaceId, OutOfMemory, Protocol, ProtocolError, Text};
 
 /// What is stored where an event has a fault: code 0, object 0, no interface, and the fault's text.
 #[cold]
@@ -28,25 +29,61 @@ pub fn fault_error(
     })
 }
 
+/// The text of an unknown object.
+fn unknown_object_text(
+    alloc: Global,
+    protocol: &Protocol,
+    number: u32,
+) -> Result<String, OutOfMemory>
+    ensures { IfOk result (λ text. string_bytes text ≡ text_of_fault protocol.now (wrong.UnknownObject number)) }
+{
+    Ok(format!(in alloc; "Unknown object {number}.")?)
+}
+
+/// The text of an object of a wrong interface.
+fn wrong_interface_text(
+    alloc: Global,
+    protocol: &Protocol,
+    number: u32,
+    asked: InterfaceId,
+    given: InterfaceId,
+) -> Result<String, OutOfMemory>
+    ensures { IfOk result (λ text. string_bytes text ≡ text_of_fault protocol.now (wrong.WrongInterface number asked given)) }
+{
+    let asked = protocol.name(asked);
+    let given = protocol.name(given);
+    Ok(format!(in alloc;
+        "Protocol error: server sent object {number} for interface {asked}, but it has interface {given}."
+    )?)
+}
+
+/// The text of a new id that the server may not use.
+fn invalid_new_id_text(
+    alloc: Global,
+    protocol: &Protocol,
+    number: u32,
+    interface: InterfaceId,
+) -> Result<String, OutOfMemory>
+    ensures { IfOk result (λ text. string_bytes text ≡ text_of_fault protocol.now (wrong.InvalidNewId number interface)) }
+{
+    let name = protocol.name(interface);
+    Ok(format!(in alloc;
+        "Protocol error: server tried to create an object \"{name}\" with invalid id {number}."
+    )?)
+}
+
 /// The text of a fault.
 fn fault_text(alloc: Global, protocol: &Protocol, fault: EventFault) -> Result<String, OutOfMemory>
     ensures { IfOk result (λ text. string_bytes text ≡ text_of_fault protocol.now fault) }
 {
     match fault {
         EventFault::Malformed => Ok(String::from_str(alloc, "Malformed Wayland message.")?),
-        EventFault::UnknownObject(number) => Ok(format!(in alloc; "Unknown object {number}.")?),
+        EventFault::UnknownObject(number) => unknown_object_text(alloc, protocol, number),
         EventFault::WrongInterface(number, asked, given) => {
-            let asked = protocol.name(asked);
-            let given = protocol.name(given);
-            Ok(format!(in alloc;
-                "Protocol error: server sent object {number} for interface {asked}, but it has interface {given}."
-            )?)
+            wrong_interface_text(alloc, protocol, number, asked, given)
         }
         EventFault::InvalidNewId(number, interface) => {
-            let name = protocol.name(interface);
-            Ok(format!(in alloc;
-                "Protocol error: server tried to create an object \"{name}\" with invalid id {number}."
-            )?)
+            invalid_new_id_text(alloc, protocol, number, interface)
         }
     }
 }

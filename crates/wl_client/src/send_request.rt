@@ -143,6 +143,13 @@ fn end_sender<U: Drop>(
     }
 }
 
+/// Whether there was no memory for the request.
+fn lacks_memory(answer: &Result<ObjectId, RequestError>) -> bool
+    ensures { result ≡ refused_request answer.now }
+{
+    matches!(answer, Err(RequestError::OutOfMemory))
+}
+
 impl<T: Transport + Drop, U: Drop> Backend<T, U> {
     /// The next object of the client, with its number; nothing is changed.
     fn next_object(
@@ -266,7 +273,7 @@ impl<T: Transport + Drop, U: Drop> Backend<T, U> {
             Ok(granted) => self.send_granted(&message, granted, user_data),
             Err(error) => Err(error),
         };
-        self.refused = matches!(answer, Err(RequestError::OutOfMemory));
+        self.refused = lacks_memory(&answer);
         answer
     }
 }
