@@ -134,26 +134,31 @@ fn arrive_bytewise(
     made(server, steps)
 }
 
-/// Puts the steps by which the bytes arrive in chunks of 4096, with the descriptor at the first of them, into the list.
-fn push_chunks(
+/// Puts the step by which the bytes and the descriptor arrive into the list.
+fn push_with(
     alloc: Global,
     steps: &mut Vec<Made>,
     who: Who,
     bytes: &[u8],
     descriptor: i32,
 ) -> Result<(), Fail> {
-    let (first, others) = bytes.split_at(bytes.len().min(4096));
-    steps.push(arrive_with(alloc, who, first, descriptor)?)?;
-    for chunk in others.chunks(4096) {
+    Ok(steps.push(arrive_with(alloc, who, bytes, descriptor)?)?)
+}
+
+/// Puts the steps by which the bytes arrive in chunks of 4096 behind the others.
+fn push_chunks(alloc: Global, steps: &mut Vec<Made>, who: Who, bytes: &[u8]) -> Result<(), Fail> {
+    for chunk in bytes.chunks(4096) {
         steps.push(arrive(alloc, who, chunk)?)?;
     }
     Ok(())
 }
 
-/// These steps.
+/// The steps by which the bytes arrive in chunks of 4096, with the descriptor at the first of them.
 fn chunked(alloc: Global, who: Who, bytes: &[u8], descriptor: i32) -> Result<Vec<Made>, Fail> {
+    let (first, others) = bytes.split_at(bytes.len().min(4096));
     let mut steps = Vec::new(alloc);
-    push_chunks(alloc, &mut steps, who, bytes, descriptor)?;
+    push_with(alloc, &mut steps, who, first, descriptor)?;
+    push_chunks(alloc, &mut steps, who, others)?;
     Ok(steps)
 }
 
