@@ -1,11 +1,12 @@
 -- That steps with their replies have one history, of which all the laws hold, and that each public call keeps it so.
-use Rattle.std.proofs.Common.{List, [], ◌∷◌, ◌++◌, refl}
+use Rattle.std.proofs.Common.{ℕ, List, [], ◌∷◌, ◌++◌, refl}
 use Rattle.wl_wire.specs.Table.{InterfaceRow}
 use Rattle.wl_link.specs.KeptLaws.{Within}
-use Rattle.wl_link.specs.Runs.{Entry as RunEntry}
+use Rattle.wl_link.specs.RunLaws.{joins, stopped_leads}
+use Rattle.wl_link.specs.Runs.{Entry as RunEntry, entries}
 use Rattle.wl_server.specs.declared.step.Reply.{Reply}
 use Rattle.wl_server.specs.declared.step.Step.{Step}
-use Rattle.wl_server.specs.Accounts.{AreAccountedFor, IsAccountedFor, StaysAccountedFor}
+use Rattle.wl_server.specs.Accounts.{AccountsForStopped, AreAccountedFor, IsAccountedFor, StaysAccountedFor}
 use Rattle.wl_server.specs.AnnouncedLaw.{each_announces}
 use Rattle.wl_server.specs.Backend.{BackendState, Calls}
 use Rattle.wl_server.specs.IdentityLaws.{each_has_own_ids}
@@ -13,7 +14,7 @@ use Rattle.wl_server.specs.IsolationLaw.{are_isolated, is_isolated, join_runs}
 use Rattle.wl_server.specs.LogLaws.{each_log}
 use Rattle.wl_server.specs.NotedLaws.{each_is_noted}
 use Rattle.wl_server.specs.PartStep.{World}
-use Rattle.wl_server.specs.Runs.{Leads, Performs}
+use Rattle.wl_server.specs.Runs.{Leads, Performs, StopsAt}
 use Rattle.wl_server.specs.Server.{ServerState, new_server}
 use Rattle.wl_server.specs.Steps.{Entry, OneStep, StepOf}
 
@@ -31,6 +32,15 @@ pub are_accounted_for : {T U G C : Type 0} (w : World T G C) → Within w.sends 
     (after : ServerState T U G C) → Performs w (new_server table) steps after → AreAccountedFor w table steps after
 are_accounted_for w within table steps after performs =
     let (run, are, leads, isolated) = are_isolated w table steps after performs in (run, are, leads, is_accounted_for w within table run after leads)
+
+-- a run that stopped
+pub accounts_for_stopped : {T U G C : Type 0} (w : World T G C) → Within w.sends → (before after : ServerState T U G C) (steps : List (Step T U G C)) (n : ℕ) (replies : List (Reply T U))
+    → StopsAt w before steps n replies after → (table : List InterfaceRow) (run : List (RunEntry (Step T U G C) (Reply T U))) → Performs w (new_server table) run before
+    → AccountsForStopped w table run steps replies after
+accounts_for_stopped w within before after steps n replies stops table run led =
+    let (last, one, leads) = stopped_leads (StepOf w) before after steps n replies stops in
+    let whole = joins (StepOf w) (new_server table) before after run (entries steps replies ++ last) led leads in
+    (last, one, are_accounted_for w within table (run ++ (entries steps replies ++ last)) after whole)
 
 -- ---- a public call
 

@@ -52,10 +52,11 @@ use Rattle.wl_server.specs.PartStep.{Asked, Call, OfClient, PartCall, World, aro
 use Rattle.wl_server.specs.ReaderLaws.{EndsAlike, bind_ends_alike, request_ends_alike}
 use Rattle.wl_server.specs.Reading.{Around, NextAction, ReadsNone, ReadsTo, action_content, answered as answered_so, exchanges_in, new_reading, reads_on, row_in, server}
 use Rattle.wl_server.specs.ReplyLaws.{own_step}
-use Rattle.wl_server.specs.Runs.{Alone, Own, Performs, concerns, history, mine}
+use Rattle.wl_server.specs.Runs.{Alone, Leads, Own, Performs, concerns, history, mine}
 use Rattle.wl_server.specs.Server.{Seen, ServerState, seen}
 use Rattle.wl_server.specs.Steps.{offer_after}
-use Rattle.wl_server.specs.Stretches.{AllHeard, AreCut, EndsWaiting, IsHeard, IsServed, IsStretch, IsStretchWithin, SameLeft, answered, answers_in, arrived, arrived_by, beside_exchanges, finished, finished_by, left_in, reading_by, told_by, was_killed}
+use Rattle.wl_server.specs.Steps.{Entry}
+use Rattle.wl_server.specs.Stretches.{AllHeard, AreCut, EachIsCut, EndsWaiting, IsHeard, IsServed, IsStretch, IsStretchWithin, SameLeft, answered, answers_in, arrived, arrived_by, beside_exchanges, finished, finished_by, left_in, reading_by, told_by, was_killed}
 use Rattle.wl_server.specs.Telling.{Core, Finish, OfBind, OfRequest, Told, core_of, deeds_in, deeds_of, end_deeds, part_of, reader_part}
 
 none_some : {A : Type 0} {x : A} → None ≡ Some x → ⊥
@@ -592,6 +593,14 @@ module _ {G C : Type 0} (views : G → ClientParts → C → GlobalParts → Boo
 
 -- ---- runs of a server
 
+each_is_cut : {U G C : Type 0} (views : G → ClientParts → C → GlobalParts → Bool) (begun after : ServerState Script U G C) (run : List (Entry Script U G C))
+    → Leads (over_scripts views) begun run after → EachIsCut views begun run after
+each_is_cut views begun after run leads id p q born there ends =
+    let alone = alone_run (over_scripts views) id begun after run born leads in (
+      λ stretch. stretch_served views id begun.offer (seen id begun) (seen id after) p there q (mine id run) ends alone stretch,
+      λ stretch. within_stretch views id begun.offer (seen id begun) (seen id after) p there q (mine id run) ends alone stretch,
+    )
+
 pub are_cut : {U G C : Type 0} (views : G → ClientParts → C → GlobalParts → Bool) (begun after : ServerState Script U G C) (steps : List (RunEntry (Step Script U G C) (Reply Script U)))
     → Performs (over_scripts views) begun steps after → AreCut views begun steps after
 are_cut views begun after steps performs =
@@ -599,9 +608,5 @@ are_cut views begun after steps performs =
       run,
       are,
       leads,
-      λ id p q born there ends.
-          let alone = alone_run (over_scripts views) id begun after run born leads in (
-            λ stretch. stretch_served views id begun.offer (seen id begun) (seen id after) p there q (mine id run) ends alone stretch,
-            λ stretch. within_stretch views id begun.offer (seen id begun) (seen id after) p there q (mine id run) ends alone stretch,
-          ),
+      λ earlier middle later first last split before part. each_is_cut views first last middle part,
     )

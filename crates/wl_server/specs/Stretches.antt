@@ -177,8 +177,14 @@ module _ {U G C : Type 0} where
       (id : ClientParts) (p q : Part Script U C) → id.serial ≤ begun.last_client → (seen id begun).part ≡ Some p → (seen id after).part ≡ Some q
       → CutsStretch (around (over_scripts views) id begun.offer) p (mine id run) q
 
+  -- so it is over each part of a run
+  abbrev pub EachPartIsCut : (G → ClientParts → C → GlobalParts → Bool) → ServerState Script U G C → List (Entry Script U G C) → Type 0
+  EachPartIsCut views begun run =
+      (earlier middle later : List (Entry Script U G C)) (first last : ServerState Script U G C) → run ≡ earlier ++ (middle ++ later)
+      → Leads (over_scripts views) begun earlier first → Leads (over_scripts views) first middle last → EachIsCut views first middle last
+
   -- steps with these replies are the calls of a run in which that is so
   abbrev pub AreCut : (G → ClientParts → C → GlobalParts → Bool) → ServerState Script U G C → List (RunEntry (Step Script U G C) (Reply Script U))
       → ServerState Script U G C → Type 0
   AreCut views begun steps after =
-      (run : List (Entry Script U G C)) × AreOf steps run × Leads (over_scripts views) begun run after × EachIsCut views begun run after
+      (run : List (Entry Script U G C)) × AreOf steps run × Leads (over_scripts views) begun run after × EachPartIsCut views begun run

@@ -162,8 +162,10 @@ pub fn each_object_that_leaves_is_noted_once<T: Transport, U, G: GlobalHandler<C
 
 /// The same over the transport by script, of steps with their replies.
 pub fn each_object_of_a_script_is_noted_once<U, G: GlobalHandler<C>, C>()
-    ensures { (table : List InterfaceRow) (steps : List (RunEntry (Step Script U G C) (Reply Script U))) (after : ServerState Script U G C) →
+    ensures noted { (table : List InterfaceRow) (steps : List (RunEntry (Step Script U G C) (Reply Script U))) (after : ServerState Script U G C) →
         Performs (over_scripts G.views) (new_server table) steps after → HaveNotes (over_scripts G.views) table steps after }
+    ensures cleanup { CleanupNotesAll U (over_scripts {C = C} G.views) }
+    ensures finish { FinishNotesAtOnce U (over_scripts {C = C} G.views) }
 {}
 
 /// The law of announcements, over every transport.

@@ -6,7 +6,7 @@ ghost use Rattle.wl_link.specs.Runs.{AllSame, Entry, entries};
 ghost use Rattle.wl_link.specs.Script.{Script};
 ghost use Rattle.wl_server.specs.declared.step.Reply.{Reply};
 ghost use Rattle.wl_server.specs.declared.step.Step.{Step};
-ghost use Rattle.wl_server.specs.Accounts.{AreAccountedFor};
+ghost use Rattle.wl_server.specs.Accounts.{AccountsForStopped, AreAccountedFor};
 ghost use Rattle.wl_server.specs.Backend.{Calls};
 ghost use Rattle.wl_server.specs.PartStep.{over_scripts};
 ghost use Rattle.wl_server.specs.Performing.{IsOfAll, IsOfClient, IsOfGlobals, IsOfObject, IsOfReading, IsOfScript};
@@ -242,6 +242,9 @@ impl<U: Drop, G: GlobalHandler<C> + Drop, C: Drop> Backend<Memory, U, G, C> {
         ensures cutting { IfOk result (λ replies. (begun : ServerState Script U G C) (run : List (Entry (Step Script U G C) (Reply Script U))) →
             Performs (over_scripts G.views) begun run self.old.server →
             AreCut G.views begun (run ++ entries steps.items replies.items) self.new.server) }
+        ensures stopped_accounts { IfErr result (λ stopped. (table : List InterfaceRow) (run : List (Entry (Step Script U G C) (Reply Script U))) →
+            Performs (over_scripts G.views) (new_server table) run self.old.server →
+            AccountsForStopped (over_scripts G.views) table run steps.items stopped.replies.items self.new.server) }
         ensures stopped { IfErr result (λ stopped. StopsAt (over_scripts G.views) self.old.server steps.items stopped.step stopped.replies.items self.new.server) }
         ensures refused { self.new.refused ≡ is_err result }
     {

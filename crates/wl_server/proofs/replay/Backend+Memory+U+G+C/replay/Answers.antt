@@ -1,9 +1,9 @@
-use Rattle.std.proofs.Common.{ℕ, ◌++◌, ◌∙◌, ap, subst, sym}
+use Rattle.std.proofs.Common.{ℕ, ◌++◌, ◌∙◌, ap, length, subst, sym}
 use Rattle.std.proofs.lemmas.Bool.{false≢true}
 use Rattle.wl_link.specs.RunLaws.{joins}
 use Rattle.wl_link.specs.Runs.{entries}
 use Rattle.wl_link.specs.ScriptLaws.{script_within_offer}
-use Rattle.wl_server.specs.AccountLaws.{are_accounted_for}
+use Rattle.wl_server.specs.AccountLaws.{accounts_for_stopped, are_accounted_for}
 use Rattle.wl_server.specs.IsolationLaw.{are_isolated}
 use Rattle.wl_server.specs.MoveLaws.{scripts_determined}
 use Rattle.wl_server.specs.PartStep.{over_scripts}
@@ -19,6 +19,12 @@ returns-then-self-clause-stopped g c =
     subst (λ (n : ℕ). StopsAt (over_scripts g.G.GlobalHandler.views) c.args.self.now.server c.args.steps.items n c.perform_all.new.replies.items c.perform_all.new.self.server)
     (sym (c.len.ensures ∙ c.perform_all.new.replies.ok.0))
     (c.perform_all.ensures.stopped (sym (ap (λ s. s.refused) c.self-2.view_is) ∙ c.if-self.true))
+
+pub returns-then-self-clause-stopped_accounts : goal.returns-then-self-clause-stopped_accounts
+returns-then-self-clause-stopped_accounts g c table run before =
+    accounts_for_stopped (over_scripts g.G.GlobalHandler.views) (record { law = script_within_offer }) c.args.self.now.server c.perform_all.new.self.server
+    c.args.steps.items (length c.perform_all.new.replies.items) c.perform_all.new.replies.items
+    (c.perform_all.ensures.stopped (sym (ap (λ s. s.refused) c.self-2.view_is) ∙ c.if-self.true)) table run before
 
 pub returns-then-self-clause-none : goal.returns-then-self-clause-none
 returns-then-self-clause-none g c none =
