@@ -1,5 +1,5 @@
 -- That steps with their replies have one history, of which all the laws hold, and that each public call keeps it so.
-use Rattle.std.proofs.Common.{ℕ, List, [], ◌∷◌, ◌++◌, refl}
+use Rattle.std.proofs.Common.{ℕ, false, List, [], ◌∷◌, ◌++◌, refl}
 use Rattle.wl_wire.specs.Table.{InterfaceRow}
 use Rattle.wl_link.specs.KeptLaws.{Within}
 use Rattle.wl_link.specs.RunLaws.{joins, stopped_leads}
@@ -8,15 +8,16 @@ use Rattle.wl_server.specs.declared.step.Reply.{Reply}
 use Rattle.wl_server.specs.declared.step.Step.{Step}
 use Rattle.wl_server.specs.Accounts.{AccountsForStopped, AreAccountedFor, IsAccountedFor, StaysAccountedFor}
 use Rattle.wl_server.specs.AnnouncedLaw.{each_announces}
-use Rattle.wl_server.specs.Backend.{BackendState, Calls}
+use Rattle.wl_server.specs.Backend.{BackendState, Calls, IsChange}
 use Rattle.wl_server.specs.IdentityLaws.{each_has_own_ids}
 use Rattle.wl_server.specs.IsolationLaw.{are_isolated, is_isolated, join_runs}
 use Rattle.wl_server.specs.LogLaws.{each_log}
 use Rattle.wl_server.specs.NotedLaws.{each_is_noted}
-use Rattle.wl_server.specs.PartStep.{World}
+use Rattle.wl_server.specs.Ids.{ClientParts}
+use Rattle.wl_server.specs.PartStep.{Changed, World}
 use Rattle.wl_server.specs.Runs.{Leads, Performs, StopsAt}
 use Rattle.wl_server.specs.Server.{ServerState, new_server}
-use Rattle.wl_server.specs.Steps.{Entry, OneStep, StepOf}
+use Rattle.wl_server.specs.Steps.{Entry, Makes, OneStep, StepOf}
 
 pub is_accounted_for : {T U G C : Type 0} (w : World T G C) → Within w.sends → (table : List InterfaceRow) (run : List (Entry T U G C)) (after : ServerState T U G C)
     → Leads w (new_server table) run after → IsAccountedFor w table run after
@@ -55,4 +56,11 @@ pub calls : {T U G C : Type 0} (w : World T G C) (before : BackendState T U G C)
 calls w before call answer after (e, is, refused, one) = record {
   step = (e, is, refused, one);
   accounted = λ within. stays_accounted_for w within before.server e after.server one;
+}
+
+pub is_change : {T U G C : Type 0} (w : World T G C) (before : ServerState T U G C) (id : ClientParts) (t : T) (after : ServerState T U G C)
+    → Makes w before (Changed id t) false after → IsChange w before id t after
+is_change w before id t after (e, is, refused, one) = record {
+  step = (e, is, refused, one);
+  accounted = λ within. stays_accounted_for w within before e after one;
 }

@@ -4,8 +4,8 @@ ghost use Rattle.std.specs.Prelude.{◌≡◌, MatchResult, None, OnOk, Some, fa
 ghost use Rattle.std.specs.Borrow.{sem};
 ghost use Rattle.wl_server.specs.Lending.{LendsTransportAt, server_over};
 ghost use Rattle.wl_server.specs.Lookups.{transport_of};
-ghost use Rattle.wl_server.specs.PartStep.{Changed, over};
-ghost use Rattle.wl_server.specs.Steps.{Makes};
+ghost use Rattle.wl_server.specs.PartStep.{over};
+ghost use Rattle.wl_server.specs.Backend.{IsChange};
 
 use crate::backend::Backend;
 use crate::client::Client;
@@ -46,7 +46,7 @@ impl<T: Transport + Drop, U: Drop, G: GlobalHandler<C> + Drop, C: Drop> Backend<
         ensures* lends { sem 𝓛 (LendsServerTransport T.row U.row G.row C.row self.entry id.now result) }
         ensures value { MatchResult result (λ transport. transport_of self.old.server id.now ≡ Some transport.now)
             (λ _. transport_of self.old.server id.now ≡ None) }
-        ensures step { OnOk result ((t : _) → Makes (over T.sends T.receives G.views) self.old.server (Changed id.now t) false (server_over self.old.server id.now t)) }
+        ensures step { OnOk result ((t : _) → IsChange (over T.sends T.receives G.views) self.old.server id.now t (server_over self.old.server id.now t)) }
     {
         if !self.is_stored(id) {
             return Err(InvalidId);

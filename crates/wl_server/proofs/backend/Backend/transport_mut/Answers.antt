@@ -3,12 +3,12 @@ use Rattle.std.proofs.Math.Path.{fun_ext}
 use Rattle.std.specs.Prelude.{slice_index_or, slice_set}
 use Rattle.std.proofs.lemmas.Bool.{false≢true}
 use Rattle.std.specs.Option.{option_map_or}
-use Rattle.wl_server.specs.Backend.{BackendState}
+use Rattle.wl_server.specs.AccountLaws.{is_change}
+use Rattle.wl_server.specs.Backend.{BackendState, IsChange}
 use Rattle.wl_server.specs.Ids.{ClientParts}
 use Rattle.wl_server.specs.Lending.{over_transport, server_over, state_over}
-use Rattle.wl_server.specs.PartStep.{Changed, World}
+use Rattle.wl_server.specs.PartStep.{World}
 use Rattle.wl_server.specs.Server.{ServerState, Stored, client_at, stored_at}
-use Rattle.wl_server.specs.Steps.{Makes}
 use Rattle.wl_server.proofs.Changing.{changed}
 use Rattle.wl_server.proofs.Slots.{client_present, slot_has, slot_holds, slot_in, slot_not_empty}
 use Rattle.wl_server.proofs.backend.Backend.transport_mut.Goals as goal
@@ -48,11 +48,11 @@ lent_over {T} {U} {G} {C} b id n x t some at value =
 
 lent_step : {T U G C : Type 0} (w : World T G C) (before : ServerState T U G C) (id : ClientParts) (n : ℕ) (x : Option (Stored T U C)) (held t : T)
     → is_some (client_at id before.clients) ≡ true → n ≡ id.slot → x ≡ slice_index_or before.clients n x → Some held ≡ option_map (λ c. c.part.link.transport) x
-    → Makes w before (Changed id t) false (server_over before id t)
+    → IsChange w before id t (server_over before id t)
 lent_step w before id n None held t some at value is = absurd cc
 lent_step w before id n (Some s) held t some at value is =
     let has = slot_has before.clients id n (Some s) s some at value refl in
-    changed w before id t s has.0 has.1
+    is_change w before id t (server_over before id t) (changed w before id t s has.0 has.1)
 
 pub returns-then-not-is_stored : goal.returns-then-not-is_stored
 returns-then-not-is_stored g c = (
