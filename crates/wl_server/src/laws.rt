@@ -1,6 +1,9 @@
 //! What follows from the definitions of a server alone. Each function has a law as its contract, and does nothing.
+//!
+//! A clause whose name begins with `script` says of steps with their replies, over the transport by script, what the others
+//! of its function say of calls over every transport.
 
-ghost use Rattle.std.specs.Prelude.{◌≡◌, ◌≢◌, ◌∷◌, ℕ, false, List, Option, Some, Result, Err};
+ghost use Rattle.std.specs.Prelude.{◌≡◌, ◌≢◌, ◌∷◌, ℕ, Bool, false, List, Option, Some, Result, Err};
 ghost use Rattle.wl_wire.specs.Table.{InterfaceRow};
 ghost use Rattle.wl_wire.specs.declared.interface.InterfaceId.{InterfaceId};
 ghost use Rattle.wl_link.specs.Exchange.{Queue, Sending, nothing};
@@ -8,7 +11,7 @@ ghost use Rattle.wl_link.specs.OneLaws.{IsFunction, IsReceiveFunction};
 ghost use Rattle.wl_link.specs.Reader.{AllFed, Ends, Given, Gives, Reads, Turn, came_in, sends_in};
 ghost use Rattle.wl_link.specs.Reader.{Part as ReaderPart};
 ghost use Rattle.wl_link.specs.Runs.{Entry as RunEntry};
-ghost use Rattle.wl_link.specs.Script.{Script};
+ghost use Rattle.wl_link.specs.Script.{Script, ScriptReceives, ScriptSends};
 ghost use Rattle.wl_link.specs.Served.{Answers};
 ghost use Rattle.wl_server.specs.declared.error.GlobalError.{GlobalError};
 ghost use Rattle.wl_server.specs.declared.error.GlobalError.TheVariants as global;
@@ -31,7 +34,7 @@ ghost use Rattle.wl_server.specs.Reading.{Around, reads_on, server};
 ghost use Rattle.wl_server.specs.Runs.{Alone, AreIsolated, IsIsolated, Leads, Own, Performs, history};
 ghost use Rattle.wl_server.specs.Server.{Seen, ServerState, Stored, new_server};
 ghost use Rattle.wl_server.specs.ShareLaws.{RiseBySlot};
-ghost use Rattle.wl_server.specs.Steps.{Entry, InsertsNext};
+ghost use Rattle.wl_server.specs.Steps.{Entry, InsertsNext, StepOf};
 ghost use Rattle.wl_server.specs.Stretches.{IsServed as IsRunServed, IsStretch, IsStretchWithin, SameLeft, answered, arrived, beside_exchanges, finished};
 ghost use Rattle.wl_server.specs.Telling.{Core, Finish, Told};
 ghost use Rattle.wl_server.specs.WholeOutcome.{AnswersAlike, PerformancesHaveOneOutcome, RunsHaveOneOutcome, SameServer};
@@ -46,13 +49,9 @@ use wl_link::Transport;
 /// and the deeds with it. Of a client that was not inserted nothing is held. What all clients share is what the shared
 /// calls lead to alone, and so are the ids of globals and the serials of clients.
 pub fn each_client_is_alone<T: Transport, U, G: GlobalHandler<C>, C>()
-    ensures { (table : List InterfaceRow) (run : List (Entry T U G C)) (after : ServerState T U G C) →
+    ensures run { (table : List InterfaceRow) (run : List (Entry T U G C)) (after : ServerState T U G C) →
         Leads (over T.sends T.receives G.views) (new_server table) run after → IsIsolated (over T.sends T.receives G.views) table run after }
-{}
-
-/// The same over the transport by script, of steps with their replies.
-pub fn each_client_of_a_script_is_alone<U, G: GlobalHandler<C>, C>()
-    ensures { (table : List InterfaceRow) (steps : List (RunEntry (Step Script U G C) (Reply Script U))) (after : ServerState Script U G C) →
+    ensures script { (table : List InterfaceRow) (steps : List (RunEntry (Step Script U G C) (Reply Script U))) (after : ServerState Script U G C) →
         Performs (over_scripts G.views) (new_server table) steps after → AreIsolated (over_scripts G.views) table steps after }
 {}
 
@@ -68,14 +67,10 @@ pub fn each_client_has_one_outcome<T: Transport, U, G: GlobalHandler<C>, C>()
     ensures alone { IsFunction T.sends → IsReceiveFunction T.receives → OwnRunsHaveOneOutcome U (over T.sends T.receives G.views) }
     ensures client { IsFunction T.sends → IsReceiveFunction T.receives → ClientsHaveOneOutcome U (over T.sends T.receives G.views) }
     ensures offer { OffersHaveOneOutcome U (over T.sends T.receives G.views) }
-{}
-
-/// The same over the transport by script.
-pub fn each_client_of_a_script_has_one_outcome<U, G: GlobalHandler<C>, C>()
-    ensures step { StepsHaveOneOutcome U (over_scripts G.views) }
-    ensures alone { OwnRunsHaveOneOutcome U (over_scripts G.views) }
-    ensures client { ClientsHaveOneOutcome U (over_scripts G.views) }
-    ensures offer { OffersHaveOneOutcome U (over_scripts G.views) }
+    ensures script_step { StepsHaveOneOutcome U (over_scripts G.views) }
+    ensures script_alone { OwnRunsHaveOneOutcome U (over_scripts G.views) }
+    ensures script_client { ClientsHaveOneOutcome U (over_scripts G.views) }
+    ensures script_offer { OffersHaveOneOutcome U (over_scripts G.views) }
 {}
 
 /// What a server answers of what all its clients share has one outcome, where memory is not refused: the id of a new
@@ -99,12 +94,8 @@ pub fn what_is_shared_has_one_outcome<T, U, G, C>()
 pub fn each_run_of_a_server_has_one_outcome<T: Transport, U, G: GlobalHandler<C>, C>()
     ensures run { IsFunction T.sends → IsReceiveFunction T.receives → RunsHaveOneOutcome U (over T.sends T.receives G.views) }
     ensures steps { IsFunction T.sends → IsReceiveFunction T.receives → PerformancesHaveOneOutcome U (over T.sends T.receives G.views) }
-{}
-
-/// The same over the transport by script.
-pub fn each_run_of_a_server_over_scripts_has_one_outcome<U, G: GlobalHandler<C>, C>()
-    ensures run { RunsHaveOneOutcome U (over_scripts G.views) }
-    ensures steps { PerformancesHaveOneOutcome U (over_scripts G.views) }
+    ensures script_run { RunsHaveOneOutcome U (over_scripts G.views) }
+    ensures script_steps { PerformancesHaveOneOutcome U (over_scripts G.views) }
 {}
 
 /// Values of a server that are the same to their program answer the same of themselves: which clients are live, what is
@@ -121,13 +112,9 @@ pub fn servers_that_are_the_same_answer_alike<T, U, G, C>()
 /// there; the id of a note is made where its object leaves. It names that object exactly while that is kept and its client
 /// stored, and afterwards none. No object leaves twice.
 pub fn each_id_names_its_own_object<T: Transport, U, G: GlobalHandler<C>, C>()
-    ensures { (table : List InterfaceRow) (run : List (Entry T U G C)) (after : ServerState T U G C) →
+    ensures run { (table : List InterfaceRow) (run : List (Entry T U G C)) (after : ServerState T U G C) →
         Leads (over T.sends T.receives G.views) (new_server table) run after → EachHasOwnIds (over T.sends T.receives G.views) table run after }
-{}
-
-/// The same over the transport by script, of steps with their replies.
-pub fn each_id_of_a_script_names_its_own_object<U, G: GlobalHandler<C>, C>()
-    ensures { (table : List InterfaceRow) (steps : List (RunEntry (Step Script U G C) (Reply Script U))) (after : ServerState Script U G C) →
+    ensures script { (table : List InterfaceRow) (steps : List (RunEntry (Step Script U G C) (Reply Script U))) (after : ServerState Script U G C) →
         Performs (over_scripts G.views) (new_server table) steps after → HaveOwnIds (over_scripts G.views) table steps after }
 {}
 
@@ -137,13 +124,9 @@ pub fn each_id_of_a_script_names_its_own_object<U, G: GlobalHandler<C>, C>()
 /// waits to be sent, is the spelling of the messages that were put, in order; the tokens too, where no send answered 0. Of
 /// a client that was taken out, what waits is what was left over at its end.
 pub fn log_is_what_was_sent<T: Transport, U, G: GlobalHandler<C>, C>()
-    ensures { (table : List InterfaceRow) (run : List (Entry T U G C)) (after : ServerState T U G C) →
+    ensures run { (table : List InterfaceRow) (run : List (Entry T U G C)) (after : ServerState T U G C) →
         Leads (over T.sends T.receives G.views) (new_server table) run after → EachLogIsSpelled run after }
-{}
-
-/// The same over the transport by script, of steps with their replies.
-pub fn log_of_a_script_is_what_was_sent<U, G: GlobalHandler<C>, C>()
-    ensures { (table : List InterfaceRow) (steps : List (RunEntry (Step Script U G C) (Reply Script U))) (after : ServerState Script U G C) →
+    ensures script { (table : List InterfaceRow) (steps : List (RunEntry (Step Script U G C) (Reply Script U))) (after : ServerState Script U G C) →
         Performs (over_scripts G.views) (new_server table) steps after → HaveSpelledLogs (over_scripts G.views) table steps after }
 {}
 
@@ -158,14 +141,10 @@ pub fn each_object_that_leaves_is_noted_once<T: Transport, U, G: GlobalHandler<C
         Leads (over T.sends T.receives G.views) (new_server table) run after → EachIsNoted run after }
     ensures cleanup { CleanupNotesAll U (over {C = C} T.sends T.receives G.views) }
     ensures finish { FinishNotesAtOnce U (over {C = C} T.sends T.receives G.views) }
-{}
-
-/// The same over the transport by script, of steps with their replies.
-pub fn each_object_of_a_script_is_noted_once<U, G: GlobalHandler<C>, C>()
-    ensures noted { (table : List InterfaceRow) (steps : List (RunEntry (Step Script U G C) (Reply Script U))) (after : ServerState Script U G C) →
+    ensures script_noted { (table : List InterfaceRow) (steps : List (RunEntry (Step Script U G C) (Reply Script U))) (after : ServerState Script U G C) →
         Performs (over_scripts G.views) (new_server table) steps after → HaveNotes (over_scripts G.views) table steps after }
-    ensures cleanup { CleanupNotesAll U (over_scripts {C = C} G.views) }
-    ensures finish { FinishNotesAtOnce U (over_scripts {C = C} G.views) }
+    ensures script_cleanup { CleanupNotesAll U (over_scripts {C = C} G.views) }
+    ensures script_finish { FinishNotesAtOnce U (over_scripts {C = C} G.views) }
 {}
 
 /// The law of announcements, over every transport.
@@ -175,14 +154,17 @@ pub fn each_object_of_a_script_is_noted_once<U, G: GlobalHandler<C>, C>()
 /// globals that the client may see. That is promised of a registry of which the program itself sends no event, and which it
 /// does not destroy.
 pub fn registries_announce_what_is_shown<T: Transport, U, G: GlobalHandler<C>, C>()
-    ensures { (table : List InterfaceRow) (run : List (Entry T U G C)) (after : ServerState T U G C) →
+    ensures run { (table : List InterfaceRow) (run : List (Entry T U G C)) (after : ServerState T U G C) →
         Leads (over T.sends T.receives G.views) (new_server table) run after → EachAnnouncesShown (over T.sends T.receives G.views) run after }
+    ensures script { (table : List InterfaceRow) (steps : List (RunEntry (Step Script U G C) (Reply Script U))) (after : ServerState Script U G C) →
+        Performs (over_scripts G.views) (new_server table) steps after → HaveAnnouncements (over_scripts G.views) table steps after }
 {}
 
-/// The same over the transport by script, of steps with their replies.
-pub fn registries_of_a_script_announce_what_is_shown<U, G: GlobalHandler<C>, C>()
-    ensures { (table : List InterfaceRow) (steps : List (RunEntry (Step Script U G C) (Reply Script U))) (after : ServerState Script U G C) →
-        Performs (over_scripts G.views) (new_server table) steps after → HaveAnnouncements (over_scripts G.views) table steps after }
+/// Over the transport by script a call does what its step does in a run by `Backend::replay`. So one run may be made of both:
+/// what is said here and there of steps over the transport by script holds of calls of such a server, too.
+pub fn calls_over_scripts_are_steps<U, G: GlobalHandler<C>, C>()
+    ensures { (before after : ServerState Script U G C) (call : Step Script U G C) (answer : Reply Script U) (refused : Bool) →
+        StepOf (over ScriptSends ScriptReceives G.views) before call answer refused after → StepOf (over_scripts G.views) before call answer refused after }
 {}
 
 /// Steps over the transport by script have one history, of which all the laws of runs hold: isolation, identity, log equals

@@ -67,14 +67,12 @@ pub use error::{
 pub use global_id::{GlobalId, GlobalInfo};
 pub use handler::{GlobalHandler, ShownToAll};
 pub use laws::{
-    each_client_has_one_outcome, each_client_is_alone, each_client_of_a_script_has_one_outcome,
-    each_client_of_a_script_is_accounted_for, each_client_of_a_script_is_alone,
-    each_id_names_its_own_object, each_id_of_a_script_names_its_own_object,
-    each_object_of_a_script_is_noted_once, each_object_that_leaves_is_noted_once,
-    each_run_of_a_server_has_one_outcome, each_run_of_a_server_over_scripts_has_one_outcome,
-    log_is_what_was_sent, log_of_a_script_is_what_was_sent, registries_announce_what_is_shown,
-    registries_of_a_script_announce_what_is_shown, servers_that_are_the_same_answer_alike,
-    what_is_shared_has_one_outcome,
+    calls_over_scripts_are_steps, cutting_does_not_matter_to_a_client,
+    cutting_does_not_matter_to_a_run, each_client_has_one_outcome, each_client_is_alone,
+    each_client_of_a_script_is_accounted_for, each_id_names_its_own_object,
+    each_object_that_leaves_is_noted_once, each_run_of_a_server_has_one_outcome,
+    log_is_what_was_sent, registries_announce_what_is_shown,
+    servers_that_are_the_same_answer_alike, what_is_shared_has_one_outcome,
 };
 pub use note::{DisconnectReason, Note};
 pub use object_id::ObjectId;

@@ -1,4 +1,4 @@
-use Rattle.wl_server.specs.MoveLaws.{transport_determined}
+use Rattle.wl_server.specs.MoveLaws.{scripts_determined, transport_determined}
 use Rattle.wl_server.specs.OfferLaws.{offers_one}
 use Rattle.wl_server.specs.OutcomeLaws.{same_step_one}
 use Rattle.wl_server.specs.RunOutcome.{alone_one, client_one}
@@ -16,3 +16,16 @@ returns-clause-client g c = λ function receive_function. client_one _ (transpor
 
 pub returns-clause-offer : goal.returns-clause-offer
 returns-clause-offer g c = offers_one _
+
+pub returns-clause-script_step : goal.returns-clause-script_step
+returns-clause-script_step g c = λ id offer before after after' s s' answer answer' did did'.
+    same_step_one _ (scripts_determined g.G.GlobalHandler.views) id offer before did did' after after' s s' answer answer'
+
+pub returns-clause-script_alone : goal.returns-clause-script_alone
+returns-clause-script_alone g c = alone_one _ (scripts_determined g.G.GlobalHandler.views)
+
+pub returns-clause-script_client : goal.returns-clause-script_client
+returns-clause-script_client g c = client_one _ (scripts_determined g.G.GlobalHandler.views)
+
+pub returns-clause-script_offer : goal.returns-clause-script_offer
+returns-clause-script_offer g c = offers_one _

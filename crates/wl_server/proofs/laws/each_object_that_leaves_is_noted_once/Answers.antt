@@ -1,4 +1,4 @@
-use Rattle.wl_server.specs.NotedLaws.{each_is_noted}
+use Rattle.wl_server.specs.NotedLaws.{each_is_noted, have_notes}
 use Rattle.wl_server.specs.NotedSoon.{cleanup_notes_all, finish_notes_at_once}
 use Rattle.wl_server.proofs.laws.each_object_that_leaves_is_noted_once.Goals as goal
 
@@ -10,3 +10,12 @@ returns-clause-cleanup g c = λ before after e out by call id. cleanup_notes_all
 
 pub returns-clause-finish : goal.returns-clause-finish
 returns-clause-finish g c = λ before after e target u answer by call id. finish_notes_at_once _ before after e target u answer by call id
+
+pub returns-clause-script_noted : goal.returns-clause-script_noted
+returns-clause-script_noted g c = λ table steps after performs. have_notes _ table steps after performs
+
+pub returns-clause-script_cleanup : goal.returns-clause-script_cleanup
+returns-clause-script_cleanup g c = λ before after e out by call id. cleanup_notes_all _ before after e out by call id
+
+pub returns-clause-script_finish : goal.returns-clause-script_finish
+returns-clause-script_finish g c = λ before after e target u answer by call id. finish_notes_at_once _ before after e target u answer by call id
