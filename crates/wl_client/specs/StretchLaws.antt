@@ -41,7 +41,7 @@ use Rattle.wl_client.specs.Requests.{SessionMessage}
 use Rattle.wl_client.specs.RoomLaws.{NotEndedByPipe, end_keeps, fed_keeps}
 use Rattle.wl_client.specs.Session.{SessionState, named}
 use Rattle.wl_client.specs.Steps.{Entry, Leads, StepOf}
-use Rattle.wl_client.specs.Stretches.{AllHeard, EndsWaiting, IsHeard, IsServed, IsStretch, IsStretchWithin, SameLeft, arrived, arrived_by, events_by, events_of, finished, finished_by, if_accepted, left_in}
+use Rattle.wl_client.specs.Stretches.{AllHeard, EachPartIsCut, EndsWaiting, IsHeard, IsServed, IsStretch, IsStretchWithin, SameLeft, arrived, arrived_by, events_by, events_of, finished, finished_by, if_accepted, left_in}
 
 -- ---- answers
 
@@ -387,3 +387,7 @@ module _ {U : Type 0} where
       let same = acts_cut_otherwise client ends_by_pipe (part_of before) (part_of after) (part_of other) r.acts q.acts (act_stretch before after run stretch r)
       (act_stretch before other others stretch' q) (r.came_in ∙ came ∙ sym q.came_in) (r.ended_with ∙ ended ∙ sym q.ended_with) in
       (sym r.handed_out ∙ same.0 ∙ q.handed_out, same.1)
+
+  -- so each part of a run is cut
+  pub parts_cut : (begun : SessionState Script U) (run : List (Entry U)) → EachPartIsCut begun run
+  parts_cut begun run earlier middle later first last split before part = (stretch_served first last middle part, within_stretch first last middle part)

@@ -4,6 +4,7 @@ use Rattle.wl_wire.specs.declared.error.IoFault.TheVariants as fault
 use Rattle.wl_wire.specs.declared.error.MessageParseError.TheVariants as parse
 use Rattle.wl_link.specs.Exchange.{Queue, joined, nothing}
 use Rattle.wl_link.specs.Link.{EachWithin, incoming_limit}
+use Rattle.wl_link.specs.Parts.{EachPart}
 use Rattle.wl_link.specs.Reader.{Given}
 use Rattle.wl_link.specs.Script.{Script, ScriptSends}
 use Rattle.wl_link.specs.Served.{Served, part_as}
@@ -17,7 +18,7 @@ use Rattle.wl_client.specs.declared.step.Step.TheVariants as step
 use Rattle.wl_client.specs.Reading.{ReadsAs, client, core_of, event_content, handed_by, part_of, reads_on}
 use Rattle.wl_client.specs.Requests.{SessionMessage}
 use Rattle.wl_client.specs.Session.{SessionState}
-use Rattle.wl_client.specs.Steps.{Entry}
+use Rattle.wl_client.specs.Steps.{Entry, Leads}
 
 module _ {U : Type 0} where
   -- ---- its entries
@@ -108,3 +109,13 @@ module _ {U : Type 0} where
   abbrev pub SameLeft : SessionState Script U → SessionState Script U → Type 0
   SameLeft s t =
       part_as (part_of s) (left_in s) (sending_side s.link.transport) ≡ part_as (part_of t) (left_in t) (sending_side t.link.transport)
+
+  -- ---- runs
+
+  -- where a run is a stretch, it is served so; and one of messages that are short enough is a stretch
+  abbrev pub CutsStretch : SessionState Script U → List (Entry U) → SessionState Script U → Type 0
+  CutsStretch before run after = (IsStretch before run after → IsServed before run after) × (IsStretchWithin before run after → IsStretch before run after)
+
+  -- so it is over each part of a run
+  abbrev pub EachPartIsCut : SessionState Script U → List (Entry U) → Type 0
+  EachPartIsCut begun run = EachPart Leads CutsStretch begun run

@@ -9,7 +9,7 @@ ghost use Rattle.wl_client.specs.Replies.{SameReplies};
 ghost use Rattle.wl_client.specs.Session.{IsConnected, SessionState};
 ghost use Rattle.wl_client.specs.Performing.{IsOfScript};
 ghost use Rattle.wl_client.specs.Steps.{Entry, Leads, StepOf, StopsAt, entries};
-ghost use Rattle.wl_client.specs.Stretches.{IsServed, IsStretch, IsStretchWithin};
+ghost use Rattle.wl_client.specs.Stretches.{EachPartIsCut};
 
 use crate::backend::Backend;
 use crate::step::{Reply, Step, Stopped};
@@ -93,7 +93,8 @@ impl<U: Drop> Backend<Memory, U> {
     ///
     /// The run joins the runs before it. So each id that was handed out since the connecting, by a reply, an event or
     /// a note, names the object that it was made of exactly while that is kept, and afterwards none; and the notes are those
-    /// of the objects that ended with user data, in order. A run that stopped has both too. A stretch in which bytes arrive, and events are read and finished, hands out what is served of all that arrived, however it was cut. The
+    /// of the objects that ended with user data, in order. A run that stopped has both too. Each part of it in which bytes
+    /// arrive, and events are read and finished, hands out what is served of all that arrived, however it was cut. The
     /// replies and the session after it are the only ones that the steps may lead to.
     pub fn replay(&mut self, steps: Vec<Step<U>>) -> Result<Vec<Reply<U>>, Stopped<U>>
         ensures none { steps.items ≡ [] → IsOk result }
@@ -110,11 +111,7 @@ impl<U: Drop> Backend<Memory, U> {
             IsConnected table transport begun → Leads begun run self.old.session →
             NotesWhatEnded begun (run ++ entries steps.items replies.items) self.new.session) }
         ensures cutting { IfOk result (λ replies. (begun : SessionState Script U) (run : List (Entry U)) →
-            Leads begun run self.old.session → IsStretch begun (run ++ entries steps.items replies.items) self.new.session →
-            IsServed begun (run ++ entries steps.items replies.items) self.new.session) }
-        ensures within { IfOk result (λ replies. (begun : SessionState Script U) (run : List (Entry U)) →
-            Leads begun run self.old.session → IsStretchWithin begun (run ++ entries steps.items replies.items) self.new.session →
-            IsServed begun (run ++ entries steps.items replies.items) self.new.session) }
+            Leads begun run self.old.session → EachPartIsCut begun (run ++ entries steps.items replies.items)) }
         ensures outcome { IfOk result (λ replies. (others : List (Reply U)) (other : SessionState Script U) →
             length others ≡ length steps.items → Leads self.old.session (entries steps.items others) other →
             SameReplies replies.items others × (self.new.session ≡ other)) }

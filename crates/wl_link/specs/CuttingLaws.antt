@@ -57,10 +57,10 @@ module _ {S Core Event Finish : Type 0} (others' : S → Queue → Result ℕ Io
   pub serves_ending : (u : Finish) (es : List Sending) → reader.reads_on p.core ≡ false → Ends others' reader p u es gave false after → ServesOne others' reader p (u ∷ finishes) gave after finishes
   serves_ending u es off ends = at_false (Handles others' reader p gave false after × (finishes ≡ u ∷ finishes)) (reader.reads_on p.core) off (es, ends, refl)
 
-module _ {T S Core Event Finish : Type 0} (sends : T → Queue → Result ℕ IoFault → T → Type 0) (receives : T → ℕ → Result Queue IoFault → T → Type 0)
-    (others' : S → Queue → Result ℕ IoFault → S → Type 0) (reader : Reader Core Event Finish) where
+module _ {T S Core Event Finish : Type 0} (sends : T → Queue → Result ℕ IoFault → T → Type 0) (others' : S → Queue → Result ℕ IoFault → S → Type 0)
+    (reader : Reader Core Event Finish) where
   -- what a read finds is found where more waits
-  finds_more : (p : Part T Core) (v : Verdict Core Event) (link : LinkState T) (more : Queue) (answers : S) → Finds sends reader p v link
+  pub finds_more : (p : Part T Core) (v : Verdict Core Event) (link : LinkState T) (more : Queue) (answers : S) → Finds sends reader p v link
       → Finds others' reader (part_as p more answers) v (link_as link more answers)
   finds_more p v link more answers (inl (m, read, is)) =
       let looks = λ (sender : ℕ) (opcode : ℕ) (found : Option (List ArgumentType)). found ≡ reader.signature p.core sender opcode in
@@ -72,6 +72,8 @@ module _ {T S Core Event Finish : Type 0} (sends : T → Queue → Result ℕ Io
       let looks = λ (sender : ℕ) (opcode : ℕ) (found : Option (List ArgumentType)). found ≡ reader.signature p.core sender opcode in
       inr (other_malformed looks p.link (link_as p.link more answers) more refl p.link malformed, ap (λ (l : LinkState T). link_as l more answers) same, is)
 
+module _ {T S Core Event Finish : Type 0} (sends : T → Queue → Result ℕ IoFault → T → Type 0) (receives : T → ℕ → Result Queue IoFault → T → Type 0)
+    (others' : S → Queue → Result ℕ IoFault → S → Type 0) (reader : Reader Core Event Finish) where
   module _ (blocks : (core : Core) → reader.faulted core fault.WouldBlock ≡ core) (after : Part T Core) (rest : Queue) (last : S) (finishes : List Finish) where
     abbrev pub Comes : Part T Core → Queue → S → List (Given Event) → Type 0
     Comes p came first gave = (n : ℕ) × Serves others' reader n (part_as p (joined came rest) first) finishes gave (part_as after rest last) finishes
@@ -111,7 +113,7 @@ module _ {T S Core Event Finish : Type 0} (sends : T → Queue → Result ℕ Io
         let q : Queue = joined (came_in turns) rest in
         let carried' = subst (λ (l : Bool). CarriesOut sends reader v link es put l mid) unasked.0 carried in
         let heard' : Handles others' reader (part_as p q first) put false (part_as mid q parts.0)
-        = (v, link_as link q first, es, finds_more p v link q first (finds v link found), carries_there sends others' q reader v link mid es put false first parts.0 parts.1 carried') in
+        = (v, link_as link q first, es, finds_more sends others' reader p v link q first (finds v link found), carries_there sends others' q reader v link mid es put false first parts.0 parts.1 carried') in
         let one : ServesOne others' reader (part_as p q first) finishes put (part_as mid q parts.0) finishes
         = serves_hearing others' reader (part_as p q first) (part_as mid q parts.0) finishes put on heard' in
         (suc r.0, (put, more.gave, part_as mid q parts.0, finishes, one, ap (λ (o : Gives Event). o.gave) split, r.1))

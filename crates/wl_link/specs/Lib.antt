@@ -45,4 +45,7 @@ pub mod RoomLaws
 pub mod LogLaws
 pub mod FoundLaws
 pub mod TotalLaws
+pub mod Growth
+pub mod AnsweringLaws
+pub mod Parts
 pub mod Refusals

@@ -6,7 +6,7 @@ use Rattle.wl_wire.specs.Message.{WireMessage}
 use Rattle.wl_link.specs.Exchange.{Queue, Sending}
 use Rattle.wl_link.specs.Link.{LinkState}
 use Rattle.wl_link.specs.Puts.{FlushesOut, PutsOut, Said}
-use Rattle.wl_link.specs.Reader.{CarriesOut, Given, Lacks, Part, Reader, Verdict, put_and_gave}
+use Rattle.wl_link.specs.Reader.{CarriesOut, Given, Lacks, Part, Reader, ReadsAs, Verdict, put_and_gave}
 use Rattle.wl_link.specs.Served.{NoneFits, Rests, ServedFrom, ServesOne}
 use Rattle.wl_link.specs.Stretch.{IsOver}
 use Rattle.wl_link.specs.FoundLaws.{Fronts, front_of}
@@ -52,6 +52,19 @@ module _ {T Core Event Finish : Type 0} (sends : T → Queue → Result ℕ IoFa
     pub over : (c : Core) (link : LinkState T) → IsOver reader (malformed c link).after.core
     pub takes : (c : Core) (u : Finish) (v : Verdict Core Event) (link : LinkState T) → reader.takes c u ≡ Some v → Carried v link
 
+  -- the same over links of which this holds, and goes on to hold
+  module _ (Holds : LinkState T → Type 0) where
+    pub record CarriedSo (v : Verdict Core Event) (link : LinkState T) : Type 0 where
+      pub carried : Carried v link
+      pub holds : Holds carried.after.link
+
+    pub record GoesOnSo : Type 0 where
+      pub reads : (p : Part T Core) (m : WireMessage) (link : LinkState T) → ReadsAs sends reader p (Ok m) link → Holds p.link → Holds link
+      pub handles : (c : Core) (m : WireMessage) (link : LinkState T) → Holds link → CarriedSo (reader.handles c m) link
+      pub malformed : (c : Core) (link : LinkState T) → Holds link → CarriedSo (reader.malformed c) link
+      pub over : (c : Core) (link : LinkState T) (holds : Holds link) → IsOver reader (malformed c link holds).carried.after.core
+      pub takes : (c : Core) (u : Finish) (v : Verdict Core Event) (link : LinkState T) → reader.takes c u ≡ Some v → Holds link → CarriedSo v link
+
   abbrev pub IsServedTo : Part T Core → List Finish → Type 0
   IsServedTo p finishes = (gave : List (Given Event)) × (after : Part T Core) × ServedFrom sends reader p finishes gave after
 
@@ -74,8 +87,9 @@ module _ {T Core Event Finish : Type 0} (sends : T → Queue → Result ℕ IoFa
   resting_over p finishes over = resting p finishes (at_false (Lacks sends reader p) (reader.reads_on p.core) over.0 (none_fits p finishes over.1))
 
   -- one turn, where what has fewer bytes and finishes is served
-  module _ (goes : GoesOn) (n : ℕ) (p : Part T Core) (finishes : List Finish) (less : length p.link.incoming.bytes + length finishes < suc n)
-      (on : (q : Part T Core) (fs : List Finish) → length q.link.incoming.bytes + length fs < n → IsServedTo q fs) where
+  module _ (Holds : LinkState T → Type 0) (goes : GoesOnSo Holds) (n : ℕ) (p : Part T Core) (finishes : List Finish) (holds : Holds p.link)
+      (less : length p.link.incoming.bytes + length finishes < suc n)
+      (on : (q : Part T Core) (fs : List Finish) → Holds q.link → length q.link.incoming.bytes + length fs < n → IsServedTo q fs) where
     by_finishes : (fs : List Finish) → finishes ≡ fs → reader.reads_on p.core ≡ false → IsServedTo p fs
     by_finishes [] is off = resting p [] (at_false (Lacks sends reader p) (reader.reads_on p.core) off tt)
     by_finishes (u ∷ fs) is off = go (reader.takes p.core u) refl
@@ -83,30 +97,44 @@ module _ {T Core Event Finish : Type 0} (sends : T → Queue → Result ℕ IoFa
         go : (o : Option (Verdict Core Event)) → reader.takes p.core u ≡ o → IsServedTo p (u ∷ fs)
         go None none = resting p (u ∷ fs) (at_false (Lacks sends reader p) (reader.reads_on p.core) off none)
         go (Some v) some =
-            let c = goes.takes p.core u v p.link some in
+            let so = goes.takes p.core u v p.link some holds in
+            let c = so.carried in
             turn_more p c.after (u ∷ fs) fs c.gave (serves_ending sends reader p c.after fs c.gave u c.sent off (v, some, c.carried))
-            (on c.after fs (omega (arith, less, ap length is, ap (λ (q : Queue). length q.bytes) c.waits)))
+            (on c.after fs so.holds (omega (arith, less, ap length is, ap (λ (q : Queue). length q.bytes) c.waits)))
 
     by_front : reader.reads_on p.core ≡ true → Fronts (reader.signature p.core) p.link → IsServedTo p finishes
     by_front reads (inl lacks) = resting p finishes (at_true (NoneFits sends reader p.core finishes) (reader.reads_on p.core) reads lacks)
     by_front reads (inr (inl malformed)) =
-        let c = goes.malformed p.core p.link in
+        let c = (goes.malformed p.core p.link holds).carried in
         turn_more p c.after finishes finishes c.gave
         (serves_hearing sends reader p c.after finishes c.gave reads (reader.malformed p.core, p.link, c.sent, inr (malformed, refl, refl), c.carried))
-        (resting_over c.after finishes (goes.over p.core p.link))
+        (resting_over c.after finishes (goes.over p.core p.link holds))
     by_front reads (inr (inr (m, link, read, shorter))) =
-        let c = goes.handles p.core m link in
+        let so = goes.handles p.core m link (goes.reads p m link read holds) in
+        let c = so.carried in
         turn_more p c.after finishes finishes c.gave
         (serves_hearing sends reader p c.after finishes c.gave reads (reader.handles p.core m, link, c.sent, inl (m, read, refl), c.carried))
-        (on c.after finishes (omega (arith, less, shorter, ap (λ (q : Queue). length q.bytes) c.waits)))
+        (on c.after finishes so.holds (omega (arith, less, shorter, ap (λ (q : Queue). length q.bytes) c.waits)))
 
     by_core : (b : Bool) → reader.reads_on p.core ≡ b → IsServedTo p finishes
     by_core true reads = by_front reads (front_of (reader.signature p.core) p.link)
     by_core false off = by_finishes finishes refl off
 
-  served_within : GoesOn → (n : ℕ) (p : Part T Core) (finishes : List Finish) → length p.link.incoming.bytes + length finishes < n → IsServedTo p finishes
-  served_within goes zero p finishes less = absurd (omega (arith, less))
-  served_within goes (suc n) p finishes less = by_core goes n p finishes less (λ q fs fewer. served_within goes n q fs fewer) (reader.reads_on p.core) refl
+  module _ (Holds : LinkState T → Type 0) (goes : GoesOnSo Holds) where
+    served_within : (n : ℕ) (p : Part T Core) (finishes : List Finish) → Holds p.link → length p.link.incoming.bytes + length finishes < n → IsServedTo p finishes
+    served_within zero p finishes holds less = absurd (omega (arith, less))
+    served_within (suc n) p finishes holds less =
+        by_core Holds goes n p finishes holds less (λ q fs holds' fewer. served_within n q fs holds' fewer) (reader.reads_on p.core) refl
+
+    pub always_served_so : (p : Part T Core) (finishes : List Finish) → Holds p.link → IsServedTo p finishes
+    always_served_so p finishes holds = served_within (length p.link.incoming.bytes + length finishes + 1) p finishes holds (omega arith)
 
   pub always_served : GoesOn → (p : Part T Core) (finishes : List Finish) → IsServedTo p finishes
-  always_served goes p finishes = served_within goes (length p.link.incoming.bytes + length finishes + 1) p finishes (omega arith)
+  always_served goes p finishes =
+      always_served_so (λ (link : LinkState T). Unit {0}) (record {
+        reads = λ p m link read holds. tt;
+        handles = λ c m link holds. record { carried = goes.handles c m link; holds = tt };
+        malformed = λ c link holds. record { carried = goes.malformed c link; holds = tt };
+        over = λ c link holds. goes.over c link;
+        takes = λ c u v link takes holds. record { carried = goes.takes c u v link takes; holds = tt };
+      }) p finishes tt

@@ -1,10 +1,11 @@
 //! What follows from the definitions of a reader alone, whatever it makes of the messages that it reads. Each function
 //! has a law as its contract, and does nothing.
 
-ghost use Rattle.std.specs.Prelude.{◌≡◌, ◌≢◌, ◌∷◌, ℕ, Bool, false, IsTrue, List, Result, Err};
+ghost use Rattle.std.specs.Prelude.{◌≡◌, ◌≢◌, ◌<◌, ◌∷◌, ℕ, Bool, false, IsTrue, List, Result, Err};
 ghost use Rattle.wl_wire.specs.declared.error.IoFault.{IoFault};
 ghost use Rattle.wl_wire.specs.declared.error.IoFault.TheVariants as fault;
-ghost use Rattle.wl_link.specs.Exchange.{Sending, nothing};
+ghost use Rattle.wl_link.specs.AnsweringLaws.{AlwaysAnswers, EndsMalformed};
+ghost use Rattle.wl_link.specs.Exchange.{Queue, Sending, nothing};
 ghost use Rattle.wl_link.specs.Kept.{Kept};
 ghost use Rattle.wl_link.specs.Link.{LinkState};
 ghost use Rattle.wl_link.specs.OneLaws.{IsFunction, IsReceiveFunction};
@@ -14,7 +15,7 @@ ghost use Rattle.wl_link.specs.Reader.{AllFed, Ends, Given, Gives, Part, Reader,
 ghost use Rattle.wl_link.specs.ReaderLaws.{SameReading};
 ghost use Rattle.wl_link.specs.RespectLaws.{Respects, RespectsCores, RespectsReading};
 ghost use Rattle.wl_link.specs.Script.{Script};
-ghost use Rattle.wl_link.specs.Served.{GoesOnAs, ServedFrom, Told, part_as};
+ghost use Rattle.wl_link.specs.Served.{GoesOnAs, Served, ServedFrom, Told, part_as};
 ghost use Rattle.wl_link.specs.TotalLaws.{GoesOn, IsServedTo};
 ghost use Rattle.wl_link.specs.Stretch.{Act, EndsByPipe, IsServed, IsStretch, IsStretchWithin, arrivals_of, arrived, ended, given_in, left_over, sending_side};
 ghost use Rattle.wl_link.specs.Sides.{spelled_all};
@@ -108,12 +109,18 @@ pub fn what_is_served_has_one_outcome<S: Transport, Core, Event, Finish>()
 {}
 
 /// Something is always served, where each verdict of the reader can be carried out and malformed bytes are the end of it.
-/// So it is of a reader that puts nothing over every transport.
+/// So it is of a reader that puts nothing over every transport. Each verdict can be carried out where the transport answers
+/// each send and the storage holds a byte; and where the answers are told, some suffice.
 pub fn something_is_always_served<S: Transport, Core, Event, Finish>()
     ensures transport { (reader : Reader Core Event Finish) → GoesOn S.sends reader → (before : Part S Core)
         (finishes : List Finish) → IsServedTo S.sends reader before finishes }
     ensures told { (reader : Reader Core Event Finish) → GoesOn Told reader → (before : Part (List (Result ℕ IoFault)) Core)
         (finishes : List Finish) → IsServedTo Told reader before finishes }
+    ensures answering { AlwaysAnswers S.sends → (reader : Reader Core Event Finish) → EndsMalformed reader → (before : Part S Core)
+        (finishes : List Finish) → 0 < before.link.storage → IsServedTo S.sends reader before finishes }
+    ensures answered { (reader : Reader Core Event Finish) → EndsMalformed reader → (before : Part S Core) (more : Queue)
+        (finishes : List Finish) → 0 < before.link.storage → (answers : List (Result ℕ IoFault)) × (gave : List (Given Event))
+        × (after : _) × Served Told reader before more answers finishes gave after }
 {}
 
 /// However bytes and tokens are cut over the transport by script, a stretch in which they arrive, are read, and what is

@@ -12,11 +12,15 @@ use Rattle.wl_link.specs.Served.{Answers, GoesOnAs, Served, Told as AsTold}
 use Rattle.wl_server.specs.declared.action.Reading.{Reading}
 use Rattle.wl_server.specs.declared.error.ActionError.{ActionError}
 use Rattle.wl_server.specs.declared.error.FinishRefused.{FinishRefused}
+use Rattle.wl_server.specs.declared.step.Reply.TheVariants as reply
+use Rattle.wl_server.specs.declared.step.Step.TheVariants as step
 use Rattle.wl_server.specs.Deeds.{Deed, Handed, Sent, notes_in}
 use Rattle.wl_server.specs.Part.{Part}
-use Rattle.wl_server.specs.Reading.{Around, answered, exchanges_in, server}
-use Rattle.wl_server.specs.Server.{Seen}
-use Rattle.wl_server.specs.Telling.{Core, Finish, Told, deeds_of, part_of, reader_part}
+use Rattle.wl_server.specs.PartStep.{Asked, Call, World, around}
+use Rattle.wl_server.specs.Reading.{Around, action_content, answered, exchanges_in, new_reading, server}
+use Rattle.wl_server.specs.Server.{Seen, ServerState, seen}
+use Rattle.wl_server.specs.Steps.{Entry, Makes, OneStep}
+use Rattle.wl_server.specs.Telling.{Core, Finish, OfBind, OfRequest, Told, deeds_of, part_of, reader_part}
 
 module _ {T U G C : Type 0} (a : Around G C) where
   -- With this behind what waits, these answers to the sends, and the data of these finishes, a client is given this and
@@ -35,25 +39,54 @@ module _ {T U G C : Type 0} (a : Around G C) where
   abbrev pub seen_after : Seen T U C → ReaderPart T (Core U C) → List (Deed U) → Seen T U C
   seen_after before end did = record { part = Some (part_of end); made = before.made ++ notes_in did }
 
-  -- A reading of a live client with no action open, in which memory is not refused, is some turns with this answer. Where
-  -- each of its receives brought a byte or would have blocked, the client before it goes on as the client after it, behind
-  -- what it gave: what was put, what was done, and the action or why nothing more is read.
+  -- A reading of a live client with no action open is some turns, with this answer and these deeds. Where each of its
+  -- receives brought a byte or would have blocked, the client before it goes on as the client after it, behind what it gave:
+  -- what was put, what was done, and the action or why nothing more is read.
   abbrev pub CutsReading : (T → Queue → Result ℕ IoFault → T → Type 0) → (T → ℕ → Result Queue IoFault → T → Type 0) → Reading → Seen T U C
-      → Result Handed ActionError → Bool → Seen T U C → Type 0
-  CutsReading sends receives r before answer refused after =
-      (p : Part T U C) → before.part ≡ Some p → p.is_killed ≡ false → p.action ≡ None → refused ≡ false →
+      → Result Handed ActionError → List (Deed U) → Seen T U C → Type 0
+  CutsReading sends receives r before answer did after =
+      (p : Part T U C) → before.part ≡ Some p → p.is_killed ≡ false → p.action ≡ None →
       (turns : List Turn) × (out : Gives (Told U)) × (end : ReaderPart T (Core U C))
       × Reads sends (server a) receives r.turns_left (reader_part p) turns out end
       × (answer ≡ answered out.stopped out.gave)
-      × (after ≡ seen_after before end (deeds_of (exchanges_in turns) out.gave end.core))
+      × (did ≡ deeds_of (exchanges_in turns) out.gave end.core)
+      × (after ≡ seen_after before end did)
       × (AllFed turns → (finishes : List (Finish U)) → GoesOn (reader_part p) (came_in turns) (sends_in turns) finishes out.gave end finishes)
 
-  -- an accepted finish of a live client is the next of the finishes
+  -- an accepted finish of a live client, with these deeds, is the next of the finishes
   abbrev pub CutsFinish : {D : Type 0} → (T → Queue → Result ℕ IoFault → T → Type 0) → Finish U → Seen T U C → Result (Unit {0}) (FinishRefused D)
-      → Seen T U C → Type 0
-  CutsFinish sends u before answer after =
+      → List (Deed U) → Seen T U C → Type 0
+  CutsFinish sends u before answer did after =
       (p : Part T U C) → before.part ≡ Some p → p.is_killed ≡ false → answer ≡ Ok tt →
       (es : List Sending) × (gave : List (Given (Told U))) × (end : ReaderPart T (Core U C))
       × Ends sends (server a) (reader_part p) u es gave false end
-      × (after ≡ seen_after before end (deeds_of (map Sent es) gave end.core))
+      × (did ≡ deeds_of (map Sent es) gave end.core)
+      × (after ≡ seen_after before end did)
       × ((finishes : List (Finish U)) → GoesOn (reader_part p) nothing es (u ∷ finishes) gave end finishes)
+
+-- ---- the calls of a server
+
+module _ {T U G C : Type 0} (w : World T G C) (before : ServerState T U G C) (e : Entry T U G C) (after : ServerState T U G C) where
+  -- the deeds with the client are those of its turns, where memory was not refused; or those of the end of its action
+  abbrev pub IsCut : Call T U G C → Type 0
+  IsCut (Asked (step.NextAction id) (reply.NextAction answer)) =
+      e.refused ≡ false
+      → CutsReading (around w id before.offer) w.sends w.receives new_reading (seen id before) (action_content answer) (e.did id) (seen id after)
+  IsCut (Asked (step.NextActionWithin id reading) (reply.NextActionWithin answer left)) =
+      e.refused ≡ false
+      → CutsReading (around w id before.offer) w.sends w.receives reading (seen id before) (action_content answer) (e.did id) (seen id after)
+  IsCut (Asked (step.FinishRequest id u) (reply.FinishRequest answer)) =
+      CutsFinish (around w id before.offer) w.sends (OfRequest u) (seen id before) answer (e.did id) (seen id after)
+  IsCut (Asked (step.FinishBind id u) (reply.FinishBind answer)) =
+      CutsFinish (around w id before.offer) w.sends (OfBind u) (seen id before) answer (e.did id) (seen id after)
+  IsCut _ = Unit {0}
+
+module _ {T U G C : Type 0} (w : World T G C) where
+  -- so it is of each history that such a call may have
+  abbrev pub HistoriesAreCut : ServerState T U G C → Call T U G C → ServerState T U G C → Type 0
+  HistoriesAreCut before call after = (e : Entry T U G C) → e.call ≡ call → OneStep w before e after → IsCut w before e after call
+
+  -- The call was made, and each history that it may have is cut so: what is served is what was put, done and noted in that very
+  -- history, and so in the one of which its log and its announcements are told.
+  abbrev pub CallIsCut : ServerState T U G C → Call T U G C → Bool → ServerState T U G C → Type 0
+  CallIsCut before call refused after = Makes w before call refused after × HistoriesAreCut before call after

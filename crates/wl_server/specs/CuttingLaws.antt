@@ -1,11 +1,12 @@
 -- What follows for a client of a server from the laws of a reader: that it does not matter to it how bytes and tokens are
 -- cut, reading by reading and finish by finish.
-use Rattle.std.proofs.Common.{◌≡◌, ℕ, Bool, true, false, List, ◌∷◌, ◌++◌, Option, None, Some, is_none, Result, Ok, Err, refl, sym, ap, ap₂, subst, ◌∙◌, true≢false}
+use Rattle.std.proofs.Common.{◌≡◌, ℕ, ◌<◌, Bool, true, false, List, ◌∷◌, ◌++◌, Option, None, Some, is_none, Result, Ok, Err, refl, sym, ap, subst, ◌∙◌, true≢false}
 use mathlib.Core.Logic.{inl, inr}
 use Rattle.std.proofs.lemmas.Option.{same_Some}
 use Rattle.std.specs.Prelude.{if◌then◌else◌, not, ◌&&◌, is_ok, map, MatchBool}
 use Rattle.wl_wire.specs.declared.error.IoFault.{IoFault}
 use Rattle.wl_wire.specs.declared.error.IoFault.TheVariants as fault
+use Rattle.wl_link.specs.AnsweringLaws.{EndsMalformed, some_answered}
 use Rattle.wl_link.specs.Branches.{either_option}
 use Rattle.wl_link.specs.CuttingLaws.{finish_law, reading_law}
 use Rattle.wl_link.specs.Exchange.{Queue, Sending, nothing}
@@ -13,7 +14,6 @@ use Rattle.wl_link.specs.Reader.{AllFed, CarriesOut, Ends, Given, Gives, Reads, 
 use Rattle.wl_link.specs.Reader.{Part as ReaderPart}
 use Rattle.wl_link.specs.Served.{Answers, Told as AsTold, part_as}
 use Rattle.wl_link.specs.ServedLaws.{served_one, told_function}
-use Rattle.wl_server.specs.declared.action.Action.{Action}
 use Rattle.wl_server.specs.declared.action.OpenAction.{OpenAction}
 use Rattle.wl_server.specs.declared.action.OpenAction.TheVariants as opened
 use Rattle.wl_server.specs.declared.action.Reading.{Reading}
@@ -24,7 +24,7 @@ use Rattle.wl_server.specs.declared.error.FinishRefused.{FinishRefused}
 use Rattle.wl_server.specs.declared.step.Reply.{Reply}
 use Rattle.wl_server.specs.declared.step.Reply.TheVariants as reply
 use Rattle.wl_server.specs.declared.step.Step.TheVariants as step
-use Rattle.wl_server.specs.Cutting.{CutsFinish, CutsReading, GoesOn, IsServed, seen_after}
+use Rattle.wl_server.specs.Cutting.{CutsFinish, CutsReading, GoesOn, HistoriesAreCut, IsServed, seen_after}
 use Rattle.wl_server.specs.Deeds.{Deed, Handed, Sent, notes_in}
 use Rattle.wl_server.specs.Finish.{FinishesBind, FinishesRequest, finishing, refusal}
 use Rattle.wl_server.specs.Globals.{Offer}
@@ -32,12 +32,12 @@ use Rattle.wl_server.specs.Ids.{ClientParts, same_client}
 use Rattle.wl_server.specs.IsolationLaw.{same_self}
 use Rattle.wl_server.specs.Objects.{unless_refused}
 use Rattle.wl_server.specs.Part.{Part}
-use Rattle.wl_server.specs.PartStep.{OfClient, OnPart, PartCall, ReadsFor, World, around}
+use Rattle.wl_server.specs.PartStep.{Asked, Call, OfClient, OnPart, PartCall, ReadsFor, World, around}
 use Rattle.wl_server.specs.ReaderLaws.{EndsAlike, bind_ends_alike, request_ends_alike}
-use Rattle.wl_server.specs.Reading.{Around, NextAction, ReadsNone, ReadsTo, action_content, exchanges_in, new_reading, reads_on, server, takes}
+use Rattle.wl_server.specs.Reading.{Around, NextAction, ReadsNone, ReadsTo, action_content, new_reading, reads_on, server, takes}
 use Rattle.wl_server.specs.ReplyLaws.{own_step}
 use Rattle.wl_server.specs.Server.{Seen, ServerState, seen}
-use Rattle.wl_server.specs.Steps.{Entry, IsRefused, StepOf}
+use Rattle.wl_server.specs.Steps.{Entry, IsRefused, OneStep}
 use Rattle.wl_server.specs.Telling.{Core, Finish, OfBind, OfRequest, Told, core_of, deeds_of, part_of, reader_part}
 
 none_some : {A : Type 0} {x : A} → None ≡ Some x → ⊥
@@ -117,11 +117,10 @@ module _ {T U G C : Type 0} (w : World T G C) (id : ClientParts) (offer : Offer 
   abbrev here : Around G C
   here = around w id offer
 
-  -- what is held of a client, by its part and its deeds
-  held_so : (q : Part T U C) (end : ReaderPart T (Core U C)) (did all : List (Deed U)) → after ≡ record { part = Some q; made = before.made ++ notes_in did }
-      → q ≡ part_of end → did ≡ all → after ≡ seen_after here before end all
-  held_so q end did all same is did_so =
-      same ∙ ap₂ (λ (x : Part T U C) (ds : List (Deed U)). let s : Seen T U C = record { part = Some x; made = before.made ++ notes_in ds } in s) is did_so
+  -- what is held of a client, by its part
+  held_so : (q : Part T U C) (end : ReaderPart T (Core U C)) (did : List (Deed U)) → after ≡ record { part = Some q; made = before.made ++ notes_in did }
+      → q ≡ part_of end → after ≡ seen_after here before end did
+  held_so q end did same is = same ∙ ap (λ (x : Part T U C). let s : Seen T U C = record { part = Some x; made = before.made ++ notes_in did } in s) is
 
   pub of_part : (R : Part T U C → Part T U C → Type 0) (missing : Type 0) (lacked : Bool) (did : List (Deed U)) (p : Part T U C) → before.part ≡ Some p
       → OnPart before R missing lacked did after → (q : Part T U C) × R p q × (after ≡ record { part = Some q; made = before.made ++ notes_in did })
@@ -132,8 +131,8 @@ module _ {T U G C : Type 0} (w : World T G C) (id : ClientParts) (offer : Offer 
       ]
 
   pub seen_reads : (r : Reading) (answer : Result Handed ActionError) (r' : Reading) (lacked : Bool) (did : List (Deed U)) → lacked ≡ false
-      → ReadsFor w id offer id r answer r' before lacked did after → (refused : Bool) → CutsReading here w.sends w.receives r before answer refused after
-  seen_reads r answer r' lacked did unlacked h refused p there live unopened calm =
+      → ReadsFor w id offer id r answer r' before lacked did after → CutsReading here w.sends w.receives r before answer did after
+  seen_reads r answer r' lacked did unlacked h p there live unopened =
       let (q, next, same) = of_part _ _ lacked did p there (own_step (same_client id id) before _ _ lacked did after (same_self id) h) in
       let (turns, out, end, reads, is, left, lacks, did_so, ends) = reads_to w.sends w.receives here r p answer r' lacked did q live unopened next in (
         turns,
@@ -141,7 +140,8 @@ module _ {T U G C : Type 0} (w : World T G C) (id : ClientParts) (offer : Offer 
         end,
         reads,
         is,
-        held_so q end did (deeds_of (exchanges_in turns) out.gave end.core) same ends did_so,
+        did_so,
+        held_so q end did same ends,
         λ fed finishes. reading_cuts w.sends w.receives here r.turns_left (reader_part p) end turns out reads fed (sym lacks ∙ unlacked) finishes,
       )
 
@@ -150,7 +150,8 @@ module _ {T U G C : Type 0} (w : World T G C) (id : ClientParts) (offer : Offer 
       → lacked ≡ false → EndsAlike w.sends here p u lacked did q → after ≡ record { part = Some q; made = before.made ++ notes_in did }
       → (es : List Sending) × (gave : List (Given (Told U))) × (end : ReaderPart T (Core U C))
       × Ends w.sends (server here) (reader_part p) u es gave false end
-      × (after ≡ seen_after here before end (deeds_of (map Sent es) gave end.core))
+      × (did ≡ deeds_of (map Sent es) gave end.core)
+      × (after ≡ seen_after here before end did)
       × ((finishes : List (Finish U)) → GoesOn here (reader_part p) nothing es (u ∷ finishes) gave end finishes)
   seen_ends u lacked did p q unlacked (es, gave, end, (v, taken, carried), did_so, ends) same =
       let by : Ends w.sends (server here) (reader_part p) u es gave false end
@@ -159,14 +160,15 @@ module _ {T U G C : Type 0} (w : World T G C) (id : ClientParts) (offer : Offer 
         gave,
         end,
         by,
-        held_so q end did (deeds_of (map Sent es) gave end.core) same ends did_so,
+        did_so,
+        held_so q end did same ends,
         λ finishes. ending_cuts w.sends w.receives here (reader_part p) end u es gave (taken_off id (core_of p) u v taken) by finishes,
       )
 
   pub seen_finishes : (u : Option U) (answer : Result (Unit {0}) (FinishRefused (Option U))) (lacked : Bool) (did : List (Deed U))
       → OfClient (same_client id id) before (λ p q. FinishesRequest w.sends id p u answer lacked did q)
       (answer ≡ Err (record { error = finish.InvalidId; user_data = u })) lacked did after
-      → CutsFinish here w.sends (OfRequest u) before answer after
+      → CutsFinish here w.sends (OfRequest u) before answer did after
   seen_finishes u answer lacked did h p there live accepted =
       let (q, next, same) = of_part _ _ lacked did p there (own_step (same_client id id) before _ _ lacked did after (same_self id) h) in
       let done = subst (λ (r : Result (Unit {0}) (FinishRefused (Option U))). FinishesRequest w.sends id p u r lacked did q) accepted next in
@@ -175,7 +177,7 @@ module _ {T U G C : Type 0} (w : World T G C) (id : ClientParts) (offer : Offer 
   pub seen_finishes_bind : (u : U) (answer : Result (Unit {0}) (FinishRefused U)) (lacked : Bool) (did : List (Deed U))
       → OfClient (same_client id id) before (λ p q. FinishesBind p u answer lacked did q)
       (answer ≡ Err (record { error = finish.InvalidId; user_data = u })) lacked did after
-      → CutsFinish here w.sends (OfBind u) before answer after
+      → CutsFinish here w.sends (OfBind u) before answer did after
   seen_finishes_bind u answer lacked did h p there live accepted =
       let (q, next, same) = of_part _ _ lacked did p there (own_step (same_client id id) before _ _ lacked did after (same_self id) h) in
       let done = subst (λ (r : Result (Unit {0}) (FinishRefused U)). FinishesBind p u r lacked did q) accepted next in
@@ -197,50 +199,36 @@ module _ {T U : Type 0} where
   bind_answer (reply.FinishBind r) = r
   bind_answer _ = Ok tt
 
-module _ {T U G C : Type 0} (w : World T G C) (id : ClientParts) (before after : ServerState T U G C) where
+module _ {T U G C : Type 0} (w : World T G C) (before after : ServerState T U G C) where
   -- where memory was not refused in a call, it was not refused to any client
-  ample : (e : Entry T U G C) → IsRefused e → e.refused ≡ false → e.lacks id ≡ false
-  ample e by calm = go (e.lacks id) refl
+  ample : (id : ClientParts) (e : Entry T U G C) → IsRefused e → e.refused ≡ false → e.lacks id ≡ false
+  ample id e by calm = go (e.lacks id) refl
     where
       go : (b : Bool) → e.lacks id ≡ b → b ≡ false
       go true is = absurd (true≢false (sym (by.1 (inr (id, is))) ∙ calm))
       go false is = refl
 
-  abbrev there : Around G C
-  there = around w id before.offer
+  -- what the call is to this client
+  of_call : (id : ClientParts) (e : Entry T U G C) (call : Call T U G C) → e.call ≡ call → OneStep w before e after
+      → PartCall w id before.offer call (seen id before) (e.lacks id) (e.did id) (seen id after)
+  of_call id e call is by = subst (λ (c : Call T U G C). PartCall w id before.offer c (seen id before) (e.lacks id) (e.did id) (seen id after)) is (by.each id)
 
-  pub next_action_cuts : (answer : Result Action ActionError) (refused : Bool) → StepOf w before (step.NextAction id) (reply.NextAction answer) refused after
-      → CutsReading there w.sends w.receives new_reading (seen id before) (action_content answer) refused (seen id after)
-  next_action_cuts answer refused (e, call, was, by) p there' live unopened calm =
-      let (r, left, is, h) = subst (λ c. PartCall w id before.offer c (seen id before) (e.lacks id) (e.did id) (seen id after)) call (by.each id) in
-      let reads = subst (λ (x : Result Handed ActionError). ReadsFor w id before.offer id new_reading x left (seen id before) (e.lacks id) (e.did id) (seen id after))
-      (sym (ap action_answer is)) h in
-      seen_reads w id before.offer (seen id before) (seen id after) new_reading (action_content answer) left (e.lacks id) (e.did id) (ample e by.refused (was ∙ calm)) reads refused
-      p there' live unopened calm
-
-  pub next_action_within_cuts : (reading reading' : Reading) (answer : Result Action ActionError) (refused : Bool)
-      → StepOf w before (step.NextActionWithin id reading) (reply.NextActionWithin answer reading') refused after
-      → CutsReading there w.sends w.receives reading (seen id before) (action_content answer) refused (seen id after)
-  next_action_within_cuts reading reading' answer refused (e, call, was, by) p there' live unopened calm =
-      let (r, left, is, h) = subst (λ c. PartCall w id before.offer c (seen id before) (e.lacks id) (e.did id) (seen id after)) call (by.each id) in
-      let reads = subst (λ (x : Result Handed ActionError). ReadsFor w id before.offer id reading x left (seen id before) (e.lacks id) (e.did id) (seen id after))
-      (sym (ap action_answer is)) h in
-      seen_reads w id before.offer (seen id before) (seen id after) reading (action_content answer) left (e.lacks id) (e.did id) (ample e by.refused (was ∙ calm)) reads refused
-      p there' live unopened calm
-
-  pub finish_request_cuts : (u : Option U) (answer : Result (Unit {0}) (FinishRefused (Option U))) (refused : Bool)
-      → StepOf w before (step.FinishRequest id u) (reply.FinishRequest answer) refused after
-      → CutsFinish there w.sends (OfRequest u) (seen id before) answer (seen id after)
-  finish_request_cuts u answer refused (e, call, was, by) p there' live accepted =
-      let (r, is, h) = subst (λ c. PartCall w id before.offer c (seen id before) (e.lacks id) (e.did id) (seen id after)) call (by.each id) in
-      seen_finishes w id before.offer (seen id before) (seen id after) u r (e.lacks id) (e.did id) h p there' live (sym (ap request_answer is) ∙ accepted)
-
-  pub finish_bind_cuts : (u : U) (answer : Result (Unit {0}) (FinishRefused U)) (refused : Bool)
-      → StepOf w before (step.FinishBind id u) (reply.FinishBind answer) refused after
-      → CutsFinish there w.sends (OfBind u) (seen id before) answer (seen id after)
-  finish_bind_cuts u answer refused (e, call, was, by) p there' live accepted =
-      let (r, is, h) = subst (λ c. PartCall w id before.offer c (seen id before) (e.lacks id) (e.did id) (seen id after)) call (by.each id) in
-      seen_finishes_bind w id before.offer (seen id before) (seen id after) u r (e.lacks id) (e.did id) h p there' live (sym (ap bind_answer is) ∙ accepted)
+  pub histories_cut : (call : Call T U G C) → HistoriesAreCut w before call after
+  histories_cut (Asked (step.NextAction id) (reply.NextAction answer)) e call by =
+      let (r, left, is, h) = of_call id e (Asked (step.NextAction id) (reply.NextAction answer)) call by in
+      λ calm. seen_reads w id before.offer (seen id before) (seen id after) new_reading (action_content answer) left (e.lacks id) (e.did id) (ample id e by.refused calm)
+      (subst (λ (x : Result Handed ActionError). ReadsFor w id before.offer id new_reading x left (seen id before) (e.lacks id) (e.did id) (seen id after)) (sym (ap action_answer is)) h)
+  histories_cut (Asked (step.NextActionWithin id reading) (reply.NextActionWithin answer reading')) e call by =
+      let (r, left, is, h) = of_call id e (Asked (step.NextActionWithin id reading) (reply.NextActionWithin answer reading')) call by in
+      λ calm. seen_reads w id before.offer (seen id before) (seen id after) reading (action_content answer) left (e.lacks id) (e.did id) (ample id e by.refused calm)
+      (subst (λ (x : Result Handed ActionError). ReadsFor w id before.offer id reading x left (seen id before) (e.lacks id) (e.did id) (seen id after)) (sym (ap action_answer is)) h)
+  histories_cut (Asked (step.FinishRequest id u) (reply.FinishRequest answer)) e call by =
+      let (r, is, h) = of_call id e (Asked (step.FinishRequest id u) (reply.FinishRequest answer)) call by in
+      λ p there live accepted. seen_finishes w id before.offer (seen id before) (seen id after) u r (e.lacks id) (e.did id) h p there live (sym (ap request_answer is) ∙ accepted)
+  histories_cut (Asked (step.FinishBind id u) (reply.FinishBind answer)) e call by =
+      let (r, is, h) = of_call id e (Asked (step.FinishBind id u) (reply.FinishBind answer)) call by in
+      λ p there live accepted. seen_finishes_bind w id before.offer (seen id before) (seen id after) u r (e.lacks id) (e.did id) h p there live (sym (ap bind_answer is) ∙ accepted)
+  histories_cut _ e call by = tt
 
 -- ---- what is served has one outcome
 
@@ -248,3 +236,14 @@ pub one_served : {T U G C : Type 0} (a : Around G C) (p : ReaderPart T (Core U C
     (gave others : List (Given (Told U))) (x y : ReaderPart Answers (Core U C)) → IsServed a p more answers finishes gave x → IsServed a p more answers finishes others y
     → (gave ≡ others) × (x ≡ y)
 one_served a p more answers finishes gave others x y = served_one AsTold told_function (server a) (part_as p more answers) x y finishes gave others
+
+-- ---- something is served, with answers that suffice
+
+ends_malformed : {U G C : Type 0} (a : Around G C) → EndsMalformed (server {U = U} a)
+ends_malformed a c (Ok _) = (refl, λ u. refl)
+ends_malformed a c (Err fault.OutOfMemory) = (refl, λ u. refl)
+ends_malformed a c (Err _) = (refl, λ u. refl)
+
+pub some_served : {T U G C : Type 0} (a : Around G C) (p : ReaderPart T (Core U C)) (more : Queue) (finishes : List (Finish U)) → 0 < p.link.storage
+    → (answers : Answers) × (gave : List (Given (Told U))) × (end : ReaderPart Answers (Core U C)) × IsServed a p more answers finishes gave end
+some_served a p more finishes holds = some_answered (server a) (ends_malformed a) p more finishes holds

@@ -2,6 +2,9 @@
 --
 -- A receive that brings a byte was offered one. One that brings none is the last of its reading: so it is said of what that
 -- one leaves.
+--
+-- It follows from what a reading is, and asks no more of a call than the step does. It stands on the calls by itself so that
+-- who reads them sees, without the definition of a reading, that no full storage kills a client within its limit.
 use Rattle.std.specs.Prelude.{◌≡◌, ◌≢◌, List, [], Some, Result, Ok, Err}
 use Rattle.wl_wire.specs.declared.error.IoFault.{IoFault}
 use Rattle.wl_wire.specs.declared.error.IoFault.TheVariants as fault
@@ -27,7 +30,7 @@ module _ {T U : Type 0} where
   LeavesRoom did link = (r : Result Queue IoFault) → IsAmong (came_in did) r → BringsNone r → FindsRoom link link.room
 
 module _ {T U G C : Type 0} (w : World T G C) where
-  -- this call leaves it so of each client, whatever it did
+  -- this call leaves it so of each client, in each history that it may have
   abbrev pub HasRoom : ServerState T U G C → Call T U G C → ServerState T U G C → Type 0
   HasRoom before call after =
       (e : Entry T U G C) (id : ClientParts) (p : Part T U C) → e.call ≡ call → OneStep w before e after → (seen id after).part ≡ Some p

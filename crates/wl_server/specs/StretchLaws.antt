@@ -603,10 +603,7 @@ each_is_cut views begun after run leads id p q born there ends =
 
 pub are_cut : {U G C : Type 0} (views : G → ClientParts → C → GlobalParts → Bool) (begun after : ServerState Script U G C) (steps : List (RunEntry (Step Script U G C) (Reply Script U)))
     → Performs (over_scripts views) begun steps after → AreCut views begun steps after
-are_cut views begun after steps performs =
-    let (run, are, leads) = performed (over_scripts views) begun after steps performs in (
-      run,
-      are,
-      leads,
-      λ earlier middle later first last split before part. each_is_cut views first last middle part,
-    )
+are_cut views begun after steps performs = (
+  performed (over_scripts views) begun after steps performs,
+  λ run are leads earlier middle later first last split before part. each_is_cut views first last middle part,
+)

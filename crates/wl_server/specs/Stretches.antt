@@ -5,6 +5,7 @@ use Rattle.wl_wire.specs.declared.error.IoFault.TheVariants as fault
 use Rattle.wl_wire.specs.declared.error.MessageParseError.TheVariants as parse
 use Rattle.wl_link.specs.Exchange.{Queue, joined, nothing}
 use Rattle.wl_link.specs.Link.{EachWithin, incoming_limit}
+use Rattle.wl_link.specs.Parts.{EachPart}
 use Rattle.wl_link.specs.Reader.{Given, HandedOut, Lacks, ReadsAs}
 use Rattle.wl_link.specs.Reader.{Part as ReaderPart}
 use Rattle.wl_link.specs.Runs.{Entry as RunEntry}
@@ -179,12 +180,12 @@ module _ {U G C : Type 0} where
 
   -- so it is over each part of a run
   abbrev pub EachPartIsCut : (G → ClientParts → C → GlobalParts → Bool) → ServerState Script U G C → List (Entry Script U G C) → Type 0
-  EachPartIsCut views begun run =
-      (earlier middle later : List (Entry Script U G C)) (first last : ServerState Script U G C) → run ≡ earlier ++ (middle ++ later)
-      → Leads (over_scripts views) begun earlier first → Leads (over_scripts views) first middle last → EachIsCut views first middle last
+  EachPartIsCut views begun run = EachPart (Leads (over_scripts views)) (EachIsCut views) begun run
 
-  -- steps with these replies are the calls of a run in which that is so
+  -- Steps with these replies are the calls of a run; and of each such run, whatever its deeds, that is so: it is of the one
+  -- that is accounted for.
   abbrev pub AreCut : (G → ClientParts → C → GlobalParts → Bool) → ServerState Script U G C → List (RunEntry (Step Script U G C) (Reply Script U))
       → ServerState Script U G C → Type 0
   AreCut views begun steps after =
-      (run : List (Entry Script U G C)) × AreOf steps run × Leads (over_scripts views) begun run after × EachPartIsCut views begun run
+      ((run : List (Entry Script U G C)) × AreOf steps run × Leads (over_scripts views) begun run after)
+      × ((run : List (Entry Script U G C)) → AreOf steps run → Leads (over_scripts views) begun run after → EachPartIsCut views begun run)

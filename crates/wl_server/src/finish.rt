@@ -7,13 +7,11 @@ ghost use Rattle.wl_link.specs.declared.object.Object.{Object};
 ghost use Rattle.wl_server.specs.declared.kept.Kept.{Kept};
 ghost use Rattle.wl_server.specs.Backend.{Calls};
 ghost use Rattle.wl_server.specs.Client.{Does};
-ghost use Rattle.wl_server.specs.Cutting.{CutsFinish};
+ghost use Rattle.wl_server.specs.Cutting.{CallIsCut};
 ghost use Rattle.wl_server.specs.Finish.{ended_by, FinishesBind, FinishesOpen, FinishesRequest, refusal};
 ghost use Rattle.wl_server.specs.Finishing.{EndsSender, lacks_finish, part_closed};
 ghost use Rattle.wl_server.specs.Part.{end_note, note_of_end, registries_without};
-ghost use Rattle.wl_server.specs.PartStep.{around, over};
-ghost use Rattle.wl_server.specs.Server.{seen};
-ghost use Rattle.wl_server.specs.Telling.{OfBind, OfRequest};
+ghost use Rattle.wl_server.specs.PartStep.{Asked, over};
 ghost use Rattle.wl_server.specs.declared.action.OpenAction.TheVariants as opened;
 ghost use Rattle.wl_server.specs.declared.step.Reply.TheVariants as reply;
 ghost use Rattle.wl_server.specs.declared.step.Step.TheVariants as step;
@@ -265,8 +263,7 @@ impl<T: Transport + Drop, U: Drop, G: GlobalHandler<C> + Drop, C: Drop> Backend<
         client: &ClientId,
         user_data: Option<U>,
     ) -> Result<(), FinishRefused<Option<U>>>
-        ensures cutting { CutsFinish (around (over T.sends T.receives G.views) client.now self.old.server.offer) T.sends (OfRequest user_data)
-            (seen client.now self.old.server) result (seen client.now self.new.server) }
+        ensures cutting { CallIsCut (over T.sends T.receives G.views) self.old.server (Asked (step.FinishRequest client.now user_data) (reply.FinishRequest result)) self.new.refused self.new.server }
         ensures finished { Calls (over T.sends T.receives G.views) self.old (step.FinishRequest client.now user_data) (reply.FinishRequest result) self.new }
     {
         self.refused = false;
@@ -290,8 +287,7 @@ impl<T: Transport + Drop, U: Drop, G: GlobalHandler<C> + Drop, C: Drop> Backend<
     /// The refusals are, in this order: `InvalidId` where the client is not stored; `NoOpenAction`; `WrongKind` where a
     /// request is open. Each gives the data back, and changes nothing.
     pub fn finish_bind(&mut self, client: &ClientId, user_data: U) -> Result<(), FinishRefused<U>>
-        ensures cutting { CutsFinish (around (over T.sends T.receives G.views) client.now self.old.server.offer) T.sends (OfBind user_data)
-            (seen client.now self.old.server) result (seen client.now self.new.server) }
+        ensures cutting { CallIsCut (over T.sends T.receives G.views) self.old.server (Asked (step.FinishBind client.now user_data) (reply.FinishBind result)) self.new.refused self.new.server }
         ensures finished { Calls (over T.sends T.receives G.views) self.old (step.FinishBind client.now user_data) (reply.FinishBind result) self.new }
     {
         self.refused = false;

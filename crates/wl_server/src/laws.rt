@@ -3,7 +3,11 @@
 //! A clause whose name begins with `script` says of steps with their replies, over the transport by script, what the others
 //! of its function say of calls over every transport.
 
+<<<<<<< HEAD
 ghost use Rattle.std.specs.Prelude.{◌≡◌, ◌≢◌, ◌∷◌, ℕ, Bool, false, List, Option, Some, Result, Err};
+=======
+ghost use Rattle.std.specs.Prelude.{◌≡◌, ◌≢◌, ◌<◌, ◌∷◌, ℕ, Bool, false, List, Option, Some, Result, Err};
+>>>>>>> 6a96b522e8c78d173120bab89cd70229b756cde5
 ghost use Rattle.wl_wire.specs.Table.{InterfaceRow};
 ghost use Rattle.wl_wire.specs.declared.interface.InterfaceId.{InterfaceId};
 ghost use Rattle.wl_link.specs.Exchange.{Queue, Sending, nothing};
@@ -21,7 +25,7 @@ ghost use Rattle.wl_server.specs.declared.step.Reply.{Reply};
 ghost use Rattle.wl_server.specs.declared.step.Step.{Step};
 ghost use Rattle.wl_server.specs.Accounts.{AreAccountedFor};
 ghost use Rattle.wl_server.specs.Announced.{EachAnnouncesShown, HaveAnnouncements};
-ghost use Rattle.wl_server.specs.Cutting.{GoesOn, IsServed};
+ghost use Rattle.wl_server.specs.Cutting.{GoesOn, HistoriesAreCut, IsServed};
 ghost use Rattle.wl_server.specs.Globals.{CreatesGlobal, Globals, Offer};
 ghost use Rattle.wl_server.specs.Ids.{ClientParts, GlobalParts};
 ghost use Rattle.wl_server.specs.Outcome.{ClientsHaveOneOutcome, OffersHaveOneOutcome, OwnRunsHaveOneOutcome, StepsHaveOneOutcome};
@@ -29,7 +33,7 @@ ghost use Rattle.wl_server.specs.Identified.{EachHasOwnIds, HaveOwnIds};
 ghost use Rattle.wl_server.specs.Logged.{EachLogIsSpelled, HaveSpelledLogs};
 ghost use Rattle.wl_server.specs.NotedOnce.{CleanupNotesAll, EachIsNoted, FinishNotesAtOnce, HaveNotes};
 ghost use Rattle.wl_server.specs.Part.{Part};
-ghost use Rattle.wl_server.specs.PartStep.{around, over, over_scripts, share_of};
+ghost use Rattle.wl_server.specs.PartStep.{Call, around, over, over_scripts, share_of};
 ghost use Rattle.wl_server.specs.Reading.{Around, reads_on, server};
 ghost use Rattle.wl_server.specs.Runs.{Alone, AreIsolated, IsIsolated, Leads, Own, Performs, history};
 ghost use Rattle.wl_server.specs.Server.{Seen, ServerState, Stored, new_server};
@@ -179,7 +183,9 @@ pub fn each_client_of_a_script_is_accounted_for<U, G: GlobalHandler<C>, C>()
 /// In a reading in which memory is not refused, let each receive bring a byte, or say that the transport would block.
 /// Whatever comes later, and whatever later sends are answered: what is served of the client before it, over what was
 /// received and then the rest, is what the reading gave, followed by what is served of the client after it over the rest.
-/// The end of an action is the next of the finishes. What is served is determined.
+/// The end of an action is the next of the finishes. So it is of each history that a call may have: its deeds are those of such
+/// turns, or of such an end. What is served is determined; and of whatever waits something is served, by some answers to the
+/// sends, where the storage for what is sent holds a byte.
 pub fn cutting_does_not_matter_to_a_client<T: Transport, U, G, C>()
     ensures reading { (a : Around G C) (left : ℕ) (before after : ReaderPart T (Core U C)) (turns : List Turn) (out : Gives (Told U)) →
         Reads T.sends (server a) T.receives left before turns out after → AllFed turns → out.refused ≡ false →
@@ -187,9 +193,13 @@ pub fn cutting_does_not_matter_to_a_client<T: Transport, U, G, C>()
     ensures finish { (a : Around G C) (before after : ReaderPart T (Core U C)) (u : Finish U) (es : List Sending) (gave : List (Given (Told U))) →
         reads_on before.core ≡ false → Ends T.sends (server a) before u es gave false after →
         (finishes : List (Finish U)) → GoesOn a before nothing es (u ∷ finishes) gave after finishes }
+    ensures calls { (views : G → ClientParts → C → GlobalParts → Bool) (before after : ServerState T U G C) (call : Call T U G C) →
+        HistoriesAreCut (over T.sends T.receives views) before call after }
     ensures one { (a : Around G C) (before : ReaderPart T (Core U C)) (more : Queue) (answers : Answers) (finishes : List (Finish U))
         (gave others : List (Given (Told U))) (x y : _) →
         IsServed a before more answers finishes gave x → IsServed a before more answers finishes others y → (gave ≡ others) × (x ≡ y) }
+    ensures some { (a : Around G C) (before : ReaderPart T (Core U C)) (more : Queue) (finishes : List (Finish U)) → 0 < before.link.storage →
+        (answers : Answers) × (gave : List (Given (Told U))) × (after : _) × IsServed a before more answers finishes gave after }
 {}
 
 /// The same over a stretch of a client's own run, over the transport by script: what it gives, and what it leads to, is

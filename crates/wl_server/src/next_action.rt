@@ -5,12 +5,11 @@ ghost use Rattle.wl_server.specs.declared.step.Reply.TheVariants as reply;
 ghost use Rattle.wl_server.specs.declared.step.Step.TheVariants as step;
 ghost use Rattle.wl_server.specs.Backend.{Calls};
 ghost use Rattle.wl_server.specs.Client.{Does};
-ghost use Rattle.wl_server.specs.Cutting.{CutsReading};
-ghost use Rattle.wl_server.specs.PartStep.{Asked, around, over};
+ghost use Rattle.wl_server.specs.Cutting.{CallIsCut};
+ghost use Rattle.wl_server.specs.PartStep.{Asked, over};
 ghost use Rattle.wl_server.specs.Reading.{NextAction, action_content, new_reading};
 ghost use Rattle.wl_server.specs.Deeds.{handed};
 ghost use Rattle.wl_server.specs.Room.{HasRoom};
-ghost use Rattle.wl_server.specs.Server.{seen};
 ghost use Rattle.wl_server.specs.Turns.{EndsAs, Fills, Live, Waited, action_of, around_of, found_with};
 
 use crate::action::{Action, Reading};
@@ -198,8 +197,7 @@ impl<T: Transport + Drop, U: Drop, G: GlobalHandler<C> + Drop, C: Drop> Backend<
     pub fn next_action(&mut self, id: &ClientId) -> Result<Action, ActionError>
         ensures read { Calls (over T.sends T.receives G.views) self.old (step.NextAction id.now) (reply.NextAction result) self.new }
         ensures room { HasRoom (over T.sends T.receives G.views) self.old.server (Asked (step.NextAction id.now) (reply.NextAction result)) self.new.server }
-        ensures cutting { CutsReading (around (over T.sends T.receives G.views) id.now self.old.server.offer) T.sends T.receives new_reading
-            (seen id.now self.old.server) (action_content result) self.new.refused (seen id.now self.new.server) }
+        ensures cutting { CallIsCut (over T.sends T.receives G.views) self.old.server (Asked (step.NextAction id.now) (reply.NextAction result)) self.new.refused self.new.server }
     {
         let mut reading = Reading::new();
         self.read_client(id, &mut reading)
@@ -214,8 +212,7 @@ impl<T: Transport + Drop, U: Drop, G: GlobalHandler<C> + Drop, C: Drop> Backend<
     ) -> Result<Action, ActionError>
         ensures read { Calls (over T.sends T.receives G.views) self.old (step.NextActionWithin id.now reading.old) (reply.NextActionWithin result reading.new) self.new }
         ensures room { HasRoom (over T.sends T.receives G.views) self.old.server (Asked (step.NextActionWithin id.now reading.old) (reply.NextActionWithin result reading.new)) self.new.server }
-        ensures cutting { CutsReading (around (over T.sends T.receives G.views) id.now self.old.server.offer) T.sends T.receives reading.old
-            (seen id.now self.old.server) (action_content result) self.new.refused (seen id.now self.new.server) }
+        ensures cutting { CallIsCut (over T.sends T.receives G.views) self.old.server (Asked (step.NextActionWithin id.now reading.old) (reply.NextActionWithin result reading.new)) self.new.refused self.new.server }
     {
         self.read_client(id, reading)
     }

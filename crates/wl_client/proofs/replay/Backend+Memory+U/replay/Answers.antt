@@ -2,7 +2,7 @@ use Rattle.std.proofs.Common.{ℕ, ◌++◌, ◌∙◌, ap, subst, sym}
 use Rattle.wl_client.specs.Steps.{StepOf, StopsAt, entries}
 use Rattle.wl_client.specs.IdentityLaws.{notes_ended, own_ids, stopped_accounts}
 use Rattle.wl_client.specs.OutcomeLaws.{run_one}
-use Rattle.wl_client.specs.StretchLaws.{stretch_served, within_stretch}
+use Rattle.wl_client.specs.StretchLaws.{parts_cut}
 use Rattle.wl_link.specs.RunLaws.{joins}
 use Rattle.wl_client.proofs.replay.Backend+Memory+U.replay.Goals as goal
 
@@ -38,13 +38,7 @@ returns-then-self-clause-stopped_accounts g c =
     stopped_accounts _ _ _ _ _ (returns-then-self-clause-stopped g c)
 
 pub returns-clause-cutting : goal.returns-clause-cutting
-returns-clause-cutting g c begun run before =
-    stretch_served begun c.perform_all.new.self.session (run ++ entries c.args.steps.items c.perform_all.new.replies.items) (returns-clause-joined g c begun run before)
-
-pub returns-clause-within : goal.returns-clause-within
-returns-clause-within g c begun run before stretch =
-    returns-clause-cutting g c begun run before
-    (within_stretch begun c.perform_all.new.self.session (run ++ entries c.args.steps.items c.perform_all.new.replies.items) (returns-clause-joined g c begun run before) stretch)
+returns-clause-cutting g c begun run before = parts_cut begun (run ++ entries c.args.steps.items c.perform_all.new.replies.items)
 
 pub returns-clause-outcome : goal.returns-clause-outcome
 returns-clause-outcome g c others other as_many leads =

@@ -1,5 +1,5 @@
 use Rattle.std.proofs.Common.{◌≡◌, ◌∙◌, false, Result, Err, refl, sym}
-use Rattle.wl_server.specs.CuttingLaws.{finish_bind_cuts}
+use Rattle.wl_server.specs.CuttingLaws.{histories_cut}
 use Rattle.wl_server.specs.declared.error.FinishError.TheVariants as finish
 use Rattle.wl_server.specs.declared.error.FinishRefused.{FinishRefused}
 use Rattle.wl_server.specs.Finish.{FinishesBind}
@@ -41,7 +41,7 @@ returns-clause-finished g c = rw (← c.self.view_is)
     c.index_mut.ensures.value c.in-Some.is c.finish_bind.ensures)
 
 pub returns-then-not-is_stored-clause-cutting : goal.returns-then-not-is_stored-clause-cutting
-returns-then-not-is_stored-clause-cutting g c = finish_bind_cuts _ _ _ _ _ _ _ (returns-then-not-is_stored-clause-finished g c).step
+returns-then-not-is_stored-clause-cutting g c = ((returns-then-not-is_stored-clause-finished g c).step, histories_cut _ _ _ _)
 
 pub returns-clause-cutting : goal.returns-clause-cutting
-returns-clause-cutting g c = finish_bind_cuts _ _ _ _ _ _ _ (returns-clause-finished g c).step
+returns-clause-cutting g c = ((returns-clause-finished g c).step, histories_cut _ _ _ _)

@@ -1,7 +1,7 @@
 use Rattle.std.proofs.Common.{◌≡◌, ◌∙◌, ℕ, Option, Result, Err, refl, sym}
 use Rattle.wl_wire.specs.declared.error.IoFault.{IoFault}
 use Rattle.wl_link.specs.Exchange.{Queue}
-use Rattle.wl_server.specs.CuttingLaws.{finish_request_cuts}
+use Rattle.wl_server.specs.CuttingLaws.{histories_cut}
 use Rattle.wl_server.specs.declared.error.FinishError.TheVariants as finish
 use Rattle.wl_server.specs.declared.error.FinishRefused.{FinishRefused}
 use Rattle.wl_server.specs.Finish.{FinishesRequest}
@@ -45,7 +45,7 @@ returns-clause-finished g c = rw (← c.self.view_is, c.lacks-self-inside.ensure
     c.index_mut.ensures.value c.in-Some.is c.finish_request-answer.ensures)
 
 pub returns-then-not-is_stored-clause-cutting : goal.returns-then-not-is_stored-clause-cutting
-returns-then-not-is_stored-clause-cutting g c = finish_request_cuts _ _ _ _ _ _ _ (returns-then-not-is_stored-clause-finished g c).step
+returns-then-not-is_stored-clause-cutting g c = ((returns-then-not-is_stored-clause-finished g c).step, histories_cut _ _ _ _)
 
 pub returns-clause-cutting : goal.returns-clause-cutting
-returns-clause-cutting g c = finish_request_cuts _ _ _ _ _ _ _ (returns-clause-finished g c).step
+returns-clause-cutting g c = ((returns-clause-finished g c).step, histories_cut _ _ _ _)

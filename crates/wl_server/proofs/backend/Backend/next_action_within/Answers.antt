@@ -1,4 +1,4 @@
-use Rattle.wl_server.specs.CuttingLaws.{next_action_within_cuts}
+use Rattle.wl_server.specs.CuttingLaws.{histories_cut}
 use Rattle.wl_server.specs.RoomLaws.{within_has_room}
 use Rattle.wl_server.proofs.backend.Backend.next_action_within.Goals as goal
 
@@ -6,4 +6,4 @@ pub returns-clause-room : goal.returns-clause-room
 returns-clause-room g c = within_has_room _ _ _ _ _ _
 
 pub returns-clause-cutting : goal.returns-clause-cutting
-returns-clause-cutting g c = next_action_within_cuts _ _ _ _ _ _ _ _ c.read_client.ensures.within.step
+returns-clause-cutting g c = (c.read_client.ensures.within.step, histories_cut _ _ _ _)
