@@ -5,6 +5,7 @@ mod descriptors;
 mod enums;
 mod errors;
 mod example;
+mod longest;
 mod numbered;
 mod refused;
 mod strings;

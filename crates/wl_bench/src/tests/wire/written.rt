@@ -24,7 +24,7 @@ fn written(
 }
 
 /// Tells how many bytes the message takes.
-fn tell_size(log: &mut String, message: &Message<u32, Token>) -> Result<(), Fail> {
+pub fn tell_size(log: &mut String, message: &Message<u32, Token>) -> Result<(), Fail> {
     let written = match message_size(message) {
         Some(size) => writeln!(log, "size {size}"),
         None => writeln!(log, "no size"),
