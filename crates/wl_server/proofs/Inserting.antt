@@ -1,5 +1,5 @@
 -- A new client at a free slot, as a step of the server.
-use Rattle.std.proofs.Common.{◌≡◌, ◌≢◌, ℕ, zero, suc, ◌+◌, ◌<◌, ◌≤◌, Bool, true, false, List, [], ◌∷◌, ◌++◌, length, Option, None, Some, is_some, IsSome, Result, Ok, Err, refl, sym, ap, subst, ◌∙◌, arith, append-nil, true≢false, below_more}
+use Rattle.std.proofs.Common.{◌≡◌, ◌≢◌, ℕ, zero, suc, ◌+◌, ◌<◌, ◌≤◌, Bool, true, false, List, [], ◌∷◌, ◌++◌, length, Option, None, Some, is_some, IsSome, Result, Ok, Err, refl, sym, ap, subst, ◌∙◌, arith, append-nil, true≢false}
 use mathlib.Core.Logic.{inl, inr}
 use Rattle.std.specs.Prelude.{◌⊎◌, MatchBool, MatchOption, nat_lt, slice_get, slice_set}
 use Rattle.std.specs.Option.{option_map_or}
@@ -19,7 +19,7 @@ use Rattle.wl_server.specs.Client.{IsInserted}
 use Rattle.wl_server.specs.Deeds.{Noted}
 use Rattle.wl_server.specs.Globals.{Offer}
 use Rattle.wl_server.specs.Ids.{ClientParts, same_client}
-use Rattle.wl_server.specs.Inserting.{IsPut}
+use Rattle.wl_server.specs.Inserting.{AreTaken, IsPut}
 use Rattle.wl_server.specs.Part.{fresh_part, last_possible_serial}
 use Rattle.wl_server.specs.PartStep.{Asked, Inserted, Unfelt, World}
 use Rattle.wl_server.specs.Server.{Seen, ServerState, Stored, client_at, if_serial, notes_of, seen_as, stored_at}
@@ -35,18 +35,15 @@ module _ {T U C : Type 0} where
   pub stored_past : (clients : List (Option (Stored T U C))) (k : ℕ) → length clients ≤ k → stored_at k clients ≡ None
   stored_past clients k past = rw (slice_get_past clients k past) refl
 
-  pub one_more_taken : (clients : List (Option (Stored T U C))) (slot : ℕ) (x : Option (Stored T U C)) → ((k : ℕ) → k < slot → IsSome (stored_at k clients))
-      → slice_get clients slot ≡ Some x → is_some x ≡ true → (k : ℕ) → k < slot + 1 → IsSome (stored_at k clients)
-  one_more_taken clients slot x taken here some = below_more (λ k. IsSome (stored_at k clients)) slot taken (ap is_some (stored_read clients slot x here) ∙ some)
-
   pub none_of : (x : Option (Stored T U C)) → is_some x ≡ false → x ≡ None
   none_of None h = refl
   none_of (Some x) h = absurd (true≢false h)
 
   -- the first free place is a slot, or each slot is taken
   pub slot_of : {E : Type 0} (clients : List (Option (Stored T U C))) (n : ℕ) (r : Result ℕ E) (o : Option ℕ) → stored_at n clients ≡ None
-      → ((k : ℕ) → k < n → IsSome (stored_at k clients)) → OkIff r (n < 0x100000000) n → o ≡ result_ok r
+      → AreTaken n clients → OkIff r (n < 0x100000000) n → o ≡ result_ok r
       → MatchOption o ((k : ℕ) → k < 0x100000000 → IsSome (stored_at k clients)) (IsLeastFree clients)
+  unfolding AreTaken
   slot_of clients n (Ok x) o free taken (below, is) given =
       subst (λ (o : Option ℕ). MatchOption o ((k : ℕ) → k < 0x100000000 → IsSome (stored_at k clients)) (IsLeastFree clients)) (sym given)
       (subst (λ (m : ℕ). IsLeastFree clients m) (sym is) (record { below = below; free = free; least = taken }))

@@ -14,6 +14,7 @@ mod OverScripts
 mod WholeRows
 mod Posting
 mod EventFaults
+mod Taken
 mod Inserting
 mod Gathering
 mod Ending

@@ -26,6 +26,8 @@ pub struct Backend<T, U, G, C> {
     pub(crate) last_client: u64,
     /// The clients by slot. A slot is a number of 32 bits.
     pub(crate) clients: Vec<Option<Client<T, U, C>>>,
+    /// Each slot below this one has a client, so the least free one is looked for from here on.
+    pub(crate) free_from: usize,
     pub(crate) notes: Vec<Note<U>>,
     pub(crate) numbers: NoteNumbers,
     pub(crate) refused: bool,
@@ -33,9 +35,10 @@ pub struct Backend<T, U, G, C> {
 
 impl<T, U, G, C> Model for Backend<T, U, G, C> {
     ghost use Rattle.std.specs.Coded.{codes};
-    ghost use Rattle.std.specs.Prelude.{◌≤◌, vec_len};
+    ghost use Rattle.std.specs.Prelude.{vec_len};
     ghost use Rattle.wl_link.specs.ObjectMap.{store_code};
     ghost use Rattle.wl_server.specs.Backend.{BackendState};
+    ghost use Rattle.wl_server.specs.Inserting.{HasSlots};
 
     ghost Value = { BackendState T U G C };
 
@@ -55,7 +58,7 @@ impl<T, U, G, C> Model for Backend<T, U, G, C> {
       refused = b.refused;
     } };
 
-    ghost invariant = { λ b. vec_len b.clients ≤ 0x100000000 };
+    ghost invariant = { λ b. HasSlots (vec_len b.clients) b.free_from b.clients.items };
 }
 
 impl<T: Drop, U: Drop, G: Drop, C: Drop> Backend<T, U, G, C> {
@@ -71,6 +74,7 @@ impl<T: Drop, U: Drop, G: Drop, C: Drop> Backend<T, U, G, C> {
             default_limit: DEFAULT_MAX_BUFFER_SIZE,
             last_client: 0,
             clients: Vec::new(alloc),
+            free_from: 0,
             notes: Vec::new(alloc),
             numbers: NoteNumbers::new(),
             refused: false,

@@ -237,6 +237,8 @@ impl<T: Transport + Drop, U: Drop, G: GlobalHandler<C> + Drop, C: Drop> Backend<
             Ok(mut room) => {
                 self.refused = clean_up(&mut self.clients, &mut self.notes, &mut room);
                 self.numbers.end_waiting();
+                // Any of them may be free now. The next insertion goes over them once more, as this call did.
+                self.free_from = 0;
                 Ok(room.given)
             }
             Err(error) => {

@@ -6,7 +6,7 @@ ghost use Rattle.wl_link.specs.Link.{IsFresh};
 ghost use Rattle.wl_link.specs.Store.{empty_store, stored};
 ghost use Rattle.wl_server.specs.Backend.{Calls};
 ghost use Rattle.wl_server.specs.Client.{IsInserted};
-ghost use Rattle.wl_server.specs.Inserting.{IsPut};
+ghost use Rattle.wl_server.specs.Inserting.{AreTaken, IsPut};
 ghost use Rattle.wl_server.specs.Part.{display_object};
 ghost use Rattle.wl_server.specs.PartStep.{over};
 ghost use Rattle.wl_server.specs.Server.{Stored, stored_at};
@@ -136,24 +136,26 @@ fn reserve_slot<T, U, C>(
     Ok(clients.reserve(1)?)
 }
 
-/// The first place without a client, or the one behind all.
-fn first_free<T, U, C>(clients: &[Option<Client<T, U, C>>]) -> usize
+/// The first place without a client, or the one behind all; those before `from` have one.
+fn first_free<T, U, C>(clients: &[Option<Client<T, U, C>>], from: usize) -> usize
+    requires { AreTaken from clients.now }
     ensures free { stored_at result clients.now ≡ None }
-    ensures taken { (k : ℕ) → k < result → IsSome (stored_at k clients.now) }
+    ensures taken { AreTaken result clients.now }
 {
-    for (slot, place) in clients.iter().enumerate() {
-        if place.is_none() {
+    for slot in from..clients.len() {
+        if clients[slot].is_none() {
             return slot;
         }
     }
     clients.len()
 }
 
-/// The least slot that no client has; `None` where each has one.
-fn free_slot<T, U, C>(clients: &[Option<Client<T, U, C>>]) -> Option<u32>
+/// The least slot that no client has; `None` where each has one. Those below `from` have one.
+fn free_slot<T, U, C>(clients: &[Option<Client<T, U, C>>], from: usize) -> Option<u32>
+    requires { AreTaken from clients.now }
     ensures { MatchOption result ((k : ℕ) → k < 0x100000000 → IsSome (stored_at k clients.now)) (IsLeastFree clients.now) }
 {
-    u32::try_from(first_free(clients)).ok()
+    u32::try_from(first_free(clients, from)).ok()
 }
 
 /// Puts a client at a slot that there is, and that no client has.
@@ -223,7 +225,7 @@ impl<T: Transport + Drop, U: Drop, G: GlobalHandler<C> + Drop, C: Drop> Backend<
         ensures { Calls (over T.sends T.receives G.views) self.old (step.InsertClient transport info) (reply.InsertClient result) self.new }
     {
         self.refused = false;
-        let Some(slot) = free_slot(&self.clients) else {
+        let Some(slot) = free_slot(&self.clients, self.free_from) else {
             return Err(InsertClientError::Full);
         };
         if self.last_client == u64::MAX {
@@ -239,6 +241,7 @@ impl<T: Transport + Drop, U: Drop, G: GlobalHandler<C> + Drop, C: Drop> Backend<
             info,
         ) {
             Ok(()) => {
+                self.free_from = slot as usize + 1;
                 self.last_client += 1;
                 Ok(id)
             }

@@ -1,6 +1,7 @@
-use Rattle.std.proofs.Common.{◌∙◌, refl}
+use Rattle.std.proofs.Common.{◌∙◌, arith, refl}
 use Rattle.std.proofs.lemmas.Option.{slice_get_read}
-use Rattle.wl_server.proofs.Inserting.{none_of, one_more_taken, stored_read}
+use Rattle.wl_server.proofs.Inserting.{none_of, stored_read}
+use Rattle.wl_server.proofs.Taken.{one_more_taken, taken_less}
 use Rattle.wl_server.proofs.insert_client.first_free.Goals as goal
 
 pub returns-then-is_none-clause-free : goal.returns-then-is_none-clause-free
@@ -15,3 +16,6 @@ loop-slot-preserved g c =
       taken = one_more_taken c.args.clients.now c.loop-slot.slot c.index-clients-slot.result c.loop-slot.invariant.taken here c.if-is_none.ensures;
       ends = refl;
     }
+
+pub returns-clause-taken : goal.returns-clause-taken
+returns-clause-taken g c = taken_less _ c.loop-slot.slot c.args.clients.now (omega (arith, c.loop-slot-test.false, c.loop-slot.invariant.ends)) c.loop-slot.invariant.taken

@@ -4,6 +4,7 @@ use Rattle.wl_server.specs.Cleanup.{CleansUp}
 use Rattle.wl_server.specs.Leaving.{collected, given_at}
 use Rattle.wl_server.proofs.CleanedSlots.{slots_cleaned}
 use Rattle.wl_server.proofs.CleaningUp.{cleaned_up, cleanup_starved}
+use Rattle.wl_server.proofs.Taken.{none_taken}
 use Rattle.wl_server.proofs.backend.Backend.cleanup.Goals as goal
 
 pub clean_up-self-inside-requires-clause-given : goal.clean_up-self-inside-requires-clause-given
@@ -27,5 +28,5 @@ invariant_of-self g c =
     let same = slots_cleaned _ _ _ _ _ _ _ c.clean_up-self-inside.ensures in
     let before = c.self.inside.clients.ok.0 in
     let after = c.clean_up-self-inside.new.clients.ok.0 in
-    let within = c.self.invariant in
-    omega (arith, same, before, after, within)
+    let within = c.self.invariant.within in
+    record { within = omega (arith, same, before, after, within); taken = none_taken _ }

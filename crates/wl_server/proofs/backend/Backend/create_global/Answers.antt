@@ -16,6 +16,7 @@ use Rattle.wl_server.specs.Steps.{lacks_growth}
 use Rattle.wl_server.specs.declared.step.Reply.TheVariants as reply
 use Rattle.wl_server.specs.declared.step.Step.TheVariants as step
 use Rattle.wl_server.proofs.Feeling.{IsFelt, felt_call, unfelt_call}
+use Rattle.wl_server.proofs.Taken.{slots_felt}
 use Rattle.wl_server.proofs.backend.Backend.create_global.Goals as goal
 use Rattle.wl_server.proofs.backend.Backend.create_global.Goals.{in-OutOfMemory, in_default}
 
@@ -61,3 +62,14 @@ returns-in-Ok g c =
     c.tell_named-self-inside.result _ c.tell_named-self-inside.new.clients
     (ap (λ (gs : Globals _). let o : Offer _ = record { table = c.self.inside.protocol; globals = gs; default_limit = c.self.inside.default_limit } in o) c.in-Ok.ensures.globals)
     c.in-Ok.ensures.answer refl (λ i l d b a h. (_, refl, h)) all)
+
+pub invariant_of-self : goal.invariant_of-self
+invariant_of-self g c =
+    let new = new_global c.args.interface c.args.version c.in-Ok.id.serial c.args.handler in
+    let all =
+    subst (λ (xs : List (Option (Stored _ _ _))). AllFeel (HearsNew g.T.Transport.sends g.G.GlobalHandler.views c.self.inside.protocol c.in-Ok.id new)
+    c.tell_named-self-inside.result (length xs) xs c.tell_named-self-inside.new.clients) c.deref_mut.ensures.value
+    (subst (λ (o : Option (Object (KeptGlobal _))). IfSome o (λ x. AllFeel (HearsNew g.T.Transport.sends g.G.GlobalHandler.views c.self.inside.protocol c.in-Ok.id x)
+    c.tell_named-self-inside.result (length c.deref_mut.result.now) c.deref_mut.result.now c.tell_named-self-inside.new.clients)) c.in-Ok.ensures.kept c.tell_named-self-inside.ensures) in
+    let len : length c.tell_named-self-inside.new.clients ≡ vec_len c.self.inside.clients = all.len ∙ sym c.self.inside.clients.ok.0 in
+    rw (with_items_is c.self.inside.clients c.tell_named-self-inside.new.clients len) (slots_felt _ _ _ _ _ _ all c.self.invariant)

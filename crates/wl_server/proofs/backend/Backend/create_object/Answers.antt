@@ -12,6 +12,7 @@ use Rattle.wl_server.specs.declared.step.Reply.TheVariants as reply
 use Rattle.wl_server.specs.declared.step.Step.TheVariants as step
 use Rattle.wl_server.proofs.Calls.{IsOwn, done_at, not_stored}
 use Rattle.wl_server.proofs.Slots.{Kind, slot_in, slot_not_empty}
+use Rattle.wl_server.proofs.Taken.{slots_set}
 use Rattle.wl_server.proofs.backend.Backend.create_object.Goals as goal
 
 abbrev creates : {T U C : Type 0} → List InterfaceRow → InterfaceId → ℕ → U → Result IdParts CreateError → Kind T U C
@@ -45,3 +46,6 @@ returns g c = rw (← c.self.view_is)
     (c.create_object-answer.result ≡ Err create.InvalidId) (λ i l d b a h. (_, refl, h)) c.slot.result c.index_mut.result.now c.in-Some.stored c.create_object-answer.new.self
     c.lacks_memory-self-inside.result (sym c.is_stored.ensures.stored ∙ c.if-not-is_stored.false) c.slot.ensures c.index_mut.ensures.value c.in-Some.is
     (does c.self.inside.protocol c.args.client.now _ _ c.args.interface c.args.version c.args.user_data c.create_object-answer.result _ c.lacks_memory-self-inside.ensures c.create_object-answer.ensures))
+
+pub invariant_of-self-in-Some : goal.invariant_of-self-in-Some
+invariant_of-self-in-Some g c = slots_set _ _ _ _ _ c.self.invariant

@@ -13,6 +13,7 @@ use Rattle.wl_server.specs.declared.step.Reply.TheVariants as reply
 use Rattle.wl_server.specs.declared.step.Step.TheVariants as step
 use Rattle.wl_server.proofs.Calls.{IsOwn, done_at, not_stored}
 use Rattle.wl_server.proofs.Slots.{Kind, slot_in, slot_not_empty, stored_by}
+use Rattle.wl_server.proofs.Taken.{slots_set}
 use Rattle.wl_server.proofs.backend.Backend.destroy_object.Goals as goal
 
 abbrev destroys : {T U C : Type 0} → (T → Queue → Result ℕ IoFault → T → Type 0) → IdParts → Result (Unit {0}) DestroyError → Kind T U C
@@ -48,3 +49,6 @@ returns g c = rw (← c.self.view_is)
     (λ i l d b a h. (_, refl, h)) c.slot.result c.index_mut.result.now c.in-Some.client c.destroy_object-answer.new.self c.lacked_memory-self-inside.result
     (stored_by _ _ _ _ c.client-client.ensures c.is_stored.ensures.stored ∙ c.if-not-is_stored.false) (c.slot.ensures ∙ ap (λ t. t.slot) c.client-client.ensures)
     c.index_mut.ensures.value c.in-Some.is (does g.T.Transport.sends c.args.id.now _ _ c.destroy_object-answer.result _ c.lacked_memory-self-inside.ensures c.destroy_object-answer.ensures))
+
+pub invariant_of-self-in-Some : goal.invariant_of-self-in-Some
+invariant_of-self-in-Some g c = slots_set _ _ _ _ _ c.self.invariant

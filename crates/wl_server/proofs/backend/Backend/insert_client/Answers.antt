@@ -1,8 +1,10 @@
-use Rattle.std.proofs.Common.{◌≡◌, ℕ, ◌<◌, IsSome, inl, inr, arith, ap, subst, sym}
+use Rattle.std.proofs.Common.{◌≡◌, ℕ, ◌+◌, ◌<◌, IsSome, inl, inr, arith, ap, subst, sym}
 use Rattle.wl_server.specs.Ids.{ClientParts}
+use Rattle.wl_server.specs.Inserting.{AreTaken}
 use Rattle.wl_server.specs.Server.{stored_at}
 use Rattle.wl_server.specs.Steps.{IsLeastFree}
 use Rattle.wl_server.proofs.Inserting.{inserted, insertion_starved, least_within, not_inserted}
+use Rattle.wl_server.proofs.Taken.{taken_put}
 use Rattle.wl_server.proofs.backend.Backend.insert_client.Goals as goal
 
 pub returns-in_default : goal.returns-in_default
@@ -41,4 +43,13 @@ returns-in-Err g c =
     (ap (λ (i : ClientParts). i.serial) c.from_parts-id.ensures) c.in-Err.ensures.unchanged)
 
 pub invariant_of-self-in-Ok : goal.invariant_of-self-in-Ok
-invariant_of-self-in-Ok g c = c.put_new.ensures.slots c.self.invariant
+invariant_of-self-in-Ok g c =
+    let (s, is, put) = c.in-Ok.ensures.put in
+    let slot : c.from_parts-id.result.slot ≡ c.in-Some.slot = ap (λ (i : ClientParts). i.slot) c.from_parts-id.ensures in
+    let free : IsLeastFree c.self.inside.clients.items c.from_parts-id.result.slot =
+    subst (λ xs. IsLeastFree xs c.from_parts-id.result.slot) c.deref.ensures.value (subst (λ n. IsLeastFree c.deref.result.now n) (sym slot) c.in-Some.ensures)
+    in
+    record {
+      within = c.put_new.ensures.slots c.self.invariant.within;
+      taken = subst (λ n. AreTaken (n + 1) c.put_new.new.clients.items) slot (taken_put _ _ _ s free put);
+    }

@@ -9,6 +9,7 @@ use Rattle.wl_server.specs.declared.step.Reply.TheVariants as reply
 use Rattle.wl_server.specs.declared.step.Step.TheVariants as step
 use Rattle.wl_server.proofs.Calls.{IsOwn, done_at, not_stored}
 use Rattle.wl_server.proofs.Slots.{Kind, slot_in, slot_not_empty}
+use Rattle.wl_server.proofs.Taken.{slots_set}
 use Rattle.wl_server.proofs.backend.Backend.kill_client.Goals as goal
 
 abbrev kills : {T U C : Type 0} → DisconnectReason → Kind T U C
@@ -36,3 +37,6 @@ pub returns : goal.returns
 returns g c = rw (← c.self.view_is)
     (done_at _ _ _ _ (own _ _) c.args.id.now (kills c.args.reason) (Unit {0}) (λ i l d b a h. (refl, h))
     c.slot.result c.index_mut.result.now c.in-Some.client c.kill.new.self false (sym c.is_stored.ensures.stored ∙ c.if-not-is_stored.false) c.slot.ensures c.index_mut.ensures.value c.in-Some.is (kill_does _ _ _ c.kill.ensures))
+
+pub invariant_of-self-in-Some : goal.invariant_of-self-in-Some
+invariant_of-self-in-Some g c = slots_set _ _ _ _ _ c.self.invariant

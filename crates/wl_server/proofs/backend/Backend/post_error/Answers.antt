@@ -9,6 +9,7 @@ use Rattle.wl_server.specs.declared.step.Reply.TheVariants as reply
 use Rattle.wl_server.specs.declared.step.Step.TheVariants as step
 use Rattle.wl_server.proofs.Calls.{IsOwn, done_at, not_stored}
 use Rattle.wl_server.proofs.Slots.{Kind, slot_in, slot_not_empty, stored_by}
+use Rattle.wl_server.proofs.Taken.{slots_set}
 use Rattle.wl_server.proofs.backend.Backend.post_error.Goals as goal
 
 abbrev posts : {T U C : Type 0} → (T → Queue → Result ℕ IoFault → T → Type 0) → List InterfaceRow → IdParts → ℕ → List ℕ → Kind T U C
@@ -37,3 +38,6 @@ returns g c = rw (← c.self.view_is)
     (λ i l d b a h. (refl, h)) c.slot.result c.index_mut.result.now c.in-Some.client c.post_error-self-inside.new.self c.post_error-self-inside.result
     (stored_by _ _ _ _ c.client-client.ensures c.is_stored.ensures.stored ∙ c.if-not-is_stored.false) (c.slot.ensures ∙ ap (λ t. t.slot) c.client-client.ensures)
     c.index_mut.ensures.value c.in-Some.is c.post_error-self-inside.ensures)
+
+pub invariant_of-self-in-Some : goal.invariant_of-self-in-Some
+invariant_of-self-in-Some g c = slots_set _ _ _ _ _ c.self.invariant

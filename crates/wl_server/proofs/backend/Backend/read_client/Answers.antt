@@ -3,6 +3,7 @@ use Rattle.wl_wire.specs.declared.error.IoFault.TheVariants as fault
 use Rattle.wl_server.specs.declared.error.ActionError.TheVariants.{Io}
 use Rattle.wl_server.proofs.ReadingCalls.{next_done, next_missing, within_done, within_missing}
 use Rattle.wl_server.proofs.Slots.{slot_in, slot_not_empty}
+use Rattle.wl_server.proofs.Taken.{slots_set}
 use Rattle.wl_server.proofs.backend.Backend.read_client.Goals as goal
 
 pub returns-then-not-is_stored-clause-fresh : goal.returns-then-not-is_stored-clause-fresh
@@ -33,3 +34,6 @@ returns-clause-within g c =
     rw (← c.self.view_is)
     (within_done g.T.Transport.sends g.T.Transport.receives g.G.GlobalHandler.views _ c.args.id.now c.args.reading.now c.next_action-answer.new.reading c.next_action-answer.result.0 c.slot.result c.index_mut.result.now c.in-Some.client c.next_action-answer.new.self c.next_action-answer.result.1
     (sym c.is_stored.ensures.stored ∙ c.if-not-is_stored.false) c.slot.ensures c.index_mut.ensures.value c.in-Some.is c.next_action-answer.ensures)
+
+pub invariant_of-self-in-Some : goal.invariant_of-self-in-Some
+invariant_of-self-in-Some g c = slots_set _ _ _ _ _ c.self.invariant

@@ -13,6 +13,7 @@ use Rattle.wl_server.specs.Ids.{IdParts}
 use Rattle.wl_server.specs.PartStep.{Asked}
 use Rattle.wl_server.proofs.Calls.{IsOwn, done_at, not_stored}
 use Rattle.wl_server.proofs.Slots.{Kind, slot_in, slot_not_empty}
+use Rattle.wl_server.proofs.Taken.{slots_set}
 use Rattle.wl_server.proofs.backend.Backend.send_lent.Goals as goal
 
 abbrev sends_event : {T U C : Type 0} → (T → Queue → Result ℕ IoFault → T → Type 0) → List InterfaceRow → Message IdParts Token → Result (Unit {0}) EventError → Kind T U C
@@ -43,3 +44,6 @@ returns g c = rw (← c.self.view_is)
     c.slot.result c.index_mut.result.now c.in-Some.client c.send_event-answer.new.self c.send_event-answer.result.1
     (rw (← c.client-id.ensures) (sym c.is_stored.ensures.stored ∙ c.if-not-is_stored.false)) (c.slot.ensures ∙ ap (λ i. i.slot) c.client-id.ensures) c.index_mut.ensures.value c.in-Some.is
     c.send_event-answer.ensures)
+
+pub invariant_of-self-in-Some : goal.invariant_of-self-in-Some
+invariant_of-self-in-Some g c = slots_set _ _ _ _ _ c.self.invariant

@@ -7,6 +7,7 @@ use Rattle.wl_server.specs.declared.step.Reply.TheVariants as reply
 use Rattle.wl_server.specs.declared.step.Step.TheVariants as step
 use Rattle.wl_server.proofs.Calls.{IsOwn, done_at, not_stored}
 use Rattle.wl_server.proofs.Slots.{Kind, slot_in, slot_not_empty}
+use Rattle.wl_server.proofs.Taken.{slots_set}
 use Rattle.wl_server.proofs.backend.Backend.set_client_max_buffer_size.Goals as goal
 
 abbrev limits : {T U C : Type 0} → ℕ → Kind T U C
@@ -33,3 +34,6 @@ returns g c = rw (← c.self.view_is)
     (done_at _ _ _ _ (own _ _) c.args.client.now (limits c.args.max_buffer_size) (Unit {0}) (λ i l d b a h. (refl, h))
     c.slot.result c.index_mut.result.now c.in-Some.client c.set_max_buffer_size.new.self false (sym c.is_stored.ensures.stored ∙ c.if-not-is_stored.false)
     c.slot.ensures c.index_mut.ensures.value c.in-Some.is c.set_max_buffer_size.ensures)
+
+pub invariant_of-self-2 : goal.invariant_of-self-2
+invariant_of-self-2 g c = slots_set _ _ _ _ _ c.self.invariant

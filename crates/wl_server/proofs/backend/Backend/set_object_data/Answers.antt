@@ -7,6 +7,7 @@ use Rattle.wl_server.specs.declared.step.Reply.TheVariants as reply
 use Rattle.wl_server.specs.declared.step.Step.TheVariants as step
 use Rattle.wl_server.proofs.Calls.{IsOwn, done_at, not_stored}
 use Rattle.wl_server.proofs.Slots.{Kind, slot_in, slot_not_empty, stored_by}
+use Rattle.wl_server.proofs.Taken.{slots_set}
 use Rattle.wl_server.proofs.backend.Backend.set_object_data.Goals as goal
 
 abbrev sets : {T U C : Type 0} → IdParts → U → Result (Unit {0}) InvalidId → Kind T U C
@@ -36,3 +37,6 @@ returns g c = rw (← c.self.view_is)
     (λ i l d b a h. (_, refl, h)) c.slot.result c.index_mut.result.now c.in-Some.client c.set_object_data.new.self false
     (stored_by _ _ _ _ c.client-client.ensures c.is_stored.ensures.stored ∙ c.if-not-is_stored.false) (c.slot.ensures ∙ ap (λ t. t.slot) c.client-client.ensures)
     c.index_mut.ensures.value c.in-Some.is c.set_object_data.ensures)
+
+pub invariant_of-self-2 : goal.invariant_of-self-2
+invariant_of-self-2 g c = slots_set _ _ _ _ _ c.self.invariant

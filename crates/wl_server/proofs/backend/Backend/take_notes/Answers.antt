@@ -1,6 +1,7 @@
 use Rattle.std.proofs.Common.{◌∙◌, Vec, ap, arith}
 use Rattle.wl_server.proofs.GatheredSlots.{slots_kept}
 use Rattle.wl_server.proofs.TakingNotes.{notes_starved, notes_taken}
+use Rattle.wl_server.proofs.Taken.{taken_kept}
 use Rattle.wl_server.proofs.backend.Backend.take_notes.Goals as goal
 
 pub returns-in-Ok : goal.returns-in-Ok
@@ -17,5 +18,8 @@ invariant_of-self g c =
     let same = slots_kept _ _ _ _ _ c.gather_made.ensures.gathered c.gather_made.ensures.unchanged in
     let before = c.self.inside.clients.ok.0 in
     let after = c.gather_made.new.clients.ok.0 in
-    let within = c.self.invariant in
-    omega (arith, same, before, after, within)
+    let within = c.self.invariant.within in
+    record {
+      within = omega (arith, same, before, after, within);
+      taken = taken_kept _ _ _ _ _ _ c.gather_made.ensures.gathered c.gather_made.ensures.unchanged c.self.invariant.taken;
+    }

@@ -11,6 +11,7 @@ use Rattle.wl_server.specs.PartStep.{World}
 use Rattle.wl_server.specs.Server.{ServerState, Stored, client_at, stored_at}
 use Rattle.wl_server.proofs.Changing.{changed}
 use Rattle.wl_server.proofs.Slots.{client_present, slot_has, slot_holds, slot_in, slot_not_empty}
+use Rattle.wl_server.proofs.Taken.{slots_mapped}
 use Rattle.wl_server.proofs.backend.Backend.transport_mut.Goals as goal
 
 none_through : {A B C : Type 0} (f : B → C) (g : A → B) (o : Option A) → is_some o ≡ false → option_map f (option_map g o) ≡ None
@@ -86,3 +87,6 @@ returns g c = (
         (sym c.is_stored.ensures.stored ∙ c.if-not-is_stored.false) c.slot.ensures c.index_mut.ensures.value c.in-Some.ensures.value);
   },
 )
+
+pub invariant_of-self-lent : goal.invariant_of-self-lent
+invariant_of-self-lent g c = λ w. slots_mapped _ _ _ _ c.index_mut.result.now (λ s. over_transport s w) c.index_mut.ensures.value c.self.invariant

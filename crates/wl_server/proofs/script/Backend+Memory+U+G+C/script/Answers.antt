@@ -13,6 +13,7 @@ use Rattle.wl_server.specs.Scripting.{Scripts, move_of, reply_to, step_of}
 use Rattle.wl_server.specs.Server.{Seen, ServerState, Stored}
 use Rattle.wl_server.proofs.Calls.{IsOwn, done_at, held_by, not_stored}
 use Rattle.wl_server.proofs.Slots.{Kind, slot_not_empty}
+use Rattle.wl_server.proofs.Taken.{slots_set}
 use Rattle.wl_server.proofs.script.Backend+Memory+U+G+C.script.Goals as goal
 
 abbrev scripts : {U C : Type 0} → ScriptCall → Result (Unit {0}) ScriptError → Kind Script U C
@@ -63,3 +64,6 @@ returns g c =
     (done answer ≡ Err refused.InvalidId) (to g.G.GlobalHandler.views before c.args.id.now c.args.call answer)
     c.slot.result c.index_mut.result.now c.in-Some.client c.script-answer.new.self (lacks_move (done answer)) (sym c.is_stored.ensures.stored ∙ c.if-not-is_stored.false) c.slot.ensures
     c.index_mut.ensures.value c.in-Some.is (does c.args.id.now c.args.call _ _ answer c.script-answer.ensures))
+
+pub invariant_of-self-2 : goal.invariant_of-self-2
+invariant_of-self-2 g c = slots_set _ _ _ _ _ c.self.invariant

@@ -11,6 +11,7 @@ use Rattle.wl_server.specs.Scripting.{Scripts}
 use Rattle.wl_server.specs.Server.{Stored}
 use Rattle.wl_server.proofs.Calls.{IsOwn, done_at, not_stored}
 use Rattle.wl_server.proofs.Slots.{Kind, slot_not_empty}
+use Rattle.wl_server.proofs.Taken.{slots_set}
 use Rattle.wl_server.proofs.script.Backend+Memory+U+G+C.take_sent.Goals as goal
 
 abbrev takes : {U C : Type 0} → Moved → Kind Script U C
@@ -37,3 +38,6 @@ returns g c = rw (← c.self.view_is)
     (done_at _ _ _ _ (own _ _) c.args.id.now (takes (taken (Ok c.take_sent.result))) _ (λ i l d b a h. (_, refl, h))
     c.slot.result c.index_mut.result.now c.in-Some.client c.take_sent.new.self false (sym c.is_stored.ensures.stored ∙ c.if-not-is_stored.false) c.slot.ensures
     c.index_mut.ensures.value c.in-Some.is (does c.args.id.now _ _ _ refl c.take_sent.ensures))
+
+pub invariant_of-self-2 : goal.invariant_of-self-2
+invariant_of-self-2 g c = slots_set _ _ _ _ _ c.self.invariant
