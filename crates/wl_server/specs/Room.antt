@@ -2,9 +2,8 @@
 --
 -- A receive that brings a byte was offered one. One that brings none is the last of its reading: so it is said of what that
 -- one leaves.
-use Rattle.std.specs.Prelude.{◌≡◌, ◌≢◌, List, [], Some, Result, Ok, Err}
+use Rattle.std.specs.Prelude.{◌≡◌, List, [], Some, Result, Ok, Err}
 use Rattle.wl_wire.specs.declared.error.IoFault.{IoFault}
-use Rattle.wl_wire.specs.declared.error.IoFault.TheVariants as fault
 use Rattle.wl_link.specs.Exchange.{Queue}
 use Rattle.wl_link.specs.Link.{FindsRoom, LinkState}
 use Rattle.wl_server.specs.BaseMoves.{IsAmong, came_in}
@@ -15,10 +14,10 @@ use Rattle.wl_server.specs.PartStep.{Call, World}
 use Rattle.wl_server.specs.Server.{ServerState, seen}
 use Rattle.wl_server.specs.Steps.{Entry, OneStep}
 
--- it brought no byte, though memory was there for it
+-- it brought no byte
 abbrev pub BringsNone : Result Queue IoFault → Type 0
 BringsNone (Ok came) = came.bytes ≡ []
-BringsNone (Err f) = f ≢ fault.OutOfMemory
+BringsNone (Err f) = Unit {0}
 
 module _ {T U : Type 0} where
   -- Where a receive brought no byte, one is free for what the message at the front lacks, unless this is longer than the
