@@ -12,7 +12,7 @@ use Rattle.wl_wire.specs.declared.message.Message.{Message}
 use Rattle.wl_wire.specs.Message.{WireMessage}
 use Rattle.wl_wire.specs.Parse.{length_of}
 use Rattle.wl_link.specs.Exchange.{Queue}
-use Rattle.wl_link.specs.Link.{LinkState, Filled, FindsRoom, ReadFound}
+use Rattle.wl_link.specs.Link.{LinkState, Filled, FindsRoom, ReadFound, grown_room}
 use Rattle.wl_link.specs.Puts.{lacked_memory}
 use Rattle.wl_link.specs.Reader.{FrontAsks, CarriesOut, Given, HandedOut, Part}
 use Rattle.wl_link.specs.ReaderLoops.{EndsSo, LeadsOn, ReceivedTo as PartReceived, SoFar, begins, ends_at, ends_there, leads_on, none_left, one_more, receive_ends, receive_goes_on, received_fault, starves_there}
@@ -29,12 +29,6 @@ use Rattle.wl_client.specs.Reading.{NextEvent, Core, Lacks, ReadsAs, ReadsTo, an
 use Rattle.wl_client.specs.Requests.{SessionMessage, session_content}
 use Rattle.wl_client.specs.Session.{SessionState, objects_of}
 use Rattle.wl_client.specs.Turns.{Turned, GaveEvent, WentOn, LacksMore, Ended, EndsAs, HandledTo, Leads, Live, NotTaken, ReceivedTo, Turns, event_answer, event_refused, malformed}
-
-abbrev failed_with : IoFault → Result (Unit {0}) IoFault
-failed_with f = Err f
-
-failed_is : (f g : IoFault) → failed_with f ≡ failed_with g → f ≡ g
-failed_is f g same = cc
 
 abbrev ok_answer : WireMessage → Result WireMessage MessageParseError
 ok_answer m = Ok m
@@ -233,12 +227,12 @@ module _ {T U : Type 0} where
 
     -- ---- receives
 
-    pub received : (before : SessionState T U) (link : LinkState T) (f : IoFault) → Filled receives before.link (Err f) link → (failed_with f ≢ failed_with fault.OutOfMemory → FindsRoom before.link link.room)
+    pub received : (before : SessionState T U) (link : LinkState T) (f : IoFault) → Filled receives before.link (Err f) link → FindsRoom before.link (grown_room before.link)
         → ReceivedTo sends receives before (Some (record { error = by_fault f; refused = lacked_memory (Err f) })) (record before { link = link; error = (faulted (core_of before) f).error })
     received before link f filled finds = (f, subst (λ (p : Part T (Core U)). PartReceived sends receives client (part_of before) (Some f) p) (end f) made, refl)
       where
         made : PartReceived sends receives client (part_of before) (Some f) (record { core = faulted (core_of before) f; link = link })
-        made = received_fault sends receives client (λ c. refl) (part_of before) link f filled (λ memory. finds (λ is. memory (failed_is f fault.OutOfMemory is)))
+        made = received_fault sends receives client (λ c. refl) (part_of before) link f filled finds
 
         end : (f : IoFault) → ◌≡◌ {A = Part T (Core U)} (record { core = faulted (core_of before) f; link = link }) (part_of (record before { link = link; error = (faulted (core_of before) f).error }))
         end fault.WouldBlock = refl
@@ -251,7 +245,7 @@ module _ {T U : Type 0} where
 
     -- a fault after which no more may come is stored
     pub received_other : (before : SessionState T U) (link : LinkState T) (f : IoFault) → f ≢ fault.WouldBlock → f ≢ fault.OutOfMemory → Filled receives before.link (Err f) link
-        → (failed_with f ≢ failed_with fault.OutOfMemory → FindsRoom before.link link.room)
+        → FindsRoom before.link (grown_room before.link)
         → ReceivedTo sends receives before (Some (record { error = no_event.Failed; refused = false })) (record before { link = link; error = Some (Io f) })
     received_other before link fault.WouldBlock blocks memory filled finds = absurd (blocks refl)
     received_other before link fault.Pipe blocks memory filled finds = received before link fault.Pipe filled finds

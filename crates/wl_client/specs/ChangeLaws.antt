@@ -1,4 +1,5 @@
--- The changes that each step of a session makes: one walk, over which its laws of ids and of notes stand.
+-- The changes that each step of a session makes, and that an error stays: one walk, over which its laws of ids, of notes and
+-- of its error stand.
 use Rattle.std.proofs.Common.{◌≡◌, ◌≢◌, ◌⊎◌, ℕ, zero, suc, ◌+◌, Bool, true, false, not, ◌&&◌, cond, eqb, List, [], ◌∷◌, ◌++◌, Option, None, Some, is_some, IsSome, option_map, Result, Ok, Err, is_ok, MatchResult, refl, sym, ap, subst, ◌∙◌, true≢false, not-suc-le-zero, le_of_suc-le-suc, append-nil, append_assoc, map}
 use mathlib.Core.Logic.{inl, inr}
 use Rattle.std.specs.Prelude.{All}
@@ -21,6 +22,7 @@ use Rattle.wl_link.specs.EndsLaw.{keeps_joins}
 use Rattle.wl_link.specs.Exchange.{Queue}
 use Rattle.wl_link.specs.Identity.{Objects, Change, Born, Gone, Wrote, Ended, Made, named_in, names, OwnsExactly, StepEnds}
 use Rattle.wl_link.specs.IdentityLaw.{born_first, born_later, made_first, made_later}
+use Rattle.wl_link.specs.Link.{LinkState}
 use Rattle.wl_link.specs.Reader.{Given, HandedOut, Queued}
 use Rattle.wl_link.specs.Refusals.{first_refusal, when}
 use Rattle.wl_link.specs.Script.{Script, ScriptSends, ScriptReceives}
@@ -47,7 +49,7 @@ use Rattle.wl_client.specs.Handed.{Found, HandedId, IsHandedIn, New, argument_id
 use Rattle.wl_client.specs.Objects.{DataSet, DestroyedBy, destroyable}
 use Rattle.wl_client.specs.Handling.{Handling, Swallows, HandsOut, event_of, handed, handling, objects_after, of_converted, of_display, of_event, opened_of, row_in}
 use Rattle.wl_client.specs.Reading.{Core, NextEvent, event_content, handed_by, objects_in as cored}
-use Rattle.wl_client.specs.ReadingLaws.{SeesObjects, next_event_respects}
+use Rattle.wl_client.specs.ReadingLaws.{SeesObjects, next_event_respects, read_fails}
 use Rattle.wl_client.specs.Requests.{Numbered, Requested, error_after, Sent, SentAs, SentWithChild, SessionMessage, Spec, Written, checked_row, checked_sender, ended_by, grant, id_of_new, new_child, number_of_new, request_check, session_content, unless, wire_message, with_born, with_ended}
 use Rattle.wl_client.specs.Session.{SessionState, alive, id_at, id_of, last_possible_serial, named, noted, null_parts, objects_of, serial_of, with_flags, with_user_data}
 use Rattle.wl_client.specs.Steps.{StepOf}
@@ -489,14 +491,22 @@ module _ {T U : Type 0} where
   abbrev holding : SessionState T U → Holding U
   holding s = record { objects = objects_of s; notes = s.notes }
 
-  -- the changes of a call that hands out these ids
+  -- the changes of a call that hands out these ids; and an error stays
   abbrev pub Moves : SessionState T U → List HandedId → SessionState T U → Type 0
-  Moves s ids after = Moved (holding s) ids (holding after)
+  Moves s ids after = Moved (holding s) ids (holding after) × (IsSome s.error → IsSome after.error)
+
+  -- the objects, the notes and the error stay
+  idle : (s : SessionState T U) → Moves s [] s
+  idle s = (still (holding s), λ failed. failed)
+
+  both_move : (s m t : SessionState T U) (ids others : List HandedId) → Moves s ids m → Moves m others t → Moves s (ids ++ others) t
+  both_move s m t ids others first second =
+      (joined (holding s) (holding m) (holding t) ids others first.0 second.0, λ failed. second.1 (first.1 failed))
 
   lands : (s : SessionState T U) (ids ids' : List HandedId) (after after' : SessionState T U) → ids' ≡ ids → after' ≡ after → Moves s ids after → Moves s ids' after'
   lands s ids ids' after after' e same moves = subst (λ i. Moves s i after') (sym e) (subst (λ t. Moves s ids t) (sym same) moves)
 
-  -- the objects and the notes stay
+  -- it came to the same as this
   quiet : (s after after' : SessionState T U) → after' ≡ after → Moves s [] after → Moves s [] after'
   quiet s after after' same moves = lands s [] [] after after' refl same moves
 
@@ -504,8 +514,10 @@ module _ {T U : Type 0} where
 
   next_event : (sends : T → Queue → Result ℕ IoFault → T → Type 0) (receives : T → ℕ → Result Queue IoFault → T → Type 0) (s : SessionState T U)
       (answer : Result SessionMessage EventError) (refused : Bool) (after : SessionState T U) → NextEvent sends receives s answer refused after → Moves s (event_ids answer) after
-  next_event sends receives s answer refused after h =
-      subst (λ ids. Moves s ids after) (ids_of answer) (next_event_respects CoreMoves sees sends receives s answer refused after h)
+  next_event sends receives s answer refused after h = (
+    subst (λ ids. Moved (holding s) ids (holding after)) (ids_of answer) (next_event_respects CoreMoves sees sends receives s answer refused after h),
+    λ failed. subst (λ (a : SessionState T U). IsSome a.error) (sym (read_fails sends receives s answer refused after failed h).1) failed,
+  )
     where
       ids_of : (r : Result SessionMessage EventError) → given_ids (handed_by r) ≡ event_ids r
       ids_of (Ok m) = append-nil (event_ids (Ok m))
@@ -520,14 +532,14 @@ module _ {T U : Type 0} where
 
   -- an object that is no longer the client's
   ended : (s : SessionState T U) (o : Option (Numbered U)) → IsAlive s o → Moves s [] (with_ended s o)
-  ended s None live = still (holding s)
-  ended s (Some (n, x)) (h, live) = ends (holding s) n x (with_flags true x.value.server_destroyed x) h live refl refl
+  ended s None live = idle s
+  ended s (Some (n, x)) (h, live) = (ends (holding s) n x (with_flags true x.value.server_destroyed x) h live refl refl, λ failed. failed)
 
   sets : (s : SessionState T U) (id : IdParts) (u : U) (answer : _) (after : SessionState T U) → DataSet s id u answer after → Moves s [] after
   sets s id u answer after h =
       elim (either_option (named s.store id) h) [
-        | inl (none, (is, same)) ↦ quiet s s after same (still (holding s))
-        | inr (x, some, (is, same)) ↦ quiet s _ after same (wrote (holding s) id.number (with_user_data u x) x (named_held s.store id x some) refl refl)
+        | inl (none, (is, same)) ↦ quiet s s after same (idle s)
+        | inr (x, some, (is, same)) ↦ quiet s _ after same (wrote (holding s) id.number (with_user_data u x) x (named_held s.store id x some) refl refl, λ failed. failed)
       ]
 
   destroyable_alive : (s : SessionState T U) (id : IdParts) (x : Object (Kept U)) → destroyable s id ≡ Some x → IsAlive s (Some (id.number, x))
@@ -542,8 +554,8 @@ module _ {T U : Type 0} where
   destroys : (s : SessionState T U) (id : IdParts) (answer : _) (after : SessionState T U) → DestroyedBy s id answer after → Moves s [] after
   destroys s id answer after h =
       elim (either_option (destroyable s id) h) [
-        | inl (none, (is, same)) ↦ quiet s s after same (still (holding s))
-        | inr (x, some, inr (is, same, has_data)) ↦ quiet s s after same (still (holding s))
+        | inl (none, (is, same)) ↦ quiet s s after same (idle s)
+        | inr (x, some, inr (is, same, has_data)) ↦ quiet s s after same (idle s)
         | inr (x, some, inl (is, same)) ↦ quiet s _ after same (ended s (Some (id.number, x)) (destroyable_alive s id x some))
       ]
 
@@ -555,8 +567,13 @@ module _ {T U : Type 0} where
   IsNew s (Some new) = (held s.store new.0 ≡ None) × (serial_of new.1.value ≡ s.last_serial + 1)
 
   makes_new : (s : SessionState T U) (new : Option (Numbered U)) → IsNew s new → Moves s (New (id_of_new new) ∷ []) (with_born s new)
-  makes_new s None fresh = none_handed (holding s)
-  makes_new s (Some (n, x)) fresh = born (holding s) n x fresh.0 fresh.1
+  makes_new s None fresh = (none_handed (holding s), λ failed. failed)
+  makes_new s (Some (n, x)) fresh = (born (holding s) n x fresh.0 fresh.1, λ failed. failed)
+
+  -- the fault of a write is stored
+  written_moves : (s : SessionState T U) (link : LinkState T) (w : Result (Unit {0}) IoFault) → Moves s [] (record s { link = link; error = error_after s.error w })
+  written_moves s link (Ok u) = idle s
+  written_moves s link (Err f) = (still (holding s), λ failed. refl)
 
   alive_still : (s : SessionState T U) (new o : Option (Numbered U)) → IsNew s new → IsAlive s o → IsAlive (with_born s new) o
   alive_still s new None fresh h = tt
@@ -575,25 +592,25 @@ module _ {T U : Type 0} where
         → Moves s (request_ids answer) after
     written new o fresh h (w, link, by, end) =
         elim (either_bool (lacked_memory w) end) [
-          | inl (is, same) ↦ refuses _ (record s { link = link }) is same (still (holding s))
+          | inl (is, same) ↦ refuses _ (record s { link = link }) is same (idle s)
           | inr (is, same) ↦
               let now : SessionState T U = record s { link = link; error = error_after s.error w } in
               lands s (New (id_of_new new) ∷ []) (request_ids answer) (with_ended (with_born now new) o) after (ap request_ids is) same
-              (joined (holding s) (holding (with_born now new)) (holding (with_ended (with_born now new) o)) (New (id_of_new new) ∷ []) []
-              (makes_new now new fresh)
+              (both_move s (with_born now new) (with_ended (with_born now new) o) (New (id_of_new new) ∷ []) []
+              (both_move s now (with_born now new) [] (New (id_of_new new) ∷ []) (written_moves s link w) (makes_new now new fresh))
               (ended (with_born now new) o (alive_still now new o fresh h)))
         ]
 
     sent : (new o : Option (Numbered U)) → IsNew s new → IsAlive s o → Sent sends s m new o answer after → Moves s (request_ids answer) after
-    sent new o fresh h (inl (is, same, asks)) = refuses _ s is same (still (holding s))
+    sent new o fresh h (inl (is, same, asks)) = refuses _ s is same (idle s)
     sent new o fresh h (inr w) = written new o fresh h w
 
     sent_with_child : (child : Spec) (u : U) (o : Option (Numbered U)) → IsAlive s o → SentWithChild sends s m child u o answer after
         → Moves s (request_ids answer) after
-    sent_with_child child u o h (inl (full, is, same)) = refuses _ s is same (still (holding s))
+    sent_with_child child u o h (inl (full, is, same)) = refuses _ s is same (idle s)
     sent_with_child child u o h (inr (n, least, end)) =
         elim (either_bool (eqb s.last_serial last_possible_serial) end) [
-          | inl (is, same) ↦ refuses _ s is same (still (holding s))
+          | inl (is, same) ↦ refuses _ s is same (idle s)
           | inr w ↦ sent (Some (n, new_child s child u)) o (least.absent, refl) h w
         ]
 
@@ -627,93 +644,95 @@ module _ {T U : Type 0} where
     requested u spec h =
         elim (value_or_error (request_check s.table s.store m (is_some u) spec) h) [
           | inl (g, e, w) ↦ sent_as g.child u (ended_by s.store m g.is_destructor) (ended_alive (is_some u) spec g e g.is_destructor) w
-          | inr (e, refused, (is, same)) ↦ refuses e s is same (still (holding s))
+          | inr (e, refused, (is, same)) ↦ refuses e s is same (idle s)
         ]
 
   -- ---- the end of an event, and a flush
 
   dead : (s : SessionState T U) (n : ℕ) (o : Option (Object (Kept U))) → ((x : Object (Kept U)) → o ≡ Some x → held s.store n ≡ Some x)
       → Moves s [] (with_dead s n o)
-  dead s n None h = still (holding s)
+  dead s n None h = idle s
   dead s n (Some x) h = go x.value.client_destroyed refl
     where
       go : (b : Bool) → x.value.client_destroyed ≡ b → Moves s [] (record s {
         store = rewritten s.store n (with_flags true true x);
         notes = cond b s.notes (noted s.notes x.value.user_data (id_at n x));
       })
-      go true is = wrote (holding s) n (with_flags true true x) x (h x refl) refl (sym is)
-      go false is = ends (holding s) n x (with_flags true true x) (h x refl) is refl refl
+      go true is = (wrote (holding s) n (with_flags true true x) x (h x refl) refl (sym is), λ failed. failed)
+      go false is = (ends (holding s) n x (with_flags true true x) (h x refl) is refl refl, λ failed. failed)
 
   destructor : (s : SessionState T U) (event : OpenEvent) → Moves s [] (after_destructor s event)
   destructor s event = go event.is_destructor
     where
       go : (b : Bool) → Moves s [] (cond b (with_dead s event.sender.number (named s.store event.sender)) s)
       go true = dead s event.sender.number (named s.store event.sender) (λ x e. named_held s.store event.sender x e)
-      go false = still (holding s)
+      go false = idle s
 
   gives_data : (s : SessionState T U) (created : Option IdParts) (u : Option U) → Moves s [] (with_data_for s created u)
-  gives_data s None u = still (holding s)
-  gives_data s (Some id) None = still (holding s)
+  gives_data s None u = idle s
+  gives_data s (Some id) None = idle s
   gives_data s (Some id) (Some u) = go (named s.store id) refl
     where
       go : (o : Option (Object (Kept U))) → named s.store id ≡ o
           → Moves s [] (record s { store = data_given s.store id.number o u })
-      go None e = still (holding s)
-      go (Some x) e = wrote (holding s) id.number (with_user_data u x) x (named_held s.store id x e) refl refl
+      go None e = idle s
+      go (Some x) e = (wrote (holding s) id.number (with_user_data u x) x (named_held s.store id x e) refl refl, λ failed. failed)
 
   closes : (s : SessionState T U) (event : OpenEvent) (u : Option U) (answer : _) (after : SessionState T U) → Closes s event u answer after → Moves s [] after
   closes s event u answer after (inl (is, same)) =
       let shut : SessionState T U = record s { open_event = None } in
       let ended = after_destructor shut event in
       quiet s _ after same
-      (joined (holding s) (holding ended) (holding (with_data_for ended event.created u)) [] [] (destructor shut event) (gives_data ended event.created u))
-  closes s event u answer after (inr (ends_sender, (is, same))) = quiet s s after same (still (holding s))
+      (both_move s ended (with_data_for ended event.created u) [] [] (destructor shut event) (gives_data ended event.created u))
+  closes s event u answer after (inr (ends_sender, (is, same))) = quiet s s after same (idle s)
 
   finishes : (s : SessionState T U) (u : Option U) (answer : _) (after : SessionState T U) → Finishes s u answer after → Moves s [] after
   finishes s u answer after h =
       elim (either_option s.open_event h) [
-        | inl (none, (is, same)) ↦ quiet s s after same (still (holding s))
+        | inl (none, (is, same)) ↦ quiet s s after same (idle s)
         | inr (event, some, g) ↦
             elim (either_option (refusal event.created u) g) [
               | inl (none, end) ↦ closes s event u answer after end
-              | inr (e, why, (is, same)) ↦ quiet s s after same (still (holding s))
+              | inr (e, why, (is, same)) ↦ quiet s s after same (idle s)
             ]
       ]
 
   flush_ends : (s : SessionState T U) (r : _) (answer : Result (Unit {0}) FlushError) (after : SessionState T U) → FlushEnds s r answer after → Moves s [] after
-  flush_ends s (Ok _) answer after h = quiet s s after h.1 (still (holding s))
-  flush_ends s (Err fault.WouldBlock) answer after h = quiet s s after h.1 (still (holding s))
-  flush_ends s (Err fault.OutOfMemory) answer after h = quiet s s after h.1 (still (holding s))
-  flush_ends s (Err other) answer after h = quiet s _ after h.1 (still (holding s))
+  flush_ends s (Ok _) answer after h = quiet s s after h.1 (idle s)
+  flush_ends s (Err fault.WouldBlock) answer after h = quiet s s after h.1 (idle s)
+  flush_ends s (Err fault.OutOfMemory) answer after h = quiet s s after h.1 (idle s)
+  flush_ends s (Err other) answer after h = quiet s _ after h.1 (still (holding s), λ failed. refl)
 
   flushes : (sends : T → Queue → Result ℕ IoFault → T → Type 0) (s : SessionState T U) (answer : Result (Unit {0}) FlushError) (after : SessionState T U)
       → SessionFlushed sends s answer after → Moves s [] after
   flushes sends s answer after h =
       elim (either_option s.error h) [
         | inl (none, (flushed, link, by, end)) ↦ flush_ends (record s { link = link }) flushed answer after end
-        | inr (e, some, (is, same)) ↦ quiet s s after same (still (holding s))
+        | inr (e, some, (is, same)) ↦ quiet s s after same (idle s)
       ]
 
 -- ---- a step
 
 module _ {U : Type 0} where
   -- the changes of a step, which hand out the ids of its reply; the notes that wait, and those of what ends, are those that
-  -- are handed out and those that wait after it
+  -- are handed out and those that wait after it; and an error stays
   pub record StepMoves (s : SessionState Script U) (reply : Reply U) (after : SessionState Script U) : Type 0 where
     pub changes : List (Change (Kept U))
     pub owns : StepEnds serial_of is_over (objects_of s) changes (objects_of after)
     pub handed : Each (IsHandedIn changes) (ids_in reply)
     pub notes : s.notes ++ ended_notes changes ≡ notes_in reply ++ after.notes
     pub noted : Each (IsHandedIn changes) (noted_ids changes)
+    pub stays : IsSome s.error → IsSome after.error
 
   module _ (s : SessionState Script U) where
     by_moves : (reply : Reply U) (ids : List HandedId) (after : SessionState Script U) → ids_in reply ≡ ids → notes_in reply ≡ [] → Moves s ids after → StepMoves s reply after
-    by_moves reply ids after is none moves = record {
-      changes = moves.changes;
-      owns = moves.owns;
-      handed = subst (λ i. Each (IsHandedIn moves.changes) i) (sym is) moves.handed;
-      notes = sym (ap (λ notes. notes ++ after.notes) none ∙ moves.notes);
-      noted = moves.noted;
+    by_moves reply ids after is none (moved, stays) = record {
+      changes = moved.changes;
+      owns = moved.owns;
+      handed = subst (λ i. Each (IsHandedIn moved.changes) i) (sym is) moved.handed;
+      notes = sym (ap (λ notes. notes ++ after.notes) none ∙ moved.notes);
+      noted = moved.noted;
+      stays = stays;
     }
 
     by_quiet : (reply : Reply U) (after after' : SessionState Script U) → ids_in reply ≡ [] → notes_in reply ≡ [] → after' ≡ after → Moves s [] after → StepMoves s reply after'
@@ -728,9 +747,9 @@ module _ {U : Type 0} where
     step_moves step.NextEvent reply refused after (r, is, h) =
         by_moves reply (event_ids (event_content r)) after (ap ids_in is) (ap notes_in is) (next_event ScriptSends ScriptReceives s (event_content r) refused after h)
     step_moves (step.FinishEvent u) reply refused after (r, is, no_memory, h) = by_moves reply [] after (ap ids_in is) (ap notes_in is) (finishes s u r after h)
-    step_moves step.DispatchInnerQueue reply refused after (is, no_memory, same) = by_quiet reply _ after (ap ids_in is) (ap notes_in is) same (still (holding s))
+    step_moves step.DispatchInnerQueue reply refused after (is, no_memory, same) = by_quiet reply _ after (ap ids_in is) (ap notes_in is) same (idle s)
     step_moves (step.SetMaxBufferSize limit) reply refused after (is, no_memory, (link, set, same)) =
-        by_quiet reply _ after (ap ids_in is) (ap notes_in is) same (still (holding s))
+        by_quiet reply _ after (ap ids_in is) (ap notes_in is) same (idle s)
     step_moves step.TakeNotes reply refused after (notes, is, no_memory, taken, same) = record {
       changes = [];
       owns = ap objects_of same;
@@ -738,14 +757,15 @@ module _ {U : Type 0} where
       notes = append-nil s.notes ∙ sym taken ∙ sym (append-nil notes.items) ∙ ap (λ r. notes_in r ++ []) (sym is)
           ∙ ap (λ (a : SessionState Script U). notes_in reply ++ a.notes) (sym same);
       noted = tt;
+      stays = λ failed. subst (λ (a : SessionState Script U). IsSome a.error) (sym same) failed;
     }
-    step_moves (step.Arrive bytes tokens) reply refused after (Ok u, is, no_memory, h) = by_quiet reply _ after (ap ids_in is) (ap notes_in is) h.1 (still (holding s))
-    step_moves (step.Arrive bytes tokens) reply refused after (Err arrive.TooManyTokens, is, no_memory, h) = by_quiet reply _ after (ap ids_in is) (ap notes_in is) h.1 (still (holding s))
-    step_moves (step.Arrive bytes tokens) reply refused after (Err arrive.OutOfMemory, is, no_memory, h) = by_quiet reply _ after (ap ids_in is) (ap notes_in is) h.1 (still (holding s))
-    step_moves (step.ArriveFault f) reply refused after (Ok u, is, no_memory, same) = by_quiet reply _ after (ap ids_in is) (ap notes_in is) same (still (holding s))
-    step_moves (step.ArriveFault f) reply refused after (Err e, is, no_memory, same) = by_quiet reply _ after (ap ids_in is) (ap notes_in is) same (still (holding s))
-    step_moves (step.Accept n) reply refused after (Ok u, is, no_memory, same) = by_quiet reply _ after (ap ids_in is) (ap notes_in is) same (still (holding s))
-    step_moves (step.Accept n) reply refused after (Err e, is, no_memory, same) = by_quiet reply _ after (ap ids_in is) (ap notes_in is) same (still (holding s))
-    step_moves (step.AcceptFault f) reply refused after (Ok u, is, no_memory, same) = by_quiet reply _ after (ap ids_in is) (ap notes_in is) same (still (holding s))
-    step_moves (step.AcceptFault f) reply refused after (Err e, is, no_memory, same) = by_quiet reply _ after (ap ids_in is) (ap notes_in is) same (still (holding s))
-    step_moves step.TakeSent reply refused after (taken, is, no_memory, h, same) = by_quiet reply _ after (ap ids_in is) (ap notes_in is) same (still (holding s))
+    step_moves (step.Arrive bytes tokens) reply refused after (Ok u, is, no_memory, h) = by_quiet reply _ after (ap ids_in is) (ap notes_in is) h.1 (idle s)
+    step_moves (step.Arrive bytes tokens) reply refused after (Err arrive.TooManyTokens, is, no_memory, h) = by_quiet reply _ after (ap ids_in is) (ap notes_in is) h.1 (idle s)
+    step_moves (step.Arrive bytes tokens) reply refused after (Err arrive.OutOfMemory, is, no_memory, h) = by_quiet reply _ after (ap ids_in is) (ap notes_in is) h.1 (idle s)
+    step_moves (step.ArriveFault f) reply refused after (Ok u, is, no_memory, same) = by_quiet reply _ after (ap ids_in is) (ap notes_in is) same (idle s)
+    step_moves (step.ArriveFault f) reply refused after (Err e, is, no_memory, same) = by_quiet reply _ after (ap ids_in is) (ap notes_in is) same (idle s)
+    step_moves (step.Accept n) reply refused after (Ok u, is, no_memory, same) = by_quiet reply _ after (ap ids_in is) (ap notes_in is) same (idle s)
+    step_moves (step.Accept n) reply refused after (Err e, is, no_memory, same) = by_quiet reply _ after (ap ids_in is) (ap notes_in is) same (idle s)
+    step_moves (step.AcceptFault f) reply refused after (Ok u, is, no_memory, same) = by_quiet reply _ after (ap ids_in is) (ap notes_in is) same (idle s)
+    step_moves (step.AcceptFault f) reply refused after (Err e, is, no_memory, same) = by_quiet reply _ after (ap ids_in is) (ap notes_in is) same (idle s)
+    step_moves step.TakeSent reply refused after (taken, is, no_memory, h, same) = by_quiet reply _ after (ap ids_in is) (ap notes_in is) same (idle s)

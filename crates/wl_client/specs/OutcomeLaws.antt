@@ -1,8 +1,6 @@
 -- That each step has one outcome where memory is not refused, and so each run.
-use Rattle.std.proofs.Common.{◌≡◌, ◌≢◌, ℕ, ◌≤◌, ◌<◌, ◌^◌, Bool, true, false, eqb, List, length, Option, None, Some, is_some, Result, Ok, Err, MatchBool, refl, sym, ap, subst, ◌∙◌, true≢false, arith}
+use Rattle.std.proofs.Common.{◌≡◌, ◌≢◌, ℕ, Bool, true, false, eqb, List, length, Option, None, Some, is_some, Result, Ok, Err, MatchBool, refl, sym, ap, subst, ◌∙◌, true≢false}
 use mathlib.Core.Logic.{inl, inr}
-use Rattle.std.proofs.Math.Nat.{le_antisymm}
-use Rattle.std.proofs.lemmas.Bool.{cases_order}
 use Rattle.wl_wire.specs.declared.error.IoFault.{IoFault}
 use Rattle.wl_wire.specs.declared.error.IoFault.TheVariants as fault
 use Rattle.wl_wire.specs.declared.error.OutOfMemory.{OutOfMemory}
@@ -10,12 +8,13 @@ use Rattle.wl_wire.specs.Message.{WireMessage}
 use Rattle.wl_link.specs.declared.memory.ArriveError.{ArriveError}
 use Rattle.wl_link.specs.declared.memory.ArriveError.TheVariants as arrive
 use Rattle.wl_link.specs.Exchange.{Queue}
-use Rattle.wl_link.specs.Link.{LinkState, AreLimits, IsLimit}
+use Rattle.wl_link.specs.Link.{LinkState}
+use Rattle.wl_link.specs.NumberLaws.{full_not_absent, least_absent_one, limit_set_one}
 use Rattle.wl_link.specs.OneLaws.{IsFunction, one_flush_lem, one_write_lem}
 use Rattle.wl_link.specs.RunLaws.{run_one as each_run_one}
 use Rattle.wl_link.specs.Script.{Script, ScriptSends, ScriptReceives}
 use Rattle.wl_link.specs.ScriptLaws.{script_sends_function, script_receives_function}
-use Rattle.wl_link.specs.Store.{Range, Store, client_range, IsLeastAbsent, IsFull}
+use Rattle.wl_link.specs.Store.{client_range}
 use Rattle.wl_link.specs.Branches.{both_bool, both_option, both_result}
 use Rattle.wl_link.specs.Puts.{lacked_memory}
 use Rattle.wl_client.specs.declared.error.FinishRefused.{FinishRefused}
@@ -40,40 +39,6 @@ use Rattle.wl_client.specs.Steps.{ArrivesWith, Scripts, StepOf, Leads, entries, 
 -- an answer by which memory was not refused is not one by which it was
 not_refused : (b : Bool) → false ≡ b → b ≡ true → ⊥
 not_refused b unasked asked = true≢false (sym (unasked ∙ asked))
-
--- ---- numbers
-
-full_not_absent : {D : Type 0} (range : Range) (store : Store D) (n : ℕ) → IsFull range store → IsLeastAbsent range store n → ⊥
-full_not_absent range store n full least = true≢false (sym (full.each n least.within least.below) ∙ ap is_some least.absent)
-
-not_less_absent : {D : Type 0} (range : Range) (store : Store D) (n m : ℕ) → IsLeastAbsent range store n → IsLeastAbsent range store m → n < m → ⊥
-not_less_absent range store n m one other less = true≢false (sym (other.least n one.within less) ∙ ap is_some one.absent)
-
-least_absent_one : {D : Type 0} (range : Range) (store : Store D) (n m : ℕ) → IsLeastAbsent range store n → IsLeastAbsent range store m → n ≡ m
-least_absent_one range store n m one other =
-    elim (cases_order n m) [
-      | inl same ↦ same
-      | inr (inl less) ↦ absurd (not_less_absent range store n m one other less)
-      | inr (inr less) ↦ absurd (not_less_absent range store m n other one less)
-    ]
-
-limit_small : (asked n m : ℕ) → asked ≤ 2 ^ 63 → IsLimit asked n → IsLimit asked m → n ≡ m
-limit_small asked n m small one other =
-    let p = one.0 small in
-    let q = other.0 small in
-    le_antisymm (p.3 m q.0 q.1 q.2) (q.3 n p.0 p.1 p.2)
-
-limit_one : (asked n m : ℕ) → IsLimit asked n → IsLimit asked m → n ≡ m
-limit_one asked n m one other =
-    elim (cases_order asked (2 ^ 63)) [
-      | inl same ↦ limit_small asked n m (omega (arith, same)) one other
-      | inr (inl less) ↦ limit_small asked n m (omega (arith, less)) one other
-      | inr (inr more) ↦ one.1 more ∙ sym (other.1 more)
-    ]
-
-limits_one : (asked a b : Option ℕ) → AreLimits asked a → AreLimits asked b → a ≡ b
-limits_one None a b none none' = none ∙ sym none'
-limits_one (Some asked) a b (n, is, one) (m, is', other) = is ∙ ap Some (limit_one asked n m one other) ∙ sym is'
 
 module _ {T U : Type 0} where
   -- ---- data and destruction
@@ -254,10 +219,9 @@ module _ {U : Type 0} where
       (same_reply p q _ _ is is' (ap reply.FinishEvent one.answer), one.after)
   step_one s x y step.DispatchInnerQueue p q (is, unasked, same) (is', unasked', same') =
       (same_reply p q (reply.DispatchInnerQueue (Ok 0)) (reply.DispatchInnerQueue (Ok 0)) is is' refl, same ∙ sym same')
-  step_one s x y (step.SetMaxBufferSize limit) p q (is, unasked, (link, (n, set, linked), same)) (is', unasked', (link', (n', set', linked'), same')) = (
+  step_one s x y (step.SetMaxBufferSize limit) p q (is, unasked, (link, set, same)) (is', unasked', (link', set', same')) = (
     same_reply p q reply.SetMaxBufferSize reply.SetMaxBufferSize is is' refl,
-    same ∙ ap (λ (l : LinkState Script). record s { link = l }) (linked ∙ ap (λ (k : Option ℕ). record s.link { limit = k }) (limits_one limit n n' set set') ∙ sym linked')
-        ∙ sym same',
+    same ∙ ap (λ (l : LinkState Script). record s { link = l }) (limit_set_one s.link limit link link' set set') ∙ sym same',
   )
   step_one s x y step.TakeNotes p q (notes, is, unasked, items, same) (notes', is', unasked', items', same') =
       (same_reply p q (reply.TakeNotes notes) (reply.TakeNotes notes') is is' (items ∙ sym items'), same ∙ sym same')

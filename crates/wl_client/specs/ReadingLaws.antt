@@ -1,6 +1,6 @@
 -- What follows for a client from the laws of a reader: that its reading has one outcome, and that it does not matter to
 -- it how bytes and tokens are cut.
-use Rattle.std.proofs.Common.{◌≡◌, ℕ, Bool, true, false, cond, List, [], ◌∷◌, ◌++◌, Option, None, Some, is_none, is_ok, Result, Ok, Err, ◌&&◌, map, MatchResult, refl, sym, ap, ap₂, subst, ◌∙◌, true≢false}
+use Rattle.std.proofs.Common.{◌≡◌, ℕ, Bool, true, false, cond, List, [], ◌∷◌, ◌++◌, Option, None, Some, IsSome, is_none, is_some, is_ok, Result, Ok, Err, ◌&&◌, map, MatchResult, refl, sym, ap, ap₂, subst, ◌∙◌, true≢false}
 use mathlib.Core.Logic.{inl, inr}
 use Rattle.std.proofs.lemmas.Option.{same_Some}
 use Rattle.wl_wire.specs.declared.error.IoFault.{IoFault}
@@ -46,6 +46,9 @@ pub record SameEnd {A T U : Type 0} (a b : A) (x y : SessionState T U) : Type 0 
 pub same_end : {A T U : Type 0} {a b c : A} {x y z : SessionState T U} → a ≡ c → b ≡ c → x ≡ z → y ≡ z → SameEnd a b x y
 same_end is is' same same' = record { answer = is ∙ sym is'; after = same ∙ sym same' }
 
+pub has_none : {A : Type 0} (o : Option A) → IsSome o → o ≡ None → ⊥
+has_none o some none = true≢false (sym some ∙ ap is_some none)
+
 -- ---- a reading
 
 none_sent : {S : Type 0} → IsFunction (no_sends {S = S})
@@ -64,6 +67,15 @@ module _ {T U : Type 0} (sends : T → Queue → Result ℕ IoFault → T → Ty
                   let one = reads_one sends sent receives function client receives_allowed (part_of s) (part_of x) (part_of y) turns turns' out out' (sym calm) (sym calm') reads reads' in
                   record { answer = is ∙ ap (λ (o : Gives SessionMessage). answered o.stopped o.gave) one.out ∙ sym is'; after = ap session_of one.after }
             ]
+      ]
+
+  -- a stored error is answered, and nothing is changed
+  pub read_fails : (s : SessionState T U) (answer : Result SessionMessage EventError) (refused : Bool) (after : SessionState T U)
+      → IsSome s.error → NextEvent sends receives s answer refused after → (answer ≡ Err no_event.Failed) × (after ≡ s)
+  read_fails s answer refused after failed h =
+      elim (both_option s.error h h) [
+        | inl (none, others, again) ↦ absurd (has_none s.error failed none)
+        | inr (e, some, (is, unasked, same), again) ↦ (is, same)
       ]
 
   silent : (v : Verdict (Core U) SessionMessage) (before : LinkState T) (es : List Sending) (gave : List (Given SessionMessage)) (refused : Bool) (after : Part T (Core U))

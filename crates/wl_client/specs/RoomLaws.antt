@@ -10,7 +10,7 @@ use Rattle.wl_link.specs.Branches.{both_option}
 use Rattle.wl_link.specs.CuttingLaws.{byte_came}
 use Rattle.wl_link.specs.Exchange.{Queue, Sending}
 use Rattle.wl_link.specs.LengthLaws.{failed_finds}
-use Rattle.wl_link.specs.Link.{FilledBy, FindsRoom, LinkState, counted_answer, count_of}
+use Rattle.wl_link.specs.Link.{FindsRoom, LinkState, counted_answer, count_of}
 use Rattle.wl_link.specs.Puts.{PutsOut, Said, lacked_memory}
 use Rattle.wl_link.specs.Reader.{AllFed, CarriesOut, Ends, Given, IsFed, Gives, Handled, Part, Reads, Received, Turn, Unread, Verdict, came_to as comes_to, stops, with_link}
 use Rattle.wl_client.specs.declared.error.EventError.{EventError}
@@ -81,13 +81,6 @@ module _ {T U : Type 0} (sends : T → Queue → Result ℕ IoFault → T → Ty
 
   -- ---- a reading
 
-  fault_room : (p after : Part T (Core U)) (link : LinkState T) (r : Result Queue IoFault) (f : IoFault) → counted_answer (count_of r) ≡ Err f
-      → FilledBy receives p.link r (counted_answer (count_of r)) link → (counted_answer (count_of r) ≢ Err fault.OutOfMemory → FindsRoom p.link link.room)
-      → after ≡ record { core = client.faulted p.core f; link = link } → p.core.error ≡ None → after.core.error ≡ Some (Io fault.Pipe) → FindsRoom after.link after.link.room
-  fault_room p after link r fault.OutOfMemory failed filled finds same none is = absurd (none_ended none (sym (ap (λ (x : Part T (Core U)). x.core.error) same) ∙ is))
-  fault_room p after link r f failed filled finds same none is =
-      subst (λ (x : Part T (Core U)). FindsRoom x.link x.link.room) (sym same) (failed_finds receives p.link link r f failed filled (finds (λ memory. let e = sym failed ∙ memory in cc)))
-
   -- after a message
   heard_room : (left : ℕ) (p after : Part T (Core U)) (turns : List Turn) (out : Gives SessionMessage) → Reads sends client receives left p turns out after
       → (p.core.error ≡ None → FindsRoom after.link after.link.room) → after.core.error ≡ Some (Io fault.Pipe) → NotEnded p.core → FindsRoom after.link after.link.room
@@ -106,7 +99,8 @@ module _ {T U : Type 0} (sends : T → Queue → Result ℕ IoFault → T → Ty
           (λ f. (turns ≡ []) × (out ≡ stops (Some f) (lacked_memory (Err f)) n) × (after ≡ record { core = client.faulted p.core f; link = link }))
           → (Reads sends client receives n (with_link p link) turns out after → FindsRoom after.link after.link.room) → FindsRoom after.link after.link.room
       go (Ok u) was more goes = goes more
-      go (Err f) was (last, ends, same) goes = fault_room p after link r f was filled finds same none is
+      go (Err f) was (last, ends, same) goes =
+          subst (λ (x : Part T (Core U)). FindsRoom x.link x.link.room) (sym same) (failed_finds receives p.link link r f was filled finds)
   reads_room left p after (Handled es ∷ turns) out (on, (v, link, first, lacked, mid, rest, (m, read, is'), carried, split, more)) none is =
       heard_room left mid after turns rest more (λ on'. reads_room left mid after turns rest more on' is) is
       (not_ended p.core (handling p.core.table (objects_in p.core) m) link es first lacked mid none

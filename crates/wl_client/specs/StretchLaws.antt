@@ -335,10 +335,8 @@ module _ {U : Type 0} where
   act_stretch : (before after : SessionState Script U) (run : List (Entry U)) → IsStretch before run after → (r : RunActs before run after)
       → IsActStretch client (part_of before) r.acts (part_of after)
   act_stretch before after run stretch r = record {
-    does = r.does;
-    pieces = stretch.pieces;
-    ends = ends stretch.ends;
-    roomy = λ core is lacks. absurd (stretch.roomy (ap (λ (c : Core U). c.error) is));
+    spans = record { does = r.does; pieces = stretch.spans.pieces; ends = ends stretch.spans.ends };
+    roomy = λ core ended. absurd (stretch.roomy (ap (λ (c : Core U). c.error) ended.0));
   }
     where
       ends : (reads_on (core_of after) ≡ false) ⊎ (EndsWaiting run × (arrivals_of (part_of after) ≡ []))
@@ -349,16 +347,13 @@ module _ {U : Type 0} where
   -- no receive of a stretch of such messages finds the storage full
   pub within_stretch : (before after : SessionState Script U) (run : List (Entry U)) → Leads before run after → IsStretchWithin before run after → IsStretch before run after
   within_stretch before after run leads stretch =
-      let r = run_acts before after run leads stretch.heard (inl stretch.live) in
+      let r = run_acts before after run leads stretch.spans.heard (inl stretch.spans.live) in
       let within = subst (λ (q : Queue). EachWithin (incoming_limit before.link.limit) (joined before.link.incoming (joined (left_in before) q)).bytes) (sym r.came_in) stretch.within in
       let fits = front_fits client (part_of before) (part_of after) r.acts r.does within in
       record {
-        heard = stretch.heard;
-        live = stretch.live;
-        pieces = stretch.pieces;
-        ends = stretch.ends;
+        spans = stretch.spans;
         roomy = acts_keep client ends_by_pipe NotEndedByPipe (fed_keeps ScriptSends ScriptReceives) (end_keeps ScriptSends ScriptReceives) (part_of before) (part_of after) r.acts r.does
-            stretch.pieces (λ core is lacks. inr (fits, in_time core is)) (λ ended. true≢false (ap is_none (sym stretch.live ∙ ended)));
+            stretch.spans.pieces (λ core ended. inr (fits, in_time core ended.0)) (λ ended. true≢false (ap is_none (sym stretch.spans.live ∙ ended)));
       }
     where
       in_time : (core : Core U) → core_of after ≡ faulted core fault.Pipe
@@ -369,7 +364,7 @@ module _ {U : Type 0} where
 
   pub stretch_served : (before after : SessionState Script U) (run : List (Entry U)) → Leads before run after → IsStretch before run after → IsServed before run after
   stretch_served before after run leads stretch =
-      let r = run_acts before after run leads stretch.heard (inl stretch.live) in
+      let r = run_acts before after run leads stretch.spans.heard (inl stretch.spans.live) in
       let served = acts_served client ends_by_pipe (part_of before) (part_of after) r.acts (act_stretch before after run stretch r) in
       let side = sending_side before.link.transport in
       let end = part_as (part_of after) (left_in after) (sending_side after.link.transport) in
@@ -382,8 +377,8 @@ module _ {U : Type 0} where
       → IsStretch before run after → IsStretch before others other → arrived run ≡ arrived others → finished run ≡ finished others
       → (events_of run ≡ events_of others) × SameLeft after other
   cut_otherwise before after other run others leads leads' stretch stretch' came ended =
-      let r = run_acts before after run leads stretch.heard (inl stretch.live) in
-      let q = run_acts before other others leads' stretch'.heard (inl stretch'.live) in
+      let r = run_acts before after run leads stretch.spans.heard (inl stretch.spans.live) in
+      let q = run_acts before other others leads' stretch'.spans.heard (inl stretch'.spans.live) in
       let same = acts_cut_otherwise client ends_by_pipe (part_of before) (part_of after) (part_of other) r.acts q.acts (act_stretch before after run stretch r)
       (act_stretch before other others stretch' q) (r.came_in ∙ came ∙ sym q.came_in) (r.ended_with ∙ ended ∙ sym q.ended_with) in
       (sym r.handed_out ∙ same.0 ∙ q.handed_out, same.1)

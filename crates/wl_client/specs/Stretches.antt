@@ -75,14 +75,18 @@ module _ {U : Type 0} where
 
   -- ---- the law
 
-  -- A stretch begins where no error is stored, and ends with a stored error, with an open event, or with a reading that
-  -- would block where no arrival is left. The transport answers by no byte only into a full buffer, which ends the session
-  -- with `Pipe`.
-  pub record IsStretch (before : SessionState Script U) (run : List (Entry U)) (after : SessionState Script U) : Type 0 where
+  -- The run spans from the one to the other: it begins where no error is stored, and ends with a stored error, with an open
+  -- event, or with a reading that would block where no arrival is left.
+  pub record Spans (before : SessionState Script U) (run : List (Entry U)) (after : SessionState Script U) : Type 0 where
     pub heard : AllHeard run
     pub live : before.error ≡ None
     pub pieces : AllPieces (arrivals_of (part_of before))
     pub ends : (reads_on (core_of after) ≡ false) ⊎ (EndsWaiting run × (arrivals_of (part_of after) ≡ []))
+
+  -- A stretch, in which no receive found the storage full: the transport answers by no byte only into a full one, which ends
+  -- the session with `Pipe`.
+  pub record IsStretch (before : SessionState Script U) (run : List (Entry U)) (after : SessionState Script U) : Type 0 where
+    pub spans : Spans before run after
     pub roomy : after.error ≢ Some (Io fault.Pipe)
 
   -- what is left over of the arrivals, behind what waits
@@ -92,10 +96,7 @@ module _ {U : Type 0} where
   -- A stretch of messages each of which is no longer than the incoming storage may become, and whose tokens come no later
   -- than its last byte: where it ends with `Pipe`, none waits whole for tokens.
   pub record IsStretchWithin (before : SessionState Script U) (run : List (Entry U)) (after : SessionState Script U) : Type 0 where
-    pub heard : AllHeard run
-    pub live : before.error ≡ None
-    pub pieces : AllPieces (arrivals_of (part_of before))
-    pub ends : (reads_on (core_of after) ≡ false) ⊎ (EndsWaiting run × (arrivals_of (part_of after) ≡ []))
+    pub spans : Spans before run after
     pub within : EachWithin (incoming_limit before.link.limit) (joined before.link.incoming (joined (left_in before) (arrived run))).bytes
     pub in_time : after.error ≡ Some (Io fault.Pipe) → ReadsAs after (Err parse.MissingFD) after.link → ⊥
 

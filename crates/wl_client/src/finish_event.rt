@@ -3,7 +3,7 @@
 ghost use Rattle.std.specs.Prelude.{◌≡◌, IsSome, MatchOption, MatchResult};
 ghost use Rattle.wl_client.specs.Session.{alive, named};
 ghost use Rattle.wl_client.specs.Cutting.{CutsFinish};
-ghost use Rattle.wl_client.specs.Finish.{Finishes, with_data_for, with_dead, refusal};
+ghost use Rattle.wl_client.specs.Finish.{Finishes, with_data_for, with_dead};
 ghost use Rattle.wl_client.specs.Steps.{refused_finish};
 
 use crate::backend::Backend;
@@ -12,17 +12,6 @@ use crate::object_id::ObjectId;
 use crate::objects::{give_data, named_in, note_end};
 use crate::open_event::OpenEvent;
 use wl_wire::OutOfMemory;
-
-/// Why an event cannot be finished with these user data, whatever memory there is.
-fn refusal_of<U>(event: &OpenEvent, user_data: &Option<U>) -> Option<FinishError>
-    ensures { result ≡ refusal event.now.created user_data.now }
-{
-    match (event.created.is_some(), user_data.is_some()) {
-        (true, false) => Some(FinishError::MissingObjectData),
-        (false, true) => Some(FinishError::UnexpectedData),
-        _ => None,
-    }
-}
 
 impl<T: Drop, U: Drop> Backend<T, U> {
     /// Ends the event that `next_event` handed out, and gives the object that it made its user data.
@@ -41,7 +30,12 @@ impl<T: Drop, U: Drop> Backend<T, U> {
             let error = FinishError::NoOpenEvent;
             return Err(FinishRefused { error, user_data });
         };
-        if let Some(error) = refusal_of(&event, &user_data) {
+        let refusal = match (event.created.is_some(), user_data.is_some()) {
+            (true, false) => Some(FinishError::MissingObjectData),
+            (false, true) => Some(FinishError::UnexpectedData),
+            _ => None,
+        };
+        if let Some(error) = refusal {
             return Err(FinishRefused { error, user_data });
         }
         if event.is_destructor && self.end_object(&event.sender).is_err() {

@@ -24,7 +24,6 @@ mod open_event;
 mod protocol_error;
 mod replay;
 mod request;
-mod script;
 mod send_request;
 mod step;
 mod turn;

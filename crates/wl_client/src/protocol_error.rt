@@ -3,42 +3,13 @@
 ghost use Rattle.std.specs.Prelude.{◌≡◌, IfOk};
 ghost use Rattle.std.specs.String.{string_bytes};
 ghost use Rattle.wl_client.specs.declared.event_fault.EventFault.TheVariants as wrong;
-ghost use Rattle.wl_client.specs.Events.{error_of, fault_text as text_of_fault, told_error as error_told};
+ghost use Rattle.wl_client.specs.Events.{fault_text as text_of_fault, told_error as error_told};
 
 use crate::event_fault::EventFault;
 use crate::kept::Kept;
 use std::alloc::Global;
 use wl_link::ObjectMap;
 use wl_wire::{CString, InterfaceId, OutOfMemory, Protocol, ProtocolError, Text};
-
-/// What is stored where an event has a fault: code 0, object 0, no interface, and the fault's text.
-#[cold]
-#[inline(never)]
-pub fn fault_error(
-    alloc: Global,
-    protocol: &Protocol,
-    fault: EventFault,
-) -> Result<ProtocolError, OutOfMemory>
-    ensures { IfOk result (λ e. e ≡ error_of protocol.now fault) }
-{
-    Ok(ProtocolError {
-        code: 0,
-        object_id: 0,
-        object_interface: Text::new(String::new(alloc)),
-        message: Text::new(fault_text(alloc, protocol, fault)?),
-    })
-}
-
-/// The text of an unknown object.
-fn unknown_object_text(
-    alloc: Global,
-    protocol: &Protocol,
-    number: u32,
-) -> Result<String, OutOfMemory>
-    ensures { IfOk result (λ text. string_bytes text ≡ text_of_fault protocol.now (wrong.UnknownObject number)) }
-{
-    Ok(format!(in alloc; "Unknown object {number}.")?)
-}
 
 /// The text of an object of a wrong interface.
 fn wrong_interface_text(
@@ -57,33 +28,27 @@ fn wrong_interface_text(
     )?)
 }
 
-/// The text of a new id that the server may not use.
-fn invalid_new_id_text(
+/// The text of a fault.
+#[cold]
+#[inline(never)]
+pub fn fault_text(
     alloc: Global,
     protocol: &Protocol,
-    number: u32,
-    interface: InterfaceId,
+    fault: EventFault,
 ) -> Result<String, OutOfMemory>
-    ensures { IfOk result (λ text. string_bytes text ≡ text_of_fault protocol.now (wrong.InvalidNewId number interface)) }
-{
-    let name = protocol.name(interface);
-    Ok(format!(in alloc;
-        "Protocol error: server tried to create an object \"{name}\" with invalid id {number}."
-    )?)
-}
-
-/// The text of a fault.
-fn fault_text(alloc: Global, protocol: &Protocol, fault: EventFault) -> Result<String, OutOfMemory>
     ensures { IfOk result (λ text. string_bytes text ≡ text_of_fault protocol.now fault) }
 {
     match fault {
         EventFault::Malformed => Ok(String::from_str(alloc, "Malformed Wayland message.")?),
-        EventFault::UnknownObject(number) => unknown_object_text(alloc, protocol, number),
+        EventFault::UnknownObject(number) => Ok(format!(in alloc; "Unknown object {number}.")?),
         EventFault::WrongInterface(number, asked, given) => {
             wrong_interface_text(alloc, protocol, number, asked, given)
         }
         EventFault::InvalidNewId(number, interface) => {
-            invalid_new_id_text(alloc, protocol, number, interface)
+            let name = protocol.name(interface);
+            Ok(format!(in alloc;
+                "Protocol error: server tried to create an object \"{name}\" with invalid id {number}."
+            )?)
         }
     }
 }

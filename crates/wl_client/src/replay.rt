@@ -1,21 +1,70 @@
 //! Runs of calls over a transport by script.
 
-ghost use Rattle.std.specs.Prelude.{◌≡◌, ◌++◌, List, [], true, false, IfOk, IfErr, IsOk, is_err, length};
+ghost use Rattle.std.specs.Prelude.{◌≡◌, ◌∷◌, ◌++◌, List, [], true, false, Err, IfOk, IfErr, IsOk, is_err, length, map};
 ghost use Rattle.wl_wire.specs.Table.{InterfaceRow};
-ghost use Rattle.wl_link.specs.Script.{Script};
+ghost use Rattle.wl_link.specs.Script.{Script, parcel};
 ghost use Rattle.wl_client.specs.Handed.{HasOwnIds};
 ghost use Rattle.wl_client.specs.Noted.{AccountsForStopped, NotesWhatEnded};
 ghost use Rattle.wl_client.specs.Replies.{SameReplies};
 ghost use Rattle.wl_client.specs.Session.{IsConnected, SessionState};
 ghost use Rattle.wl_client.specs.Performing.{IsOfScript};
-ghost use Rattle.wl_client.specs.Steps.{Entry, Leads, StepOf, StopsAt, entries};
+ghost use Rattle.wl_client.specs.Steps.{ArrivesWith, Entry, Leads, Scripts, StepOf, StopsAt, entries, refused_arrive, refused_script, with_script};
 ghost use Rattle.wl_client.specs.Stretches.{EachPartIsCut};
 
 use crate::backend::Backend;
 use crate::step::{Reply, Step, Stopped};
-use wl_link::Memory;
+use wl_link::{ArriveError, Memory};
+use wl_wire::{IoFault, OutOfMemory, Token};
 
 impl<U: Drop> Backend<Memory, U> {
+    /// Puts a chunk behind the arrivals.
+    fn arrive(&mut self, bytes: Vec<u8>, tokens: Vec<Token>) -> Result<(), ArriveError>
+        ensures arrived { ArrivesWith self.old.session (record { bytes = bytes.items; tokens = tokens.items }) result self.new.session }
+        ensures refused { self.new.refused ≡ refused_arrive result }
+    {
+        let answer = self.transport_mut().arrive(bytes, tokens);
+        self.refused = matches!(answer, Err(ArriveError::OutOfMemory));
+        answer
+    }
+
+    /// Puts a fault behind the arrivals.
+    fn arrive_fault(&mut self, fault: IoFault) -> Result<(), OutOfMemory>
+        ensures scripted { Scripts self.old.session
+            (record self.old.session.link.transport { arrivals = self.old.session.link.transport.arrivals ++ Err fault ∷ [] })
+            result self.new.session }
+        ensures refused { self.new.refused ≡ refused_script result }
+    {
+        let answer = self.transport_mut().arrive_fault(fault);
+        self.refused = answer.is_err();
+        answer
+    }
+
+    /// Puts a count or a fault behind the send answers.
+    fn script_answer(&mut self, answer: Result<usize, IoFault>) -> Result<(), OutOfMemory>
+        ensures scripted { Scripts self.old.session
+            (record self.old.session.link.transport { answers = self.old.session.link.transport.answers ++ answer ∷ [] })
+            result self.new.session }
+        ensures refused { self.new.refused ≡ refused_script result }
+    {
+        let scripted = match answer {
+            Ok(count) => self.transport_mut().accept(count),
+            Err(fault) => self.transport_mut().accept_fault(fault),
+        };
+        self.refused = scripted.is_err();
+        scripted
+    }
+
+    /// The record of what was taken, which is empty from then on.
+    fn take_sent(&mut self) -> Vec<(Vec<u8>, Vec<Token>)>
+        ensures taken { map parcel result.items ≡ self.old.session.link.transport.sent }
+        ensures left { self.new.session ≡ with_script self.old.session (record self.old.session.link.transport { sent = [] }) }
+        ensures refused { self.new.refused ≡ false }
+    {
+        let sent = self.transport_mut().take_sent();
+        self.refused = false;
+        sent
+    }
+
     /// Makes the call of a step of the transport by script. It is apart from `perform`, since one match over all steps
     /// makes a derivation for the borrow checker that is too large.
     fn perform_script(&mut self, step: Step<U>) -> Reply<U>
@@ -25,8 +74,8 @@ impl<U: Drop> Backend<Memory, U> {
         match step {
             Step::Arrive(bytes, tokens) => Reply::Arrive(self.arrive(bytes, tokens)),
             Step::ArriveFault(fault) => Reply::ArriveFault(self.arrive_fault(fault)),
-            Step::Accept(count) => Reply::Accept(self.accept(count)),
-            Step::AcceptFault(fault) => Reply::AcceptFault(self.accept_fault(fault)),
+            Step::Accept(count) => Reply::Accept(self.script_answer(Ok(count))),
+            Step::AcceptFault(fault) => Reply::AcceptFault(self.script_answer(Err(fault))),
             Step::TakeSent => Reply::TakeSent(self.take_sent()),
             _ => unreachable!(),
         }

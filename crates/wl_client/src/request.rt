@@ -3,9 +3,9 @@
 ghost use Rattle.std.specs.Prelude.{◌≡◌};
 ghost use Rattle.std.specs.List.{list_all};
 ghost use Rattle.wl_wire.specs.Table.{message_row};
-ghost use Rattle.wl_wire.specs.Asked.{creates, left_after, matches, next_interface};
+ghost use Rattle.wl_wire.specs.Asked.{creates, left_after, matches};
 ghost use Rattle.wl_link.specs.Refusals.{first_refusal};
-ghost use Rattle.wl_client.specs.Requests.{child_of, child_refusals, is_placeholder, argument_fault, argument_faults, refusals, request_check, session_content};
+ghost use Rattle.wl_client.specs.Requests.{child_refusals, is_placeholder, argument_fault, argument_faults, refusals, request_check, session_content};
 
 use crate::error::RequestError;
 use crate::kept::Kept;
@@ -35,21 +35,14 @@ fn creates(desc: &MessageDesc) -> bool
         .any(|kind| matches!(kind, ArgumentType::NewId))
 }
 
-/// Whether the argument is no new id, or a null one.
-fn is_placeholder(arg: &Argument<ObjectId, Token>) -> bool
-    ensures { result ≡ is_placeholder arg.now }
-{
-    match arg {
-        Argument::NewId(id) => id.protocol_id() == 0,
-        _ => true,
-    }
-}
-
 /// Whether each new id is null.
 fn are_placeholders(args: &[Argument<ObjectId, Token>]) -> bool
     ensures { result ≡ list_all is_placeholder args.now }
 {
-    args.iter().all(|arg| is_placeholder(arg))
+    args.iter().all(|arg| match arg {
+        Argument::NewId(id) => id.protocol_id() == 0,
+        _ => true,
+    })
 }
 
 /// Why an argument of that type is refused, where the table asks for this interface next.
@@ -79,16 +72,6 @@ fn argument_fault<U: Drop>(
     }
 }
 
-/// The interface that the table asks for next: where it names none, the anonymous one, which any object fits.
-fn next_interface(asked: &[InterfaceId]) -> InterfaceId
-    ensures { result ≡ next_interface asked.now }
-{
-    match asked.first() {
-        Some(interface) => *interface,
-        None => ANONYMOUS_INTERFACE,
-    }
-}
-
 /// What the table asks for behind the argument: each object takes one of the interfaces.
 fn left_after<'a>(arg: &Argument<ObjectId, Token>, asked: &'a [InterfaceId]) -> &'a [InterfaceId]
     ensures { result.now ≡ left_after arg.now asked.now }
@@ -110,27 +93,14 @@ fn first_fault<U: Drop>(
 {
     let mut asked = interfaces;
     for (kind, arg) in signature.iter().zip(args) {
-        if let Some(error) = argument_fault(objects, *kind, next_interface(asked), arg) {
+        // Where the table names no further interface, any object fits.
+        let next = asked.first().copied().unwrap_or(ANONYMOUS_INTERFACE);
+        if let Some(error) = argument_fault(objects, *kind, next, arg) {
             return Some(error);
         }
         asked = left_after(arg, asked);
     }
     None
-}
-
-/// What a request with a new id creates: as the caller says, or else as the table says. `version` is that of the sender.
-fn child_of(
-    desc: &MessageDesc,
-    version: u32,
-    spec: Option<(InterfaceId, u32)>,
-) -> Option<(InterfaceId, u32)>
-    ensures { result ≡ child_of (message_row desc.now) version spec }
-{
-    match (spec, desc.child_interface) {
-        (Some(spec), _) => Some(spec),
-        (None, Some(child)) => Some((child, version)),
-        (None, None) => None,
-    }
 }
 
 /// Why a request is refused for the object that it creates.
@@ -215,10 +185,11 @@ pub(crate) fn check_request<U: Drop>(
     if let Some(error) = refusal(protocol, objects, sender, desc, message, has_data, spec) {
         return Err(error);
     }
-    let child = if creates(desc) {
-        child_of(desc, sender.version, spec)
-    } else {
-        None
+    // As the caller says, or else as the table says, of the sender's version.
+    let child = match (creates(desc), spec, desc.child_interface) {
+        (true, Some(spec), _) => Some(spec),
+        (true, None, Some(child)) => Some((child, sender.version)),
+        _ => None,
     };
     Ok(Granted {
         child,

@@ -36,16 +36,6 @@ fn ended_sender<U: Drop>(
     }
 }
 
-/// Whether a note is kept of what ends.
-fn is_noted(ended: &Option<(ObjectId, bool)>) -> bool
-    ensures { result ≡ is_noted ended.now }
-{
-    match ended {
-        Some((_, has_data)) => *has_data,
-        None => false,
-    }
-}
-
 /// The number of the new object, and 0 where there is none.
 fn number_of<U>(new: &Option<(u32, Object<Kept<U>>)>) -> u32
     ensures { result ≡ number_of_new new.now }
@@ -187,12 +177,8 @@ impl<T: Transport + Drop, U: Drop> Backend<T, U> {
         let ended = ended_sender(&self.objects, message, is_destructor);
         let number = number_of(new);
         let creates = new.is_some();
-        let room = make_room(
-            &mut self.objects,
-            &mut self.notes,
-            creates,
-            is_noted(&ended),
-        );
+        let is_noted = matches!(ended, Some((_, true)));
+        let room = make_room(&mut self.objects, &mut self.notes, creates, is_noted);
         if room.is_err() {
             return Err(RequestError::OutOfMemory);
         }

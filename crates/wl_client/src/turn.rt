@@ -27,12 +27,12 @@ use crate::event_fault::EventFault;
 use crate::kept::Kept;
 use crate::object_id::ObjectId;
 use crate::open_event::OpenEvent;
-use crate::protocol_error::{fault_error, told_error};
+use crate::protocol_error::{fault_text, told_error};
 use smallvec::SmallVec;
 use wl_link::{BufferedSocket, ObjectMap, Transport};
 use wl_wire::{
     Argument, ArgumentType, INLINE_ARGS, IoFault, Message, MessageDesc, MessageParseError,
-    OutOfMemory, Protocol, ProtocolError, Token,
+    OutOfMemory, Protocol, ProtocolError, Text, Token,
 };
 
 /// Why no event was handed out, and whether memory was refused.
@@ -84,13 +84,6 @@ fn read_under<T>(
     socket.read_into(|_, _| Some(signature), message)
 }
 
-/// Whether an event asks for memory before it is read: for the object that it makes, or for its arguments.
-fn asks_for_memory(desc: &MessageDesc) -> bool
-    ensures { result ≡ row_asks (Some (message_row desc.now)) }
-{
-    desc.child_interface.is_some() || desc.signature.len() > INLINE_ARGS
-}
-
 /// Makes room for what the message at the front becomes, where it is there whole: for its arguments, and for the object
 /// that it may make. Of a message that is not there nothing is asked for.
 fn make_room<T: Drop, U: Drop>(
@@ -111,7 +104,8 @@ fn make_room<T: Drop, U: Drop>(
     ensures asked { OnErr result ((row_asks (Some (message_row desc.now)) ≡ true)
         × IsThere socket.now.incoming.bytes desc.now.signature.items socket.now.incoming.tokens) }
 {
-    if !asks_for_memory(desc) || !socket.holds_message(desc.signature.as_slice()) {
+    let asks = desc.child_interface.is_some() || desc.signature.len() > INLINE_ARGS;
+    if !asks || !socket.holds_message(desc.signature.as_slice()) {
         return Ok(());
     }
     converted.reserve(desc.signature.len())?;
@@ -182,14 +176,22 @@ impl<T: Transport + Drop, U: Drop> Backend<T, U> {
         }
     }
 
-    /// Stores the error of a fault.
+    /// Stores the error of a fault: code 0, object 0, no interface, and the fault's text.
     #[cold]
     #[inline(never)]
     fn fail_by(&mut self, fault: EventFault) -> NoEvent
         ensures { HandledTo self.old.session (Breaks (error_of self.old.session.table fault) (objects_of self.old.session)) (Ended result) self.new.session }
     {
-        let error = fault_error(*self.notes.allocator(), &self.protocol, fault);
-        self.fail(error)
+        let alloc = *self.notes.allocator();
+        match fault_text(alloc, &self.protocol, fault) {
+            Ok(text) => self.fail(Ok(ProtocolError {
+                code: 0,
+                object_id: 0,
+                object_interface: Text::new(String::new(alloc)),
+                message: Text::new(text),
+            })),
+            Err(OutOfMemory) => self.fail(Err(OutOfMemory)),
+        }
     }
 
     /// Handles an event of the display.

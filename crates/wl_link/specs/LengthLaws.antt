@@ -348,8 +348,6 @@ module _ {Core Event Finish : Type 0} (reader : Reader Core Event Finish) where
   -- so no receive of such a stretch finds the storage full
   pub within_stretch : (before after : Part Script Core) (acts : List (Act Event Finish)) → IsStretchWithin reader before acts after → IsStretch reader before acts after
   within_stretch before after acts stretch = record {
-    does = stretch.does;
-    pieces = stretch.pieces;
-    ends = stretch.ends;
-    roomy = λ core is lacks. inr (front_fits before after acts stretch.does stretch.within, stretch.in_time core is);
+    spans = stretch.spans;
+    roomy = λ core ended. inr (front_fits before after acts stretch.spans.does stretch.within, stretch.in_time core ended.0);
   }

@@ -18,6 +18,7 @@ pub mod TakenLaws
 pub mod Kept
 pub mod KeptLaws
 pub mod OneLaws
+pub mod NumberLaws
 pub mod Sides
 pub mod StreamLaws
 pub mod Branches

@@ -10,7 +10,7 @@ use Rattle.wl_link.specs.Puts.{lacked_memory}
 use Rattle.wl_link.specs.Reader.{AllFed, Gives, Handled, Lacks, Leaves, Part, Reader, Reads, Received, Takes, Then, Turn, Unread, Verdict, came_by, came_in, sends_in, stops, with_link}
 use Rattle.wl_link.specs.Served.{Finds}
 use Rattle.wl_link.specs.Script.{Script, ScriptReceives, ScriptSends}
-use Rattle.wl_link.specs.Stretch.{AllPieces, MayCome, NotFull, left_over, sending_side}
+use Rattle.wl_link.specs.Stretch.{AllPieces, HasByteFree, MayCome, NotFull, left_over, sending_side}
 use Rattle.wl_link.specs.PutsLaws.{not_lacked}
 use Rattle.wl_link.specs.ServedLaws.{both_false}
 use Rattle.wl_link.specs.CuttingLaws.{byte_came}
@@ -65,7 +65,7 @@ module _ {Core Event Finish : Type 0} (reader : Reader Core Event Finish) where
 
     not_full : (n : ℕ) (p : Part Script Core) (turns : List Turn) (out : Gives Event) (link : LinkState Script) (r : Result Queue IoFault) → out.refused ≡ false
         → Lacks ScriptSends reader p → FilledBy ScriptReceives p.link r (counted_answer (count_of r)) link
-        → (counted_answer (count_of r) ≢ Err fault.OutOfMemory → FindsRoom p.link link.room) → ReceivedThen n p turns out link (counted_answer (count_of r))
+        → FindsRoom p.link link.room → ReceivedThen n p turns out link (counted_answer (count_of r))
         → free_room p.link ≡ 0 → ⊥
     not_full n p turns out link r ample lacks filled finds h full = at (subst (λ (room : ℕ). ScriptReceives p.link.transport room r link.transport) full filled.0)
       where
@@ -76,8 +76,7 @@ module _ {Core Event Finish : Type 0} (reader : Reader Core Event Finish) where
         here = record { core = p.core; link = link }
 
         -- it found a byte free
-        free : link.incoming ≡ p.link.incoming → (length link.incoming.bytes < link.room) ⊎ MayCome reader p.core link → Lacks ScriptSends reader here
-            → length link.incoming.bytes < link.room
+        free : link.incoming ≡ p.link.incoming → HasByteFree link ⊎ MayCome reader p.core link → Lacks ScriptSends reader here → HasByteFree link
         free waits (inl some) there = some
         free waits (inr (fits, in_time)) (inr late) = absurd (in_time late)
         free waits (inr (fits, in_time)) (inl short) =
@@ -86,7 +85,7 @@ module _ {Core Event Finish : Type 0} (reader : Reader Core Event Finish) where
             let fits'' = subst (λ (m : Option ℕ). 8 ≤ length p.link.incoming.bytes → length_of p.link.incoming.bytes ≤ incoming_limit m) limit fits' in
             let lacking = lacks_bytes (λ sender opcode found. found ≡ reader.signature p.core sender opcode) link short in
             let lacking' = subst (λ (q : Queue). LacksBytes q.bytes) waits lacking in
-            subst (λ (q : Queue). length q.bytes < link.room) (sym waits) (finds memory lacking' fits'')
+            subst (λ (q : Queue). length q.bytes < link.room) (sym waits) (finds lacking' fits'')
 
         at : ScriptReceives p.link.transport 0 r link.transport → ⊥
         at (inr (is, same, some)) = memory (ap (λ (z : Result Queue IoFault). counted_answer (count_of z)) is)
@@ -96,7 +95,7 @@ module _ {Core Event Finish : Type 0} (reader : Reader Core Event Finish) where
             = ap (λ (l : LinkState Script). l.incoming) filled.2 ∙ ap (λ (z : Result Queue IoFault). with_came p.link.incoming z) is ∙ joined_nothing p.link.incoming in
             let room : link.room ≡ grown_room p.link = ap (λ (l : LinkState Script). l.room) filled.2 in
             let there = lacks_there ScriptSends ScriptSends reader p link waits lacks in
-            let ends = subst (NotFull reader) g.2 roomy p.core refl there in
+            let ends = subst (NotFull reader) g.2 roomy p.core (refl, there) in
             let some = free waits ends there in
             omega (arith, some, room, full, ap (λ (q : Queue). length q.bytes) waits)
 

@@ -190,15 +190,14 @@ module _ {T Core Event Finish : Type 0} (sends : T → Queue → Result ℕ IoFa
       × ((v : Verdict Core Event) × (link : LinkState T) × (first : List (Given Event)) × (lacked : Bool) × (mid : Part T Core) × (rest : Gives Event)
       × Found before v link × CarriesOut v link es first lacked mid × (out ≡ behind first lacked rest) × on mid rest)
 
-  -- A reading with so many receives left. A receive stands only where data or tokens lack, and, unless memory was refused,
-  -- it finds a byte free for a message that is no longer than the incoming storage may become.
+  -- A reading with so many receives left. A receive stands only where data or tokens lack, and it finds a byte free for a
+  -- message that is no longer than the incoming storage may become.
   abbrev pub Reads : (T → ℕ → Result Queue IoFault → T → Type 0) → ℕ → Part T Core → List Turn → Gives Event → Part T Core → Type 0
   Reads receives left before [] out after = (after ≡ before) × Stops left before out
   Reads receives left before (Received r ∷ turns) out after =
       (reader.reads_on before.core ≡ true) × Lacks before
       × ((n : ℕ) × (left ≡ suc n)
-      × ((link : LinkState T) × FilledBy receives before.link r (counted_answer (count_of r)) link
-      × (counted_answer (count_of r) ≢ Err fault.OutOfMemory → FindsRoom before.link link.room)
+      × ((link : LinkState T) × FilledBy receives before.link r (counted_answer (count_of r)) link × FindsRoom before.link link.room
       × MatchResult (counted_answer (count_of r))
       (λ _. Reads receives n (with_link before link) turns out after)
       (λ f. (turns ≡ []) × (out ≡ stops (Some f) (lacked_memory (Err f)) n) × (after ≡ record { core = reader.faulted before.core f; link = link }))))

@@ -1,14 +1,19 @@
 -- How turns and receives join to a reading, for the loops of whatever reads.
-use Rattle.std.proofs.Common.{◌≡◌, ◌≢◌, ◌⊎◌, ℕ, suc, ◌+◌, ◌-◌, ◌<◌, ◌≤◌, Bool, true, false, ◌||◌, List, [], ◌∷◌, ◌++◌, append_assoc, Option, None, Some, Result, Ok, Err, MatchResult, refl, sym, ap, subst, ◌∙◌, arith}
+use Rattle.std.proofs.Common.{◌≡◌, ◌⊎◌, ℕ, suc, ◌+◌, ◌-◌, ◌<◌, ◌≤◌, Bool, true, false, ◌||◌, List, [], ◌∷◌, ◌++◌, append_assoc, Option, None, Some, Result, Ok, Err, MatchResult, refl, sym, ap, subst, ◌∙◌, arith}
 use mathlib.Core.Logic.{inl, inr}
 use Rattle.wl_wire.specs.declared.error.IoFault.{IoFault}
 use Rattle.wl_wire.specs.declared.error.IoFault.TheVariants as fault
 use Rattle.wl_link.specs.Exchange.{Queue}
-use Rattle.wl_link.specs.Link.{Filled, FilledBy, FindsRoom, LinkState, count_of, counted_answer}
+use Rattle.wl_link.specs.Link.{Filled, FilledBy, FindsRoom, LinkState, count_of, counted_answer, grown_room}
 use Rattle.wl_link.specs.Puts.{lacked_memory}
 use Rattle.wl_link.specs.Reader.{FrontAsks, Given, Gives, Halts, Handled, Lacks, Part, Reader, Reads, Received, Turn, Unread, behind, stops, with_link}
 use Rattle.wl_link.specs.Served.{Handles}
 use Rattle.wl_link.specs.Branches.{at_false, at_true}
+
+-- the storage that a receive finds is the one that it leaves
+pub room_found : {T : Type 0} (receives : T → ℕ → Result Queue IoFault → T → Type 0) (before after : LinkState T) (r : Result Queue IoFault) (answer : Result (Unit {0}) IoFault)
+    → FilledBy receives before r answer after → FindsRoom before (grown_room before) → FindsRoom before after.room
+room_found receives before after r answer made finds = subst (λ (n : ℕ). FindsRoom before n) (sym (ap (λ (l : LinkState _). l.room) made.2)) finds
 
 module _ {T Core Event Finish : Type 0} (sends : T → Queue → Result ℕ IoFault → T → Type 0) (receives : T → ℕ → Result Queue IoFault → T → Type 0)
     (reader : Reader Core Event Finish) where
@@ -36,8 +41,7 @@ module _ {T Core Event Finish : Type 0} (sends : T → Queue → Result ℕ IoFa
       (r : Result Queue IoFault) × FilledBy receives before.link r (counted_answer (count_of r)) after.link × FindsRoom before.link after.link.room
       × (counted_answer (count_of r) ≡ Ok tt) × (after ≡ with_link before after.link)
   ReceivedTo before (Some f) after =
-      ((r : Result Queue IoFault) × (link : LinkState T) × FilledBy receives before.link r (counted_answer (count_of r)) link
-      × (f ≢ fault.OutOfMemory → FindsRoom before.link link.room)
+      ((r : Result Queue IoFault) × (link : LinkState T) × FilledBy receives before.link r (counted_answer (count_of r)) link × FindsRoom before.link link.room
       × (counted_answer (count_of r) ≡ Err f) × (after ≡ record { core = reader.faulted before.core f; link = link }))
       ⊎ ((f ≡ fault.OutOfMemory) × (after ≡ before))
 
@@ -99,9 +103,8 @@ module _ {T Core Event Finish : Type 0} (sends : T → Queue → Result ℕ IoFa
 
   -- what a fill that failed comes to
   pub received_fault : ((c : Core) → reader.faulted c fault.OutOfMemory ≡ c) → (before : Part T Core) (link : LinkState T) (f : IoFault) → Filled receives before.link (Err f) link
-      → (f ≢ fault.OutOfMemory → FindsRoom before.link link.room)
-      → ReceivedTo before (Some f) (record { core = reader.faulted before.core f; link = link })
-  received_fault starves before link f (inl (r, made)) finds = inl (r, link, (made.0, refl, made.2), finds, sym made.1, refl)
+      → FindsRoom before.link (grown_room before.link) → ReceivedTo before (Some f) (record { core = reader.faulted before.core f; link = link })
+  received_fault starves before link f (inl (r, made)) finds = inl (r, link, (made.0, refl, made.2), room_found receives before.link link r (Err f) made finds, sym made.1, refl)
   received_fault starves before link f (inr (is, same)) finds =
       let memory = failed_is f fault.OutOfMemory is in
       let with_core : Core → Part T Core = λ c. record { core = c; link = link } in
@@ -146,7 +149,7 @@ module _ {T Core Event Finish : Type 0} (sends : T → Queue → Result ℕ IoFa
                   (
                     link,
                     filled,
-                    λ memory. finds (λ is'. memory (is ∙ ap (λ (g : IoFault). let r : Result (Unit {0}) IoFault = Err g in r) is')),
+                    finds,
                     subst (λ (c : Result (Unit {0}) IoFault). MatchResult c (λ _. Reads sends reader receives n (with_link mid link) [] (stopped_by f n) after)
                         (λ g. (no_turns ≡ []) × (stopped_by f n ≡ stopped_by g n)
                         × (after ≡ record { core = reader.faulted mid.core g; link = link }))) (sym is) (refl, refl, same),
@@ -174,7 +177,7 @@ module _ {T Core Event Finish : Type 0} (sends : T → Queue → Result ℕ IoFa
                   (
                     after.link,
                     filled,
-                    λ memory. finds,
+                    finds,
                     subst (λ (c : Result (Unit {0}) IoFault). MatchResult c (λ _. Reads sends reader receives left (with_link mid after.link) turns rest end)
                         (λ g. (turns ≡ []) × (rest ≡ stops (Some g) (lacked_memory (Err g)) left)
                         × (end ≡ record { core = reader.faulted mid.core g; link = after.link }))) (sym came)

@@ -81,6 +81,10 @@ module _ {Core : Type 0} where
   abbrev pub with_arrival : Part Script Core → Result Queue IoFault → Part Script Core
   with_arrival p r = with_link p (with_transport p.link (record p.link.transport { arrivals = arrivals_of p ++ r ∷ [] }))
 
+-- a byte of the incoming storage is free
+abbrev pub HasByteFree : LinkState Script → Type 0
+HasByteFree link = length link.incoming.bytes < link.room
+
 module _ {Core Event Finish : Type 0} (reader : Reader Core Event Finish) where
   -- memory is not refused in it
   abbrev pub Does : Part Script Core → Act Event Finish → Part Script Core → Type 0
@@ -95,16 +99,22 @@ module _ {Core Event Finish : Type 0} (reader : Reader Core Event Finish) where
   DoesAll before [] after = after ≡ before
   DoesAll before (a ∷ acts) after = (mid : Part Script Core) × Does before a mid × DoesAll mid acts after
 
-  -- the message at the front is no longer than the incoming storage may become, and does not wait whole for its tokens
-  abbrev pub MayCome : Core → LinkState Script → Type 0
-  MayCome core link = FrontFits link × (ReadsAs ScriptSends reader (record { core = core; link = link }) (Err parse.MissingFD) link → ⊥)
+  -- the message at the front waits whole for its tokens
+  abbrev pub LacksTokens : Core → LinkState Script → Type 0
+  LacksTokens core link = ReadsAs ScriptSends reader (record { core = core; link = link }) (Err parse.MissingFD) link
 
-  -- No receive found the storage full: where the end may be one of no bytes, a byte is free there. So it is also where the
-  -- rest of the message at the front may come, since then a receive finds a byte free.
+  -- the rest of the message at the front may come: it is no longer than the incoming storage may become, and lacks bytes
+  abbrev pub MayCome : Core → LinkState Script → Type 0
+  MayCome core link = FrontFits link × (LacksTokens core link → ⊥)
+
+  -- a receive of no bytes may have ended the reader so, when this was its core, and data or tokens lacked
+  abbrev pub MayEndFrom : Core → Part Script Core → Type 0
+  MayEndFrom core after = (after.core ≡ reader.faulted core fault.Pipe) × Lacks ScriptSends reader (record { core = core; link = after.link })
+
+  -- No receive found the storage full: where one of no bytes may have ended the reader, a byte is free. So it is also where
+  -- the rest of the message at the front may come, since then a receive finds a byte free.
   abbrev pub NotFull : Part Script Core → Type 0
-  NotFull after =
-      (core : Core) → after.core ≡ reader.faulted core fault.Pipe → Lacks ScriptSends reader (record { core = core; link = after.link })
-      → (length after.link.incoming.bytes < after.link.room) ⊎ MayCome core after.link
+  NotFull after = (core : Core) → MayEndFrom core after → HasByteFree after.link ⊎ MayCome core after.link
 
   -- it reads on no more, and ends nothing
   abbrev pub IsOver : Core → Type 0
@@ -115,22 +125,24 @@ module _ {Core Event Finish : Type 0} (reader : Reader Core Event Finish) where
     pub blocks : (core : Core) → reader.faulted core fault.WouldBlock ≡ core
     pub over : (core : Core) → IsOver (reader.faulted core fault.Pipe)
 
-  -- A stretch ends where the reader reads on no more, or with a reading that would block where no arrival is left.
-  pub record IsStretch (before : Part Script Core) (acts : List (Act Event Finish)) (after : Part Script Core) : Type 0 where
+  -- The acts span from the one to the other: they end where the reader reads on no more, or with a reading that would block
+  -- where no arrival is left.
+  pub record Spans (before : Part Script Core) (acts : List (Act Event Finish)) (after : Part Script Core) : Type 0 where
     pub does : DoesAll before acts after
     pub pieces : AllPieces (arrivals_of before)
     pub ends : (reader.reads_on after.core ≡ false) ⊎ (EndsWaiting acts × (arrivals_of after ≡ []))
+
+  -- a stretch, in which no receive found the storage full
+  pub record IsStretch (before : Part Script Core) (acts : List (Act Event Finish)) (after : Part Script Core) : Type 0 where
+    pub spans : Spans before acts after
     pub roomy : NotFull after
 
   -- A stretch of messages each of which is no longer than the incoming storage may become, and whose tokens come no later
   -- than its last byte: where its end may be a receive of no bytes, none waits whole for tokens.
   pub record IsStretchWithin (before : Part Script Core) (acts : List (Act Event Finish)) (after : Part Script Core) : Type 0 where
-    pub does : DoesAll before acts after
-    pub pieces : AllPieces (arrivals_of before)
-    pub ends : (reader.reads_on after.core ≡ false) ⊎ (EndsWaiting acts × (arrivals_of after ≡ []))
+    pub spans : Spans before acts after
     pub within : EachWithin (incoming_limit before.link.limit) (joined before.link.incoming (joined (left_over (arrivals_of before)) (arrived acts))).bytes
-    pub in_time : (core : Core) → after.core ≡ reader.faulted core fault.Pipe
-        → ReadsAs ScriptSends reader (record { core = core; link = after.link }) (Err parse.MissingFD) after.link → ⊥
+    pub in_time : (core : Core) → after.core ≡ reader.faulted core fault.Pipe → LacksTokens core after.link → ⊥
 
   -- What it gave, and what it came to, is what is served of all that arrived, with the data with which something was
   -- ended, over the script's answers to the sends.

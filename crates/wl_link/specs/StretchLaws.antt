@@ -1,5 +1,5 @@
 -- That what a stretch gives is what is served of all that arrived, however it was cut.
-use Rattle.std.proofs.Common.{◌≡◌, ◌⊎◌, ◌<◌, ℕ, zero, suc, false, List, [], ◌∷◌, ◌++◌, append_assoc, append-nil, length, is_some, Result, refl, sym, ap, subst, ◌∙◌, true≢false}
+use Rattle.std.proofs.Common.{◌≡◌, ◌⊎◌, ℕ, zero, suc, false, List, [], ◌∷◌, ◌++◌, append_assoc, append-nil, is_some, Result, refl, sym, ap, subst, ◌∙◌, true≢false}
 use mathlib.Core.Logic.{inl, inr}
 use Rattle.wl_wire.specs.declared.error.IoFault.{IoFault}
 use Rattle.wl_wire.specs.declared.error.MessageParseError.TheVariants as parse
@@ -8,7 +8,7 @@ use Rattle.wl_link.specs.Link.{LinkState, with_transport}
 use Rattle.wl_link.specs.Reader.{AllFed, Ends, Given, Gives, Handled, Lacks, Part, Reader, Reads, Received, Turn, Unread, came_by, came_in}
 use Rattle.wl_link.specs.Served.{NoneFits, Rests, ServedFrom, Serves, link_as, part_as}
 use Rattle.wl_link.specs.Script.{Script, ScriptReceives, ScriptSends}
-use Rattle.wl_link.specs.Stretch.{Act, AllPieces, Arrived, Does, DoesAll, EndsByPipe, EndsWaiting, HasEnded, HasRead, IsOver, IsServed, IsStretch, IsWaiting, MayCome, NotFull, arrivals_of, arrived, arrived_by, ended, ended_by, given_by, given_in, left_over, sending_side}
+use Rattle.wl_link.specs.Stretch.{Act, AllPieces, Arrived, Does, DoesAll, EndsByPipe, EndsWaiting, HasByteFree, HasEnded, HasRead, IsOver, IsServed, IsStretch, IsWaiting, MayCome, NotFull, arrivals_of, arrived, arrived_by, ended, ended_by, given_by, given_in, left_over, sending_side}
 use Rattle.wl_link.specs.ScriptLaws.{script_sends_function}
 use Rattle.wl_link.specs.ServedLaws.{served_one}
 use Rattle.wl_link.specs.CuttingLaws.{carries_there, comes, serves_ending}
@@ -113,15 +113,15 @@ module _ {Core Event Finish : Type 0} (reader : Reader Core Event Finish) (ends_
 
   -- so no receive found the storage full, if none is seen to have at the end
   pub roomy_before : (before after : Part Script Core) (acts : List (Act Event Finish)) → DoesAll reader before acts after → NotFull reader after → NotFull reader before
-  roomy_before before after acts does roomy core is lacks =
+  roomy_before before after acts does roomy core (is, lacks) =
       let over = acts_over before after acts (subst (IsOver reader) (sym is) (ends_by.over core)) does in
       let incoming : after.link.incoming ≡ before.link.incoming = ap (λ (l : LinkState Script). l.incoming) over.link in
       let there = lacks_there ScriptSends ScriptSends reader (record { core = core; link = before.link }) after.link incoming lacks in
-      free core (subst (λ (l : LinkState Script). (length l.incoming.bytes < l.room) ⊎ MayCome reader core l) over.link (roomy core (over.core ∙ is) there))
+      free core (subst (λ (l : LinkState Script). HasByteFree l ⊎ MayCome reader core l) over.link (roomy core (over.core ∙ is, there)))
     where
       free : (core : Core)
-          → (length before.link.incoming.bytes < before.link.room) ⊎ MayCome reader core (with_transport before.link after.link.transport)
-          → (length before.link.incoming.bytes < before.link.room) ⊎ MayCome reader core before.link
+          → HasByteFree before.link ⊎ MayCome reader core (with_transport before.link after.link.transport)
+          → HasByteFree before.link ⊎ MayCome reader core before.link
       free core (inl some) = inl some
       free core (inr (fits, in_time)) =
           inr (
@@ -253,14 +253,14 @@ module _ {Core Event Finish : Type 0} (reader : Reader Core Event Finish) (ends_
 
   pub stretch_served : (before after : Part Script Core) (acts : List (Act Event Finish)) → IsStretch reader before acts after → IsServed reader before acts after
   stretch_served before after acts stretch =
-      let c = acts_come before after acts stretch.does stretch.pieces stretch.roomy in
+      let c = acts_come before after acts stretch.spans.does stretch.spans.pieces stretch.roomy in
       let s = c.serves nothing [] in
       let bytes : joined (arrived acts) nothing ≡ arrived acts = joined_nothing (arrived acts) in
       let left : joined (left_of after) nothing ≡ left_of after = joined_nothing (left_of after) in
       let a = subst (λ (q : Queue). Serves ScriptSends reader s.0 (served_with before q) (ended acts ++ []) (given_in acts) (served_with after nothing) []) bytes s.1 in
       let b = subst (λ (q : Queue). Serves ScriptSends reader s.0 (served_with before (arrived acts)) (ended acts ++ []) (given_in acts) (part_as after q (side_of after)) []) left a in
       let d = subst (λ (f : List Finish). Serves ScriptSends reader s.0 (served_with before (arrived acts)) f (given_in acts) (part_as after (left_of after) (side_of after)) []) (append-nil (ended acts)) b in
-      record { count = s.0; left = []; serves = d; rests = rests_at_end before after acts c stretch.ends }
+      record { count = s.0; left = []; serves = d; rests = rests_at_end before after acts c stretch.spans.ends }
 
   -- So two stretches over which the same arrives and is ended give the same, and lead to the same, however it was cut.
   pub cut_otherwise : (before after after' : Part Script Core) (acts acts' : List (Act Event Finish)) → IsStretch reader before acts after → IsStretch reader before acts' after'

@@ -67,6 +67,7 @@ impl Buffer {
     /// How many bytes the storage holds.
     pub fn size(&self) -> usize
         ensures size { result ≡ self.now.size }
+        ensures within { length self.now.bytes ≤ result }
         ensures header { 8 ≤ result }
         ensures small { result < 2 ^ 63 }
     {

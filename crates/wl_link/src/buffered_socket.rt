@@ -236,10 +236,10 @@ impl<T> BufferedSocket<T> {
     fn grow_incoming(&mut self) -> Result<(), OutOfMemory>
         ensures ok { OnOk result (self.new ≡ with_room self.old (grown_room self.old)) }
         ensures err { OnErr result (self.new ≡ self.old) }
-        ensures room { OnOk result (FindsRoom self.old self.new.room) }
+        ensures room { FindsRoom self.old (grown_room self.old) }
     {
-        self.fds_in.reserve(MAX_FDS_OUT)?;
         let size = self.incoming.size();
+        self.fds_in.reserve(MAX_FDS_OUT)?;
         if self.incoming.len() < size || size >= incoming_limit(self.limit) {
             return Ok(());
         }
@@ -399,7 +399,7 @@ impl<T: Transport> BufferedSocket<T> {
     /// is `OutOfMemory`, and nothing was received.
     pub fn fill_incoming_buffers(&mut self) -> Result<(), IoFault>
         ensures filled { Filled T.receives self.old result self.new }
-        ensures room { result ≢ Err IoFault.OutOfMemory → FindsRoom self.old self.new.room }
+        ensures room { FindsRoom self.old (grown_room self.old) }
     {
         let Ok(()) = self.grow_incoming() else {
             return Err(IoFault::OutOfMemory);

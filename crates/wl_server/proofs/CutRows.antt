@@ -93,11 +93,11 @@ module _ (offer : Offer ℕ) (p : Part Script ℕ Bool) where
           (
             link_over (scripted []) half,
             (inl (lit≤ tt, refl, refl), refl, refl),
-            λ ample lacks fits. omega arith,
+            λ lacks fits. omega arith,
             (
               refl,
               inl (refl, refl),
-              (62, refl, (link_over (scripted []) half, (inl (tt, refl, refl), refl, refl), λ ample lacks fits. omega arith, (refl, refl, refl))),
+              (62, refl, (link_over (scripted []) half, (inl (tt, refl, refl), refl, refl), λ lacks fits. omega arith, (refl, refl, refl))),
             ),
           ),
         ),
@@ -117,10 +117,12 @@ module _ (offer : Offer ℕ) (p : Part Script ℕ Bool) where
   -- it is a stretch, and so what is served of the piece
   a_stretch : IsStretch (around w client offer) before (reading ∷ []) after
   a_stretch = record {
-    heard = (refl, refl, tt, tt);
-    live = refl;
-    pieces = ((λ none. true≢false (ap is_cons none)), tt);
-    ends = inr (refl, refl);
+    spans = record {
+      heard = (refl, refl, tt, tt);
+      live = refl;
+      pieces = ((λ none. true≢false (ap is_cons none)), tt);
+      ends = inr (refl, refl);
+    };
     roomy = λ dead. absurd (true≢false (sym dead));
   }
 

@@ -11,7 +11,8 @@ use Rattle.wl_wire.specs.Message.{WireMessage}
 use Rattle.wl_link.specs.Branches.{at_false, at_true}
 use Rattle.wl_link.specs.Exchange.{Queue, Sending}
 use Rattle.wl_link.specs.LengthLaws.{carries_stays}
-use Rattle.wl_link.specs.Link.{Filled, FindsRoom, LinkState}
+use Rattle.wl_link.specs.Link.{Filled, FindsRoom, LinkState, grown_room}
+use Rattle.wl_link.specs.ReaderLoops.{room_found}
 use Rattle.wl_link.specs.Puts.{lacked_memory}
 use Rattle.wl_link.specs.Reader.{CarriesOut, FrontAsks, Given, Gives, Halts, Handled, Leaves, Reads, Received, Takes, Turn, Unread, Verdict, behind, handled_in, stops}
 use Rattle.wl_link.specs.Identity.{Id}
@@ -347,7 +348,7 @@ module _ {T U G C : Type 0} (sends : T → Queue → Result ℕ IoFault → T �
           (
             after.part.link,
             (made.0, refl, made.2),
-            λ memory. finds,
+            room_found receives s.part.link after.part.link rc (Ok tt) made finds,
             subst (λ (c : Result (Unit {0}) IoFault). MatchResult c (λ _. Reads sends (server a) receives q.turns_left (record { core = core_of s.part; link = after.part.link }) turns rest end)
                 (λ f. (turns ≡ []) × (behind [] false rest ≡ stops (Some f) (lacked_memory (Err f)) q.turns_left)
                 × (end ≡ record { core = faulted (core_of s.part) f; link = after.part.link }))) made.1
@@ -381,7 +382,7 @@ module _ {T U G C : Type 0} (sends : T → Queue → Result ℕ IoFault → T �
               (
                 link,
                 (made.0, refl, made.2),
-                λ memory. finds (λ is'. memory (sym made.1 ∙ ap (λ (g : IoFault). let r : Result (Unit {0}) IoFault = Err g in r) is')),
+                room_found receives s.part.link link rc (Err end.fault) made finds,
                 subst (λ (c : Result (Unit {0}) IoFault). MatchResult c (λ _. Reads sends (server a) receives q.turns_left (record { core = core_of s.part; link = link }) [] out last)
                     (λ f. (reads_none ≡ []) × (out ≡ stops (Some f) (lacked_memory (Err f)) q.turns_left)
                     × (last ≡ record { core = faulted (core_of s.part) f; link = link }))) made.1 (refl, refl, refl),
@@ -496,34 +497,25 @@ module _ {T U G C : Type 0} (sends : T → Queue → Result ℕ IoFault → T �
   killed_done left same none dead =
       ([], s.part, next_killed (Err (Io fault.Pipe)) false [] s.part none dead (refl, left, refl, refl, refl), same ∙ ap same_as (sym (append-nil s.made)))
 
-abbrev pub failed_with : IoFault → Result (Unit {0}) IoFault
-failed_with f = Err f
-
-pub failed_same : (f : IoFault) → failed_with f ≡ failed_with fault.OutOfMemory → f ≡ fault.OutOfMemory
-failed_same f is = cc
-
-pub ok_other : (u : Unit {0}) → ◌≢◌ {A = Result (Unit {0}) IoFault} (Ok u) (Err fault.OutOfMemory)
-ok_other u is = cc
-
 -- a fault after which more may come
 pub fault_stays : {T U C : Type 0} (receives : T → ℕ → Result Queue IoFault → T → Type 0) (s : Stored T U C) (link : LinkState T) (f : IoFault)
-    → faulted (core_of s.part) f ≡ core_of s.part → Filled receives s.part.link (Err f) link → (failed_with f ≢ failed_with fault.OutOfMemory → FindsRoom s.part.link link.room)
+    → faulted (core_of s.part) f ≡ core_of s.part → Filled receives s.part.link (Err f) link → FindsRoom s.part.link (grown_room s.part.link)
     → Fills receives s (Some (record { fault = f; refused = lacked_memory (Err f) })) (linked s link)
 fault_stays receives s link f same filled finds = (
   link,
   filled,
-  λ other. finds (λ is. other (failed_same f is)),
+  finds,
   refl,
   stored_live s (record s.part { link = link }) ∙ ap (λ (c : Core _ _). stored_as s (record { core = c; link = link })) (sym same),
 )
 
 -- a fault that kills
 pub fault_fills : {T U C : Type 0} (receives : T → ℕ → Result Queue IoFault → T → Type 0) (s after : Stored T U C) (link : LinkState T) (f : IoFault)
-    → f ≢ fault.WouldBlock → f ≢ fault.OutOfMemory → Filled receives s.part.link (Err f) link → (failed_with f ≢ failed_with fault.OutOfMemory → FindsRoom s.part.link link.room)
+    → f ≢ fault.WouldBlock → f ≢ fault.OutOfMemory → Filled receives s.part.link (Err f) link → FindsRoom s.part.link (grown_room s.part.link)
     → Does (linked s link) (λ p did q. Kills p ConnectionClosed did q) after
     → Fills receives s (Some (record { fault = f; refused = false })) after
 fault_fills receives s after link f blocks memory filled finds kills =
-    (link, filled, λ other. finds (λ is. memory (failed_same f is)), sym (lacks_none f memory), kills_is (linked s link) after ConnectionClosed kills ∙ closes f blocks memory)
+    (link, filled, finds, sym (lacks_none f memory), kills_is (linked s link) after ConnectionClosed kills ∙ closes f blocks memory)
   where
     lacks_none : (f : IoFault) → f ≢ fault.OutOfMemory → lacked_memory (Err f) ≡ false
     lacks_none fault.WouldBlock memory = refl

@@ -22,7 +22,7 @@ use Rattle.wl_server.specs.Events.{SendsEvent, SessionMessage, session_content}
 use Rattle.wl_server.specs.Globals.{Offer, global_of, is_enabled}
 use Rattle.wl_server.specs.Ids.{ClientParts, GlobalParts, same_client}
 use Rattle.wl_server.specs.Moves.{Accept, AcceptFault, Arrive, ArriveFault, Moved, TakeSent, done, taken}
-use Rattle.wl_server.specs.NumberLaws.{fresh_one}
+use Rattle.wl_link.specs.NumberLaws.{fresh_one}
 use Rattle.wl_server.specs.Outcome.{ArrivesSame, IsDetermined, SameAnswer, SameCall, SameOutcome, SameReply, SameStep, SendsSame, SharedAnswer, SharedSame}
 use Rattle.wl_server.specs.Part.{Part, fresh_part}
 use Rattle.wl_server.specs.PartOutcome.{SameEnd, SameFelt, changes_one, cleaned_one, creates_one, destroys_one, finishes_bind_one, finishes_request_one, flushed_one, flushes_live_one, hears_one, kills_one, limits_one, moves_one, next_action_one, posts_error_one, same_felt, sends_event_one, sets_one}

@@ -39,7 +39,7 @@ use Rattle.wl_server.specs.Felt.{Cleaned, FlushedTo, FlushesLive, Hears, objects
 use Rattle.wl_server.specs.Finish.{EndsRequest, FinishesBind, FinishesOpen, FinishesOpenBind, FinishesRequest, ends_request, refusal}
 use Rattle.wl_server.specs.Ids.{ClientParts, IdParts}
 use Rattle.wl_server.specs.Moves.{Move, Moved}
-use Rattle.wl_server.specs.NumberLaws.{full_not_absent, least_absent_one, limit_set_one}
+use Rattle.wl_link.specs.NumberLaws.{full_not_absent, least_absent_one, limit_set_one}
 use Rattle.wl_server.specs.Objects.{Creates, CreatesAt, DataSet, Destroys, destroyable, destroys, new_object}
 use Rattle.wl_server.specs.Outcome.{IsMoveFunction}
 use Rattle.wl_server.specs.Part.{Part, last_possible_serial, named, with_link}

@@ -5,9 +5,8 @@
 --
 -- It follows from what a reading is, and asks no more of a call than the step does. It stands on the calls by itself so that
 -- who reads them sees, without the definition of a reading, that no full storage kills a client within its limit.
-use Rattle.std.specs.Prelude.{◌≡◌, ◌≢◌, List, [], Some, Result, Ok, Err}
+use Rattle.std.specs.Prelude.{◌≡◌, List, [], Some, Result, Ok, Err}
 use Rattle.wl_wire.specs.declared.error.IoFault.{IoFault}
-use Rattle.wl_wire.specs.declared.error.IoFault.TheVariants as fault
 use Rattle.wl_link.specs.Exchange.{Queue}
 use Rattle.wl_link.specs.Link.{FindsRoom, LinkState}
 use Rattle.wl_server.specs.BaseMoves.{IsAmong, came_in}
@@ -18,10 +17,10 @@ use Rattle.wl_server.specs.PartStep.{Call, World}
 use Rattle.wl_server.specs.Server.{ServerState, seen}
 use Rattle.wl_server.specs.Steps.{Entry, OneStep}
 
--- it brought no byte, though memory was there for it
+-- it brought no byte
 abbrev pub BringsNone : Result Queue IoFault → Type 0
 BringsNone (Ok came) = came.bytes ≡ []
-BringsNone (Err f) = f ≢ fault.OutOfMemory
+BringsNone (Err f) = Unit {0}
 
 module _ {T U : Type 0} where
   -- Where a receive brought no byte, one is free for what the message at the front lacks, unless this is longer than the

@@ -36,17 +36,12 @@ use Rattle.wl_server.specs.Telling.{Core, Told, deeds_in, deeds_of, end_deeds, r
 not_done : (f : IoFault) → ◌≡◌ {A = Result (Unit {0}) IoFault} (Err f) (Ok tt) → ⊥
 not_done f is = true≢false (sym (ap is_ok is))
 
-fault_alike : (f g : IoFault) → ◌≡◌ {A = Result (Unit {0}) IoFault} (Err f) (Err g) → f ≡ g
-fault_alike f g is = cc
-
--- one that brought no byte ended the reading, and not for want of memory
-none_fails : (r : Result Queue IoFault) → BringsNone r → (counted_answer (count_of r) ≢ Ok tt) × (counted_answer (count_of r) ≢ Err fault.OutOfMemory)
-none_fails (Ok came) none =
-    let fails : counted_answer (count_of (Ok came)) ≡ Err fault.Pipe = ap (λ (bytes : List ℕ). counted_answer (Ok (length bytes))) none in (
-      λ is. not_done fault.Pipe (sym fails ∙ is),
-      λ is. let e : fault.Pipe ≡ fault.OutOfMemory = fault_alike fault.Pipe fault.OutOfMemory (sym fails ∙ is) in cc,
-    )
-none_fails (Err f) none = (not_done f, λ is. none (fault_alike f fault.OutOfMemory is))
+-- one that brought no byte ended the reading
+none_fails : (r : Result Queue IoFault) → BringsNone r → counted_answer (count_of r) ≢ Ok tt
+none_fails (Ok came) none is =
+    let fails : counted_answer (count_of (Ok came)) ≡ Err fault.Pipe = ap (λ (bytes : List ℕ). counted_answer (Ok (length bytes))) none in
+    not_done fault.Pipe (sym fails ∙ is)
+none_fails (Err f) none is = not_done f is
 
 nothing_came : {T U : Type 0} (did : List (Deed U)) (link : LinkState T) → did ≡ [] → LeavesRoom did link
 nothing_came {U = U} did link none r among = absurd (subst (λ (ds : List (Deed U)). IsAmong (came_in ds) r) none among)
@@ -143,11 +138,11 @@ module _ {T U G C : Type 0} (sends : T → Queue → Result ℕ IoFault → T �
           (λ f. (turns ≡ []) × (out ≡ stops (Some f) (lacked_memory (Err f)) n) × (after ≡ record { core = faulted p.core f; link = link }))
           → (s ≡ r) ⊎ IsAmong (received U turns) r
           → (Reads sends (server a) receives n (with_link p link) turns out after → IsAmong (received U turns) r → Leaves after.link) → Leaves after.link
-      go (Ok u) was more (inl same) goes = absurd ((none_fails s (subst BringsNone (sym same) none)).0 was)
+      go (Ok u) was more (inl same) goes = absurd (none_fails s (subst BringsNone (sym same) none) was)
       go (Ok u) was more (inr later) goes = goes more later
       go (Err f) was (over, ends, same) (inl this) goes =
           subst (λ (x : ReaderPart T (Core U C)). Leaves x.link) (sym same)
-          (failed_finds receives p.link link s f was filled (finds (none_fails s (subst BringsNone (sym this) none)).1))
+          (failed_finds receives p.link link s f was filled finds)
       go (Err f) was (over, ends, same) (inr later) goes = absurd (subst (λ (ts : List Turn). IsAmong (received U ts) r) over later)
   leaves_room left p after (Handled es ∷ turns) out (on, (v, link, first, lacked, mid, rest, found, by, split, more)) r among none =
       leaves_room left mid after turns rest more r (subst (λ (rs : List (Result Queue IoFault)). IsAmong rs r) (none_sent {U = U} es (exchanges_in turns)) among) none

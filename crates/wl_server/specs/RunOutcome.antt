@@ -5,7 +5,7 @@ use Rattle.wl_link.specs.Link.{LinkState, IsFresh}
 use Rattle.wl_server.specs.Globals.{Offer, new_offer}
 use Rattle.wl_server.specs.Ids.{ClientParts}
 use Rattle.wl_server.specs.IsolationLaw.{each_alone, offer_over_one, offer_run, split_run}
-use Rattle.wl_server.specs.NumberLaws.{fresh_one}
+use Rattle.wl_link.specs.NumberLaws.{fresh_one}
 use Rattle.wl_server.specs.OfferLaws.{answered_call, mine_numbered, mine_own, shared_call}
 use Rattle.wl_server.specs.Outcome.{AreNumbered, AreOwn, ClientsHaveOneOutcome, HasMemory, InsertsAs, IsDetermined, SameRun, SameSteps}
 use Rattle.wl_server.specs.OutcomeLaws.{call_one}

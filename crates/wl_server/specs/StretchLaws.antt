@@ -1,7 +1,7 @@
 -- That what a stretch of a client's own run gives is what is served of all that arrived.
 --
 -- Its entries are acts of the client as a reader: those that are refused change nothing, and are none.
-use Rattle.std.proofs.Common.{◌≡◌, ◌≢◌, ◌⊎◌, ◌<◌, ℕ, Bool, true, false, List, [], ◌∷◌, ◌++◌, append_assoc, append-nil, length, Option, None, Some, is_none, Result, Ok, Err, is_ok, map, refl, sym, ap, ap₂, subst, ◌∙◌, true≢false}
+use Rattle.std.proofs.Common.{◌≡◌, ◌≢◌, ◌⊎◌, ℕ, Bool, true, false, List, [], ◌∷◌, ◌++◌, append_assoc, append-nil, Option, None, Some, is_none, Result, Ok, Err, is_ok, map, refl, sym, ap, ap₂, subst, ◌∙◌, true≢false}
 use mathlib.Core.Logic.{inl, inr}
 use Rattle.std.proofs.lemmas.Option.{same_Some}
 use Rattle.std.specs.Prelude.{MatchBool, if◌then◌else◌, option_map}
@@ -22,7 +22,7 @@ use Rattle.wl_link.specs.Runs.{Entry as RunEntry}
 use Rattle.wl_link.specs.Script.{Script, ScriptReceives, ScriptSends}
 use Rattle.wl_link.specs.Served.{Served, part_as}
 use Rattle.wl_link.specs.Store.{Store, held}
-use Rattle.wl_link.specs.Stretch.{Act, AllPieces, Arrived, DoesAll, EndsByPipe, EndsWaiting as ActsEndWaiting, HasEnded, HasRead, IsStretch as IsActStretch, MayCome, NotFull, arrivals_of, arrived as act_arrived, ended as act_ended, given_in, left_over, sending_side, with_arrival}
+use Rattle.wl_link.specs.Stretch.{Act, AllPieces, Arrived, DoesAll, EndsByPipe, EndsWaiting as ActsEndWaiting, HasByteFree, HasEnded, HasRead, IsStretch as IsActStretch, MayCome, NotFull, arrivals_of, arrived as act_arrived, ended as act_ended, given_in, left_over, sending_side, with_arrival}
 use Rattle.wl_link.specs.StretchLaws.{acts_pieces, arrived-append, cut_otherwise as acts_cut_otherwise, does_joins, ended-append, ends_waiting-append, given_in-append, roomy_before, stretch_served as acts_served}
 use Rattle.wl_server.specs.declared.action.OpenAction.TheVariants as opened
 use Rattle.wl_server.specs.declared.action.Reading.{Reading}
@@ -495,21 +495,18 @@ module _ {G C : Type 0} (views : G → ClientParts → C → GlobalParts → Boo
     LacksAt link store = RefusedAt link parse.MissingData store ⊎ RefusedAt link parse.MissingFD store
 
     not_full : (p : Part Script U C) (run : List (Own Script U G C)) (end : ReaderPart Script (Core U C)) → IsStretch a p run (part_of end) → NotFull (server a) end
-    not_full p run end stretch core is lacks =
+    not_full p run end stretch core (is, lacks) =
         let store : end.core.store ≡ core.store = ap (λ (c : Core U C). c.store) is in
         free store (stretch.roomy (ap (λ (c : Core U C). c.is_killed) is) (subst (LacksAt end.link) (sym store) lacks))
       where
-        free : end.core.store ≡ core.store → (length end.link.incoming.bytes < end.link.room) ⊎ MayCome (server a) (core_of (part_of end)) end.link
-            → (length end.link.incoming.bytes < end.link.room) ⊎ MayCome (server a) core end.link
+        free : end.core.store ≡ core.store → HasByteFree end.link ⊎ MayCome (server a) (core_of (part_of end)) end.link → HasByteFree end.link ⊎ MayCome (server a) core end.link
         free store (inl some) = inl some
         free store (inr (fits, in_time)) = inr (fits, λ late. in_time (subst (RefusedAt end.link parse.MissingFD) (sym store) late))
 
     act_stretch : (p : Part Script U C) (run : List (Own Script U G C)) (after : Seen Script U C) (r : RunActs (reader_part p) run after) → IsStretch a p run (part_of r.end)
         → IsActStretch (server a) (reader_part p) r.acts r.end
     act_stretch p run after r stretch = record {
-      does = r.does;
-      pieces = stretch.pieces;
-      ends = ends stretch.ends;
+      spans = record { does = r.does; pieces = stretch.spans.pieces; ends = ends stretch.spans.ends };
       roomy = not_full p run r.end stretch;
     }
       where
@@ -537,12 +534,12 @@ module _ {G C : Type 0} (views : G → ClientParts → C → GlobalParts → Boo
             served = subst (λ (us : List (Finish U)). Served ScriptSends (server a) (reader_part p) (joined (left_in p) (arrived run)) side us (given_in r.acts) end) r.ended_with bytes;
             leads = refl;
             deeds = r.deeds;
-            answers = r.answers stretch.pieces (not_full p run r.end stretch);
+            answers = r.answers stretch.spans.pieces (not_full p run r.end stretch);
           }
 
       pub stretch_served : (q : Part Script U C) (run : List (Own Script U G C)) → after.part ≡ Some q → Alone w id offer before run after → IsStretch a p run q → IsServed a p run q
       stretch_served q run ends leads stretch =
-          let r = acts_of run after leads stretch.heard stretch.live in
+          let r = acts_of run after leads stretch.spans.heard stretch.spans.live in
           let is = part_is after q r.end ends r.there in
           subst (IsServed a p run) (sym is) (served_at run r (subst (IsStretch a p run) is stretch))
 
@@ -551,16 +548,13 @@ module _ {G C : Type 0} (views : G → ClientParts → C → GlobalParts → Boo
       within_at run r stretch =
           let within = subst (λ (q : Queue). EachWithin (incoming_limit p.link.limit) (joined p.link.incoming (joined (left_in p) q)).bytes) (sym r.came_in) stretch.within in
           record {
-            heard = stretch.heard;
-            live = stretch.live;
-            pieces = stretch.pieces;
-            ends = stretch.ends;
+            spans = stretch.spans;
             roomy = λ dead lacks. inr (front_fits (server a) (reader_part p) r.end r.acts r.does within, stretch.in_time dead);
           }
 
       pub within_stretch : (q : Part Script U C) (run : List (Own Script U G C)) → after.part ≡ Some q → Alone w id offer before run after → IsStretchWithin a p run q → IsStretch a p run q
       within_stretch q run ends leads stretch =
-          let r = acts_of run after leads stretch.heard stretch.live in
+          let r = acts_of run after leads stretch.spans.heard stretch.spans.live in
           let is = part_is after q r.end ends r.there in
           subst (IsStretch a p run) (sym is) (within_at run r (subst (IsStretchWithin a p run) is stretch))
 
@@ -576,7 +570,7 @@ module _ {G C : Type 0} (views : G → ClientParts → C → GlobalParts → Boo
           (x.came_in ∙ came ∙ sym y.came_in) (x.ended_with ∙ ended ∙ sym y.ended_with) in
           let end : x.end.core.ended ≡ y.end.core.ended = ap (λ (z : ReaderPart Script (Core U C)). z.core.ended) same.1 in (
             x.deeds ∙ ap₂ (λ (g : List (Given (Told U))) (o : Option DisconnectReason). deeds_in g ++ end_deeds o) same.0 end ∙ sym y.deeds,
-            x.answers stretch.pieces (not_full p run x.end stretch) ∙ ap answers_in same.0 ∙ sym (y.answers stretch'.pieces (not_full p others y.end stretch')),
+            x.answers stretch.spans.pieces (not_full p run x.end stretch) ∙ ap answers_in same.0 ∙ sym (y.answers stretch'.spans.pieces (not_full p others y.end stretch')),
             ap (λ (z : ReaderPart Script (Core U C)). let f : ReaderPart Script (Core U C) = record { core = record z.core { ended = None }; link = z.link } in f) same.1,
           )
 
@@ -584,8 +578,8 @@ module _ {G C : Type 0} (views : G → ClientParts → C → GlobalParts → Boo
           → Alone w id offer before run after → Alone w id offer before others other → IsStretch a p run q → IsStretch a p others r
           → arrived run ≡ arrived others → finished run ≡ finished others → SameCut run others q r
       cut_otherwise other q r run others ends ends' leads leads' stretch stretch' came ended =
-          let x = acts_of run after leads stretch.heard stretch.live in
-          let y = acts_of others other leads' stretch'.heard stretch'.live in
+          let x = acts_of run after leads stretch.spans.heard stretch.spans.live in
+          let y = acts_of others other leads' stretch'.spans.heard stretch'.spans.live in
           let is = part_is after q x.end ends x.there in
           let is' = part_is other r y.end ends' y.there in
           subst (λ (z : Part Script U C). SameCut run others z r) (sym is) (subst (λ (z : Part Script U C). SameCut run others (part_of x.end) z) (sym is')

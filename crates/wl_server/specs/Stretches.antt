@@ -1,17 +1,16 @@
 -- A stretch of a client's own run over the transport by script in which bytes arrive, and actions are read and finished.
-use Rattle.std.specs.Prelude.{◌≡◌, ◌≢◌, ◌⊎◌, ◌<◌, ◌≤◌, List, [], ◌∷◌, ◌++◌, Bool, true, false, if◌then◌else◌, Option, None, Some, Result, Ok, Err, length}
+use Rattle.std.specs.Prelude.{◌≡◌, ◌≢◌, ◌⊎◌, ◌≤◌, List, [], ◌∷◌, ◌++◌, Bool, true, false, if◌then◌else◌, Option, None, Some, Result, Ok, Err}
 use Rattle.wl_wire.specs.declared.error.IoFault.{IoFault}
 use Rattle.wl_wire.specs.declared.error.IoFault.TheVariants as fault
-use Rattle.wl_wire.specs.declared.error.MessageParseError.TheVariants as parse
 use Rattle.wl_link.specs.Exchange.{Queue, joined, nothing}
 use Rattle.wl_link.specs.Link.{EachWithin, incoming_limit}
 use Rattle.wl_link.specs.Parts.{EachPart}
-use Rattle.wl_link.specs.Reader.{Given, HandedOut, Lacks, ReadsAs}
+use Rattle.wl_link.specs.Reader.{Given, HandedOut, Lacks}
 use Rattle.wl_link.specs.Reader.{Part as ReaderPart}
 use Rattle.wl_link.specs.Runs.{Entry as RunEntry}
 use Rattle.wl_link.specs.Script.{Script, ScriptSends}
 use Rattle.wl_link.specs.Served.{Served, part_as}
-use Rattle.wl_link.specs.Stretch.{AllPieces, MayCome, arrivals_of, left_over, sending_side}
+use Rattle.wl_link.specs.Stretch.{AllPieces, HasByteFree, LacksTokens, MayCome, arrivals_of, left_over, sending_side}
 use Rattle.wl_server.specs.declared.error.ActionError.{ActionError}
 use Rattle.wl_server.specs.declared.error.ActionError.TheVariants.{ActionOpen, Io}
 use Rattle.wl_server.specs.declared.note.Happening.TheVariants.{Disconnected}
@@ -125,27 +124,27 @@ module _ {U C : Type 0} where
   left_in p = left_over (arrivals_in p)
 
 module _ {U G C : Type 0} (a : Around G C) where
-  -- A stretch begins with a live client, and ends where it was killed, with an open action, or with a reading that would
-  -- block where no arrival is left. No receive found the storage full: where the client was killed while data or tokens
-  -- lacked, a byte is free. So it is also where the rest of the message at the front may come, since then a receive finds
-  -- a byte free.
-  pub record IsStretch (before : Part Script U C) (run : List (Own Script U G C)) (after : Part Script U C) : Type 0 where
+  -- The run spans from the one to the other: it begins with a live client, and ends where it was killed, with an open
+  -- action, or with a reading that would block where no arrival is left.
+  pub record Spans (before : Part Script U C) (run : List (Own Script U G C)) (after : Part Script U C) : Type 0 where
     pub heard : AllHeard a.client run
     pub live : before.is_killed ≡ false
     pub pieces : AllPieces (arrivals_in before)
     pub ends : (reads_on (core_of after) ≡ false) ⊎ (EndsWaiting run × (arrivals_in after ≡ []))
+
+  -- A stretch, in which no receive found the storage full: where the client was killed while data or tokens lacked, a byte
+  -- is free. So it is also where the rest of the message at the front may come, since then a receive finds a byte free.
+  pub record IsStretch (before : Part Script U C) (run : List (Own Script U G C)) (after : Part Script U C) : Type 0 where
+    pub spans : Spans before run after
     pub roomy : after.is_killed ≡ true → Lacks ScriptSends (server a) (reader_part after)
-        → (length after.link.incoming.bytes < after.link.room) ⊎ MayCome (server a) (core_of after) after.link
+        → HasByteFree after.link ⊎ MayCome (server a) (core_of after) after.link
 
   -- A stretch of messages each of which is no longer than the incoming storage may become, and whose tokens come no later
   -- than its last byte: where the client was killed, none waits whole for tokens.
   pub record IsStretchWithin (before : Part Script U C) (run : List (Own Script U G C)) (after : Part Script U C) : Type 0 where
-    pub heard : AllHeard a.client run
-    pub live : before.is_killed ≡ false
-    pub pieces : AllPieces (arrivals_in before)
-    pub ends : (reads_on (core_of after) ≡ false) ⊎ (EndsWaiting run × (arrivals_in after ≡ []))
+    pub spans : Spans before run after
     pub within : EachWithin (incoming_limit before.link.limit) (joined before.link.incoming (joined (left_in before) (arrived run))).bytes
-    pub in_time : after.is_killed ≡ true → ReadsAs ScriptSends (server a) (reader_part after) (Err parse.MissingFD) after.link → ⊥
+    pub in_time : after.is_killed ≡ true → LacksTokens (server a) (core_of after) after.link → ⊥
 
   -- What it gave, and what it came to, is what is served of all that arrived, with the finishes that were accepted, over the
   -- script's answers to the sends: by that it is determined what was put and done and noted, what was answered, and how

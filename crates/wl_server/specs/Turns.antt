@@ -1,10 +1,9 @@
 -- What the functions of a reading say to each other.
-use Rattle.std.specs.Prelude.{◌≡◌, ◌≢◌, ◌⊎◌, ◌<◌, ◌≤◌, ◌+◌, ℕ, min, length, List, [], ◌++◌, Bool, true, false, Option, None, Some, option_map, Result, Ok, Err}
+use Rattle.std.specs.Prelude.{◌≡◌, ◌⊎◌, ◌<◌, ◌≤◌, ◌+◌, ℕ, min, length, List, [], ◌++◌, Bool, true, false, Option, None, Some, option_map, Result, Ok, Err}
 use Rattle.std.specs.Borrow.{Bor}
 use Rattle.wl_wire.specs.declared.argument.Argument.{Argument}
 use Rattle.wl_wire.specs.declared.argument.Token.{Token}
 use Rattle.wl_wire.specs.declared.error.IoFault.{IoFault}
-use Rattle.wl_wire.specs.declared.error.IoFault.TheVariants as fault
 use Rattle.wl_wire.specs.declared.error.MessageParseError.{MessageParseError}
 use Rattle.wl_wire.specs.declared.error.MessageParseError.TheVariants as parse
 use Rattle.wl_wire.specs.declared.interface.MessageDesc.{MessageDesc}
@@ -12,7 +11,7 @@ use Rattle.wl_wire.specs.Message.{WireMessage}
 use Rattle.wl_wire.specs.Parse.{IsThere, opcode_of, sender_of}
 use Rattle.wl_wire.specs.Table.{InterfaceRow, MessageRow, message_row}
 use Rattle.wl_link.specs.Exchange.{Queue, Sending}
-use Rattle.wl_link.specs.Link.{Filled, FindsRoom, LinkState, ReadOne}
+use Rattle.wl_link.specs.Link.{Filled, FindsRoom, LinkState, ReadOne, grown_room}
 use Rattle.wl_link.specs.Puts.{lacked_memory}
 use Rattle.wl_link.specs.Reader.{CarriesOut, Given, Gives, Lacks, Reads, Turn, Verdict, behind, handled_in}
 use Rattle.wl_link.specs.Reader.{Part as ReaderPart}
@@ -205,9 +204,9 @@ module _ {T U C : Type 0} (receives : T → ℕ → Result Queue IoFault → T �
   -- a receive was made, or there was no memory for it; and why it ends the reading, if it does
   abbrev pub Fills : Stored T U C → Option NoAction → Stored T U C → Type 0
   Fills before None after =
-      Filled receives before.part.link (Ok tt) after.part.link × FindsRoom before.part.link after.part.link.room
+      Filled receives before.part.link (Ok tt) after.part.link × FindsRoom before.part.link (grown_room before.part.link)
       × (after ≡ linked before after.part.link)
   Fills before (Some end) after =
       (link : LinkState T) × Filled receives before.part.link (Err end.fault) link
-      × (end.fault ≢ fault.OutOfMemory → FindsRoom before.part.link link.room) × (end.refused ≡ lacked_memory (Err end.fault))
+      × FindsRoom before.part.link (grown_room before.part.link) × (end.refused ≡ lacked_memory (Err end.fault))
       × (after ≡ stored_as before (record { core = faulted (core_of before.part) end.fault; link = link }))

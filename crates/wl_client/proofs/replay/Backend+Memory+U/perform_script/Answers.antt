@@ -6,11 +6,12 @@ returns-in-ArriveFault g c =
     rw c.in-ArriveFault.is (c.arrive_fault.result, refl, c.arrive_fault.ensures.refused, c.arrive_fault.ensures.scripted)
 
 pub returns-in-Accept : goal.returns-in-Accept
-returns-in-Accept g c = rw c.in-Accept.is (c.accept.result, refl, c.accept.ensures.refused, c.accept.ensures.scripted)
+returns-in-Accept g c = rw c.in-Accept.is (c.script_answer.result, refl, c.script_answer.ensures.refused, c.script_answer.ensures.scripted)
 
 pub returns-in-AcceptFault : goal.returns-in-AcceptFault
 returns-in-AcceptFault g c =
-    rw c.in-AcceptFault.is (c.accept_fault.result, refl, c.accept_fault.ensures.refused, c.accept_fault.ensures.scripted)
+    rw c.in-AcceptFault.is
+    (c.script_answer-in-AcceptFault.result, refl, c.script_answer-in-AcceptFault.ensures.refused, c.script_answer-in-AcceptFault.ensures.scripted)
 
 pub returns-in-TakeSent : goal.returns-in-TakeSent
 returns-in-TakeSent g c =
