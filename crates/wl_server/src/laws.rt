@@ -3,11 +3,7 @@
 //! A clause whose name begins with `script` says of steps with their replies, over the transport by script, what the others
 //! of its function say of calls over every transport.
 
-<<<<<<< HEAD
-ghost use Rattle.std.specs.Prelude.{◌≡◌, ◌≢◌, ◌∷◌, ℕ, Bool, false, List, Option, Some, Result, Err};
-=======
 ghost use Rattle.std.specs.Prelude.{◌≡◌, ◌≢◌, ◌<◌, ◌∷◌, ℕ, Bool, false, List, Option, Some, Result, Err};
->>>>>>> 6a96b522e8c78d173120bab89cd70229b756cde5
 ghost use Rattle.wl_wire.specs.Table.{InterfaceRow};
 ghost use Rattle.wl_wire.specs.declared.interface.InterfaceId.{InterfaceId};
 ghost use Rattle.wl_link.specs.Exchange.{Queue, Sending, nothing};
