@@ -72,7 +72,10 @@ impl<T: Drop, U: Drop, G: Drop, C: Drop> Backend<T, U, G, C> {
             last_client: 0,
             clients: Vec::new(alloc),
             notes: Vec::new(alloc),
-            numbers: NoteNumbers::new(),
+            numbers: NoteNumbers {
+                waiting: 0,
+                made: 0,
+            },
             refused: false,
         }
     }
