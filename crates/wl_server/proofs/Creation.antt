@@ -1,5 +1,5 @@
 -- How an insertion, or why there is none, is a creation.
-use Rattle.std.proofs.Common.{◌≡◌, ℕ, ◌+◌, ◌<◌, Bool, true, false, List, [], Option, None, Some, is_some, Result, Ok, Err, MatchOption, MatchBool, refl, ap, subst, ◌∙◌, inl, inr, true≢false, arith}
+use Rattle.std.proofs.Common.{◌≡◌, ℕ, ◌+◌, ◌<◌, Bool, true, false, List, [], Option, None, Some, is_some, Result, Ok, Err, MatchOption, MatchBool, Bor, not, option_copied, option_map, refl, ap, subst, ◌∙◌, inl, inr, true≢false, arith}
 use Rattle.std.specs.Prelude.{◌==◌, slice_get}
 use Rattle.std.proofs.lemmas.Bool.{eqb-true, eq-eqb, false≢true}
 use Rattle.wl_wire.specs.declared.interface.InterfaceId.{InterfaceId}
@@ -28,6 +28,12 @@ known (Some a) X Y is y = y
 unknown : {A : Type 0} (o : Option A) (X Y : Type 0) → is_some o ≡ false → X → MatchOption o X (λ _. Y)
 unknown None X Y is x = x
 unknown (Some a) X Y is x = absurd (true≢false is)
+
+-- a row of the table is found where the interface is
+pub row_found : {A B : Type 0} (f : A → B) (found : Option (Bor A)) (row : Option B) (none : Bool) → option_map f (option_copied found) ≡ row → is_some found ≡ not none
+    → is_some row ≡ not none
+row_found f None row none is some = rw (← is) some
+row_found f (Some x) row none is some = rw (← is) some
 
 with_serial : (b : Bool) (X Y : Type 0) → b ≡ false → Y → MatchBool b X Y
 with_serial true X Y is y = absurd (true≢false is)

@@ -1,5 +1,6 @@
 -- Killed clients leave, slot by slot.
 use Rattle.std.proofs.Common.{◌≡◌, ◌≢◌, ℕ, zero, suc, ◌+◌, ◌<◌, ◌≤◌, Bool, true, false, List, [], ◌∷◌, ◌++◌, length, map, min, drop, Option, None, Some, is_some, Result, refl, sym, ap, subst, ◌∙◌, arith, append_assoc, append-nil}
+use mathlib.Core.Bool.{beq}
 use Rattle.std.specs.FinMap.{entries}
 use Rattle.std.specs.Prelude.{MatchBool, ◌==◌, if◌then◌else◌, slice_get, slice_set}
 use Rattle.std.proofs.lemmas.Bool.{eqb-true, false≢true}
@@ -15,9 +16,10 @@ use Rattle.wl_server.specs.declared.note.Note.{Note}
 use Rattle.wl_server.specs.Client.{Does}
 use Rattle.wl_server.specs.Felt.{FlushedTo}
 use Rattle.wl_server.specs.Ids.{ClientParts}
-use Rattle.wl_server.specs.Leaving.{FlushesKilled, all_staying, collected, ending, ends_at, ends_of, given_at, id_in, staying}
+use Rattle.wl_server.specs.Leaving.{Flushes, FlushesKilled, all_staying, collected, ending, ends_at, ends_of, given_at, id_in, staying}
 use Rattle.wl_server.specs.Part.{end_note, id_at}
 use Rattle.wl_server.specs.Server.{Stored, note_of}
+use Rattle.wl_server.proofs.Flushing.{killed_stays, live_flushed}
 use Rattle.wl_server.proofs.Gathering.{map_set}
 use Rattle.wl_server.proofs.Slots.{get_set_other, get_set_same, other_of}
 
@@ -32,6 +34,26 @@ if_true false A B is a = absurd (false≢true is)
 pub if_false : (b : Bool) (A B : Type 0) → b ≡ false → B → MatchBool b A B
 if_false true A B is a = absurd (false≢true (sym is))
 if_false false A B is a = a
+
+not_true : (b : Bool) → (b ≡ true → ⊥) → b ≡ false
+not_true true other = absurd (other refl)
+not_true false other = refl
+
+not_false : (b : Bool) → (b ≡ false → ⊥) → b ≡ true
+not_false true other = refl
+not_false false other = absurd (other refl)
+
+pub same_killed : (a b : Bool) → beq a b ≡ true → a ≡ b
+same_killed true true is = refl
+same_killed true false is = absurd (false≢true is)
+same_killed false true is = absurd (false≢true is)
+same_killed false false is = refl
+
+pub other_killed : (a b : Bool) → beq a b ≡ false → a ≡ b → ⊥
+other_killed true true other is = false≢true (sym other)
+other_killed true false other is = false≢true (sym is)
+other_killed false true other is = false≢true is
+other_killed false false other is = false≢true (sym other)
 
 module _ {U : Type 0} where
   pub ending_length : (client : ClientParts) (objects : List (ℕ × Object (Kept U))) → length (ends_of client objects) ≡ length (ending objects)
@@ -58,6 +80,17 @@ module _ {T U C : Type 0} where
     if_false s.part.is_killed _ _ live (refl, refl, refl),
     ap (λ (m : List (Happening U)). let x : Stored T U C = record { serial = s.serial; part = s.part; made = m } in x) (sym (append-nil s.made)),
   )
+
+  pub flushes_where : (sends : T → Queue → Result ℕ IoFault → T → Type 0) (killed : Bool) (s s' : Stored T U C) (answer : Result (Unit {0}) IoFault) (lacked : Bool)
+      → s.part.is_killed ≡ killed → lacked ≡ lacked_memory answer → Does s (λ p did q. FlushedTo sends p answer (lacked_memory answer) did q) s'
+      → Does s (λ p did q. Flushes sends killed p lacked did q) s'
+  flushes_where sends true s s' answer lacked is refused flushed = flushes_killed sends s s' answer lacked is refused flushed
+  flushes_where sends false s s' answer lacked is refused flushed = live_flushed sends s s' answer lacked is refused flushed
+
+  pub not_flushed : (sends : T → Queue → Result ℕ IoFault → T → Type 0) (killed : Bool) (s : Stored T U C) → (s.part.is_killed ≡ killed → ⊥)
+      → Does s (λ p did q. Flushes sends killed p false did q) s
+  not_flushed sends true s other = not_killed sends s (not_true s.part.is_killed other)
+  not_flushed sends false s other = killed_stays sends s (not_false s.part.is_killed other)
 
   -- ---- what is noted of one client
 

@@ -1,5 +1,5 @@
 -- How killed clients leave a server.
-use Rattle.std.specs.Prelude.{ℕ, ◌+◌, List, [], ◌∷◌, ◌++◌, map, Bool, if◌then◌else◌, Option, None, Some, is_some, Result, MatchBool}
+use Rattle.std.specs.Prelude.{ℕ, ◌+◌, List, [], ◌∷◌, ◌++◌, map, Bool, true, false, if◌then◌else◌, Option, None, Some, is_some, Result, MatchBool}
 use Rattle.std.specs.List.{filter, flat_map}
 use Rattle.std.specs.FinMap as finmap
 use Rattle.wl_wire.specs.declared.error.IoFault.{IoFault}
@@ -9,7 +9,7 @@ use Rattle.wl_server.specs.declared.kept.Kept.{Kept}
 use Rattle.wl_server.specs.declared.note.Happening.{Happening}
 use Rattle.wl_server.specs.declared.note.Note.{Note}
 use Rattle.wl_server.specs.Deeds.{Deed}
-use Rattle.wl_server.specs.Felt.{FlushedTo, Stays}
+use Rattle.wl_server.specs.Felt.{FlushedTo, FlushesLive, Stays}
 use Rattle.wl_server.specs.Ids.{ClientParts}
 use Rattle.wl_server.specs.Part.{Part, note_of_end}
 use Rattle.wl_server.specs.Server.{Stored, note_of}
@@ -63,3 +63,8 @@ module _ {T U C : Type 0} where
 abbrev pub FlushesKilled : {T U C : Type 0} → (T → Queue → Result ℕ IoFault → T → Type 0) → Part T U C → Bool → List (Deed U) → Part T U C → Type 0
 FlushesKilled sends before lacked did after =
     MatchBool before.is_killed ((answer : Result (Unit {0}) IoFault) × FlushedTo sends before answer lacked did after) (Stays before lacked did after)
+
+-- what waits for a client is flushed where it is killed, or where it is live, as is asked for
+abbrev pub Flushes : {T U C : Type 0} → (T → Queue → Result ℕ IoFault → T → Type 0) → Bool → Part T U C → Bool → List (Deed U) → Part T U C → Type 0
+Flushes sends true before lacked did after = FlushesKilled sends before lacked did after
+Flushes sends false before lacked did after = FlushesLive sends before lacked did after

@@ -12,12 +12,6 @@ module _ {T U G C : Type 0} where
   IsOfObject (step.PostError o code text) = Unit {0}
   IsOfObject _ = ⊥
 
-  -- it is about one client
-  abbrev pub IsOfClient : Step T U G C → Type 0
-  IsOfClient (step.KillClient target reason) = Unit {0}
-  IsOfClient (step.SetClientMaxBufferSize target limit) = Unit {0}
-  IsOfClient _ = ⊥
-
   -- it reads of a client, or ends what was read
   abbrev pub IsOfReading : Step T U G C → Type 0
   IsOfReading (step.NextAction target) = Unit {0}
@@ -26,11 +20,13 @@ module _ {T U G C : Type 0} where
   IsOfReading (step.FinishBind target u) = Unit {0}
   IsOfReading _ = ⊥
 
-  -- it is about globals
+  -- it is about globals, or kills or limits a client
   abbrev pub IsOfGlobals : Step T U G C → Type 0
   IsOfGlobals (step.CreateGlobal i version handler) = Unit {0}
   IsOfGlobals (step.DisableGlobal g) = Unit {0}
   IsOfGlobals (step.RemoveGlobal g) = Unit {0}
+  IsOfGlobals (step.KillClient target reason) = Unit {0}
+  IsOfGlobals (step.SetClientMaxBufferSize target limit) = Unit {0}
   IsOfGlobals _ = ⊥
 
   -- it is about all clients, or a new one

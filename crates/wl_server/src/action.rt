@@ -31,7 +31,7 @@ pub enum Action {
 }
 
 /// What the end of an action has to know of it.
-#[derive(Clone, Copy)]
+#[derive(Drop)]
 pub enum OpenAction {
     /// A request.
     Request {
@@ -50,7 +50,7 @@ pub enum OpenAction {
 }
 
 /// How much may still be received of one client, and how many requests were read.
-#[derive(Clone, Copy, PartialEq, Eq)]
+#[derive(Clone, Copy)]
 pub struct Reading {
     /// The receives still allowed.
     pub turns_left: u32,

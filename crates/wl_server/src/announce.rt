@@ -3,28 +3,15 @@
 ghost use Rattle.std.specs.Prelude.{◌≡◌, ◌∷◌, [], IfOk, Some, map};
 ghost use Rattle.wl_wire.specs.declared.argument.Argument.TheVariants as arg;
 ghost use Rattle.wl_wire.specs.Table.{name_of};
-ghost use Rattle.wl_server.specs.Client.{Does};
-ghost use Rattle.wl_server.specs.Felt.{Hears, removals};
-ghost use Rattle.wl_server.specs.News.{HearsNew};
 ghost use Rattle.wl_server.specs.Puts.{Puts};
-ghost use Rattle.wl_server.specs.Telling.{by_object, global_message, removal_message};
+ghost use Rattle.wl_server.specs.Telling.{by_object, global_message};
 
-use crate::client::Client;
-use crate::client_id::ClientId;
-use crate::global_id::GlobalId;
-use crate::handler::GlobalHandler;
-use crate::kept::KeptGlobal;
-use crate::note_numbers::NoteNumbers;
 use crate::protocol_error::c_string;
 use crate::registry::Registry;
-use crate::telling::message_of_number;
 use smallvec::SmallVec;
 use std::alloc::Global;
-use wl_link::{BufferedSocket, Object, Transport};
+use wl_link::{BufferedSocket, Transport};
 use wl_wire::{Argument, CString, InterfaceId, IoFault, Message, OutOfMemory, Protocol, Token};
-
-/// The opcode of `wl_registry.global_remove`.
-const GLOBAL_REMOVE: u16 = 1;
 
 /// The opcode of `wl_registry.global`.
 const GLOBAL: u16 = 0;
@@ -63,7 +50,7 @@ fn message_of_global(
 }
 
 /// Writes the message once for each registry, which is its sender, up to the first that fails.
-fn put_to_each<T: Transport>(
+pub fn put_to_each<T: Transport>(
     socket: &mut BufferedSocket<T>,
     registries: &[Registry],
     message: &mut Message<u32, Token>,
@@ -77,19 +64,6 @@ fn put_to_each<T: Transport>(
         }
     }
     Ok(())
-}
-
-/// Tells each registry that the global of that name is announced no more.
-fn put_removals<T: Transport>(
-    alloc: Global,
-    socket: &mut BufferedSocket<T>,
-    registries: &[Registry],
-    name: u32,
-) -> Result<(), IoFault>
-    ensures { Puts T.sends socket.old (map (removal_message name) registries.now) result socket.new }
-{
-    let mut message = message_of_number(alloc, 0, GLOBAL_REMOVE, name);
-    put_to_each(socket, registries, &mut message)
 }
 
 /// Tells each registry of a global. Its text takes memory once, and none without a registry.
@@ -112,47 +86,4 @@ pub fn put_global_to_each<T: Transport>(
     };
     let mut message = message_of_global(alloc, name, text, version);
     put_to_each(socket, registries, &mut message)
-}
-
-impl<T: Transport + Drop, U: Drop, C: Drop> Client<T, U, C> {
-    /// Tells the registries of a live client of a new global, if the client may see it. The answer is whether memory was
-    /// refused.
-    pub fn hear_new<G: GlobalHandler<C>>(
-        &mut self,
-        numbers: &mut NoteNumbers,
-        protocol: &Protocol,
-        client: &ClientId,
-        id: &GlobalId,
-        global: &Object<KeptGlobal<G>>,
-    ) -> bool
-        ensures { Does self.old (λ p did q. HearsNew T.sends G.views protocol.now id.now global.now client.now p result did q) self.new }
-    {
-        if self.is_killed || !global.value.handler.can_view(client, &self.info, id) {
-            return false;
-        }
-        let alloc = *self.registries.allocator();
-        let answer = put_global_to_each(
-            alloc,
-            &mut self.socket,
-            protocol,
-            &self.registries,
-            id.name(),
-            global.interface,
-            global.version,
-        );
-        self.told(numbers, answer)
-    }
-
-    /// Tells the registries of a live client that the global of that name is announced no more. The answer is whether
-    /// memory was refused.
-    pub fn hear_loss(&mut self, numbers: &mut NoteNumbers, name: u32) -> bool
-        ensures { Does self.old (λ p did q. Hears T.sends p (removals p name) result did q) self.new }
-    {
-        if self.is_killed {
-            return false;
-        }
-        let alloc = *self.registries.allocator();
-        let answer = put_removals(alloc, &mut self.socket, &self.registries, name);
-        self.told(numbers, answer)
-    }
 }

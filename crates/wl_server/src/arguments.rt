@@ -20,7 +20,7 @@ use wl_wire::{
 };
 
 /// How far the arguments of a request were gone through.
-#[derive(Clone, Copy)]
+#[derive(Drop)]
 pub struct Progress<'a> {
     /// The types of the signature that no argument took yet.
     pub kinds: &'a [ArgumentType],

@@ -76,7 +76,10 @@ impl<T: Drop, U: Drop, G: Drop, C: Drop> Backend<T, U, G, C> {
             clients: Vec::new(alloc),
             free_from: 0,
             notes: Vec::new(alloc),
-            numbers: NoteNumbers::new(),
+            numbers: NoteNumbers {
+                waiting: 0,
+                made: 0,
+            },
             refused: false,
         }
     }

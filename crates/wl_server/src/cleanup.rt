@@ -5,50 +5,21 @@ ghost use Rattle.std.specs.Vec.{vec_capacity, vec_len};
 ghost use Rattle.wl_server.specs.Backend.{Calls};
 ghost use Rattle.wl_server.specs.Cleanup.{CleansUp};
 ghost use Rattle.wl_server.specs.Gathering.{count_leaving};
-ghost use Rattle.wl_server.specs.Leaving.{FlushesKilled, all_staying, collected, ends_at, given_at, staying};
+ghost use Rattle.wl_server.specs.Leaving.{all_staying, collected, ends_at, given_at, staying};
 ghost use Rattle.wl_server.specs.PartStep.{over};
-ghost use Rattle.wl_server.specs.Places.{AllFeel, PlaceFeels};
 ghost use Rattle.wl_server.specs.declared.step.Reply.TheVariants as reply;
 ghost use Rattle.wl_server.specs.declared.step.Step.TheVariants as step;
 
 use crate::backend::Backend;
 use crate::client::Client;
 use crate::client_id::ClientId;
+use crate::flush::flush_each;
 use crate::gather::{Turn, count_notes, gather, turns_of};
 use crate::handler::GlobalHandler;
 use crate::leaving::{count_ending, end_objects};
 use crate::note::Note;
-use crate::telling::lacks_memory;
 use wl_link::Transport;
 use wl_wire::OutOfMemory;
-
-/// Sends what waits for the client of a slot, if it was killed. The answer is whether memory was refused.
-fn flush_killed_at<T: Transport + Drop, U: Drop, C: Drop>(
-    client: &mut Option<Client<T, U, C>>,
-) -> bool
-    ensures { (slot : ℕ) → PlaceFeels (λ id p lacked did q. FlushesKilled T.sends p lacked did q) slot client.old result client.new }
-{
-    match client {
-        Some(client) if client.is_killed => {
-            let answer = client.flush();
-            lacks_memory(answer)
-        }
-        _ => false,
-    }
-}
-
-/// Sends what waits for each killed client. The answer is whether memory was refused.
-pub fn flush_killed<T: Transport + Drop, U: Drop, C: Drop>(
-    clients: &mut Vec<Option<Client<T, U, C>>>,
-) -> bool
-    ensures { AllFeel (λ id p lacked did q. FlushesKilled T.sends p lacked did q) result (length clients.old.items) clients.old.items clients.new.items }
-{
-    let mut refused = false;
-    for slot in 0..clients.len() {
-        refused |= flush_killed_at(&mut clients[slot]);
-    }
-    refused
-}
 
 impl<T: Drop, U: Drop, C: Drop> Client<T, U, C> {
     /// Its transport, where all else of it is given up.
@@ -217,7 +188,7 @@ fn clean_up<T: Transport + Drop, U: Drop, C: Drop>(
     requires none { room.old.given.items ≡ [] }
     ensures { CleansUp T.sends clients.old.items notes.old.items result clients.new.items notes.new.items room.new.given.items }
 {
-    let refused = flush_killed(clients);
+    let refused = flush_each(clients, true);
     gather(clients, true, &room.turns, notes);
     leave_all(clients, &mut room.numbers, notes, &mut room.given);
     refused
@@ -236,7 +207,7 @@ impl<T: Transport + Drop, U: Drop, G: GlobalHandler<C> + Drop, C: Drop> Backend<
         match room_for(&self.clients, &mut self.notes) {
             Ok(mut room) => {
                 self.refused = clean_up(&mut self.clients, &mut self.notes, &mut room);
-                self.numbers.end_waiting();
+                self.numbers.waiting = 0;
                 // Any of them may be free now. The next insertion goes over them once more, as this call did.
                 self.free_from = 0;
                 Ok(room.given)

@@ -1,7 +1,7 @@
 //! What a server keeps of one client.
 //!
-//! A client's methods are the calls that are about it, without the look-up of the client: `objects`, `event`, `errors`,
-//! `next_action`, `finish`, `flush`.
+//! A client's methods are what calls do to it, without the look-up of the client: `create`, `destroy`, `send_event`,
+//! `post_error`, `kill`, `next_action`, `finish`, `flush`.
 
 use crate::action::OpenAction;
 use crate::kept::Kept;

@@ -1,8 +1,6 @@
 //! New objects of the server's.
 
-ghost use Rattle.std.specs.Prelude.{◌≡◌, [], is_some, slice_get};
-ghost use Rattle.wl_link.specs.ObjectMap.{NextNew};
-ghost use Rattle.wl_link.specs.Store.{server_range};
+ghost use Rattle.std.specs.Prelude.{◌≡◌, []};
 ghost use Rattle.wl_server.specs.Backend.{Calls};
 ghost use Rattle.wl_server.specs.Client.{Does};
 ghost use Rattle.wl_server.specs.Creation.{LacksSerial};
@@ -25,39 +23,20 @@ use wl_wire::{InterfaceId, Protocol};
 /// How many numbers the server's range has.
 const SERVER_NUMBERS: u32 = 0x0100_0000;
 
-/// The least number of the server's range that holds no object, looked for one by one: it is asked only where no serial is
-/// left, since otherwise an insertion tells it.
-#[cold]
-#[inline(never)]
-fn least_free<U: Drop>(objects: &ObjectMap<Kept<U>>) -> Option<u32>
-    ensures { NextNew server_range objects.now.store result }
-{
-    for place in 0..SERVER_NUMBERS {
-        let number = SERVER_ID_LIMIT + place;
-        if objects.find(number).is_none() {
-            return Some(number);
-        }
-    }
-    None
-}
-
-/// Why no object is created where no serial is left: it may be that no number is left either.
+/// Why no object is created where no serial is left: it may be that no number is left either. The numbers of the server's
+/// range are looked at one by one, only here, since otherwise an insertion tells it.
 #[cold]
 #[inline(never)]
 fn without_serial<U: Drop>(objects: &ObjectMap<Kept<U>>) -> CreateError
     ensures { LacksSerial objects.now.store result }
 {
-    match least_free(objects) {
-        Some(_) => CreateError::SerialsExhausted,
-        None => CreateError::IdsExhausted,
+    for place in 0..SERVER_NUMBERS {
+        let number = SERVER_ID_LIMIT + place;
+        if objects.find(number).is_none() {
+            return CreateError::SerialsExhausted;
+        }
     }
-}
-
-/// Whether the interface is in the table.
-fn is_known(protocol: &Protocol, interface: InterfaceId) -> bool
-    ensures { result ≡ is_some (slice_get protocol.now interface.0) }
-{
-    protocol.get(interface).is_some()
+    CreateError::IdsExhausted
 }
 
 impl<T: Drop, U: Drop, C: Drop> Client<T, U, C> {
@@ -72,7 +51,7 @@ impl<T: Drop, U: Drop, C: Drop> Client<T, U, C> {
     ) -> Result<ObjectId, CreateError>
         ensures { Does self.old (λ p did q. (did ≡ []) × Creates protocol.now id.now p interface version user_data result q) self.new }
     {
-        if !is_known(protocol, interface) {
+        if protocol.get(interface).is_none() {
             return Err(CreateError::UnknownInterface);
         }
         let Some(serial) = self.last_serial.checked_add(1) else {

@@ -10,6 +10,7 @@ ghost use Rattle.wl_server.specs.Places.{AllFeel, PlaceFeels};
 ghost use Rattle.wl_server.specs.declared.step.Reply.TheVariants as reply;
 ghost use Rattle.wl_server.specs.declared.step.Step.TheVariants as step;
 
+use crate::announce::put_global_to_each;
 use crate::backend::Backend;
 use crate::client::Client;
 use crate::client_id::ClientId;
@@ -34,11 +35,24 @@ fn tell_new_at<T: Transport + Drop, U: Drop, G: GlobalHandler<C>, C: Drop>(
     ensures { PlaceFeels (HearsNew T.sends G.views protocol.now id.now global.now) slot client.old result client.new }
 {
     match client {
-        Some(client) => {
+        Some(client) if !client.is_killed => {
             let client_id = ClientId::from_parts(slot, client.serial);
-            client.hear_new(numbers, protocol, &client_id, id, global)
+            if !global.value.handler.can_view(&client_id, &client.info, id) {
+                return false;
+            }
+            let alloc = *client.registries.allocator();
+            let answer = put_global_to_each(
+                alloc,
+                &mut client.socket,
+                protocol,
+                &client.registries,
+                id.name(),
+                global.interface,
+                global.version,
+            );
+            client.told(numbers, answer)
         }
-        None => false,
+        _ => false,
     }
 }
 

@@ -1,13 +1,12 @@
 //! Which events are refused, and the numbers of the ids of those that are sent.
 
-ghost use Rattle.std.specs.Prelude.{◌≡◌, Bool, option_copied, option_map};
+ghost use Rattle.std.specs.Prelude.{◌≡◌, Bool};
 ghost use Rattle.wl_wire.specs.declared.argument.Argument.TheVariants as arg;
 ghost use Rattle.wl_wire.specs.declared.argument.ArgumentType.TheVariants as kind;
 ghost use Rattle.wl_wire.specs.declared.interface.InterfaceId.{InterfaceId};
-ghost use Rattle.wl_wire.specs.Asked.{event_row, left_after, next_interface};
 ghost use Rattle.wl_wire.specs.Table.{message_row};
 ghost use Rattle.wl_link.specs.Refusals.{first_refusal};
-ghost use Rattle.wl_server.specs.EventChecks.{Decides, fault_of, refusals};
+ghost use Rattle.wl_server.specs.EventChecks.{Decides, fault_of};
 ghost use Rattle.wl_server.specs.Events.{argument_fault, argument_faults, event_check, id_fault, session_content};
 ghost use Rattle.wl_server.specs.Part.{named};
 
@@ -19,7 +18,7 @@ use crate::objects::named_in;
 use wl_link::ObjectMap;
 use wl_wire::{
     ANONYMOUS_INTERFACE, AllowNull, Argument, ArgumentType, InterfaceId, Message, MessageDesc,
-    Numbering, Protocol, Token, check_for_signature, same_interface, same_interface_or_anonymous,
+    Numbering, OwnNumbers, Protocol, Token, check_for_signature, same_interface_or_anonymous,
 };
 
 /// The interface of the client's object that the id names, or why the id is refused.
@@ -105,26 +104,6 @@ fn argument_fault<U: Drop>(
     }
 }
 
-/// The interface that the table asks for next: where it names none, the anonymous one, which any object fits.
-fn next_interface(asked: &[InterfaceId]) -> InterfaceId
-    ensures { result ≡ next_interface asked.now }
-{
-    match asked.first() {
-        Some(interface) => *interface,
-        None => ANONYMOUS_INTERFACE,
-    }
-}
-
-/// What the table asks for behind the argument: each object takes one of the interfaces.
-fn left_after<'a>(arg: &Argument<ObjectId, Token>, asked: &'a [InterfaceId]) -> &'a [InterfaceId]
-    ensures { result.now ≡ left_after arg.now asked.now }
-{
-    match (arg, asked) {
-        (Argument::Object(_), [_, rest @ ..]) => rest,
-        _ => asked,
-    }
-}
-
 /// Why the first of the arguments that is refused is, from left to right.
 fn first_fault<U: Drop>(
     client: &ClientId,
@@ -136,45 +115,18 @@ fn first_fault<U: Drop>(
 {
     let mut asked = desc.arg_interfaces.as_slice();
     for (kind, arg) in desc.signature.iter().zip(args) {
-        if let Some(error) = argument_fault(
-            client,
-            objects,
-            desc,
-            *kind,
-            next_interface(asked),
-            arg,
-        ) {
+        let (next, rest) = match asked {
+            [next, rest @ ..] => (*next, rest),
+            [] => (ANONYMOUS_INTERFACE, asked),
+        };
+        if let Some(error) = argument_fault(client, objects, desc, *kind, next, arg) {
             return Some(error);
         }
-        asked = left_after(arg, asked);
+        if let Argument::Object(_) = arg {
+            asked = rest;
+        }
     }
     None
-}
-
-/// Why an event of that description is refused for its arguments.
-fn refusal<U: Drop>(
-    client: &ClientId,
-    objects: &ObjectMap<Kept<U>>,
-    desc: &MessageDesc,
-    message: &Message<ObjectId, Token>,
-) -> Option<EventError>
-    ensures { result ≡ first_refusal (refusals client.now objects.now.store (message_row desc.now) (session_content message.now)) }
-{
-    let args = message.args.as_slice();
-    if !check_for_signature(&desc.signature, args) {
-        return Some(EventError::BadSignature);
-    }
-    first_fault(client, objects, desc, args)
-}
-
-/// The description of the event of that opcode.
-fn event_desc(protocol: &Protocol, interface: InterfaceId, opcode: u16) -> Option<&MessageDesc>
-    ensures { option_map message_row (option_copied result) ≡ event_row protocol.now interface opcode }
-{
-    match protocol.get(interface) {
-        Some(row) => row.events.get(opcode as usize),
-        None => None,
-    }
 }
 
 /// Whether the event ends its sender, or the first reason for which it is refused.
@@ -190,19 +142,23 @@ pub fn check_event<U: Drop>(
     let Some(sender) = named_in(objects, &message.sender_id) else {
         return Err(EventError::InvalidId);
     };
-    let Some(desc) = event_desc(protocol, sender.interface, message.opcode) else {
+    let Some(interface) = protocol.get(sender.interface) else {
         return Err(EventError::UnknownOpcode);
     };
-    match refusal(client, objects, desc, message) {
+    let Some(desc) = interface.events.get(message.opcode as usize) else {
+        return Err(EventError::UnknownOpcode);
+    };
+    let args = message.args.as_slice();
+    if !check_for_signature(&desc.signature, args) {
+        return Err(EventError::BadSignature);
+    }
+    match first_fault(client, objects, desc, args) {
         Some(error) => Err(error),
         None => Ok(desc.is_destructor),
     }
 }
 
 /// The numbers that an event's ids have on the wire: each its own.
-#[derive(Clone, Copy)]
-pub struct OwnNumbers;
-
 impl Numbering<ObjectId> for OwnNumbers {
     ghost object_number = { λ _ id. id.number };
 

@@ -10,7 +10,7 @@ ghost use Rattle.wl_server.specs.Client.{Does};
 ghost use Rattle.wl_server.specs.Cutting.{CallIsCut};
 ghost use Rattle.wl_server.specs.Finish.{ended_by, FinishesBind, FinishesOpen, FinishesRequest, refusal};
 ghost use Rattle.wl_server.specs.Finishing.{EndsSender, lacks_finish, part_closed};
-ghost use Rattle.wl_server.specs.Part.{end_note, note_of_end, registries_without};
+ghost use Rattle.wl_server.specs.Part.{note_of_end, registries_without};
 ghost use Rattle.wl_server.specs.PartStep.{Asked, over};
 ghost use Rattle.wl_server.specs.declared.action.OpenAction.TheVariants as opened;
 ghost use Rattle.wl_server.specs.declared.step.Reply.TheVariants as reply;
@@ -80,22 +80,6 @@ fn reserve_end<U: Drop>(
     Ok(())
 }
 
-/// Notes that this object is gone, where it had user data. There is room for that.
-fn note_made<U: Drop>(
-    made: &mut VecDeque<(u128, Happening<U>)>,
-    numbers: &mut NoteNumbers,
-    id: ObjectId,
-    user_data: Option<U>,
-)
-    requires { IsSome user_data → deque_len made.old + 2 ≤ deque_capacity made.old }
-    ensures items { map (λ m. m.1) made.new.items ≡ map (λ m. m.1) made.old.items ++ end_note id user_data }
-    ensures room { deque_len made.old < deque_capacity made.old → deque_len made.new < deque_capacity made.new }
-{
-    if let Some(user_data) = user_data {
-        made.push_back_reserved((numbers.next_made(), Happening::Destroyed(id, user_data)));
-    }
-}
-
 /// Takes the object of this number out, and notes it if it had user data. There is room for that.
 fn take_out_made<U: Drop>(
     objects: &mut ObjectMap<Kept<U>>,
@@ -116,7 +100,9 @@ fn take_out_made<U: Drop>(
         return;
     };
     let id = id_at(client, number, &object);
-    note_made(made, numbers, id, object.value.user_data);
+    if let Some(user_data) = object.value.user_data {
+        made.push_back_reserved((numbers.next_made(), Happening::Destroyed(id, user_data)));
+    }
 }
 
 impl<T: Transport + Drop, U: Drop, C: Drop> Client<T, U, C> {
@@ -197,7 +183,7 @@ impl<T: Transport + Drop, U: Drop, C: Drop> Client<T, U, C> {
     ) -> Result<(), FinishRefused<Option<U>>>
         ensures { Does self.old (λ p did q. FinishesRequest T.sends id.now p user_data result (lacks_finish result) did q) self.new }
     {
-        let Some(action) = self.action else {
+        let Some(action) = &self.action else {
             let error = FinishError::NoOpenAction;
             return Err(FinishRefused { error, user_data });
         };
@@ -206,7 +192,10 @@ impl<T: Transport + Drop, U: Drop, C: Drop> Client<T, U, C> {
                 sender,
                 is_destructor,
                 created,
-            } => self.end_request(id, numbers, &sender, is_destructor, created, user_data),
+            } => {
+                let (sender, is_destructor, created) = (*sender, *is_destructor, *created);
+                self.end_request(id, numbers, &sender, is_destructor, created, user_data)
+            }
             OpenAction::Bind { .. } => {
                 let error = FinishError::WrongKind;
                 Err(FinishRefused { error, user_data })
@@ -218,12 +207,13 @@ impl<T: Transport + Drop, U: Drop, C: Drop> Client<T, U, C> {
     pub fn finish_bind(&mut self, user_data: U) -> Result<(), FinishRefused<U>>
         ensures { Does self.old (λ p did q. FinishesBind p user_data result false did q) self.new }
     {
-        let Some(action) = self.action else {
+        let Some(action) = &self.action else {
             let error = FinishError::NoOpenAction;
             return Err(FinishRefused { error, user_data });
         };
         match action {
             OpenAction::Bind { object } => {
+                let object = *object;
                 self.close_action(Some(object), Some(user_data));
                 Ok(())
             }

@@ -1,6 +1,6 @@
 //! The globals that a new registry is told of.
 
-ghost use Rattle.std.specs.Prelude.{◌≡◌, ◌∷◌, [], map};
+ghost use Rattle.std.specs.Prelude.{◌≡◌, ◌∷◌, map};
 ghost use Rattle.wl_server.specs.Globals.{is_shown as global_is_shown, shown};
 ghost use Rattle.wl_server.specs.Part.{id_of};
 ghost use Rattle.wl_server.specs.Puts.{Puts};
@@ -16,35 +16,7 @@ use crate::registry::Registry;
 use crate::surroundings::Surroundings;
 use std::alloc::Global;
 use wl_link::{BufferedSocket, Object, Transport};
-use wl_wire::{InterfaceId, IoFault, Protocol};
-
-/// Tells a registry of a global.
-fn put_global<T: Transport>(
-    alloc: Global,
-    socket: &mut BufferedSocket<T>,
-    protocol: &Protocol,
-    registry: &ObjectId,
-    name: u32,
-    interface: InterfaceId,
-    version: u32,
-) -> Result<(), IoFault>
-    ensures { Puts T.sends socket.old
-        (global_message protocol.now (id_of registry.now) (record { name = name; interface = interface; version = version }) ∷ []) result socket.new }
-{
-    let registry = Registry {
-        number: registry.protocol_id(),
-        serial: registry.serial(),
-    };
-    put_global_to_each(
-        alloc,
-        socket,
-        protocol,
-        &[registry],
-        name,
-        interface,
-        version,
-    )
-}
+use wl_wire::IoFault;
 
 /// Whether the client is shown the global.
 fn is_shown<G: GlobalHandler<C>, C>(
@@ -73,14 +45,18 @@ pub fn put_globals<T: Transport, G: GlobalHandler<C> + Drop, C>(
     ensures { Puts T.sends socket.old
         (map (global_message around.now.protocol.now (id_of registry.now)) (shown G.views (around_of G.views around.now).globals around.now.client info.now)) result socket.new }
 {
+    let registries = [Registry {
+        number: registry.protocol_id(),
+        serial: registry.serial(),
+    }];
     let mut globals = around.globals.all_objects();
     while let Some((name, global)) = globals.next() {
         if is_shown(around, info, name, global) {
-            let wrote = put_global(
+            let wrote = put_global_to_each(
                 alloc,
                 socket,
                 around.protocol,
-                registry,
+                &registries,
                 name,
                 global.interface,
                 global.version,

@@ -4,7 +4,8 @@ ghost use Rattle.std.specs.Prelude.{◌≡◌, ℕ, length};
 ghost use Rattle.wl_link.specs.Puts.{lacked_memory};
 ghost use Rattle.wl_server.specs.Backend.{Calls};
 ghost use Rattle.wl_server.specs.Client.{Does};
-ghost use Rattle.wl_server.specs.Felt.{FlushedTo, FlushesLive};
+ghost use Rattle.wl_server.specs.Felt.{FlushedTo};
+ghost use Rattle.wl_server.specs.Leaving.{Flushes};
 ghost use Rattle.wl_server.specs.PartStep.{over};
 ghost use Rattle.wl_server.specs.Places.{AllFeel, PlaceFeels};
 ghost use Rattle.wl_server.specs.declared.step.Reply.TheVariants as reply;
@@ -25,36 +26,36 @@ impl<T: Transport + Drop, U: Drop, C: Drop> Client<T, U, C> {
     {
         self.socket.flush()
     }
-
-    /// Sends what waits for a live client; a fault is dropped. The answer is whether memory was refused.
-    pub fn flush_live(&mut self) -> bool
-        ensures { Does self.old (λ p did q. FlushesLive T.sends p result did q) self.new }
-    {
-        if self.is_killed {
-            return false;
-        }
-        let answer = self.flush();
-        lacks_memory(answer)
-    }
 }
 
-/// Sends what waits for the client of a slot, if it is live. The answer is whether memory was refused.
-fn flush_at<T: Transport + Drop, U: Drop, C: Drop>(client: &mut Option<Client<T, U, C>>) -> bool
-    ensures { (slot : ℕ) → PlaceFeels (λ id p lacked did q. FlushesLive T.sends p lacked did q) slot client.old result client.new }
+/// Sends what waits for the client of a slot, if that is killed, or live, as it is asked for; a fault is dropped. The answer
+/// is whether memory was refused.
+fn flush_at<T: Transport + Drop, U: Drop, C: Drop>(
+    client: &mut Option<Client<T, U, C>>,
+    killed: bool,
+) -> bool
+    ensures { (slot : ℕ) → PlaceFeels (λ id p lacked did q. Flushes T.sends killed p lacked did q) slot client.old result client.new }
 {
     match client {
-        Some(client) => client.flush_live(),
-        None => false,
+        Some(client) if client.is_killed == killed => {
+            let answer = client.flush();
+            lacks_memory(answer)
+        }
+        _ => false,
     }
 }
 
-/// Sends what waits for each live client. The answer is whether memory was refused.
-fn flush_all<T: Transport + Drop, U: Drop, C: Drop>(clients: &mut [Option<Client<T, U, C>>]) -> bool
-    ensures { AllFeel (λ id p lacked did q. FlushesLive T.sends p lacked did q) result (length clients.old) clients.old clients.new }
+/// Sends what waits for each killed client, or for each live one, as it is asked for. The answer is whether memory was
+/// refused.
+pub fn flush_each<T: Transport + Drop, U: Drop, C: Drop>(
+    clients: &mut Vec<Option<Client<T, U, C>>>,
+    killed: bool,
+) -> bool
+    ensures { AllFeel (λ id p lacked did q. Flushes T.sends killed p lacked did q) result (length clients.old.items) clients.old.items clients.new.items }
 {
     let mut refused = false;
     for slot in 0..clients.len() {
-        refused |= flush_at(&mut clients[slot]);
+        refused |= flush_at(&mut clients[slot], killed);
     }
     refused
 }
@@ -70,7 +71,7 @@ impl<T: Transport + Drop, U: Drop, G: GlobalHandler<C> + Drop, C: Drop> Backend<
         ensures { Calls (over T.sends T.receives G.views) self.old (step.Flush client) (reply.Flush result) self.new }
     {
         let Some(id) = client else {
-            self.refused = flush_all(&mut self.clients);
+            self.refused = flush_each(&mut self.clients, false);
             return Ok(());
         };
         self.refused = false;

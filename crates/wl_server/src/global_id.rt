@@ -46,7 +46,7 @@ impl GlobalId {
 }
 
 /// What a global offers.
-#[derive(Clone, Copy, PartialEq, Eq)]
+#[derive(Clone, Copy)]
 pub struct GlobalInfo {
     /// The interface of the objects that are bound to it.
     pub interface: InterfaceId,

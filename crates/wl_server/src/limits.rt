@@ -1,28 +1,15 @@
 //! How far the storages of clients' links may grow.
 
 ghost use Rattle.std.specs.Prelude.{◌≡◌, Some, false};
-ghost use Rattle.wl_link.specs.Link.{LinkState, LimitSet};
 ghost use Rattle.wl_server.specs.Backend.{Calls};
-ghost use Rattle.wl_server.specs.Client.{Does};
-ghost use Rattle.wl_server.specs.Part.{with_link};
-ghost use Rattle.wl_server.specs.PartStep.{Quietly, over};
+ghost use Rattle.wl_server.specs.PartStep.{over};
 ghost use Rattle.wl_server.specs.declared.step.Reply.TheVariants as reply;
 ghost use Rattle.wl_server.specs.declared.step.Step.TheVariants as step;
 
 use crate::backend::Backend;
-use crate::client::Client;
 use crate::client_id::ClientId;
 use crate::handler::GlobalHandler;
 use wl_link::Transport;
-
-impl<T: Drop, U: Drop, C: Drop> Client<T, U, C> {
-    /// Sets the limit of the client's link.
-    pub fn set_max_buffer_size(&mut self, max_buffer_size: usize)
-        ensures { Does self.old (λ p did q. Quietly false did ((link : LinkState T) × LimitSet p.link (Some max_buffer_size) link × (q ≡ with_link p link))) self.new }
-    {
-        self.socket.set_max_buffer_size(Some(max_buffer_size));
-    }
-}
 
 impl<T: Transport + Drop, U: Drop, G: GlobalHandler<C> + Drop, C: Drop> Backend<T, U, G, C> {
     /// Sets how far the storages of each client that is inserted from now on may grow, as `set_client_max_buffer_size` does
@@ -45,7 +32,7 @@ impl<T: Transport + Drop, U: Drop, G: GlobalHandler<C> + Drop, C: Drop> Backend<
             return;
         }
         match &mut self.clients[client.slot() as usize] {
-            Some(client) => client.set_max_buffer_size(max_buffer_size),
+            Some(stored) => stored.socket.set_max_buffer_size(Some(max_buffer_size)),
             None => unreachable!(),
         }
     }

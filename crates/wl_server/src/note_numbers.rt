@@ -2,33 +2,20 @@
 
 /// The numbers that the next notes get. Notes stand with their client; by their numbers they are put in order of time
 /// over all clients.
-#[derive(Clone, Copy)]
+#[derive(Drop)]
 pub struct NoteNumbers {
     /// That of the next note that waits for a cleanup: how many wait.
-    waiting: u128,
+    pub waiting: u128,
     /// That of the next note that is made.
-    made: u128,
+    pub made: u128,
 }
 
 impl NoteNumbers {
-    /// The numbers of a server without notes.
-    pub fn new() -> Self {
-        NoteNumbers {
-            waiting: 0,
-            made: 0,
-        }
-    }
-
     /// The number of a note that waits.
     pub fn next_waiting(&mut self) -> u128 {
         let number = self.waiting;
         self.waiting = number.saturating_add(1);
         number
-    }
-
-    /// No note waits any more.
-    pub fn end_waiting(&mut self) {
-        self.waiting = 0;
     }
 
     /// The number of a note that is made.

@@ -5,16 +5,13 @@ ghost use Rattle.std.specs.List.{filter};
 ghost use Rattle.std.specs.VecDeque.{deque_capacity, deque_len};
 ghost use Rattle.wl_link.specs.Store.{held, removed};
 ghost use Rattle.wl_server.specs.Backend.{Calls};
-ghost use Rattle.wl_server.specs.Client.{Does};
 ghost use Rattle.wl_server.specs.Finish.{data_given};
-ghost use Rattle.wl_server.specs.Objects.{DataSet};
-ghost use Rattle.wl_server.specs.Part.{end_note, named, note_of_end, registries_without, same_id, fresh_object as the_object, id_at as the_id};
-ghost use Rattle.wl_server.specs.PartStep.{Quietly, over};
+ghost use Rattle.wl_server.specs.Part.{named, note_of_end, registries_without, same_id, fresh_object as the_object, id_at as the_id};
+ghost use Rattle.wl_server.specs.PartStep.{over};
 ghost use Rattle.wl_server.specs.declared.step.Reply.TheVariants as reply;
 ghost use Rattle.wl_server.specs.declared.step.Step.TheVariants as step;
 
 use crate::backend::Backend;
-use crate::client::Client;
 use crate::client_id::ClientId;
 use crate::error::InvalidId;
 use crate::handler::GlobalHandler;
@@ -106,21 +103,6 @@ pub fn reserve_note<U>(
     Ok(())
 }
 
-/// Notes for the next cleanup that this object is gone, where it had user data. There is room for that.
-pub fn note_waiting<U: Drop>(
-    waiting: &mut VecDeque<(u128, Happening<U>)>,
-    numbers: &mut NoteNumbers,
-    id: ObjectId,
-    user_data: Option<U>,
-)
-    requires { IsSome user_data → deque_len waiting.old < deque_capacity waiting.old }
-    ensures { map (λ w. w.1) waiting.new.items ≡ map (λ w. w.1) waiting.old.items ++ end_note id user_data }
-{
-    if let Some(user_data) = user_data {
-        waiting.push_back_reserved((numbers.next_waiting(), Happening::Destroyed(id, user_data)));
-    }
-}
-
 /// Takes the object at the number of the id out. If it had user data, its note waits for the next cleanup, and there is room
 /// for that.
 pub fn take_out_noted<U: Drop>(
@@ -143,7 +125,12 @@ pub fn take_out_noted<U: Drop>(
         return;
     };
     let gone = id_at(&id.client(), number, &object);
-    note_waiting(waiting, numbers, gone, object.value.user_data);
+    if let Some(user_data) = object.value.user_data {
+        waiting.push_back_reserved((
+            numbers.next_waiting(),
+            Happening::Destroyed(gone, user_data),
+        ));
+    }
 }
 
 /// Gives the object that the id names these user data, in place of what it had.
@@ -164,15 +151,6 @@ pub fn give_data<U: Drop>(
     Ok(())
 }
 
-impl<T: Drop, U: Drop, C: Drop> Client<T, U, C> {
-    /// Gives the object that the id names this user data; what it had is dropped. It takes no memory.
-    pub fn set_object_data(&mut self, id: &ObjectId, user_data: U) -> Result<(), InvalidId>
-        ensures { Does self.old (λ p did q. Quietly false did (DataSet p id.now user_data result q)) self.new }
-    {
-        give_data(&mut self.objects, id, user_data)
-    }
-}
-
 impl<T: Transport + Drop, U: Drop, G: GlobalHandler<C> + Drop, C: Drop> Backend<T, U, G, C> {
     /// Gives the object that the id names this user data; what it had is dropped. `InvalidId` where its client is not
     /// stored, or the id names none. It takes no memory.
@@ -185,7 +163,7 @@ impl<T: Transport + Drop, U: Drop, G: GlobalHandler<C> + Drop, C: Drop> Backend<
             return Err(InvalidId);
         }
         match &mut self.clients[client.slot() as usize] {
-            Some(client) => client.set_object_data(id, user_data),
+            Some(stored) => give_data(&mut stored.objects, id, user_data),
             None => unreachable!(),
         }
     }

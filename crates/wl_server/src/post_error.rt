@@ -1,12 +1,11 @@
 //! Errors that are posted on objects.
 
-ghost use Rattle.std.specs.Prelude.{◌≡◌, List, true, false};
-ghost use Rattle.wl_wire.specs.Table.{InterfaceRow};
+ghost use Rattle.std.specs.Prelude.{◌≡◌, true, false};
 ghost use Rattle.wl_link.specs.Puts.{FlushesOut};
 ghost use Rattle.wl_server.specs.Backend.{Calls};
 ghost use Rattle.wl_server.specs.Carried.{IsCarried};
 ghost use Rattle.wl_server.specs.Client.{Does};
-ghost use Rattle.wl_server.specs.Errors.{error_messages, error_of, posts, PostsError};
+ghost use Rattle.wl_server.specs.Errors.{error_messages, posts, PostsError};
 ghost use Rattle.wl_server.specs.Part.{with_link};
 ghost use Rattle.wl_server.specs.PartStep.{over};
 ghost use Rattle.wl_server.specs.Puts.{Puts};
@@ -46,29 +45,15 @@ impl<T: Transport + Drop, U: Drop, C: Drop> Client<T, U, C> {
         }
         let alloc = *self.registries.allocator();
         match posted_error(alloc, protocol, id, code, &text) {
-            Ok(error) => self.post_made(numbers, id, code, text, error),
+            Ok(error) => {
+                let wrote = self.put_posted(id, code, text);
+                let lacked = self.flush_dropped();
+                let refused = self.told(numbers, wrote);
+                self.kill(numbers, DisconnectReason::ProtocolError(error));
+                refused || lacked
+            }
             Err(_) => self.told(numbers, Err(IoFault::OutOfMemory)),
         }
-    }
-
-    /// Posts an error on an object of the live client, which is killed for this.
-    fn post_made(
-        &mut self,
-        numbers: &mut NoteNumbers,
-        id: &ObjectId,
-        code: u32,
-        text: CString,
-        error: ProtocolError,
-    ) -> bool
-        requires { self.old.part.is_killed ≡ false }
-        ensures { (table : List InterfaceRow) → error ≡ error_of table id.now code text
-            → IsCarried T.sends (posts table (core_of self.old.part) id.now code text) self.old result self.new }
-    {
-        let wrote = self.put_posted(id, code, text);
-        let lacked = self.flush_dropped();
-        let refused = self.told(numbers, wrote);
-        self.kill(numbers, DisconnectReason::ProtocolError(error));
-        refused || lacked
     }
 
     /// Posts an error on an object, as the program asks. A null id is of none, and nothing is done. The answer is whether

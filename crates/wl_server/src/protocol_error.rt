@@ -1,7 +1,6 @@
 //! The errors that a client is killed for.
 
-ghost use Rattle.std.specs.Prelude.{◌≡◌, [], ◌++◌, false, codes, IfOk};
-ghost use Rattle.std.specs.Fmt.{decimal};
+ghost use Rattle.std.specs.Prelude.{◌≡◌, [], ◌++◌, false, IfOk};
 ghost use Rattle.std.specs.Option.{option_map_or};
 ghost use Rattle.std.specs.Str.Lossy.{utf8_lossy};
 ghost use Rattle.std.specs.String.{string_bytes};
@@ -107,14 +106,6 @@ pub fn since_text(
     Ok(c_string(text))
 }
 
-/// The text of an object argument whose number no object holds.
-fn unknown_id_text(alloc: Global, number: u32) -> Result<CString, OutOfMemory>
-    ensures { IfOk result (λ text. text ≡ codes "Unknown id: " ++ decimal number ++ codes ".") }
-{
-    let text = format!(in alloc; "Unknown id: {number}.")?;
-    Ok(c_string(text))
-}
-
 /// The text of an object argument of a wrong interface, in the request of that interface and name.
 fn wrong_interface_text(
     alloc: Global,
@@ -138,22 +129,6 @@ fn wrong_interface_text(
     Ok(c_string(text))
 }
 
-/// The text of a null object argument, in the request of that interface and name.
-fn null_object_text(
-    alloc: Global,
-    protocol: &Protocol,
-    interface: InterfaceId,
-    request: &MessageDesc,
-) -> Result<CString, OutOfMemory>
-    requires { holds_zero (message_row request.now).name ≡ false }
-    ensures { IfOk result (λ text. text ≡ text_of_fault protocol.now interface (message_row request.now) wrong.NullObject) }
-{
-    let interface = protocol.name(interface);
-    let request = request.name.as_str();
-    let text = format!(in alloc; "Invalid null object in request {interface}.{request}.")?;
-    Ok(c_string(text))
-}
-
 /// The text of an argument that is wrong, in that request of an object of that interface.
 #[cold]
 #[inline(never)]
@@ -162,17 +137,26 @@ pub fn fault_text(
     protocol: &Protocol,
     interface: InterfaceId,
     request: &MessageDesc,
-    fault: RequestFault,
+    fault: &RequestFault,
 ) -> Result<CString, OutOfMemory>
     requires { holds_zero (message_row request.now).name ≡ false }
-    ensures { IfOk result (λ text. text ≡ text_of_fault protocol.now interface (message_row request.now) fault) }
+    ensures { IfOk result (λ text. text ≡ text_of_fault protocol.now interface (message_row request.now) fault.now) }
 {
     match fault {
-        RequestFault::InvalidNewId(number) => new_id_text(alloc, number),
-        RequestFault::UnknownId(number) => unknown_id_text(alloc, number),
-        RequestFault::WrongInterface(number, asked, got) => {
-            wrong_interface_text(alloc, protocol, interface, request, number, asked, got)
+        RequestFault::InvalidNewId(number) => new_id_text(alloc, *number),
+        RequestFault::UnknownId(number) => {
+            let number = *number;
+            let text = format!(in alloc; "Unknown id: {number}.")?;
+            Ok(c_string(text))
         }
-        RequestFault::NullObject => null_object_text(alloc, protocol, interface, request),
+        RequestFault::WrongInterface(number, asked, got) => {
+            wrong_interface_text(alloc, protocol, interface, request, *number, *asked, *got)
+        }
+        RequestFault::NullObject => {
+            let interface = protocol.name(interface);
+            let request = request.name.as_str();
+            let text = format!(in alloc; "Invalid null object in request {interface}.{request}.")?;
+            Ok(c_string(text))
+        }
     }
 }

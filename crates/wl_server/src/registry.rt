@@ -3,7 +3,7 @@
 use std::marker::Model;
 
 /// A registry that was made for a client: what names in its id.
-#[derive(Clone, Copy)]
+#[derive(Drop)]
 pub struct Registry {
     /// The number.
     pub number: u32,

@@ -25,7 +25,7 @@ use wl_link::{Object, ObjectMap};
 use wl_wire::{Argument, CString, Message, Token};
 
 /// What a bind asks for.
-#[derive(Clone, Copy)]
+#[derive(Drop)]
 pub struct Bind<'m> {
     /// The name of the global.
     pub global: u32,

@@ -10,6 +10,7 @@ ghost use Rattle.wl_server.specs.Places.{AllFeel, PlaceFeels};
 ghost use Rattle.wl_server.specs.declared.step.Reply.TheVariants as reply;
 ghost use Rattle.wl_server.specs.declared.step.Step.TheVariants as step;
 
+use crate::announce::put_to_each;
 use crate::backend::Backend;
 use crate::client::Client;
 use crate::global_id::GlobalId;
@@ -17,7 +18,11 @@ use crate::globals::{disable, global_in, remove};
 use crate::handler::GlobalHandler;
 use crate::kept::KeptGlobal;
 use crate::note_numbers::NoteNumbers;
+use crate::telling::message_of_number;
 use wl_link::{ObjectMap, Transport};
+
+/// The opcode of `wl_registry.global_remove`.
+const GLOBAL_REMOVE: u16 = 1;
 
 /// Whether the global that the id names is announced.
 fn is_enabled<G: Drop>(globals: &ObjectMap<KeptGlobal<G>>, id: &GlobalId) -> bool
@@ -39,8 +44,13 @@ fn tell_loss_at<T: Transport + Drop, U: Drop, C: Drop>(
     ensures { (slot : ℕ) → PlaceFeels (λ id p lacked did q. Hears T.sends p (removals p name) lacked did q) slot client.old result client.new }
 {
     match client {
-        Some(client) => client.hear_loss(numbers, name),
-        None => false,
+        Some(client) if !client.is_killed => {
+            let alloc = *client.registries.allocator();
+            let mut message = message_of_number(alloc, 0, GLOBAL_REMOVE, name);
+            let answer = put_to_each(&mut client.socket, &client.registries, &mut message);
+            client.told(numbers, answer)
+        }
+        _ => false,
     }
 }
 

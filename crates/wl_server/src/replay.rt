@@ -9,7 +9,7 @@ ghost use Rattle.wl_server.specs.declared.step.Step.{Step};
 ghost use Rattle.wl_server.specs.Accounts.{AccountsForStopped, AreAccountedFor};
 ghost use Rattle.wl_server.specs.Backend.{Calls};
 ghost use Rattle.wl_server.specs.PartStep.{over_scripts};
-ghost use Rattle.wl_server.specs.Performing.{IsOfAll, IsOfClient, IsOfGlobals, IsOfObject, IsOfReading, IsOfScript};
+ghost use Rattle.wl_server.specs.Performing.{IsOfAll, IsOfGlobals, IsOfObject, IsOfReading, IsOfScript};
 ghost use Rattle.wl_server.specs.Runs.{AreIsolated, Performs, StopsAt};
 ghost use Rattle.wl_server.specs.Server.{ServerState, new_server};
 ghost use Rattle.wl_server.specs.Stretches.{AreCut};
@@ -44,24 +44,6 @@ impl<U: Drop, G: GlobalHandler<C> + Drop, C: Drop> Backend<Memory, U, G, C> {
         }
     }
 
-    /// Makes the call of a step that is about one client.
-    fn perform_client(&mut self, step: Step<Memory, U, G, C>) -> Reply<Memory, U>
-        requires { IsOfClient step }
-        ensures { Calls (over_scripts G.views) self.old step result self.new }
-    {
-        match step {
-            Step::KillClient(client, reason) => {
-                self.kill_client(&client, reason);
-                Reply::KillClient
-            }
-            Step::SetClientMaxBufferSize(client, max_buffer_size) => {
-                self.set_client_max_buffer_size(&client, max_buffer_size);
-                Reply::SetClientMaxBufferSize
-            }
-            _ => unreachable!(),
-        }
-    }
-
     /// Makes the call of a step that reads of a client, or ends what was read.
     fn perform_reading(&mut self, step: Step<Memory, U, G, C>) -> Reply<Memory, U>
         requires { IsOfReading step }
@@ -84,7 +66,7 @@ impl<U: Drop, G: GlobalHandler<C> + Drop, C: Drop> Backend<Memory, U, G, C> {
         }
     }
 
-    /// Makes the call of a step that is about globals.
+    /// Makes the call of a step that is about globals, or that kills or limits a client.
     fn perform_global(&mut self, step: Step<Memory, U, G, C>) -> Reply<Memory, U>
         requires { IsOfGlobals step }
         ensures { Calls (over_scripts G.views) self.old step result self.new }
@@ -100,6 +82,14 @@ impl<U: Drop, G: GlobalHandler<C> + Drop, C: Drop> Backend<Memory, U, G, C> {
             Step::RemoveGlobal(global) => {
                 self.remove_global(&global);
                 Reply::RemoveGlobal
+            }
+            Step::KillClient(client, reason) => {
+                self.kill_client(&client, reason);
+                Reply::KillClient
+            }
+            Step::SetClientMaxBufferSize(client, max_buffer_size) => {
+                self.set_client_max_buffer_size(&client, max_buffer_size);
+                Reply::SetClientMaxBufferSize
             }
             _ => unreachable!(),
         }
@@ -158,14 +148,15 @@ impl<U: Drop, G: GlobalHandler<C> + Drop, C: Drop> Backend<Memory, U, G, C> {
             | Step::DestroyObject(_)
             | Step::SendEvent(_)
             | Step::PostError(..) => self.perform_object(step),
-            Step::KillClient(..) | Step::SetClientMaxBufferSize(..) => self.perform_client(step),
             Step::NextAction(_)
             | Step::NextActionWithin(..)
             | Step::FinishRequest(..)
             | Step::FinishBind(..) => self.perform_reading(step),
-            Step::CreateGlobal(..) | Step::DisableGlobal(_) | Step::RemoveGlobal(_) => {
-                self.perform_global(step)
-            }
+            Step::CreateGlobal(..)
+            | Step::DisableGlobal(_)
+            | Step::RemoveGlobal(_)
+            | Step::KillClient(..)
+            | Step::SetClientMaxBufferSize(..) => self.perform_global(step),
             Step::Arrive(..)
             | Step::ArriveFault(..)
             | Step::Accept(..)

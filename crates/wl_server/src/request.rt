@@ -1,6 +1,6 @@
 //! The requests of a client: what is made of one, and how it is answered.
 
-ghost use Rattle.std.specs.Prelude.{◌≡◌, ◌∷◌, ◌<◌, map, ℕ, List, [], true, false, Err, Some, IfOk, MatchResult, length, vec_len, vec_capacity};
+ghost use Rattle.std.specs.Prelude.{◌≡◌, ◌∷◌, ◌<◌, map, List, [], true, false, Err, Some, IfOk, MatchResult, length, vec_len, vec_capacity};
 ghost use Rattle.smallvec.specs.SmallVec.{HasRoomFor};
 ghost use Rattle.wl_wire.specs.declared.argument.Argument.{Argument as Arg};
 ghost use Rattle.wl_wire.specs.declared.argument.Token.{Token as TokenParts};
@@ -20,10 +20,10 @@ ghost use Rattle.wl_server.specs.Deeds.{Remembered};
 ghost use Rattle.wl_server.specs.Globals.{shown};
 ghost use Rattle.wl_server.specs.Ids.{IdParts};
 ghost use Rattle.wl_server.specs.Part.{id_of};
-ghost use Rattle.wl_server.specs.Reading.{breaks, garbled, hands_out, replies, request_to};
+ghost use Rattle.wl_server.specs.Reading.{breaks, garbled, replies, request_to};
 ghost use Rattle.wl_server.specs.Responses.{HasName, HasNames, code_of, core_with, opened_of, response_to, text_of};
-ghost use Rattle.wl_server.specs.Telling.{Core, Kills, core_of, deletions, done_message, global_message};
-ghost use Rattle.wl_server.specs.Turns.{Acts, Ended, IsHandled, Live, around_of, found_with, turned};
+ghost use Rattle.wl_server.specs.Telling.{Core, Kills, core_of, global_message};
+ghost use Rattle.wl_server.specs.Turns.{Acts, Ended, IsHandled, Live, around_of, turned};
 
 use crate::action::OpenAction;
 use crate::client::Client;
@@ -87,40 +87,32 @@ pub fn request<'m, U: Drop, G: GlobalHandler<C> + Drop, C>(
     other_request(around, info, objects, last_serial, desc, message, args)
 }
 
-/// The text of the error that a breach ends in.
+/// The code and the text of the error that a breach ends in.
 #[cold]
 #[inline(never)]
-fn breach_text(
+fn breach_error(
     alloc: Global,
     protocol: &Protocol,
     breach: &Breach<'_>,
-) -> Result<CString, OutOfMemory>
+) -> Result<(u32, CString), OutOfMemory>
     requires { HasName breach.now }
-    ensures { IfOk result (λ s. s ≡ text_of protocol.now breach.now) }
+    ensures code { IfOk result (λ error. error.0 ≡ code_of breach.now) }
+    ensures text { IfOk result (λ error. error.1 ≡ text_of protocol.now breach.now) }
 {
     match breach {
-        Breach::InvalidNewId(number) => new_id_text(alloc, *number),
+        Breach::InvalidNewId(number) => Ok((0, new_id_text(alloc, *number)?)),
         Breach::RefusedBind(global, version, interface) => {
-            bind_text(alloc, interface, *version, *global)
+            Ok((0, bind_text(alloc, interface, *version, *global)?))
         }
         Breach::SinceLater(opcode, version, since, interface, number) => {
-            since_text(
+            let text = since_text(
                 alloc, protocol, *opcode, *version, *since, *interface, *number,
-            )
+            )?;
+            Ok((1, text))
         }
         Breach::WrongArgument(interface, desc, wrong) => {
-            fault_text(alloc, protocol, *interface, desc, *wrong)
+            Ok((0, fault_text(alloc, protocol, *interface, desc, wrong)?))
         }
-    }
-}
-
-/// The code of the error that a breach ends in.
-fn breach_code(breach: &Breach<'_>) -> u32
-    ensures { result ≡ code_of breach.now }
-{
-    match breach {
-        Breach::SinceLater(_, _, _, _, _) => 1,
-        _ => 0,
     }
 }
 
@@ -154,21 +146,22 @@ impl<T: Transport + Drop, U: Drop, C: Drop> Client<T, U, C> {
         }
     }
 
-    /// Posts an error with this text on the display of a live client, which broke the protocol. Where there was no memory
+    /// Ends a live client that broke the protocol: the breach is posted as an error on its display. Where there was no memory
     /// for the text, the client is closed down.
     #[cold]
     #[inline(never)]
-    pub fn breaks<G: GlobalHandler<C>>(
+    fn ends_by<G: GlobalHandler<C>>(
         &mut self,
         numbers: &mut NoteNumbers,
         around: &Surroundings<'_, G>,
-        code: u32,
-        text: Result<CString, OutOfMemory>,
+        breach: &Breach<'_>,
     ) -> NoAction
-        requires { self.old.part.is_killed ≡ false }
-        ensures { (t : List ℕ) → IfOk text (λ s. s ≡ t) → IsHandled T.sends (breaks (around_of G.views around.now) (core_of self.old.part) code t) self.old (Ended result) self.new }
+        requires live { self.old.part.is_killed ≡ false }
+        requires name { HasName breach.now }
+        ensures { IsHandled T.sends (breaks (around_of G.views around.now) (core_of self.old.part) (code_of breach.now) (text_of around.now.protocol.now breach.now)) self.old (Ended result) self.new }
     {
-        let Ok(text) = text else {
+        let alloc = *self.registries.allocator();
+        let Ok((code, text)) = breach_error(alloc, around.protocol, breach) else {
             let refused = self.told(numbers, Err(IoFault::OutOfMemory));
             return NoAction {
                 fault: IoFault::Pipe,
@@ -201,33 +194,6 @@ impl<T: Transport + Drop, U: Drop, C: Drop> Client<T, U, C> {
         })
     }
 
-    /// Ends a live client that broke the protocol.
-    fn ends_by<G: GlobalHandler<C>>(
-        &mut self,
-        numbers: &mut NoteNumbers,
-        around: &Surroundings<'_, G>,
-        breach: &Breach<'_>,
-    ) -> NoAction
-        requires live { self.old.part.is_killed ≡ false }
-        requires name { HasName breach.now }
-        ensures { IsHandled T.sends (breaks (around_of G.views around.now) (core_of self.old.part) (code_of breach.now) (text_of around.now.protocol.now breach.now)) self.old (Ended result) self.new }
-    {
-        let alloc = *self.registries.allocator();
-        let text = breach_text(alloc, around.protocol, breach);
-        self.breaks(numbers, around, breach_code(breach), text)
-    }
-
-    /// Answers a sync of a live client, whose callback had this id.
-    fn sync_done(&mut self, numbers: &mut NoteNumbers, callback: &ObjectId) -> TurnEnd
-        requires { Live self.old.part }
-        ensures { (args : List (Arg IdParts TokenParts)) → IsHandled T.sends
-            (replies (core_of self.old.part) (done_message (id_of callback.now) ∷ deletions callback.now.number) []) self.old (turned result args) self.new }
-    {
-        let alloc = *self.registries.allocator();
-        let wrote = put_done(alloc, &mut self.socket, callback.protocol_id());
-        self.replied(numbers, wrote)
-    }
-
     /// Tells a new registry of a live client of the globals.
     fn registered<G: GlobalHandler<C> + Drop>(
         &mut self,
@@ -245,13 +211,6 @@ impl<T: Transport + Drop, U: Drop, C: Drop> Client<T, U, C> {
         self.replied(numbers, wrote)
     }
 
-    /// Opens the action that is handed out.
-    fn opens(&mut self, found: &Found)
-        ensures { (args : List (Arg IdParts TokenParts)) → IsHandled T.sends (hands_out (core_of self.old.part) (opened_of found.now) (found_with found.now args)) self.old (Acts (found_with found.now args)) self.new }
-    {
-        self.action = Some(open_action(found));
-    }
-
     /// Answers a request of a live client that was gone through.
     pub fn respond<G: GlobalHandler<C> + Drop>(
         &mut self,
@@ -266,10 +225,14 @@ impl<T: Transport + Drop, U: Drop, C: Drop> Client<T, U, C> {
         match response {
             Response::Garbled => TurnEnd::Ends(self.garbled(numbers)),
             Response::Breaks(breach) => TurnEnd::Ends(self.ends_by(numbers, around, breach)),
-            Response::Syncs(callback) => self.sync_done(numbers, callback),
+            Response::Syncs(callback) => {
+                let alloc = *self.registries.allocator();
+                let wrote = put_done(alloc, &mut self.socket, callback.protocol_id());
+                self.replied(numbers, wrote)
+            }
             Response::Registers(registry) => self.registered(numbers, around, registry),
             Response::HandsOut(found) => {
-                self.opens(found);
+                self.action = Some(open_action(found));
                 TurnEnd::Acts(*found)
             }
         }

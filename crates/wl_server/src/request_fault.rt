@@ -3,7 +3,7 @@
 use wl_wire::InterfaceId;
 
 /// Why a request ends its client.
-#[derive(Clone, Copy)]
+#[derive(Drop)]
 pub enum RequestFault {
     /// A new id is no number that the client may use.
     InvalidNewId(u32),

@@ -6,7 +6,7 @@ use crate::turn::Found;
 use wl_wire::{CString, InterfaceId, MessageDesc};
 
 /// How a client broke the protocol by a request.
-#[derive(Clone, Copy)]
+#[derive(Drop)]
 pub enum Breach<'m> {
     /// It may make no object at this number.
     InvalidNewId(u32),
@@ -20,7 +20,7 @@ pub enum Breach<'m> {
 }
 
 /// What is yet to be done for a request, once its client's objects are as it makes them.
-#[derive(Clone, Copy)]
+#[derive(Drop)]
 pub enum Response<'m> {
     /// It is none that the client may send: the connection is closed.
     Garbled,

@@ -1,16 +1,14 @@
 //! The calls of a client's transport by script, as steps of its server.
 
-ghost use Rattle.std.specs.Prelude.{◌≡◌, [], Ok};
+ghost use Rattle.std.specs.Prelude.{◌≡◌, Ok};
 ghost use Rattle.wl_server.specs.Backend.{Calls};
-ghost use Rattle.wl_server.specs.Client.{Does};
-ghost use Rattle.wl_server.specs.Moves.{ScriptMoves, TakeSent, done, taken};
+ghost use Rattle.wl_server.specs.Moves.{ScriptMoves, done};
 ghost use Rattle.wl_server.specs.PartStep.{lacks_move, over_scripts};
-ghost use Rattle.wl_server.specs.Scripting.{Scripts, arrived_as, move_of, reply_to, scripted_as, step_of};
+ghost use Rattle.wl_server.specs.Scripting.{arrived_as, move_of, reply_to, scripted_as, step_of};
 ghost use Rattle.wl_server.specs.declared.step.Reply.TheVariants as reply;
 ghost use Rattle.wl_server.specs.declared.step.Step.TheVariants as step;
 
 use crate::backend::Backend;
-use crate::client::Client;
 use crate::client_id::ClientId;
 use crate::error::{InvalidId, ScriptError};
 use crate::handler::GlobalHandler;
@@ -63,22 +61,6 @@ fn make_move(script: &mut Memory, call: ScriptCall) -> Result<(), ScriptError>
     }
 }
 
-impl<U: Drop, C: Drop> Client<Memory, U, C> {
-    /// Makes the call of the client's script.
-    fn script(&mut self, call: ScriptCall) -> Result<(), ScriptError>
-        ensures { Does self.old (λ p did q. (did ≡ []) × Scripts p (move_of call) (done result) q) self.new }
-    {
-        make_move(self.socket.transport_mut(), call)
-    }
-
-    /// The record of what the script took, which is empty from then on.
-    fn take_sent(&mut self) -> Vec<(Vec<u8>, Vec<Token>)>
-        ensures { Does self.old (λ p did q. (did ≡ []) × Scripts p TakeSent (taken (Ok result)) q) self.new }
-    {
-        self.socket.transport_mut().take_sent()
-    }
-}
-
 /// Whether there was no memory for a call of a script.
 fn lacks_memory(answer: &Result<(), ScriptError>) -> bool
     ensures { result ≡ lacks_move (done answer.now) }
@@ -96,7 +78,7 @@ impl<U: Drop, G: GlobalHandler<C> + Drop, C: Drop> Backend<Memory, U, G, C> {
             return Err(ScriptError::InvalidId);
         }
         let answer = match &mut self.clients[id.slot() as usize] {
-            Some(client) => client.script(call),
+            Some(client) => make_move(client.socket.transport_mut(), call),
             None => unreachable!(),
         };
         self.refused = lacks_memory(&answer);
@@ -115,7 +97,7 @@ impl<U: Drop, G: GlobalHandler<C> + Drop, C: Drop> Backend<Memory, U, G, C> {
             return Err(InvalidId);
         }
         match &mut self.clients[id.slot() as usize] {
-            Some(client) => Ok(client.take_sent()),
+            Some(client) => Ok(client.socket.transport_mut().take_sent()),
             None => unreachable!(),
         }
     }

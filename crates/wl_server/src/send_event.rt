@@ -17,7 +17,7 @@ ghost use Rattle.wl_server.specs.PartStep.{over};
 use crate::backend::Backend;
 use crate::client::Client;
 use crate::error::EventError;
-use crate::event_check::{OwnNumbers, check_event};
+use crate::event_check::check_event;
 use crate::handler::GlobalHandler;
 use crate::kept::Kept;
 use crate::note::Happening;
@@ -29,7 +29,7 @@ use crate::telling::{lacks_memory, put_delete_id};
 use std::alloc::Global;
 use std::collections::VecDeque;
 use wl_link::{BufferedSocket, ObjectMap, Transport};
-use wl_wire::{IoFault, Message, OutOfMemory, Protocol, Token};
+use wl_wire::{IoFault, Message, OutOfMemory, OwnNumbers, Protocol, Token};
 
 /// Makes room for the note of the sender, where the event ends it and it has user data.
 fn make_room<U: Drop>(

@@ -36,7 +36,7 @@ use wl_wire::{
 };
 
 /// Why a reading ends without an action.
-#[derive(Clone, Copy)]
+#[derive(Drop)]
 pub struct NoAction {
     /// The answer of the reading.
     pub fault: IoFault,
@@ -54,7 +54,7 @@ pub enum Found {
 }
 
 /// What a turn came to.
-#[derive(Clone, Copy)]
+#[derive(Drop)]
 pub enum TurnEnd {
     /// An action is there to hand out.
     Acts(Found),
@@ -105,13 +105,6 @@ fn creates(desc: &MessageDesc) -> bool
         .any(|kind| matches!(kind, ArgumentType::NewId))
 }
 
-/// Whether a request asks for memory before it is read: for the object that it makes, or for its arguments.
-fn asks_for_memory(desc: &MessageDesc) -> bool
-    ensures { result ≡ row_asks (Some (message_row desc.now)) }
-{
-    creates(desc) || desc.signature.len() > INLINE_ARGS
-}
-
 /// Makes room for what the message at the front becomes, where it is there whole: for its arguments, and for the object
 /// that it may make, which may be a registry. Of a message that is not there nothing is asked for.
 fn make_room<T: Drop, U: Drop>(
@@ -136,11 +129,13 @@ fn make_room<T: Drop, U: Drop>(
     ensures asked { OnErr result ((row_asks (Some (message_row desc.now)) ≡ true)
         × IsThere socket.now.incoming.bytes desc.now.signature.items socket.now.incoming.tokens) }
 {
-    if !asks_for_memory(desc) || !socket.holds_message(desc.signature.as_slice()) {
+    let creates = creates(desc);
+    let asks_for_memory = creates || desc.signature.len() > INLINE_ARGS;
+    if !asks_for_memory || !socket.holds_message(desc.signature.as_slice()) {
         return Ok(());
     }
     converted.reserve(desc.signature.len())?;
-    if creates(desc) {
+    if creates {
         registries.reserve(1)?;
         objects.reserve()?;
     }

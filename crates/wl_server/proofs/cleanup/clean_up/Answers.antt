@@ -6,33 +6,33 @@ use Rattle.wl_server.proofs.cleanup.clean_up.Goals as goal
 
 pub gather-requires-clause-slots : goal.gather-requires-clause-slots
 gather-requires-clause-slots g c =
-    let len = c.flush_killed-refused.ensures.len in
+    let len = c.flush_each-refused.ensures.len in
     let few = c.requires.slots in
     omega (arith, len, few)
 
 pub gather-requires-clause-room : goal.gather-requires-clause-room
 gather-requires-clause-room g c =
-    let same = (flushed_counts g.T.Transport.sends _ _ _ c.flush_killed-refused.ensures).0 in
+    let same = (flushed_counts g.T.Transport.sends _ _ _ c.flush_each-refused.ensures).0 in
     let fits = c.requires.notes in
     omega (arith, same, fits)
 
 pub leave_all-requires-clause-slots : goal.leave_all-requires-clause-slots
 leave_all-requires-clause-slots g c =
-    let len = c.flush_killed-refused.ensures.len in
+    let len = c.flush_each-refused.ensures.len in
     let few = c.requires.slots in
     let gathered = gathers_length _ _ _ _ _ c.gather.ensures.gathered in
     omega (arith, len, few, gathered)
 
 pub leave_all-requires-clause-numbers : goal.leave_all-requires-clause-numbers
 leave_all-requires-clause-numbers g c =
-    let same = (flushed_counts g.T.Transport.sends _ _ _ c.flush_killed-refused.ensures).1 in
+    let same = (flushed_counts g.T.Transport.sends _ _ _ c.flush_each-refused.ensures).1 in
     let gathered = ap length (gathered_ends _ _ _ _ c.gather.ensures.gathered) in
     let fits = c.requires.numbers in
     omega (arith, same, gathered, fits)
 
 pub leave_all-requires-clause-notes : goal.leave_all-requires-clause-notes
 leave_all-requires-clause-notes g c =
-    let counts = flushed_counts g.T.Transport.sends _ _ _ c.flush_killed-refused.ensures in
+    let counts = flushed_counts g.T.Transport.sends _ _ _ c.flush_each-refused.ensures in
     let same = counts.0 in
     let ends = counts.1 in
     let gathered = ap length (gathered_ends _ _ _ _ c.gather.ensures.gathered) in
@@ -45,7 +45,7 @@ leave_all-requires-clause-notes g c =
 
 pub leave_all-requires-clause-given : goal.leave_all-requires-clause-given
 leave_all-requires-clause-given g c =
-    let same = (flushed_counts g.T.Transport.sends _ _ _ c.flush_killed-refused.ensures).2 in
+    let same = (flushed_counts g.T.Transport.sends _ _ _ c.flush_each-refused.ensures).2 in
     let gathered = ap length (gathered_given _ _ _ _ c.gather.ensures.gathered) in
     let none = ap length c.requires.none in
     let long = c.args.room.now.given.ok.0 in
@@ -54,10 +54,10 @@ leave_all-requires-clause-given g c =
 
 pub returns : goal.returns
 returns g c = record {
-  flushed = c.flush_killed-refused.new.clients.items;
+  flushed = c.flush_each-refused.new.clients.items;
   left = c.gather.new.clients.items;
   told = c.gather.new.notes.items;
-  flushes = c.flush_killed-refused.ensures;
+  flushes = c.flush_each-refused.ensures;
   gathers = c.gather.ensures.gathered;
   all = c.gather.ensures.ended;
   stay = c.leave_all.ensures.stay;

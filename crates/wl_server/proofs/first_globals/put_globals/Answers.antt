@@ -12,10 +12,10 @@ loop-name-init g c =
 
 pub loop-name-preserved-in_default-wrote : goal.loop-name-preserved-in_default-wrote
 loop-name-preserved-in_default-wrote g c =
-    told_one g.T.Transport.sends (around_of g.G.GlobalHandler.views c.args.around.now) c.args.info.now (id_of c.args.registry.now) c.args.socket.now c.loop-name.socket c.put_global-wrote.new.socket _
-    (c.in-Some.name, c.in-Some.global.now) c.loop-name.globals c.next.new.self c.in-Some.ensures.steps (sym c.is_shown.ensures ∙ c.if-is_shown.true) c.in_default-wrote.ensures c.loop-name.invariant
+    told_one g.T.Transport.sends (around_of g.G.GlobalHandler.views c.args.around.now) c.args.info.now (id_of c.args.registry.now) c.args.socket.now c.loop-name.socket c.put_global_to_each-wrote.new.socket _
+    (c.in-Some.name, c.in-Some.global.now) c.loop-name.globals c.next.new.self c.in-Some.ensures.steps (sym c.is_shown.ensures ∙ c.if-is_shown.true) (rw (← c.protocol_id.ensures, ← c.serial.ensures) c.in_default-wrote.ensures) c.loop-name.invariant
 
 pub returns-in-Err : goal.returns-in-Err
 returns-in-Err g c =
-    told_failed g.T.Transport.sends (around_of g.G.GlobalHandler.views c.args.around.now) c.args.info.now (id_of c.args.registry.now) c.args.socket.now c.loop-name.socket c.put_global-wrote.new.socket _
-    (c.in-Some.name, c.in-Some.global.now) c.loop-name.globals c.next.new.self c.in-Err.fault c.in-Some.ensures.steps (sym c.is_shown.ensures ∙ c.if-is_shown.true) c.in-Err.ensures c.loop-name.invariant
+    told_failed g.T.Transport.sends (around_of g.G.GlobalHandler.views c.args.around.now) c.args.info.now (id_of c.args.registry.now) c.args.socket.now c.loop-name.socket c.put_global_to_each-wrote.new.socket _
+    (c.in-Some.name, c.in-Some.global.now) c.loop-name.globals c.next.new.self c.in-Err.fault c.in-Some.ensures.steps (sym c.is_shown.ensures ∙ c.if-is_shown.true) (rw (← c.protocol_id.ensures, ← c.serial.ensures) c.in-Err.ensures) c.loop-name.invariant

@@ -1,12 +1,8 @@
-use Rattle.std.proofs.Common.{◌≡◌, ◌∙◌, Bool, List, Option, Ok, length, refl, subst, sym}
-use Rattle.std.specs.Prelude.{vec_len}
-use Rattle.std.proofs.lemmas.List.{with_items_is}
+use Rattle.std.proofs.Common.{◌≡◌, ◌∙◌, Bool, Option, Ok, arith, refl, subst, sym}
 use Rattle.wl_server.specs.Client.{Does}
 use Rattle.wl_server.specs.Felt.{FlushedTo, FlushesLive}
 use Rattle.wl_server.specs.Ids.{ClientParts}
 use Rattle.wl_server.specs.PartStep.{Asked}
-use Rattle.wl_server.specs.Places.{AllFeel}
-use Rattle.wl_server.specs.Server.{Stored}
 use Rattle.wl_server.specs.declared.step.Reply.TheVariants as reply
 use Rattle.wl_server.specs.declared.step.Step.TheVariants as step
 use Rattle.wl_server.proofs.Calls.{IsOwn, done_at, not_stored}
@@ -23,12 +19,17 @@ felt client answer = record { last = refl; client = λ b. tt; order = tt }
 
 pub returns-in_default : goal.returns-in_default
 returns-in_default g c =
-    let len : length c.flush_all-self-inside.new.clients ≡ vec_len c.self.inside.clients = c.flush_all-self-inside.ensures.len ∙ c.deref_mut.ensures.len in
-    let all = subst (λ (xs : List (Option (Stored _ _ _))). AllFeel (λ id p lacked did q. FlushesLive g.T.Transport.sends p lacked did q) c.flush_all-self-inside.result (length xs) xs
-    c.flush_all-self-inside.new.clients) c.deref_mut.ensures.value c.flush_all-self-inside.ensures in
-    rw (← c.self.view_is, c.in_default.is, with_items_is c.self.inside.clients c.flush_all-self-inside.new.clients len)
-    (felt_call _ _ _ _ (felt _ _) (λ id p lacked did q. FlushesLive g.T.Transport.sends p lacked did q) c.flush_all-self-inside.result _ c.flush_all-self-inside.new.clients
-    refl tt refl (λ i l d b a h. (_, refl, (refl, h))) all)
+    rw (← c.self.view_is, c.in_default.is)
+    (felt_call _ _ _ _ (felt _ _) (λ id p lacked did q. FlushesLive g.T.Transport.sends p lacked did q) c.flush_each-self-inside.result _ c.flush_each-self-inside.new.clients.items
+    refl tt refl (λ i l d b a h. (_, refl, (refl, h))) c.flush_each-self-inside.ensures)
+
+pub invariant_of-self : goal.invariant_of-self
+invariant_of-self g c =
+    let same = c.flush_each-self-inside.ensures.len in
+    let before = c.self.inside.clients.ok.0 in
+    let after = c.flush_each-self-inside.new.clients.ok.0 in
+    let within = c.self.invariant in
+    omega (arith, same, before, after, within)
 
 pub returns-then-not-is_stored : goal.returns-then-not-is_stored
 returns-then-not-is_stored g c = rw (← c.self.view_is, c.in-Some.is)

@@ -1,11 +1,19 @@
-use Rattle.std.proofs.Common.{◌≡◌, ◌∙◌, false, Result, Err, refl, ap}
+use Rattle.std.proofs.Common.{◌≡◌, ◌∙◌, false, Option, None, Some, Result, Ok, Err, MatchOption, refl, ap}
+use Rattle.wl_link.specs.declared.object.Object.{Object}
+use Rattle.wl_link.specs.Store.{Store}
 use Rattle.wl_server.specs.declared.error.InvalidId.{InvalidId}
+use Rattle.wl_server.specs.declared.kept.Kept.{Kept}
+use Rattle.wl_server.specs.Client.{Does}
+use Rattle.wl_server.specs.Finish.{data_given}
 use Rattle.wl_server.specs.Ids.{IdParts}
 use Rattle.wl_server.specs.Objects.{DataSet}
+use Rattle.wl_server.specs.Part.{Part, named}
 use Rattle.wl_server.specs.PartStep.{Asked, Quietly}
+use Rattle.wl_server.specs.Server.{Stored}
 use Rattle.wl_server.specs.declared.step.Reply.TheVariants as reply
 use Rattle.wl_server.specs.declared.step.Step.TheVariants as step
 use Rattle.wl_server.proofs.Calls.{IsOwn, done_at, not_stored}
+use Rattle.wl_server.proofs.Doing.{does_quietly}
 use Rattle.wl_server.proofs.Slots.{Kind, slot_in, slot_not_empty, stored_by}
 use Rattle.wl_server.proofs.Taken.{slots_set}
 use Rattle.wl_server.proofs.backend.Backend.set_object_data.Goals as goal
@@ -16,6 +24,26 @@ sets o u answer id p lacked did q = Quietly lacked did (DataSet p o u answer q)
 own : {T U G C : Type 0} (o : IdParts) (u : U) (answer : Result (Unit {0}) InvalidId)
     → IsOwn {T = T} {U = U} {G = G} {C = C} (Asked (step.SetObjectData o u) (reply.SetObjectData answer))
 own o u answer = record { offer = λ o. refl; last = refl; client = λ b. tt; global = λ o. tt; order = tt; growth = refl }
+
+-- a store is given data: so a part is
+data_set : {T U C : Type 0} (p : Part T U C) (id : IdParts) (u : U) (answer : Result (Unit {0}) InvalidId) (store : Store (Kept U))
+    → MatchOption (named p.store id) (answer ≡ Err _) (λ _. answer ≡ Ok tt) → store ≡ data_given p.store id.number (named p.store id) u
+    → DataSet p id u answer (record p { store = store })
+data_set {T} {U} {C} p id u answer store = at (named p.store id)
+  where
+    over : Store (Kept U) → Part T U C
+    over s = record p { store = s }
+
+    at : (o : Option (Object (Kept U))) → MatchOption o (answer ≡ Err _) (λ _. answer ≡ Ok tt) → store ≡ data_given p.store id.number o u
+        → MatchOption o ((answer ≡ Err _) × (over store ≡ p)) (λ x. (answer ≡ Ok tt) × (over store ≡ over (data_given p.store id.number (Some x) u)))
+    at None is same = (is, ap over same)
+    at (Some x) is same = (is, ap over same)
+
+set_does : {T U C : Type 0} (s : Stored T U C) (id : IdParts) (u : U) (answer : Result (Unit {0}) InvalidId) (store : Store (Kept U))
+    → MatchOption (named s.part.store id) (answer ≡ Err _) (λ _. answer ≡ Ok tt) → store ≡ data_given s.part.store id.number (named s.part.store id) u
+    → Does s (λ p did q. Quietly false did (DataSet p id u answer q)) (record { serial = s.serial; part = record s.part { store = store }; made = s.made })
+set_does s id u answer store answered given =
+    does_quietly s (λ p did q. Quietly false did (DataSet p id u answer q)) _ (refl, refl, data_set s.part id u answer store answered given)
 
 pub returns-then-not-is_stored : goal.returns-then-not-is_stored
 returns-then-not-is_stored g c = rw (← c.self.view_is)
@@ -33,10 +61,11 @@ unreachable-requires g c =
 
 pub returns : goal.returns
 returns g c = rw (← c.self.view_is)
-    (done_at _ _ _ _ (own _ _ _) c.args.id.now.client (sets c.args.id.now c.args.user_data c.set_object_data.result) (c.set_object_data.result ≡ Err _)
-    (λ i l d b a h. (_, refl, h)) c.slot.result c.index_mut.result.now c.in-Some.client c.set_object_data.new.self false
+    (done_at _ _ _ _ (own _ _ _) c.args.id.now.client (sets c.args.id.now c.args.user_data c.give_data.result) (c.give_data.result ≡ Err _)
+    (λ i l d b a h. (_, refl, h)) c.slot.result c.index_mut.result.now c.in-Some.stored _ false
     (stored_by _ _ _ _ c.client-client.ensures c.is_stored.ensures.stored ∙ c.if-not-is_stored.false) (c.slot.ensures ∙ ap (λ t. t.slot) c.client-client.ensures)
-    c.index_mut.ensures.value c.in-Some.is c.set_object_data.ensures)
+    c.index_mut.ensures.value c.in-Some.is
+    (rw (← c.stored.view_is) (set_does _ c.args.id.now c.args.user_data c.give_data.result _ c.give_data.ensures.answer c.give_data.ensures.given)))
 
 pub invariant_of-self-2 : goal.invariant_of-self-2
 invariant_of-self-2 g c = slots_set _ _ _ _ _ c.self.invariant

@@ -1,5 +1,5 @@
 use Rattle.std.proofs.Common.{◌≡◌, true, false}
-use Rattle.wl_server.proofs.Posting.{posted_dead, posted_starved}
+use Rattle.wl_server.proofs.Posting.{posted_dead, posted_live, posted_starved}
 use Rattle.wl_server.proofs.client.Client.posts.Goals as goal
 
 pub returns-then-self : goal.returns-then-self
@@ -8,11 +8,22 @@ returns-then-self g c =
     posted_dead g.T.Transport.sends c.args.protocol.now c.args.self.now c.args.id.now c.args.code c.args.text c.flush_dropped.new.self
     c.flush_dropped.ensures.flushed.0 c.flush_dropped.result dead c.flush_dropped.ensures.flushed.1 c.flush_dropped.ensures.rest
 
-pub returns-in-Ok : goal.returns-in-Ok
-returns-in-Ok g c = c.post_made.ensures c.args.protocol.now c.in-Ok.ensures
+pub returns-then-refused : goal.returns-then-refused
+returns-then-refused g c =
+    let live : c.args.self.now.part.is_killed ≡ false = rw (← c.self.view_is) c.if-self.false in
+    rw c.if-refused.true
+    (posted_live g.T.Transport.sends c.args.protocol.now c.args.self.now c.args.id.now c.args.code c.args.text
+    c.put_posted-wrote.new.self c.flush_dropped-lacked.new.self c.told-refused.new.self c.kill.new.self c.in-Ok.error c.put_posted-wrote.result
+    c.flush_dropped-lacked.ensures.flushed.0 true c.flush_dropped-lacked.result c.in-Ok.ensures c.put_posted-wrote.ensures.put c.put_posted-wrote.ensures.rest
+    c.flush_dropped-lacked.ensures.flushed.1 c.flush_dropped-lacked.ensures.rest c.if-refused.ensures.refused c.told-refused.ensures.closed c.kill.ensures)
 
-pub post_made-requires : goal.post_made-requires
-post_made-requires g c = rw (← c.self.view_is) c.if-self.false
+pub returns-else-refused : goal.returns-else-refused
+returns-else-refused g c =
+    let live : c.args.self.now.part.is_killed ≡ false = rw (← c.self.view_is) c.if-self.false in
+    (posted_live g.T.Transport.sends c.args.protocol.now c.args.self.now c.args.id.now c.args.code c.args.text
+    c.put_posted-wrote.new.self c.flush_dropped-lacked.new.self c.told-refused.new.self c.kill.new.self c.in-Ok.error c.put_posted-wrote.result
+    c.flush_dropped-lacked.ensures.flushed.0 false c.flush_dropped-lacked.result c.in-Ok.ensures c.put_posted-wrote.ensures.put c.put_posted-wrote.ensures.rest
+    c.flush_dropped-lacked.ensures.flushed.1 c.flush_dropped-lacked.ensures.rest c.if-refused.ensures.refused c.told-refused.ensures.closed c.kill.ensures)
 
 pub returns-in-Err : goal.returns-in-Err
 returns-in-Err g c =

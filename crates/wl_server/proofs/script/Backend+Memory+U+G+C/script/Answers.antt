@@ -1,4 +1,4 @@
-use Rattle.std.proofs.Common.{◌≡◌, ◌∙◌, Bool, Err, Result, List, [], refl, sym}
+use Rattle.std.proofs.Common.{◌≡◌, ◌∙◌, Bool, Err, Result, List, [], refl, subst, sym}
 use Rattle.wl_link.specs.Script.{Script}
 use Rattle.wl_server.specs.declared.error.ScriptError.{ScriptError}
 use Rattle.wl_server.specs.declared.error.ScriptError.TheVariants as refused
@@ -12,6 +12,7 @@ use Rattle.wl_server.specs.PartStep.{Asked, OfClient, PartStep, WithTransport, l
 use Rattle.wl_server.specs.Scripting.{Scripts, move_of, reply_to, step_of}
 use Rattle.wl_server.specs.Server.{Seen, ServerState, Stored}
 use Rattle.wl_server.proofs.Calls.{IsOwn, done_at, held_by, not_stored}
+use Rattle.wl_server.proofs.Moved.{moved}
 use Rattle.wl_server.proofs.Slots.{Kind, slot_not_empty}
 use Rattle.wl_server.proofs.Taken.{slots_set}
 use Rattle.wl_server.proofs.script.Backend+Memory+U+G+C.script.Goals as goal
@@ -58,12 +59,15 @@ pub returns : goal.returns
 returns g c =
     let i = c.self.inside in
     let before = held_by i.protocol i.globals.store i.last_global i.default_limit i.last_client i.clients.items i.notes.items in
-    let answer = c.script-answer.result in
+    let answer = c.make_move-answer.result in
     rw (← c.self.view_is, c.lacks_memory-self-inside.ensures)
     (done_at (over_scripts g.G.GlobalHandler.views) before (step_of c.args.id.now c.args.call) (reply_to c.args.call answer) (own _ _ _) c.args.id.now (scripts c.args.call answer)
     (done answer ≡ Err refused.InvalidId) (to g.G.GlobalHandler.views before c.args.id.now c.args.call answer)
-    c.slot.result c.index_mut.result.now c.in-Some.client c.script-answer.new.self (lacks_move (done answer)) (sym c.is_stored.ensures.stored ∙ c.if-not-is_stored.false) c.slot.ensures
-    c.index_mut.ensures.value c.in-Some.is (does c.args.id.now c.args.call _ _ answer c.script-answer.ensures))
+    c.slot.result c.index_mut.result.now c.in-Some.client _ (lacks_move (done answer)) (sym c.is_stored.ensures.stored ∙ c.if-not-is_stored.false) c.slot.ensures
+    c.index_mut.ensures.value c.in-Some.is (does c.args.id.now c.args.call _ _ answer
+    (rw (← c.client.view_is)
+    (moved _ (λ t t'. ScriptMoves t (move_of c.args.call) (done answer) t') c.make_move-answer.new.script
+    (subst (λ (t : Script). ScriptMoves t (move_of c.args.call) (done answer) c.make_move-answer.new.script) c.transport_mut.ensures.value c.make_move-answer.ensures)))))
 
 pub invariant_of-self-2 : goal.invariant_of-self-2
 invariant_of-self-2 g c = slots_set _ _ _ _ _ c.self.invariant

@@ -1,7 +1,8 @@
-use Rattle.std.proofs.Common.{◌≡◌, ◌∙◌, Ok, Err, Result, [], false, refl, sym}
+use Rattle.std.proofs.Common.{◌≡◌, ◌∙◌, Ok, Err, List, Result, [], false, refl, sym, ap}
 use Rattle.wl_server.specs.declared.error.InvalidId.{InvalidId}
 use Rattle.wl_server.specs.declared.step.Reply.TheVariants as reply
 use Rattle.wl_server.specs.declared.step.Step.TheVariants as step
+use Rattle.wl_link.specs.Exchange.{Queue}
 use Rattle.wl_link.specs.Script.{Script}
 use Rattle.wl_server.specs.Client.{Does}
 use Rattle.wl_server.specs.Ids.{ClientParts}
@@ -10,6 +11,7 @@ use Rattle.wl_server.specs.PartStep.{Asked, WithTransport, lacks_move}
 use Rattle.wl_server.specs.Scripting.{Scripts}
 use Rattle.wl_server.specs.Server.{Stored}
 use Rattle.wl_server.proofs.Calls.{IsOwn, done_at, not_stored}
+use Rattle.wl_server.proofs.Moved.{moved}
 use Rattle.wl_server.proofs.Slots.{Kind, slot_not_empty}
 use Rattle.wl_server.proofs.Taken.{slots_set}
 use Rattle.wl_server.proofs.script.Backend+Memory+U+G+C.take_sent.Goals as goal
@@ -33,11 +35,20 @@ unreachable-requires g c =
     slot_not_empty c.self.inside.clients.items c.args.id.now c.slot.result _ (sym c.is_stored.ensures.stored ∙ c.if-not-is_stored.false) c.slot.ensures
     c.index_mut.ensures.value c.in-None.is
 
+abbrev emptied : Script → Script
+emptied s = record s { sent = [] }
+
 pub returns : goal.returns
-returns g c = rw (← c.self.view_is)
+returns g c =
+    let sent = c.take_sent.ensures.taken ∙ ap (λ (s : Script). s.sent) c.transport_mut.ensures.value in
+    let rest : ◌≡◌ {A = Script} c.take_sent.new.self (record c.client.inside.socket.transport { sent = [] }) = c.take_sent.ensures.rest ∙ ap emptied c.transport_mut.ensures.value in
+    rw (← c.self.view_is)
     (done_at _ _ _ _ (own _ _) c.args.id.now (takes (taken (Ok c.take_sent.result))) _ (λ i l d b a h. (_, refl, h))
-    c.slot.result c.index_mut.result.now c.in-Some.client c.take_sent.new.self false (sym c.is_stored.ensures.stored ∙ c.if-not-is_stored.false) c.slot.ensures
-    c.index_mut.ensures.value c.in-Some.is (does c.args.id.now _ _ _ refl c.take_sent.ensures))
+    c.slot.result c.index_mut.result.now c.in-Some.client _ false (sym c.is_stored.ensures.stored ∙ c.if-not-is_stored.false) c.slot.ensures
+    c.index_mut.ensures.value c.in-Some.is (does c.args.id.now _ _ _ refl
+    (rw (← c.client.view_is)
+    (moved _ (λ t t'. ScriptMoves t TakeSent (taken (Ok c.take_sent.result)) t') c.take_sent.new.self
+    (ap (λ (l : List Queue). let r : Moved = Ok l in r) sent, rest)))))
 
 pub invariant_of-self-2 : goal.invariant_of-self-2
 invariant_of-self-2 g c = slots_set _ _ _ _ _ c.self.invariant

@@ -1,0 +1,14 @@
+use Rattle.wl_server.specs.Responses.{code_of, text_of}
+use Rattle.wl_server.specs.Turns.{around_of}
+use Rattle.wl_server.proofs.Handling.{broke, broke_starved}
+use Rattle.wl_server.proofs.client.Client.ends_by.Goals as goal
+
+pub returns : goal.returns
+returns g c =
+    rw (← c.in-Ok.ensures.text, ← c.in-Ok.ensures.code) (broke g.T.Transport.sends (around_of g.G.GlobalHandler.views c.args.around.now) c.args.self.now c.posts-refused.new.self c.in-Ok.code c.in-Ok.text c.posts-refused.result
+    (rw c.from_parts-display.ensures at c.posts-refused.ensures))
+
+pub returns-in_default : goal.returns-in_default
+returns-in_default g c =
+    rw c.told-refused.ensures.refused (broke_starved g.T.Transport.sends (around_of g.G.GlobalHandler.views c.args.around.now) c.args.self.now c.told-refused.new.self (code_of c.args.breach.now)
+    (text_of c.args.around.now.protocol.now c.args.breach.now) c.requires.live c.told-refused.ensures.closed)
