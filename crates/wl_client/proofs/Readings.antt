@@ -25,9 +25,9 @@ use Rattle.wl_client.specs.declared.open_event.OpenEvent.{OpenEvent}
 use Rattle.wl_client.specs.declared.turn.NoEvent.{NoEvent}
 use Rattle.wl_client.specs.ObjectId.{IdParts}
 use Rattle.wl_client.specs.Handling.{Handling, Swallows, HandsOut, Breaks, handling}
-use Rattle.wl_client.specs.Reading.{NextEvent, Core, Lacks, ReadsAs, ReadsTo, answered, by_fault, client, core_of, faulted, handed_by, part_of, reads_on, receives_allowed, row_asks, verdict, with_link}
+use Rattle.wl_client.specs.Reading.{NextEvent, Lacks, ReadsAs, ReadsTo, answered, by_fault, client, faulted, handed_by, part_of, reads_on, receives_allowed, row_asks, verdict, with_link}
 use Rattle.wl_client.specs.Requests.{SessionMessage, session_content}
-use Rattle.wl_client.specs.Session.{SessionState, objects_of}
+use Rattle.wl_client.specs.Session.{Core, SessionState, core_of, objects_of}
 use Rattle.wl_client.specs.Turns.{Turned, GaveEvent, WentOn, LacksMore, Ended, EndsAs, HandledTo, Leads, Live, NotTaken, ReceivedTo, Turns, event_answer, event_refused, malformed}
 
 abbrev ok_answer : WireMessage → Result WireMessage MessageParseError

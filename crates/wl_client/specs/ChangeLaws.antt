@@ -48,10 +48,10 @@ use Rattle.wl_client.specs.Finish.{Closes, Finishes, FlushEnds, SessionFlushed, 
 use Rattle.wl_client.specs.Handed.{Found, HandedId, IsHandedIn, New, argument_ids, ended_notes, event_ids, ids_in, is_over, note_ids, notes_in, request_ids}
 use Rattle.wl_client.specs.Objects.{DataSet, DestroyedBy, destroyable}
 use Rattle.wl_client.specs.Handling.{Handling, Swallows, HandsOut, event_of, handed, handling, objects_after, of_converted, of_display, of_event, opened_of, row_in}
-use Rattle.wl_client.specs.Reading.{Core, NextEvent, event_content, handed_by, objects_in as cored}
+use Rattle.wl_client.specs.Reading.{NextEvent, event_content, handed_by, objects_in as cored}
 use Rattle.wl_client.specs.ReadingLaws.{SeesObjects, next_event_respects, read_fails}
 use Rattle.wl_client.specs.Requests.{Numbered, Requested, error_after, Sent, SentAs, SentWithChild, SessionMessage, Spec, Written, checked_row, checked_sender, ended_by, grant, id_of_new, new_child, number_of_new, request_check, session_content, unless, wire_message, with_born, with_ended}
-use Rattle.wl_client.specs.Session.{SessionState, alive, id_at, id_of, last_possible_serial, named, noted, null_parts, objects_of, serial_of, with_flags, with_user_data}
+use Rattle.wl_client.specs.Session.{Core, SessionState, alive, core_of, id_at, id_of, last_possible_serial, named, noted, null_parts, objects_of, serial_of, with_core, with_flags, with_user_data}
 use Rattle.wl_client.specs.Steps.{StepOf}
 
 -- ---- options, truth values and results
@@ -650,7 +650,7 @@ module _ {T U : Type 0} where
   -- ---- the end of an event, and a flush
 
   dead : (s : SessionState T U) (n : ℕ) (o : Option (Object (Kept U))) → ((x : Object (Kept U)) → o ≡ Some x → held s.store n ≡ Some x)
-      → Moves s [] (with_dead s n o)
+      → Moves s [] (with_core s (with_dead (core_of s) n o))
   dead s n None h = idle s
   dead s n (Some x) h = go x.value.client_destroyed refl
     where
@@ -661,14 +661,14 @@ module _ {T U : Type 0} where
       go true is = (wrote (holding s) n (with_flags true true x) x (h x refl) refl (sym is), λ failed. failed)
       go false is = (ends (holding s) n x (with_flags true true x) (h x refl) is refl refl, λ failed. failed)
 
-  destructor : (s : SessionState T U) (event : OpenEvent) → Moves s [] (after_destructor s event)
+  destructor : (s : SessionState T U) (event : OpenEvent) → Moves s [] (with_core s (after_destructor (core_of s) event))
   destructor s event = go event.is_destructor
     where
-      go : (b : Bool) → Moves s [] (cond b (with_dead s event.sender.number (named s.store event.sender)) s)
+      go : (b : Bool) → Moves s [] (with_core s (cond b (with_dead (core_of s) event.sender.number (named s.store event.sender)) (core_of s)))
       go true = dead s event.sender.number (named s.store event.sender) (λ x e. named_held s.store event.sender x e)
       go false = idle s
 
-  gives_data : (s : SessionState T U) (created : Option IdParts) (u : Option U) → Moves s [] (with_data_for s created u)
+  gives_data : (s : SessionState T U) (created : Option IdParts) (u : Option U) → Moves s [] (with_core s (with_data_for (core_of s) created u))
   gives_data s None u = idle s
   gives_data s (Some id) None = idle s
   gives_data s (Some id) (Some u) = go (named s.store id) refl
@@ -681,9 +681,9 @@ module _ {T U : Type 0} where
   closes : (s : SessionState T U) (event : OpenEvent) (u : Option U) (answer : _) (after : SessionState T U) → Closes s event u answer after → Moves s [] after
   closes s event u answer after (inl (is, same)) =
       let shut : SessionState T U = record s { open_event = None } in
-      let ended = after_destructor shut event in
+      let ended = with_core s (after_destructor (core_of shut) event) in
       quiet s _ after same
-      (both_move s ended (with_data_for ended event.created u) [] [] (destructor shut event) (gives_data ended event.created u))
+      (both_move s ended (with_core s (with_data_for (core_of ended) event.created u)) [] [] (destructor shut event) (gives_data ended event.created u))
   closes s event u answer after (inr (ends_sender, (is, same))) = quiet s s after same (idle s)
 
   finishes : (s : SessionState T U) (u : Option U) (answer : _) (after : SessionState T U) → Finishes s u answer after → Moves s [] after

@@ -10,9 +10,9 @@ use Rattle.wl_link.specs.Reader.{AllFed, Given, Gives, Part, Reads, Turn, came_i
 use Rattle.wl_link.specs.Served.{GoesOnAs, Served}
 use Rattle.wl_client.specs.declared.error.EventError.{EventError}
 use Rattle.wl_client.specs.declared.error.FinishRefused.{FinishRefused}
-use Rattle.wl_client.specs.Reading.{Core, answered, client, handed_by, part_of, receives_allowed}
+use Rattle.wl_client.specs.Reading.{answered, client, handed_by, part_of, receives_allowed}
 use Rattle.wl_client.specs.Requests.{SessionMessage}
-use Rattle.wl_client.specs.Session.{SessionState}
+use Rattle.wl_client.specs.Session.{Core, SessionState}
 
 -- no send is made
 abbrev pub no_sends : {S : Type 0} → S → Queue → Result ℕ IoFault → S → Type 0

@@ -16,7 +16,7 @@ use Rattle.wl_client.specs.declared.error.WaylandError.TheVariants.{Io}
 use Rattle.wl_client.specs.declared.kept.Kept.{Kept}
 use Rattle.wl_client.specs.declared.open_event.OpenEvent.{OpenEvent}
 use Rattle.wl_client.specs.ObjectId.{IdParts}
-use Rattle.wl_client.specs.Session.{SessionState, named, alive, noted, id_at, with_flags, with_user_data}
+use Rattle.wl_client.specs.Session.{Core, SessionState, named, alive, core_of, noted, id_at, with_core, with_flags, with_user_data}
 
 module _ {U : Type 0} where
   -- an object gets the data, if a number's object is there
@@ -33,29 +33,27 @@ module _ {U : Type 0} where
       ∷ when (is_none created && is_some u) finish.UnexpectedData
       ∷ [])
 
-module _ {T U : Type 0} where
   -- an object is destroyed by both sides, and noted if the client had not destroyed it and it has user data
-  abbrev pub with_dead : SessionState T U → ℕ → Option (Object (Kept U)) → SessionState T U
-  with_dead s n None = s
-  with_dead s n (Some x) = record s {
-    store = rewritten s.store n (with_flags true true x);
-    notes = if x.value.client_destroyed then s.notes else noted s.notes x.value.user_data (id_at n x);
+  abbrev pub with_dead : Core U → ℕ → Option (Object (Kept U)) → Core U
+  with_dead c n None = c
+  with_dead c n (Some x) = record c {
+    store = rewritten c.store n (with_flags true true x);
+    notes = if x.value.client_destroyed then c.notes else noted c.notes x.value.user_data (id_at n x);
   }
 
   -- a destructor event ends the object that it was sent to
-  abbrev pub after_destructor : SessionState T U → OpenEvent → SessionState T U
-  after_destructor s event =
-      if event.is_destructor then with_dead s event.sender.number (named s.store event.sender) else s
+  abbrev pub after_destructor : Core U → OpenEvent → Core U
+  after_destructor c event = if event.is_destructor then with_dead c event.sender.number (named c.store event.sender) else c
 
   -- the object that the event made gets the data
-  abbrev pub with_data_for : SessionState T U → Option IdParts → Option U → SessionState T U
-  with_data_for s None u = s
-  with_data_for s (Some id) None = s
-  with_data_for s (Some id) (Some u) = record s { store = data_given s.store id.number (named s.store id) u }
+  abbrev pub with_data_for : Core U → Option IdParts → Option U → Core U
+  with_data_for c (Some id) (Some u) = record c { store = data_given c.store id.number (named c.store id) u }
+  with_data_for c _ _ = c
 
-  abbrev pub closed : SessionState T U → OpenEvent → Option U → SessionState T U
-  closed s event u = with_data_for (after_destructor (record s { open_event = None }) event) event.created u
+  abbrev pub closed : Core U → OpenEvent → Option U → Core U
+  closed c event u = with_data_for (after_destructor (record c { open_event = None }) event) event.created u
 
+module _ {T U : Type 0} where
   abbrev pub Refuses : SessionState T U → Option U → FinishError → Result (Unit {0}) (FinishRefused U) → SessionState T U → Type 0
   Refuses before u e answer after = (answer ≡ Err (record { error = e; user_data = u })) × (after ≡ before)
 
@@ -67,7 +65,7 @@ module _ {T U : Type 0} where
   -- the event is closed; for the note of an object that it ends there may be no memory
   abbrev pub Closes : SessionState T U → OpenEvent → Option U → Result (Unit {0}) (FinishRefused U) → SessionState T U → Type 0
   Closes before event u answer after =
-      ((answer ≡ Ok tt) × (after ≡ closed before event u))
+      ((answer ≡ Ok tt) × (after ≡ with_core before (closed (core_of before) event u)))
       ⊎ (NotesEnd before event × Refuses before u finish.OutOfMemory answer after)
 
   -- a refusal gives the data back, and the event stays open

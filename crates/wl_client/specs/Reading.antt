@@ -8,27 +8,26 @@ use Rattle.wl_wire.specs.declared.error.MessageParseError.{MessageParseError}
 use Rattle.wl_wire.specs.declared.error.MessageParseError.TheVariants as parse
 use Rattle.wl_wire.specs.declared.message.Message.{Message}
 use Rattle.wl_wire.specs.Message.{WireMessage}
-use Rattle.wl_wire.specs.Table.{InterfaceRow, MessageRow}
+use Rattle.wl_wire.specs.Table.{MessageRow}
 use Rattle.wl_link.specs.declared.object.Object.{Object}
 use Rattle.wl_link.specs.Exchange.{Queue}
 use Rattle.wl_link.specs.Identity.{Objects}
 use Rattle.wl_link.specs.Link.{FindsRoom, LinkState, ReadOne}
 use Rattle.wl_link.specs.Reader.{Given, Gives, HandedOut, Part, Queued, Reader, Reads, Turn, Verdict}
-use Rattle.wl_link.specs.Store.{Store, held, rewritten}
+use Rattle.wl_link.specs.Store.{held}
 use Rattle.wl_client.specs.declared.error.EventError.{EventError}
 use Rattle.wl_client.specs.declared.error.EventError.TheVariants as no_event
 use Rattle.wl_client.specs.declared.error.WaylandError.{WaylandError}
 use Rattle.wl_client.specs.declared.error.WaylandError.TheVariants.{Io, Protocol}
 use Rattle.wl_client.specs.declared.event_fault.EventFault.TheVariants as wrong
 use Rattle.wl_client.specs.declared.kept.Kept.{Kept}
-use Rattle.wl_client.specs.declared.note.Note.{Note}
 use Rattle.wl_client.specs.declared.open_event.OpenEvent.{OpenEvent}
 use Rattle.wl_client.specs.ObjectId.{IdParts}
 use Rattle.wl_client.specs.Events.{error_of}
-use Rattle.wl_client.specs.Finish.{data_given, refusal}
+use Rattle.wl_client.specs.Finish.{closed, refusal}
 use Rattle.wl_client.specs.Handling.{Handling, Swallows, HandsOut, Breaks, handed, handling, row_in, signature_in}
 use Rattle.wl_client.specs.Requests.{SessionMessage, session_content}
-use Rattle.wl_client.specs.Session.{SessionState, named, alive, noted, id_at, with_flags}
+use Rattle.wl_client.specs.Session.{Core, SessionState, alive, core_of, named}
 
 -- how many receives a reading makes at most
 abbrev pub receives_allowed : ℕ
@@ -38,15 +37,6 @@ receives_allowed = 64
 abbrev pub event_content : Result (Message IdParts Token) EventError → Result SessionMessage EventError
 event_content (Ok m) = Ok (session_content m)
 event_content (Err e) = Err e
-
--- all of a session but its link
-pub record Core (U : Type 0) : Type 0 where
-  pub table : List InterfaceRow
-  pub store : Store (Kept U)
-  pub last_serial : ℕ
-  pub error : Option WaylandError
-  pub open_event : Option OpenEvent
-  pub notes : List Note
 
 -- an event asks for memory before it is read: for the object that it makes, or for arguments beyond four
 abbrev pub row_asks : Option MessageRow → Bool
@@ -92,23 +82,6 @@ module _ {U : Type 0} where
   }
 
   -- ---- a finish
-
-  abbrev pub with_dead : Core U → ℕ → Option (Object (Kept U)) → Core U
-  with_dead c n None = c
-  with_dead c n (Some x) = record c {
-    store = rewritten c.store n (with_flags true true x);
-    notes = if x.value.client_destroyed then c.notes else noted c.notes x.value.user_data (id_at n x);
-  }
-
-  abbrev pub after_destructor : Core U → OpenEvent → Core U
-  after_destructor c event = if event.is_destructor then with_dead c event.sender.number (named c.store event.sender) else c
-
-  abbrev pub with_data_for : Core U → Option IdParts → Option U → Core U
-  with_data_for c (Some id) (Some u) = record c { store = data_given c.store id.number (named c.store id) u }
-  with_data_for c _ _ = c
-
-  abbrev pub closed : Core U → OpenEvent → Option U → Core U
-  closed c event u = with_data_for (after_destructor (record c { open_event = None }) event) event.created u
 
   abbrev pub has_data : Option (Object (Kept U)) → Bool
   has_data None = false
@@ -180,16 +153,6 @@ module _ {T U : Type 0} where
 
   abbrev pub with_error : SessionState T U → WaylandError → SessionState T U
   with_error s e = record s { error = Some e }
-
-  abbrev pub core_of : SessionState T U → Core U
-  core_of s = record {
-    table = s.table;
-    store = s.store;
-    last_serial = s.last_serial;
-    error = s.error;
-    open_event = s.open_event;
-    notes = s.notes;
-  }
 
   -- the session as a part whose core reads
   abbrev pub part_of : SessionState T U → Part T (Core U)

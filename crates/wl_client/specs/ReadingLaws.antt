@@ -6,7 +6,6 @@ use Rattle.std.proofs.lemmas.Option.{same_Some}
 use Rattle.wl_wire.specs.declared.error.IoFault.{IoFault}
 use Rattle.wl_wire.specs.declared.error.IoFault.TheVariants as fault
 use Rattle.wl_wire.specs.Message.{WireMessage}
-use Rattle.wl_link.specs.declared.object.Object.{Object}
 use Rattle.wl_link.specs.Exchange.{Queue, Sending}
 use Rattle.wl_link.specs.Link.{LinkState, counted_answer, count_of}
 use Rattle.wl_link.specs.Branches.{both_option}
@@ -25,16 +24,14 @@ use Rattle.wl_client.specs.declared.error.FinishError.{FinishError}
 use Rattle.wl_client.specs.declared.error.FinishRefused.{FinishRefused}
 use Rattle.wl_client.specs.declared.error.WaylandError.{WaylandError}
 use Rattle.wl_client.specs.declared.event_fault.EventFault.TheVariants as wrong
-use Rattle.wl_client.specs.declared.kept.Kept.{Kept}
 use Rattle.wl_client.specs.declared.open_event.OpenEvent.{OpenEvent}
-use Rattle.wl_client.specs.ObjectId.{IdParts}
 use Rattle.wl_client.specs.Cutting.{CutsFinish, CutsReading, GoesOn, IsServed, no_sends}
 use Rattle.wl_client.specs.Events.{error_of}
 use Rattle.wl_client.specs.Handling.{Handling, Swallows, HandsOut, Breaks, handed, handling, objects_after}
-use Rattle.wl_client.specs.Finish.{Closes, Finishes, refusal, closed as session_closed, with_data_for as session_data_for, with_dead as session_dead}
-use Rattle.wl_client.specs.Reading.{Core, NextEvent, answered, client, closed, core_of, faulted, finish, finished, handed_by, objects_in, part_of, receives_allowed, session_of, verdict, with_data_for, with_dead}
+use Rattle.wl_client.specs.Finish.{Closes, Finishes, closed, refusal}
+use Rattle.wl_client.specs.Reading.{NextEvent, answered, came_to, client, faulted, finish, finished, handed_by, objects_in, part_of, receives_allowed, session_of, starved_to, verdict}
 use Rattle.wl_client.specs.Requests.{SessionMessage}
-use Rattle.wl_client.specs.Session.{SessionState, named}
+use Rattle.wl_client.specs.Session.{Core, SessionState, core_of, with_core}
 
 -- ---- one look at what two outcomes share
 
@@ -155,26 +152,14 @@ module _ {U : Type 0} (R : Core U → List (Given SessionMessage) → Core U →
         → R c (map HandedOut (handed (handling c.table (objects_in c) m))) d
     pub fails : (c d : Core U) → objects_in d ≡ objects_in c → d.notes ≡ c.notes → R c [] d
 
-  -- wherever a message leads, with or without memory, the objects are as it says
-  comes_so : (P : Core U → Type 0) (c : Core U) (h : Handling U) → ((d : Core U) → objects_in d ≡ objects_after h → d.notes ≡ c.notes → P d)
-      → (wrote : Result (Unit {0}) IoFault) → P (comes_to client (verdict c h) wrote)
-  comes_so P c (Swallows o) so (Ok u) = so _ refl refl
-  comes_so P c (Swallows o) so (Err fault.OutOfMemory) = so _ refl refl
-  comes_so P c (Swallows o) so (Err f) = so _ refl refl
-  comes_so P c (HandsOut m event o) so (Ok u) = so _ refl refl
-  comes_so P c (HandsOut m event o) so (Err fault.OutOfMemory) = so _ refl refl
-  comes_so P c (HandsOut m event o) so (Err f) = so _ refl refl
-  comes_so P c (Breaks e o) so (Ok u) = so _ refl refl
-  comes_so P c (Breaks e o) so (Err fault.OutOfMemory) = so _ refl refl
-  comes_so P c (Breaks e o) so (Err f) = so _ refl refl
-
-  keeps : (c : Core U) (h : Handling U) → ((d : Core U) → objects_in d ≡ objects_after h → d.notes ≡ c.notes → R c (map HandedOut (handed h)) d) → Keeps client R c (verdict c h)
-  keeps c h so =
-      let P : Core U → Type 0 = λ d. R c (map HandedOut (handed h)) d in
-      record {
-        carried = λ put others wrote is. subst (λ (ms : List Said). R c (put_and_gave ms (handed h)) (comes_to client (verdict c h) wrote)) (sym (none_put put others is)) (comes_so P c h so wrote);
-        starved = λ asks. comes_so P c h so (Err fault.OutOfMemory);
-      }
+  -- a message leads to this core, or for want of memory to that
+  pub keeps : (c : Core U) (h : Handling U) → R c (map HandedOut (handed h)) (came_to c h) → R c (map HandedOut (handed h)) (starved_to c h) → Keeps client R c (verdict c h)
+  keeps c h came starved = record {
+    carried = λ put others wrote is written.
+        subst (λ (w : Result (Unit {0}) IoFault). R c (put_and_gave put (handed h)) (comes_to client (verdict c h) w)) (sym (written refl))
+        (subst (λ (ms : List Said). R c (put_and_gave ms (handed h)) (came_to c h)) (sym (none_put put others is)) came);
+    starved = λ asks. starved;
+  }
 
   module _ (sees : SeesObjects) where
     faults : (c : Core U) (f : IoFault) → R c [] (faulted c f)
@@ -182,13 +167,19 @@ module _ {U : Type 0} (R : Core U → List (Given SessionMessage) → Core U →
     faults c fault.OutOfMemory = sees.fails c _ refl refl
     faults c f = sees.fails c _ refl refl
 
+    -- with or without memory, the objects are as the message says
+    sees_handling : (c : Core U) (h : Handling U) → ((d : Core U) → objects_in d ≡ objects_after h → d.notes ≡ c.notes → R c (map HandedOut (handed h)) d) → Keeps client R c (verdict c h)
+    sees_handling c (Swallows o) so = keeps c (Swallows o) (so _ refl refl) (so _ refl refl)
+    sees_handling c (HandsOut m event o) so = keeps c (HandsOut m event o) (so _ refl refl) (so _ refl refl)
+    sees_handling c (Breaks e o) so = keeps c (Breaks e o) (so _ refl refl) (so _ refl refl)
+
     respects : RespectsReading client R
     respects = record {
       same = λ c. sees.fails c c refl refl;
       joins = sees.joins;
-      handles = λ c m. keeps c (handling c.table (objects_in c) m) (sees.handles c m);
-      malformed = λ c. keeps c (Breaks (error_of c.table wrong.Malformed) (objects_in c)) (sees.fails c);
-      faulted = faults;
+      handles = λ c m on. sees_handling c (handling c.table (objects_in c) m) (sees.handles c m);
+      malformed = λ c on. sees_handling c (Breaks (error_of c.table wrong.Malformed) (objects_in c)) (sees.fails c);
+      faulted = λ c f on. faults c f;
     }
 
     -- it holds over a reading; other answers change nothing
@@ -220,9 +211,9 @@ refused_not e same = true≢false (ap is_ok same)
 module _ {T U : Type 0} where
   -- an accepted finish closes the event
   abbrev pub Shuts : SessionState T U → Option U → SessionState T U → Type 0
-  Shuts s u after = (event : OpenEvent) × (s.open_event ≡ Some event) × (refusal event.created u ≡ None) × (after ≡ session_closed s event u)
+  Shuts s u after = (event : OpenEvent) × (s.open_event ≡ Some event) × (refusal event.created u ≡ None) × (after ≡ with_core s (closed (core_of s) event u))
 
-  closes_as : (s after : SessionState T U) (event : OpenEvent) (u : Option U) → Closes s event u (Ok tt) after → after ≡ session_closed s event u
+  closes_as : (s after : SessionState T U) (event : OpenEvent) (u : Option U) → Closes s event u (Ok tt) after → after ≡ with_core s (closed (core_of s) event u)
   closes_as s after event u (inl (is, same)) = same
   closes_as s after event u (inr (notes, (is, same))) = absurd (refused_not _ is)
 
@@ -237,33 +228,12 @@ module _ {T U : Type 0} where
             ]
       ]
 
-  -- a session that was closed, as a part
-  part_closed : (s : SessionState T U) (event : OpenEvent) (u : Option U)
-      → part_of (session_closed s event u) ≡ (let p : Part T (Core U) = record { core = closed (core_of s) event u; link = s.link } in p)
-  part_closed s event u = with_destructor event.is_destructor (named s.store event.sender) event.created u
-    where
-      given_to : (t : SessionState T U) (created : Option IdParts) (u : Option U)
-          → part_of (session_data_for t created u) ≡ (let p : Part T (Core U) = record { core = with_data_for (core_of t) created u; link = t.link } in p)
-      given_to t None u = refl
-      given_to t (Some id) None = refl
-      given_to t (Some id) (Some v) = refl
-
-      shut : SessionState T U
-      shut = record s { open_event = None }
-
-      with_destructor : (b : Bool) (x : Option (Object (Kept U))) (created : Option IdParts) (u : Option U)
-          → part_of (session_data_for (cond b (session_dead shut event.sender.number x) shut) created u)
-          ≡ (let p : Part T (Core U) = record { core = with_data_for (cond b (with_dead (core_of shut) event.sender.number x) (core_of shut)) created u; link = s.link } in p)
-      with_destructor true None created u = given_to shut created u
-      with_destructor true (Some x) created u = given_to (session_dead shut event.sender.number (Some x)) created u
-      with_destructor false x created u = given_to shut created u
-
   -- so it is what the reader comes to where it takes these data
   pub finish_ends : (sends : T → Queue → Result ℕ IoFault → T → Type 0) (s after : SessionState T U) (u : Option U) → s.error ≡ None → Finishes s u (Ok tt) after
       → (client.reads_on (core_of s) ≡ false) × Ends sends client (part_of s) u [] [] false (part_of after)
   finish_ends sends s after u live h =
       let (event, some, fits, same) = finish_as s after u h in
-      let is = ap part_of same ∙ part_closed s event u in
+      let is = ap part_of same in
       let v : Verdict (Core U) SessionMessage = finished (core_of s) event u in
       let takes : finish (core_of s) s.error s.open_event u ≡ Some v
       = ap₂ (λ (e : Option WaylandError) (o : Option OpenEvent). finish (core_of s) e o u) live some

@@ -13,6 +13,7 @@ use Rattle.wl_link.specs.LengthLaws.{failed_finds}
 use Rattle.wl_link.specs.Link.{FindsRoom, LinkState, counted_answer, count_of}
 use Rattle.wl_link.specs.Puts.{PutsOut, Said, lacked_memory}
 use Rattle.wl_link.specs.Reader.{AllFed, CarriesOut, Ends, Given, IsFed, Gives, Handled, Part, Reads, Received, Turn, Unread, Verdict, came_to as comes_to, stops, with_link}
+use Rattle.wl_link.specs.RespectLaws.{Keeps, carries_respect}
 use Rattle.wl_client.specs.declared.error.EventError.{EventError}
 use Rattle.wl_client.specs.declared.error.WaylandError.{WaylandError}
 use Rattle.wl_client.specs.declared.error.WaylandError.TheVariants.{Io, Protocol}
@@ -21,11 +22,12 @@ use Rattle.wl_client.specs.declared.kept.Kept.{Kept}
 use Rattle.wl_client.specs.declared.open_event.OpenEvent.{OpenEvent}
 use Rattle.wl_client.specs.ObjectId.{IdParts}
 use Rattle.wl_client.specs.Events.{error_of}
-use Rattle.wl_client.specs.Finish.{refusal}
+use Rattle.wl_client.specs.Finish.{closed, refusal, with_data_for, with_dead}
 use Rattle.wl_client.specs.Handling.{Handling, Swallows, HandsOut, Breaks, handling}
-use Rattle.wl_client.specs.Reading.{Core, EndsWithRoom, NextEvent, client, closed, finish, finished, objects_in, part_of, verdict, with_data_for, with_dead}
+use Rattle.wl_client.specs.Reading.{EndsWithRoom, NextEvent, came_to, client, finish, finished, objects_in, part_of, starved_to, verdict}
+use Rattle.wl_client.specs.ReadingLaws.{keeps}
 use Rattle.wl_client.specs.Requests.{SessionMessage}
-use Rattle.wl_client.specs.Session.{SessionState, named}
+use Rattle.wl_client.specs.Session.{Core, SessionState, named}
 
 none_ended : {e : Option WaylandError} → e ≡ None → e ≡ Some (Io fault.Pipe) → ⊥
 none_ended none is = true≢false (ap is_none (sym none ∙ is))
@@ -34,13 +36,28 @@ none_ended none is = true≢false (ap is_none (sym none ∙ is))
 abbrev pub NotEndedByPipe : {U : Type 0} → Core U → Type 0
 NotEndedByPipe c = c.error ≢ Some (Io fault.Pipe)
 
-none_stored : (e : Option WaylandError) (b : Bool) → is_none e && b ≡ true → e ≡ None
-none_stored None b on = refl
-none_stored (Some e) b on = absurd (true≢false (sym on))
-
 fed_blocks : (r : Result Queue IoFault) (f : IoFault) → IsFed r → counted_answer (count_of r) ≡ Err f → f ≡ fault.WouldBlock
 fed_blocks (Ok q) f some is = absurd (true≢false (ap is_ok (sym (byte_came q some) ∙ is)))
 fed_blocks (Err g) f would is = let same : g ≡ f = cc in sym same ∙ would
+
+-- an accepted finish closes the event, and keeps the error
+pub closed_keeps : {U : Type 0} (c : Core U) (event : OpenEvent) (u : Option U) → ((closed c event u).error ≡ c.error) × ((closed c event u).open_event ≡ None)
+closed_keeps {U = U} c event u = at event.is_destructor (named c.store event.sender) event.created u
+  where
+    shut : Core U
+    shut = record c { open_event = None }
+
+    given_to : (d : Core U) (created : Option IdParts) (u : Option U) → ((with_data_for d created u).error ≡ d.error) × ((with_data_for d created u).open_event ≡ d.open_event)
+    given_to d None u = (refl, refl)
+    given_to d (Some id) None = (refl, refl)
+    given_to d (Some id) (Some v) = (refl, refl)
+
+    at : (b : Bool) (x : Option (Object (Kept U))) (created : Option IdParts) (u : Option U)
+        → ((with_data_for (cond b (with_dead shut event.sender.number x) shut) created u).error ≡ c.error)
+        × ((with_data_for (cond b (with_dead shut event.sender.number x) shut) created u).open_event ≡ None)
+    at true None created u = given_to shut created u
+    at true (Some x) created u = given_to (with_dead shut event.sender.number (Some x)) created u
+    at false x created u = given_to shut created u
 
 module _ {T U : Type 0} (sends : T → Queue → Result ℕ IoFault → T → Type 0) (receives : T → ℕ → Result Queue IoFault → T → Type 0) where
   -- ---- what a message comes to
@@ -49,9 +66,6 @@ module _ {T U : Type 0} (sends : T → Queue → Result ℕ IoFault → T → Ty
   abbrev NotEnded : Core U → Type 0
   NotEnded c = (c.error ≡ None) ⊎ ((client.reads_on c ≡ false) × (c.error ≢ Some (Io fault.Pipe)))
 
-  came : (c : Core U) (h : Handling U) (d : Core U) (wrote : Result (Unit {0}) IoFault) → wrote ≡ Ok tt → d ≡ comes_to client (verdict c h) wrote → d ≡ (verdict c h).core
-  came c h d wrote is end = end ∙ ap (comes_to client (verdict c h)) is
-
   broken : (d : Core U) (e : WaylandError) → e ≢ Io fault.Pipe → d.error ≡ Some e → NotEnded d
   broken d e other is =
       inr (
@@ -59,18 +73,19 @@ module _ {T U : Type 0} (sends : T → Queue → Result ℕ IoFault → T → Ty
         λ same. other (same_Some e (Io fault.Pipe) (sym is ∙ same)),
       )
 
+  abbrev EndsOtherwise : Core U → List (Given SessionMessage) → Core U → Type 0
+  EndsOtherwise c gave d = c.error ≡ None → NotEnded d
+
+  ends_otherwise : (c : Core U) (h : Handling U) → Keeps client EndsOtherwise c (verdict c h)
+  ends_otherwise c (Swallows o) = keeps EndsOtherwise c (Swallows o) (λ none. inl none) (λ none. inl none)
+  ends_otherwise c (HandsOut m event o) = keeps EndsOtherwise c (HandsOut m event o) (λ none. inl none) (λ none. inl none)
+  ends_otherwise c (Breaks e o) =
+      keeps EndsOtherwise c (Breaks e o) (λ none. broken (came_to c (Breaks e o)) (Protocol e) (λ same. cc) refl)
+      (λ none. broken (starved_to c (Breaks e o)) (Io fault.OutOfMemory) (λ same. cc) refl)
+
   not_ended : (c : Core U) (h : Handling U) (before : LinkState T) (es : List Sending) (gave : List (Given SessionMessage)) (lacked : Bool) (mid : Part T (Core U))
       → c.error ≡ None → CarriesOut sends client (verdict c h) before es gave lacked mid → NotEnded mid.core
-  not_ended c (Swallows o) before es gave lacked mid none (inr (asks, was, sent, gives, same)) = absurd (true≢false (sym asks))
-  not_ended c (HandsOut m event o) before es gave lacked mid none (inr (asks, was, sent, gives, same)) = absurd (true≢false (sym asks))
-  not_ended c (Breaks e o) before es gave lacked mid none (inr (asks, was, sent, gives, same)) =
-      broken mid.core (Io fault.OutOfMemory) (λ is. cc) (ap (λ (p : Part T (Core U)). p.core.error) same)
-  not_ended c (Swallows o) before es gave lacked mid none (inl (first, others, put, wrote, link, short, puts, flushes, split, end, is, was)) =
-      inl (ap (λ (d : Core U). d.error) (came c (Swallows o) mid.core wrote puts.2 end) ∙ none)
-  not_ended c (HandsOut m event o) before es gave lacked mid none (inl (first, others, put, wrote, link, short, puts, flushes, split, end, is, was)) =
-      inl (ap (λ (d : Core U). d.error) (came c (HandsOut m event o) mid.core wrote puts.2 end) ∙ none)
-  not_ended c (Breaks e o) before es gave lacked mid none (inl (first, others, put, wrote, link, short, puts, flushes, split, end, is, was)) =
-      broken mid.core (Protocol e) (λ same. cc) (ap (λ (d : Core U). d.error) (came c (Breaks e o) mid.core wrote puts.2 end))
+  not_ended c h before es gave lacked mid none carried = carries_respect sends receives client EndsOtherwise c (verdict c h) before mid es gave lacked (ends_otherwise c h) carried none
 
   reads_nothing : (left : ℕ) (p after : Part T (Core U)) (turns : List Turn) (out : Gives SessionMessage) → client.reads_on p.core ≡ false
       → Reads sends client receives left p turns out after → after ≡ p
@@ -81,82 +96,53 @@ module _ {T U : Type 0} (sends : T → Queue → Result ℕ IoFault → T → Ty
 
   -- ---- a reading
 
+  -- what ends so: a receive of no bytes, which found one free for what lacked
+  abbrev NoneCame : List Turn → Part T (Core U) → Type 0
+  NoneCame turns after = FindsRoom after.link after.link.room × (AllFed turns → ⊥)
+
   -- after a message
-  heard_room : (left : ℕ) (p after : Part T (Core U)) (turns : List Turn) (out : Gives SessionMessage) → Reads sends client receives left p turns out after
-      → (p.core.error ≡ None → FindsRoom after.link after.link.room) → after.core.error ≡ Some (Io fault.Pipe) → NotEnded p.core → FindsRoom after.link after.link.room
-  heard_room left p after turns out reads goes is (inl none) = goes none
-  heard_room left p after turns out reads goes is (inr (off, other)) =
+  heard_none : (left : ℕ) (p after : Part T (Core U)) (turns : List Turn) (out : Gives SessionMessage) → Reads sends client receives left p turns out after
+      → (p.core.error ≡ None → NoneCame turns after) → after.core.error ≡ Some (Io fault.Pipe) → NotEnded p.core → NoneCame turns after
+  heard_none left p after turns out reads goes is (inl none) = goes none
+  heard_none left p after turns out reads goes is (inr (off, other)) =
       absurd (other (sym (ap (λ (x : Part T (Core U)). x.core.error) (reads_nothing left p after turns out off reads)) ∙ is))
 
-  reads_room : (left : ℕ) (p after : Part T (Core U)) (turns : List Turn) (out : Gives SessionMessage) → Reads sends client receives left p turns out after
-      → p.core.error ≡ None → after.core.error ≡ Some (Io fault.Pipe) → FindsRoom after.link after.link.room
-  reads_room left p after [] out (same, ends) none is = absurd (none_ended none (sym (ap (λ (x : Part T (Core U)). x.core.error) same) ∙ is))
-  reads_room left p after (Received r ∷ turns) out (on, lacks, (n, is', (link, filled, finds, h))) none is =
-      go (counted_answer (count_of r)) refl h (λ more. reads_room n (with_link p link) after turns out more none is)
+  none_came : (left : ℕ) (p after : Part T (Core U)) (turns : List Turn) (out : Gives SessionMessage) → Reads sends client receives left p turns out after
+      → p.core.error ≡ None → after.core.error ≡ Some (Io fault.Pipe) → NoneCame turns after
+  none_came left p after [] out (same, ends) none is = absurd (none_ended none (sym (ap (λ (x : Part T (Core U)). x.core.error) same) ∙ is))
+  none_came left p after (Received r ∷ turns) out (on, lacks, (n, is', (link, filled, finds, h))) none is =
+      go (counted_answer (count_of r)) refl h (λ more. none_came n (with_link p link) after turns out more none is)
     where
       go : (c : Result (Unit {0}) IoFault) → counted_answer (count_of r) ≡ c
           → MatchResult c (λ _. Reads sends client receives n (with_link p link) turns out after)
           (λ f. (turns ≡ []) × (out ≡ stops (Some f) (lacked_memory (Err f)) n) × (after ≡ record { core = client.faulted p.core f; link = link }))
-          → (Reads sends client receives n (with_link p link) turns out after → FindsRoom after.link after.link.room) → FindsRoom after.link after.link.room
-      go (Ok u) was more goes = goes more
-      go (Err f) was (last, ends, same) goes =
-          subst (λ (x : Part T (Core U)). FindsRoom x.link x.link.room) (sym same) (failed_finds receives p.link link r f was filled finds)
-  reads_room left p after (Handled es ∷ turns) out (on, (v, link, first, lacked, mid, rest, (m, read, is'), carried, split, more)) none is =
-      heard_room left mid after turns rest more (λ on'. reads_room left mid after turns rest more on' is) is
+          → (Reads sends client receives n (with_link p link) turns out after → NoneCame turns after) → NoneCame (Received r ∷ turns) after
+      go (Ok u) was more goes = let rest = goes more in (rest.0, λ fed. rest.1 fed.1)
+      go (Err f) was (last, ends, same) goes = (
+        subst (λ (x : Part T (Core U)). FindsRoom x.link x.link.room) (sym same) (failed_finds receives p.link link r f was filled finds),
+        λ fed. none_ended
+            (ap (λ (x : Part T (Core U)). x.core.error) same ∙ ap (λ (g : IoFault). (client.faulted p.core g).error) (fed_blocks r f fed.0 was) ∙ none) is,
+      )
+  none_came left p after (Handled es ∷ turns) out (on, (v, link, first, lacked, mid, rest, (m, read, is'), carried, split, more)) none is =
+      heard_none left mid after turns rest more (λ on'. none_came left mid after turns rest more on' is) is
       (not_ended p.core (handling p.core.table (objects_in p.core) m) link es first lacked mid none
       (subst (λ (w : Verdict (Core U) SessionMessage). CarriesOut sends client w link es first lacked mid) is' carried))
-  reads_room left p after (Unread es ∷ turns) out (on, (v, link, first, lacked, mid, rest, (read, same, is'), carried, split, more)) none is =
-      heard_room left mid after turns rest more (λ on'. reads_room left mid after turns rest more on' is) is
+  none_came left p after (Unread es ∷ turns) out (on, (v, link, first, lacked, mid, rest, (read, same, is'), carried, split, more)) none is =
+      heard_none left mid after turns rest more (λ on'. none_came left mid after turns rest more on' is) is
       (not_ended p.core (Breaks (error_of p.core.table wrong.Malformed) (objects_in p.core)) link es first lacked mid none
       (subst (λ (w : Verdict (Core U) SessionMessage). CarriesOut sends client w link es first lacked mid) is' carried))
 
   -- ---- a reading that was fed, and the end of an event, do not end it so
 
-  not_ended_by_pipe : (c : Core U) → NotEnded c → NotEndedByPipe c
-  not_ended_by_pipe c (inl none) is = none_ended none is
-  not_ended_by_pipe c (inr (off, other)) is = other is
-
   pub fed_keeps : (left : ℕ) (p after : Part T (Core U)) (turns : List Turn) (out : Gives SessionMessage) → Reads sends client receives left p turns out after → AllFed turns
       → NotEndedByPipe p.core → NotEndedByPipe after.core
-  fed_keeps left p after [] out (same, ends) fed not = subst (λ (x : Part T (Core U)). NotEndedByPipe x.core) (sym same) not
-  fed_keeps left p after (Received r ∷ turns) out (on, lacks, (n, is', (link, filled, finds, h))) (some, fed) not =
-      go (counted_answer (count_of r)) refl h (λ more. fed_keeps n (with_link p link) after turns out more fed not)
+  fed_keeps left p after turns out reads fed not is = go p.core.error refl
     where
-      go : (c : Result (Unit {0}) IoFault) → counted_answer (count_of r) ≡ c
-          → MatchResult c (λ _. Reads sends client receives n (with_link p link) turns out after)
-          (λ f. (turns ≡ []) × (out ≡ stops (Some f) (lacked_memory (Err f)) n) × (after ≡ record { core = client.faulted p.core f; link = link }))
-          → (Reads sends client receives n (with_link p link) turns out after → NotEndedByPipe after.core) → NotEndedByPipe after.core
-      go (Ok u) was more goes = goes more
-      go (Err f) was (last, ends, same) goes =
-          subst (λ (x : Part T (Core U)). NotEndedByPipe x.core) (sym same) (subst (λ (g : IoFault). NotEndedByPipe (client.faulted p.core g)) (sym (fed_blocks r f some was)) not)
-  fed_keeps left p after (Handled es ∷ turns) out (on, (v, link, first, lacked, mid, rest, (m, read, is'), carried, split, more)) fed not =
-      fed_keeps left mid after turns rest more fed
-      (not_ended_by_pipe mid.core
-      (not_ended p.core (handling p.core.table (objects_in p.core) m) link es first lacked mid (none_stored p.core.error (is_none p.core.open_event) on)
-      (subst (λ (w : Verdict (Core U) SessionMessage). CarriesOut sends client w link es first lacked mid) is' carried)))
-  fed_keeps left p after (Unread es ∷ turns) out (on, (v, link, first, lacked, mid, rest, (read, same, is'), carried, split, more)) fed not =
-      fed_keeps left mid after turns rest more fed
-      (not_ended_by_pipe mid.core
-      (not_ended p.core (Breaks (error_of p.core.table wrong.Malformed) (objects_in p.core)) link es first lacked mid (none_stored p.core.error (is_none p.core.open_event) on)
-      (subst (λ (w : Verdict (Core U) SessionMessage). CarriesOut sends client w link es first lacked mid) is' carried)))
-
-  -- the end of an event keeps the error
-  closed_error : (c : Core U) (event : OpenEvent) (u : Option U) → (closed c event u).error ≡ c.error
-  closed_error c event u = at event.is_destructor (named c.store event.sender) event.created u
-    where
-      shut : Core U
-      shut = record c { open_event = None }
-
-      given_to : (d : Core U) (created : Option IdParts) (u : Option U) → (with_data_for d created u).error ≡ d.error
-      given_to d None u = refl
-      given_to d (Some id) None = refl
-      given_to d (Some id) (Some v) = refl
-
-      at : (b : Bool) (x : Option (Object (Kept U))) (created : Option IdParts) (u : Option U)
-          → (with_data_for (cond b (with_dead shut event.sender.number x) shut) created u).error ≡ c.error
-      at true None created u = given_to shut created u
-      at true (Some x) created u = given_to (with_dead shut event.sender.number (Some x)) created u
-      at false x created u = given_to shut created u
+      go : (e : Option WaylandError) → p.core.error ≡ e → ⊥
+      go None none = (none_came left p after turns out reads none is).1 fed
+      go (Some e) some =
+          not (sym (ap (λ (x : Part T (Core U)). x.core.error)
+          (reads_nothing left p after turns out (ap (λ (o : Option WaylandError). is_none o && is_none p.core.open_event) some) reads)) ∙ is)
 
   shut_error : (c : Core U) (error : Option WaylandError) (event : Option OpenEvent) (u : Option U) (v : Verdict (Core U) SessionMessage) → finish c error event u ≡ Some v
       → (v.puts ≡ []) × ((v.last v.core).error ≡ c.error) × (v.starved.error ≡ c.error)
@@ -167,7 +153,7 @@ module _ {T U : Type 0} (sends : T → Queue → Result ℕ IoFault → T → Ty
       go : (b : Bool) → cond b (Some (finished c event u)) None ≡ Some v → (v.puts ≡ []) × ((v.last v.core).error ≡ c.error) × (v.starved.error ≡ c.error)
       go true same =
           let w : finished c event u ≡ v = same_Some (finished c event u) v same in
-          subst (λ (x : Verdict (Core U) SessionMessage). (x.puts ≡ []) × ((x.last x.core).error ≡ c.error) × (x.starved.error ≡ c.error)) w (refl, closed_error c event u, refl)
+          subst (λ (x : Verdict (Core U) SessionMessage). (x.puts ≡ []) × ((x.last x.core).error ≡ c.error) × (x.starved.error ≡ c.error)) w (refl, (closed_keeps c event u).0, refl)
       go false same = absurd (true≢false (ap is_none same))
 
   pub end_keeps : (p after : Part T (Core U)) (u : Option U) (es : List Sending) (gave : List (Given SessionMessage)) → Ends sends client p u es gave false after
@@ -189,6 +175,6 @@ module _ {T U : Type 0} (sends : T → Queue → Result ℕ IoFault → T → Ty
         | inl (none, p, q) ↦
             elim (both_option s.open_event p q) [
               | inr (event, some, (failed, unasked, same), again) ↦ absurd (none_ended live (sym (ap (λ (x : SessionState T U). x.error) same) ∙ is))
-              | inl (shut, (turns, out, reads, told, gave, calm), again) ↦ reads_room _ (part_of s) (part_of after) turns out reads live is
+              | inl (shut, (turns, out, reads, told, gave, calm), again) ↦ (none_came _ (part_of s) (part_of after) turns out reads live is).0
             ]
       ]

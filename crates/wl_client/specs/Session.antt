@@ -24,6 +24,15 @@ pub record SessionState (T U : Type 0) : Type 0 where
   pub open_event : Option OpenEvent
   pub notes : List Note
 
+-- all of a session but its link
+pub record Core (U : Type 0) : Type 0 where
+  pub table : List InterfaceRow
+  pub store : Store (Kept U)
+  pub last_serial : ℕ
+  pub error : Option WaylandError
+  pub open_event : Option OpenEvent
+  pub notes : List Note
+
 -- the greatest serial
 abbrev pub last_possible_serial : ℕ
 last_possible_serial = 0xFFFFFFFFFFFFFFFF
@@ -96,6 +105,28 @@ module _ {U : Type 0} where
   }
 
 module _ {T U : Type 0} where
+  abbrev pub core_of : SessionState T U → Core U
+  core_of s = record {
+    table = s.table;
+    store = s.store;
+    last_serial = s.last_serial;
+    error = s.error;
+    open_event = s.open_event;
+    notes = s.notes;
+  }
+
+  -- the session with another core, over the same link
+  abbrev pub with_core : SessionState T U → Core U → SessionState T U
+  with_core s c = record {
+    table = c.table;
+    link = s.link;
+    store = c.store;
+    last_serial = c.last_serial;
+    error = c.error;
+    open_event = c.open_event;
+    notes = c.notes;
+  }
+
   -- the kept objects and the last serial
   abbrev pub objects_of : SessionState T U → Objects (Kept U)
   objects_of s = record { store = s.store; last_serial = s.last_serial }

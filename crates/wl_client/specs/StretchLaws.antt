@@ -1,7 +1,7 @@
 -- That what a stretch of a run hands out is what is served of all that arrived.
 --
 -- Its entries are acts of the client as a reader: those that are refused change nothing, and are none.
-use Rattle.std.proofs.Common.{◌≡◌, ◌⊎◌, ℕ, Bool, true, false, List, [], ◌∷◌, ◌++◌, append_assoc, append-nil, cond, ◌&&◌, Option, None, Some, is_none, Result, Ok, Err, is_ok, MatchResult, refl, sym, ap, ap₂, subst, ◌∙◌, true≢false}
+use Rattle.std.proofs.Common.{◌≡◌, ◌⊎◌, ℕ, Bool, true, false, List, [], ◌∷◌, ◌++◌, append_assoc, append-nil, ◌&&◌, Option, None, Some, is_none, Result, Ok, Err, is_ok, refl, sym, ap, ap₂, subst, ◌∙◌, true≢false}
 use mathlib.Core.Logic.{inl, inr}
 use Rattle.wl_wire.specs.declared.argument.Token.{Token}
 use Rattle.wl_wire.specs.declared.error.IoFault.{IoFault}
@@ -9,15 +9,14 @@ use Rattle.wl_wire.specs.declared.error.IoFault.TheVariants as fault
 use Rattle.wl_wire.specs.declared.error.MessageParseError.TheVariants as parse
 use Rattle.wl_wire.specs.declared.message.Message.{Message}
 use Rattle.wl_link.specs.declared.memory.ArriveError.{ArriveError}
-use Rattle.wl_link.specs.declared.object.Object.{Object}
 use Rattle.wl_link.specs.Branches.{both_option}
-use Rattle.wl_link.specs.Exchange.{Queue, Sending, joined, nothing}
+use Rattle.wl_link.specs.Exchange.{Queue, joined, nothing}
 use Rattle.wl_link.specs.LengthLaws.{front_fits}
-use Rattle.wl_link.specs.Link.{EachWithin, LinkState, ReadOne, counted_answer, count_of, incoming_limit}
-use Rattle.wl_link.specs.Puts.{lacked_memory}
+use Rattle.wl_link.specs.Link.{EachWithin, ReadOne, incoming_limit}
 use Rattle.wl_link.specs.QueueLaws.{joined_nothing}
-use Rattle.wl_link.specs.Reader.{CarriesOut, Gives, Given, Handled, HandedOut, IsFed, Part, Queued, Reads, Received, Turn, Unread, Verdict, came_by, came_to as comes_to, stops, with_link}
+use Rattle.wl_link.specs.Reader.{Gives, Given, HandedOut, IsFed, Part, Queued, Reads, Turn, came_by}
 use Rattle.wl_link.specs.Script.{Script, ScriptReceives, ScriptSends}
+use Rattle.wl_link.specs.RespectLaws.{Keeps, RespectsReading, reads_respect}
 use Rattle.wl_link.specs.Served.{Served, part_as}
 use Rattle.wl_link.specs.Stretch.{Act, Arrived, DoesAll, EndsByPipe, EndsWaiting as ActsEndWaiting, HasEnded, HasRead, IsStretch as IsActStretch, arrivals_of, arrived as act_arrived, ended as act_ended, given_in, sending_side, with_arrival}
 use Rattle.wl_link.specs.StretchLaws.{acts_keep, arrived-append, cut_otherwise as acts_cut_otherwise, does_joins, ended-append, ends_waiting-append, given_in-append, stretch_served as acts_served}
@@ -25,7 +24,6 @@ use Rattle.wl_client.specs.declared.error.EventError.{EventError}
 use Rattle.wl_client.specs.declared.error.EventError.TheVariants as no_event
 use Rattle.wl_client.specs.declared.error.FinishRefused.{FinishRefused}
 use Rattle.wl_client.specs.declared.event_fault.EventFault.TheVariants as wrong
-use Rattle.wl_client.specs.declared.kept.Kept.{Kept}
 use Rattle.wl_client.specs.declared.open_event.OpenEvent.{OpenEvent}
 use Rattle.wl_client.specs.declared.step.Reply.{Reply}
 use Rattle.wl_client.specs.declared.step.Reply.TheVariants as reply
@@ -33,13 +31,13 @@ use Rattle.wl_client.specs.declared.step.Step.{Step}
 use Rattle.wl_client.specs.declared.step.Step.TheVariants as step
 use Rattle.wl_client.specs.ObjectId.{IdParts}
 use Rattle.wl_client.specs.Events.{error_of}
-use Rattle.wl_client.specs.Finish.{Closes, Finishes, closed, refusal, with_data_for, with_dead}
+use Rattle.wl_client.specs.Finish.{Closes, Finishes, refusal}
 use Rattle.wl_client.specs.Handling.{Handling, Swallows, HandsOut, Breaks, handling, signature_in}
-use Rattle.wl_client.specs.Reading.{Core, NextEvent, answered, client, core_of, event_content, faulted, handed_by, objects_in, part_of, reads_on, receives_allowed, verdict}
-use Rattle.wl_client.specs.ReadingLaws.{finish_as, finish_ends}
+use Rattle.wl_client.specs.Reading.{NextEvent, answered, client, event_content, faulted, handed_by, objects_in, part_of, reads_on, receives_allowed, verdict}
+use Rattle.wl_client.specs.ReadingLaws.{finish_as, finish_ends, keeps}
 use Rattle.wl_client.specs.Requests.{SessionMessage}
-use Rattle.wl_client.specs.RoomLaws.{NotEndedByPipe, end_keeps, fed_keeps}
-use Rattle.wl_client.specs.Session.{SessionState, named}
+use Rattle.wl_client.specs.RoomLaws.{NotEndedByPipe, closed_keeps, end_keeps, fed_keeps}
+use Rattle.wl_client.specs.Session.{Core, SessionState, core_of}
 use Rattle.wl_client.specs.Steps.{Entry, Leads, StepOf}
 use Rattle.wl_client.specs.Stretches.{AllHeard, EachPartIsCut, EndsWaiting, IsHeard, IsServed, IsStretch, IsStretchWithin, SameLeft, arrived, arrived_by, events_by, events_of, finished, finished_by, if_accepted, left_in}
 
@@ -84,49 +82,28 @@ module _ {U : Type 0} where
   abbrev Tidy : Core U → Type 0
   Tidy c = (c.error ≡ None) ⊎ (c.open_event ≡ None)
 
-  module _ {T : Type 0} (sends : T → Queue → Result ℕ IoFault → T → Type 0) (receives : T → ℕ → Result Queue IoFault → T → Type 0) where
-    -- nothing was put, so the verdict's core is what it came to
-    came : (c : Core U) (h : Handling U) (d : Core U) (wrote : Result (Unit {0}) IoFault) → wrote ≡ Ok tt → d ≡ comes_to client (verdict c h) wrote → d ≡ (verdict c h).core
-    came c h d wrote is end = end ∙ ap (comes_to client (verdict c h)) is
+  abbrev StaysTidy : Core U → List (Given SessionMessage) → Core U → Type 0
+  StaysTidy c gave d = Tidy c → Tidy d
 
-    handled_tidy : (c : Core U) (h : Handling U) (before : LinkState T) (es : List Sending) (gave : List (Given SessionMessage)) (lacked : Bool) (mid : Part T (Core U))
-        → (c.error ≡ None) × (c.open_event ≡ None) → CarriesOut sends client (verdict c h) before es gave lacked mid → Tidy mid.core
-    handled_tidy c (Swallows o) before es gave lacked mid none (inr (asks, was, sent, gives, same)) = absurd (true≢false (sym asks))
-    handled_tidy c (HandsOut m event o) before es gave lacked mid none (inr (asks, was, sent, gives, same)) = absurd (true≢false (sym asks))
-    handled_tidy c (Breaks e o) before es gave lacked mid none (inr (asks, was, sent, gives, same)) =
-        inr (ap (λ (p : Part T (Core U)). p.core.open_event) same ∙ none.1)
-    handled_tidy c (Swallows o) before es gave lacked mid none (inl (first, others, put, wrote, link, short, puts, flushes, split, end, is, was)) =
-        inl (ap (λ (d : Core U). d.error) (came c (Swallows o) mid.core wrote puts.2 end) ∙ none.0)
-    handled_tidy c (HandsOut m event o) before es gave lacked mid none (inl (first, others, put, wrote, link, short, puts, flushes, split, end, is, was)) =
-        inl (ap (λ (d : Core U). d.error) (came c (HandsOut m event o) mid.core wrote puts.2 end) ∙ none.0)
-    handled_tidy c (Breaks e o) before es gave lacked mid none (inl (first, others, put, wrote, link, short, puts, flushes, split, end, is, was)) =
-        inr (ap (λ (d : Core U). d.open_event) (came c (Breaks e o) mid.core wrote puts.2 end) ∙ none.1)
+  -- a message to a client that has neither leaves it tidy
+  handled_tidy : (c : Core U) (h : Handling U) → (c.error ≡ None) × (c.open_event ≡ None) → Keeps client StaysTidy c (verdict c h)
+  handled_tidy c (Swallows o) none = keeps StaysTidy c (Swallows o) (λ tidy. tidy) (λ tidy. tidy)
+  handled_tidy c (HandsOut m event o) none = keeps StaysTidy c (HandsOut m event o) (λ tidy. inl none.0) (λ tidy. inl none.0)
+  handled_tidy c (Breaks e o) none = keeps StaysTidy c (Breaks e o) (λ tidy. inr none.1) (λ tidy. inr none.1)
 
-    faulted_open : (c : Core U) (f : IoFault) → (faulted c f).open_event ≡ c.open_event
-    faulted_open c fault.WouldBlock = refl
-    faulted_open c fault.OutOfMemory = refl
-    faulted_open c f = refl
+  faulted_open : (c : Core U) (f : IoFault) → (faulted c f).open_event ≡ c.open_event
+  faulted_open c fault.WouldBlock = refl
+  faulted_open c fault.OutOfMemory = refl
+  faulted_open c f = refl
 
-    reads_tidy : (left : ℕ) (p after : Part T (Core U)) (turns : List Turn) (out : Gives SessionMessage) → Reads sends client receives left p turns out after → Tidy p.core → Tidy after.core
-    reads_tidy left p after [] out (same, ends) tidy = subst (λ (x : Part T (Core U)). Tidy x.core) (sym same) tidy
-    reads_tidy left p after (Received r ∷ turns) out (on, lacks, (n, is, (link, filled, finds, h))) tidy =
-        go (counted_answer (count_of r)) h (λ more. reads_tidy n (with_link p link) after turns out more tidy)
-      where
-        go : (c : Result (Unit {0}) IoFault)
-            → MatchResult c (λ _. Reads sends client receives n (with_link p link) turns out after)
-            (λ f. (turns ≡ []) × (out ≡ stops (Some f) (lacked_memory (Err f)) n) × (after ≡ record { core = client.faulted p.core f; link = link }))
-            → (Reads sends client receives n (with_link p link) turns out after → Tidy after.core) → Tidy after.core
-        go (Ok u) more goes = goes more
-        go (Err f) (none, ends, same) goes =
-            inr (ap (λ (x : Part T (Core U)). x.core.open_event) same ∙ faulted_open p.core f ∙ (both_none p.core.error p.core.open_event on).1)
-    reads_tidy left p after (Handled es ∷ turns) out (on, (v, link, first, lacked, mid, rest, (m, read, is), carried, split, more)) tidy =
-        reads_tidy left mid after turns rest more
-        (handled_tidy p.core (handling p.core.table (objects_in p.core) m) link es first lacked mid (both_none p.core.error p.core.open_event on)
-        (subst (λ (w : Verdict (Core U) SessionMessage). CarriesOut sends client w link es first lacked mid) is carried))
-    reads_tidy left p after (Unread es ∷ turns) out (on, (v, link, first, lacked, mid, rest, (read, same, is), carried, split, more)) tidy =
-        reads_tidy left mid after turns rest more
-        (handled_tidy p.core (Breaks (error_of p.core.table wrong.Malformed) (objects_in p.core)) link es first lacked mid (both_none p.core.error p.core.open_event on)
-        (subst (λ (w : Verdict (Core U) SessionMessage). CarriesOut sends client w link es first lacked mid) is carried))
+  readings_tidy : RespectsReading client StaysTidy
+  readings_tidy = record {
+    same = λ c tidy. tidy;
+    joins = λ c d e g h first second tidy. second (first tidy);
+    handles = λ c m on. handled_tidy c (handling c.table (objects_in c) m) (both_none c.error c.open_event on);
+    malformed = λ c on. handled_tidy c (Breaks (error_of c.table wrong.Malformed) (objects_in c)) (both_none c.error c.open_event on);
+    faulted = λ c f on tidy. inr (faulted_open c f ∙ (both_none c.error c.open_event on).1);
+  }
 
   -- ---- what an entry does
 
@@ -182,7 +159,7 @@ module _ {U : Type 0} where
       ended_with = sym ended';
       handed_out = append-nil out.gave ∙ handed;
       waits = λ is before. ends_waiting-append before (HasRead out) (blocks is);
-      tidy = reads_tidy ScriptSends ScriptReceives left (part_of s) (part_of mid) turns out reads tidy;
+      tidy = reads_respect ScriptSends ScriptReceives client StaysTidy readings_tidy left (part_of s) (part_of mid) turns out reads tidy;
     }
 
     -- an accepted finish
@@ -218,25 +195,6 @@ module _ {U : Type 0} where
             ]
       ]
 
-  -- an accepted finish closes the event, and keeps the error
-  closed_core : (s : SessionState Script U) (event : OpenEvent) (u : Option U) → ((closed s event u).error ≡ s.error) × ((closed s event u).open_event ≡ None)
-  closed_core s event u = at event.is_destructor (named s.store event.sender) event.created u
-    where
-      shut : SessionState Script U
-      shut = record s { open_event = None }
-
-      given_to : (t : SessionState Script U) (created : Option IdParts) (u : Option U) → ((with_data_for t created u).error ≡ t.error) × ((with_data_for t created u).open_event ≡ t.open_event)
-      given_to t None u = (refl, refl)
-      given_to t (Some id) None = (refl, refl)
-      given_to t (Some id) (Some v) = (refl, refl)
-
-      at : (b : Bool) (x : Option (Object (Kept U))) (created : Option IdParts) (u : Option U)
-          → ((with_data_for (cond b (with_dead shut event.sender.number x) shut) created u).error ≡ s.error)
-          × ((with_data_for (cond b (with_dead shut event.sender.number x) shut) created u).open_event ≡ None)
-      at true None created u = given_to shut created u
-      at true (Some x) created u = given_to (with_dead shut event.sender.number (Some x)) created u
-      at false x created u = given_to shut created u
-
   none_open : (s mid : SessionState Script U) (u : Option U) → Finishes s u (Ok tt) mid → s.open_event ≡ None → ⊥
   none_open s mid u h unopened =
       let shuts = finish_as s mid u h in
@@ -248,7 +206,7 @@ module _ {U : Type 0} where
   finish_acts s mid u answer is h (inl live) =
       let (event, some, fits, same) = finish_as s mid u h in
       acts_ended s mid (step.FinishEvent u) answer u live h
-      (inr (ap (λ (x : SessionState Script U). x.open_event) same ∙ (closed_core s event u).1))
+      (inr (ap (λ (x : SessionState Script U). x.open_event) same ∙ (closed_keeps (core_of s) event u).1))
       refl (ap (λ (a : Reply U). if_accepted u a) is) (ap events_by is)
       (λ w. let e : ◌≡◌ {A = Reply U} (reply.FinishEvent (Ok tt)) (reply.NextEvent (Err no_event.WouldBlock)) = sym is ∙ w in cc)
 

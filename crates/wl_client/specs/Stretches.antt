@@ -15,9 +15,9 @@ use Rattle.wl_client.specs.declared.step.Reply.{Reply}
 use Rattle.wl_client.specs.declared.step.Reply.TheVariants as reply
 use Rattle.wl_client.specs.declared.step.Step.{Step}
 use Rattle.wl_client.specs.declared.step.Step.TheVariants as step
-use Rattle.wl_client.specs.Reading.{ReadsAs, client, core_of, event_content, handed_by, part_of, reads_on}
+use Rattle.wl_client.specs.Reading.{ReadsAs, client, event_content, handed_by, part_of, reads_on}
 use Rattle.wl_client.specs.Requests.{SessionMessage}
-use Rattle.wl_client.specs.Session.{SessionState}
+use Rattle.wl_client.specs.Session.{SessionState, core_of}
 use Rattle.wl_client.specs.Steps.{Entry, Leads}
 
 module _ {U : Type 0} where

@@ -1,7 +1,7 @@
 //! The end of an event that was handed out.
 
 ghost use Rattle.std.specs.Prelude.{◌≡◌, IsSome, MatchOption, MatchResult};
-ghost use Rattle.wl_client.specs.Session.{alive, named};
+ghost use Rattle.wl_client.specs.Session.{alive, core_of, named, with_core};
 ghost use Rattle.wl_client.specs.Cutting.{CutsFinish};
 ghost use Rattle.wl_client.specs.Finish.{Finishes, with_data_for, with_dead};
 ghost use Rattle.wl_client.specs.Steps.{refused_finish};
@@ -50,7 +50,7 @@ impl<T: Drop, U: Drop> Backend<T, U> {
 
     /// Gives the object that an event made, if it made one, these user data.
     fn give_created(&mut self, created: Option<ObjectId>, user_data: Option<U>)
-        ensures given { self.new.session ≡ with_data_for self.old.session created user_data }
+        ensures given { self.new.session ≡ with_core self.old.session (with_data_for (core_of self.old.session) created user_data) }
         ensures refused { self.new.refused ≡ self.old.refused }
     {
         if let (Some(id), Some(user_data)) = (created, user_data) {
@@ -63,7 +63,7 @@ impl<T: Drop, U: Drop> Backend<T, U> {
     /// had not destroyed it. Where there is no memory for the note nothing is changed.
     fn end_object(&mut self, id: &ObjectId) -> Result<(), OutOfMemory>
         ensures ended { MatchResult result
-            (λ _. self.new.session ≡ with_dead self.old.session id.now.number (named self.old.session.store id.now))
+            (λ _. self.new.session ≡ with_core self.old.session (with_dead (core_of self.old.session) id.now.number (named self.old.session.store id.now)))
             (λ _. (self.new.session ≡ self.old.session) × MatchOption (alive (named self.old.session.store id.now)) ⊥ (λ x. IsSome x.value.user_data)) }
         ensures refused { self.new.refused ≡ self.old.refused }
     {

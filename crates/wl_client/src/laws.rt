@@ -7,7 +7,7 @@ ghost use Rattle.wl_link.specs.Reader.{AllFed, Given, Gives, Part, Reads, Turn, 
 ghost use Rattle.wl_link.specs.Script.{Script};
 ghost use Rattle.wl_client.specs.Cutting.{GoesOn, IsServed};
 ghost use Rattle.wl_client.specs.Finish.{Finishes};
-ghost use Rattle.wl_client.specs.Reading.{Core, client, part_of};
+ghost use Rattle.wl_client.specs.Reading.{client, part_of};
 ghost use Rattle.wl_client.specs.Requests.{SessionMessage};
 ghost use Rattle.wl_client.specs.declared.step.Reply.{Reply};
 ghost use Rattle.wl_client.specs.declared.step.Step.{Step};
@@ -15,7 +15,7 @@ ghost use Rattle.wl_client.specs.Failed.{StaysFailed};
 ghost use Rattle.wl_client.specs.Handed.{HasOwnIds};
 ghost use Rattle.wl_client.specs.Noted.{NotesWhatEnded};
 ghost use Rattle.wl_client.specs.Replies.{SameReply, SameReplies};
-ghost use Rattle.wl_client.specs.Session.{SessionState, IsConnected};
+ghost use Rattle.wl_client.specs.Session.{Core, SessionState, IsConnected};
 ghost use Rattle.wl_client.specs.Steps.{Entry, Leads, StepOf, entries};
 ghost use Rattle.wl_client.specs.Stretches.{IsServed as IsRunServed, IsStretch, IsStretchWithin, SameLeft, arrived, events_of, finished};
 

@@ -7,23 +7,25 @@ use Rattle.wl_wire.specs.declared.error.IoFault.TheVariants as fault
 use Rattle.wl_wire.specs.Message.{WireMessage}
 use Rattle.wl_link.specs.Exchange.{Queue, Sending}
 use Rattle.wl_link.specs.Link.{LinkState, count_of, counted_answer}
-use Rattle.wl_link.specs.Puts.{Said, lacked_memory}
+use Rattle.wl_link.specs.Puts.{PutsOut, Said, lacked_memory}
 use Rattle.wl_link.specs.Reader.{CarriesOut, Ends, Given, Gives, Halts, HandedOut, Handled, Part, Reader, Reads, Received, Stops, Turn, Unread, Verdict, came_to, put_and_gave, stops, with_link}
 use Rattle.wl_link.specs.PutsLaws.{puts_front}
 
--- a relation of cores and of what was given between them that a verdict respects, in each of its ends
+-- a relation of cores and of what was given between them that a verdict respects, in each of its ends; where nothing is put,
+-- no write fails
 pub record Keeps {Core Event Finish : Type 0} (reader : Reader Core Event Finish) (R : Core → List (Given Event) → Core → Type 0) (c : Core) (v : Verdict Core Event) : Type 0 where
-  pub carried : (put others : List Said) (wrote : Result (Unit {0}) IoFault) → v.puts ≡ put ++ others
+  pub carried : (put others : List Said) (wrote : Result (Unit {0}) IoFault) → v.puts ≡ put ++ others → (v.puts ≡ [] → wrote ≡ Ok tt)
       → R c (put_and_gave put (v.events (came_to reader v wrote))) (came_to reader v wrote)
   pub starved : v.asks ≡ true → R c (map HandedOut (v.events v.starved)) v.starved
 
--- such as that what is handed out was made between them, or that objects move by changes: as far as a reading goes
+-- such as that what is handed out was made between them, or that objects move by changes: as far as a reading goes, which
+-- makes no turn where the core reads on no more
 pub record RespectsReading {Core Event Finish : Type 0} (reader : Reader Core Event Finish) (R : Core → List (Given Event) → Core → Type 0) : Type 0 where
   pub same : (c : Core) → R c [] c
   pub joins : (c d e : Core) (g h : List (Given Event)) → R c g d → R d h e → R c (g ++ h) e
-  pub handles : (c : Core) (m : WireMessage) → Keeps reader R c (reader.handles c m)
-  pub malformed : (c : Core) → Keeps reader R c (reader.malformed c)
-  pub faulted : (c : Core) (f : IoFault) → R c [] (reader.faulted c f)
+  pub handles : (c : Core) (m : WireMessage) → reader.reads_on c ≡ true → Keeps reader R c (reader.handles c m)
+  pub malformed : (c : Core) → reader.reads_on c ≡ true → Keeps reader R c (reader.malformed c)
+  pub faulted : (c : Core) (f : IoFault) → reader.reads_on c ≡ true → R c [] (reader.faulted c f)
 
 -- and the end of what is open
 pub record Respects {Core Event Finish : Type 0} (reader : Reader Core Event Finish) (R : Core → List (Given Event) → Core → Type 0) : Type 0 where
@@ -36,7 +38,10 @@ module _ {T Core Event Finish : Type 0} (sends : T → Queue → Result ℕ IoFa
       → Keeps reader R c v → CarriesOut sends reader v before es gave refused after → R c gave after.core
   carries_respect c v before after es gave refused keeps (inl (first, others, put, wrote, mid, lacked, puts, flushes, split, end, is, was)) =
       let front = puts_front sends v.puts before mid first put wrote puts in
-      subst (λ (d : Core). R c gave d) (sym end) (subst (λ (g : List (Given Event)). R c g (came_to reader v wrote)) (sym is) (keeps.carried put front.0 wrote front.1))
+      subst (λ (d : Core). R c gave d) (sym end) (subst (λ (g : List (Given Event)). R c g (came_to reader v wrote)) (sym is) (keeps.carried put front.0 wrote front.1 written))
+    where
+      written : v.puts ≡ [] → wrote ≡ Ok tt
+      written none = (subst (λ (ms : List Said). PutsOut sends before ms first put wrote mid) none puts).2
   carries_respect c v before after es gave refused keeps (inr (asks, was, none, is, same)) =
       subst (λ (x : Part T Core). R c gave x.core) (sym same) (subst (λ (g : List (Given Event)). R c g v.starved) (sym is) (keeps.starved asks))
 
@@ -71,13 +76,13 @@ module _ {T Core Event Finish : Type 0} (sends : T → Queue → Result ℕ IoFa
           → (Reads sends reader receives n (with_link p link) turns out after → R p.core out.gave after.core) → R p.core out.gave after.core
       go (Ok u) more goes = goes more
       go (Err f) (none, ends, same) goes =
-          subst (λ (x : Part T Core). R p.core out.gave x.core) (sym same) (subst (λ (g : List (Given Event)). R p.core g (reader.faulted p.core f)) (sym (ap given_in ends)) (respects.faulted p.core f))
+          subst (λ (x : Part T Core). R p.core out.gave x.core) (sym same) (subst (λ (g : List (Given Event)). R p.core g (reader.faulted p.core f)) (sym (ap given_in ends)) (respects.faulted p.core f on))
   reads_respect left p after (Handled es ∷ turns) out (on, (v, link, first, lacked, mid, rest, (m, read, is), carried, split, more)) =
-      let keeps = subst (λ (w : Verdict Core Event). Keeps reader R p.core w) (sym is) (respects.handles p.core m) in
+      let keeps = subst (λ (w : Verdict Core Event). Keeps reader R p.core w) (sym is) (respects.handles p.core m on) in
       subst (λ (g : List (Given Event)). R p.core g after.core) (sym (ap given_in split))
       (respects.joins p.core mid.core after.core first rest.gave (carries_respect sends receives reader R p.core v link mid es first lacked keeps carried) (reads_respect left mid after turns rest more))
   reads_respect left p after (Unread es ∷ turns) out (on, (v, link, first, lacked, mid, rest, (malformed, same, is), carried, split, more)) =
-      let keeps = subst (λ (w : Verdict Core Event). Keeps reader R p.core w) (sym is) (respects.malformed p.core) in
+      let keeps = subst (λ (w : Verdict Core Event). Keeps reader R p.core w) (sym is) (respects.malformed p.core on) in
       subst (λ (g : List (Given Event)). R p.core g after.core) (sym (ap given_in split))
       (respects.joins p.core mid.core after.core first rest.gave (carries_respect sends receives reader R p.core v link mid es first lacked keeps carried) (reads_respect left mid after turns rest more))
 
@@ -111,16 +116,16 @@ module _ {Core Event Finish : Type 0} (reader : Reader Core Event Finish) (R : C
   came_respects c v (Err f) keeps = breaks_respect c v f keeps
 
   keeps_all : (c : Core) (v : Verdict Core Event) → KeepsCore R c v → Keeps reader (λ c g d. R c d) c v
-  keeps_all c v keeps = record { carried = λ put others wrote is. came_respects c v wrote keeps; starved = λ asks. keeps.starved }
+  keeps_all c v keeps = record { carried = λ put others wrote is written. came_respects c v wrote keeps; starved = λ asks. keeps.starved }
 
   pub respects_all : Respects reader (λ c g d. R c d)
   respects_all = record {
     reading = record {
       same = respects.same;
       joins = λ c d e g h. respects.joins c d e;
-      handles = λ c m. keeps_all c (reader.handles c m) (respects.handles c m);
-      malformed = λ c. keeps_all c (reader.malformed c) (respects.malformed c);
-      faulted = respects.faulted;
+      handles = λ c m on. keeps_all c (reader.handles c m) (respects.handles c m);
+      malformed = λ c on. keeps_all c (reader.malformed c) (respects.malformed c);
+      faulted = λ c f on. respects.faulted c f;
     };
     takes = λ c u v is. keeps_all c v (respects.takes c u v is);
   }
