@@ -297,7 +297,8 @@ fn put_header(payload: &mut [u8], sender: u32, size: usize, opcode: u16)
 
 /// Whether each argument is a word: a number or the id of an object.
 fn are_words<Id>(args: &[Argument<Id, Token>]) -> bool
-    ensures { IsTrue result → AllByRecursion IsWord args.now }
+    ensures words { IsTrue result → AllByRecursion IsWord args.now }
+    ensures others { AllByRecursion IsWord args.now → IsTrue result }
 {
     for arg in args {
         if !is_word(arg) {

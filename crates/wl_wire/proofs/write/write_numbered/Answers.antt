@@ -10,7 +10,7 @@ use Rattle.wl_wire.proofs.write.write_numbered.Goals as goal
 pub returns-then-are_words-clause-tokens : goal.returns-then-are_words-clause-tokens
 returns-then-are_words-clause-tokens g c =
     let items = c.args.message.now.args.items in
-    let words : AllByRecursion IsWord items = subst (AllByRecursion IsWord) c.as_slice.ensures (c.are_words.ensures c.if-are_words.true) in
+    let words : AllByRecursion IsWord items = subst (AllByRecursion IsWord) c.as_slice.ensures (c.are_words.ensures.words c.if-are_words.true) in
     let none = tokens_of_words (g.N.Numbering.object_number c.args.numbers.now) (g.N.Numbering.new_number c.args.numbers.now) items words in
     on_ok_weaker c.write_words.result (λ _. sym (ap (λ t. c.args.fds.now.items ++ t) none ∙ append-nil c.args.fds.now.items)) c.write_words.ensures.message
 
