@@ -1,5 +1,6 @@
 mod FirstSync
 mod HexWords
 mod Lines
+mod OneCommand
 mod Numbers
 mod Rows

@@ -18,7 +18,7 @@ own : IsNumeralModel (AllDigits 10) (digits_value 10)
 own = numerals_by_value (AllDigits 10) tells_digits
 
 -- a number begins with a digit
-first_digit : (n : ℕ) (bs : List ℕ) → IsNumber n bs → 48 ≤ get_or bs 0 0
+pub first_digit : (n : ℕ) (bs : List ℕ) → IsNumber n bs → 48 ≤ get_or bs 0 0
 first_digit n bs h =
     let all = digits_decimal own n (omega arith) in
     let some = decimal_nonempty n (omega arith) in
@@ -82,7 +82,7 @@ push_token ns i z tokens lt fits same h =
     rw (more, map-append token (take i ns) (get_or ns i 0 ∷ [])) (All-push IsTokenNumber (take i ns) (get_or ns i 0) h.0 small, one)
 
 -- a word lists its own numbers and no others
-unique : (xs ys : List ℕ) (ws : List (List ℕ)) → AllZip IsNumber xs ws → AllZip IsNumber ys ws → xs ≡ ys
+pub unique : (xs ys : List ℕ) (ws : List (List ℕ)) → AllZip IsNumber xs ws → AllZip IsNumber ys ws → xs ≡ ys
 unique [] [] ws h k = refl
 unique [] (y ∷ ys) [] h k = absurd k
 unique [] (y ∷ ys) (w ∷ ws) h k = absurd h

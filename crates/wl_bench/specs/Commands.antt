@@ -1,5 +1,5 @@
 -- The language of lines that drive a server: which lines are commands.
-use Rattle.std.specs.Prelude.{◌≡◌, ℕ, ◌<◌, ◌≤◌, ◌==◌, List, [], ◌∷◌, ◌++◌, length, map, codes, pos, ◌⊎◌, Option, MatchOption, Result, Err, Vec}
+use Rattle.std.specs.Prelude.{◌≡◌, ℕ, ◌<◌, ◌≤◌, ◌==◌, List, [], ◌∷◌, ◌++◌, length, map, codes, pos, ◌⊎◌, ⊤, Option, MatchOption, Result, Err, Vec}
 use Rattle.std.specs.Fmt.{decimal}
 use Rattle.std.specs.List.{All, AllZip, flat_map, slice_split}
 use Rattle.std.specs.Str.{IsUtf8}
@@ -97,6 +97,29 @@ IsCommand Notes ws = ws ≡ codes "notes" ∷ []
 -- the line, which is text, is the command
 abbrev pub IsLine : Command → List ℕ → Type 0
 IsLine command line = IsUtf8 line × IsCommand command (words line)
+
+-- two commands about a client ask for the same; how their vectors were allocated is no matter
+abbrev pub AskSameOfClient : ClientCommand → ClientCommand → Type 0
+AskSameOfClient (Arrive bytes tokens) (Arrive bytes' tokens') = (bytes.items ≡ bytes'.items) × (tokens.items ≡ tokens'.items)
+AskSameOfClient Read Read = ⊤
+AskSameOfClient Finish Finish = ⊤
+AskSameOfClient Kill Kill = ⊤
+AskSameOfClient (Accept counts) (Accept counts') = counts.items ≡ counts'.items
+AskSameOfClient (FailIn fault) (FailIn fault') = fault ≡ fault'
+AskSameOfClient (FailOut fault) (FailOut fault') = fault ≡ fault'
+AskSameOfClient c d = ⊥
+
+-- two commands ask for the same
+abbrev pub AskSame : Command → Command → Type 0
+AskSame Insert Insert = ⊤
+AskSame (Client slot c) (Client slot' d) = (slot ≡ slot') × AskSameOfClient c d
+AskSame (Create name version) (Create name' version') = (string_bytes name ≡ string_bytes name') × (version ≡ version')
+AskSame (Disable name) (Disable name') = name ≡ name'
+AskSame (Remove name) (Remove name') = name ≡ name'
+AskSame Flush Flush = ⊤
+AskSame Cleanup Cleanup = ⊤
+AskSame Notes Notes = ⊤
+AskSame c d = ⊥
 
 -- something that is what the text says, or nothing, where the text says nothing of the kind
 abbrev pub Finds : {X T : Type 0} → (X → T → Type 0) → T → Option X → Type 0

@@ -5,7 +5,8 @@
 
 ghost use Rattle.std.specs.Prelude.{◌∷◌, ℕ, [], List, map, codes, IfOk};
 ghost use Rattle.std.specs.Borrow.{Bor};
-ghost use Rattle.wl_bench.specs.Commands.{Finds, IsCommand, IsLine};
+ghost use Rattle.wl_bench.specs.Commands.{AskSame, Finds, IsCommand, IsLine};
+ghost use Rattle.wl_bench.specs.declared.command.Command.{Command as TheCommand};
 
 use crate::words::{chunk_bytes, chunk_tokens, fault, number, numbers};
 use std::alloc::{AllocError, Global};
@@ -187,9 +188,11 @@ fn command_of(alloc: Global, words: &[&str]) -> Result<Option<Command>, AllocErr
     }
 }
 
-/// The command that a line is, without the line feed at its end; none where it is no command.
+/// The command that a line is, without the line feed at its end; none where it is no command. No line is two commands.
+#[tactic(auto, using(crate::proofs::OneCommand::one_of_line))]
 pub fn parse_line(alloc: Global, line: &[u8]) -> Result<Option<Command>, AllocError>
-    ensures { IfOk result (Finds IsLine line.now) }
+    ensures found { IfOk result (Finds IsLine line.now) }
+    ensures one { (c d : TheCommand) → IsLine c line.now → IsLine d line.now → AskSame c d }
 {
     let Ok(text) = str::from_utf8(line) else {
         return Ok(None);

@@ -6,7 +6,7 @@ ghost use Rattle.wl_bench.specs.declared.command.Command.{Command};
 
 use crate::answer::{Answer, print_answer};
 use crate::command::{Command, parse_line};
-use crate::known::{Heard, Known, Server, Told};
+use crate::known::{Heard, Known, Server, Told, print_heard};
 use crate::stop::Stop;
 use crate::table::bench_table;
 use std::alloc::Global;
@@ -34,12 +34,12 @@ fn answer_of(reply: &Told) -> Answer<'_> {
 }
 
 /// Keeps and prints the replies to the steps of a command.
-fn tell(known: &mut Known, heard: Heard, replies: &[Told], text: &mut String) -> Result<(), Stop> {
+fn tell(known: &mut Known, heard: &Heard, replies: &[Told], text: &mut String) -> Result<(), Stop> {
     if let Some(reply) = replies.first() {
         known.keep(heard, reply)?;
         print_answer(text, answer_of(reply))?;
     }
-    known.print_heard(text, heard, replies)
+    print_heard(text, heard, replies)
 }
 
 /// Carries out a command, and prints its answer.
@@ -54,7 +54,7 @@ fn carry_out(
     let mut steps = Vec::new(alloc);
     let heard = known.plan(alloc, server.protocol(), command, line, &mut steps)?;
     match server.replay(steps) {
-        Ok(replies) => tell(known, heard, replies.as_slice(), text),
+        Ok(replies) => tell(known, &heard, replies.as_slice(), text),
         Err(_) => Err(Stop::Failed),
     }
 }

@@ -5,7 +5,7 @@ use crate::command::{ClientCommand, Command};
 use crate::stop::Stop;
 use crate::table::interface_named;
 use std::alloc::Global;
-use std::collections::BTreeMap;
+use std::collections::{BTreeMap, BTreeSet};
 use wl_link::Memory;
 use wl_server::{Action, Backend, ClientId, DisconnectReason, GlobalId, Reply, ShownToAll, Step};
 use wl_wire::Protocol;
@@ -35,23 +35,30 @@ enum Open {
 struct Seat {
     client: ClientId,
     open: Open,
+    /// How many counts and faults its sends were given.
+    limits: u64,
 }
 
 /// Whose transports are looked at behind a command, for what they were sent.
-#[derive(Clone, Copy)]
+#[derive(Drop)]
 pub enum Heard {
     /// None: the command sends nothing.
     Nobody,
     /// That of the client at a slot: the command does nothing to others.
     Client(u32),
-    /// Those of all clients.
-    Everybody,
+    /// Those of the clients at these slots, which rise.
+    Clients(Vec<u32>),
 }
 
 /// The clients by slot, and the globals by name: of each the one that was made last.
 #[derive(Drop)]
 pub struct Known {
     seats: BTreeMap<u32, Seat>,
+    /// The slots of the clients that were read of: no other one has a registry, and nothing was ever written for another.
+    read: BTreeSet<u32>,
+    /// The slots of the clients for which something may wait, each with the number of flushes behind which nothing does:
+    /// one that finds something uses up a count or a fault, or there is none and all is sent.
+    waiting: BTreeMap<u32, u64>,
     globals: BTreeMap<u32, GlobalId>,
 }
 
@@ -60,6 +67,8 @@ impl Known {
     pub fn new(alloc: Global) -> Self {
         Known {
             seats: BTreeMap::new(alloc),
+            read: BTreeSet::new(alloc),
+            waiting: BTreeMap::new(alloc),
             globals: BTreeMap::new(alloc),
         }
     }
@@ -106,14 +115,86 @@ impl Known {
         }
     }
 
-    /// Puts the steps that take each client's record of what it was sent behind the others.
-    fn push_hearing(&self, heard: Heard, line: u64, steps: &mut Vec<Made>) -> Result<(), Stop> {
+    /// Keeps that something may wait for the client at the slot.
+    fn wait(&mut self, slot: u32) -> Result<(), Stop> {
+        if let Some(seat) = self.seats.get(&slot) {
+            self.waiting.insert(slot, seat.limits.saturating_add(1))?;
+        }
+        Ok(())
+    }
+
+    /// Keeps that the sends to the client at the slot were given so many counts and faults more.
+    fn limit(&mut self, slot: u32, more: u64) -> Result<(), Stop> {
+        if let Some(seat) = self.seats.get_mut(&slot) {
+            seat.limits = seat.limits.saturating_add(more);
+        }
+        if self.waiting.contains_key(&slot) {
+            self.wait(slot)?;
+        }
+        Ok(())
+    }
+
+    /// Keeps what a command about the client at the slot may leave for later flushes.
+    fn await_client(&mut self, slot: u32, command: &ClientCommand) -> Result<(), Stop> {
+        match command {
+            ClientCommand::Read | ClientCommand::Finish => {
+                self.read.insert(slot)?;
+                self.wait(slot)
+            }
+            ClientCommand::Accept(counts) => self.limit(slot, counts.len() as u64),
+            ClientCommand::FailOut(_) => self.limit(slot, 1),
+            ClientCommand::Arrive(..) | ClientCommand::Kill | ClientCommand::FailIn(_) => Ok(()),
+        }
+    }
+
+    /// The slots of the clients that may be told of a change of globals, for all of which something may wait behind it.
+    fn told(&mut self, alloc: Global) -> Result<Vec<u32>, Stop> {
+        let mut slots = Vec::new(alloc);
+        for slot in self.read.iter() {
+            slots.push(*slot)?;
+        }
+        for slot in slots.as_slice() {
+            self.wait(*slot)?;
+        }
+        Ok(slots)
+    }
+
+    /// The slots of the clients that a flush may send something to.
+    fn flushed(&mut self, alloc: Global) -> Result<Vec<u32>, Stop> {
+        let mut slots = Vec::new(alloc);
+        for slot in self.waiting.keys() {
+            slots.push(*slot)?;
+        }
+        self.waiting.retain(|_, left| {
+            *left = left.saturating_sub(1);
+            *left > 0
+        });
+        Ok(slots)
+    }
+
+    /// Whose transports are looked at behind a command; what it may leave for later flushes is kept.
+    fn hear(&mut self, alloc: Global, command: &Command) -> Result<Heard, Stop> {
+        match command {
+            Command::Insert | Command::Notes | Command::Cleanup => Ok(Heard::Nobody),
+            Command::Client(slot, command) => {
+                self.await_client(*slot, command)?;
+                Ok(Heard::Client(*slot))
+            }
+            Command::Create(..) | Command::Disable(_) | Command::Remove(_) => {
+                Ok(Heard::Clients(self.told(alloc)?))
+            }
+            Command::Flush => Ok(Heard::Clients(self.flushed(alloc)?)),
+        }
+    }
+
+    /// Puts the steps that take the records of what these clients were sent behind the others.
+    fn push_hearing(&self, heard: &Heard, line: u64, steps: &mut Vec<Made>) -> Result<(), Stop> {
         match heard {
             Heard::Nobody => Ok(()),
-            Heard::Client(slot) => push(steps, Step::TakeSent(self.seat(slot, line)?.client)),
-            Heard::Everybody => {
-                for seat in self.seats.values() {
-                    push(steps, Step::TakeSent(seat.client))?;
+            Heard::Client(slot) => push(steps, Step::TakeSent(self.seat(*slot, line)?.client)),
+            Heard::Clients(slots) => {
+                for slot in slots.as_slice() {
+                    push(steps, Step::TakeSent(self.seat(*slot, line)?.client))?;
                 }
                 Ok(())
             }
@@ -123,16 +204,16 @@ impl Known {
     /// Puts the steps of a command into the list, which is empty, and answers whose transports the last of them look
     /// at.
     pub fn plan(
-        &self,
+        &mut self,
         alloc: Global,
         table: &Protocol,
         command: Command,
         line: u64,
         steps: &mut Vec<Made>,
     ) -> Result<Heard, Stop> {
-        let heard = heard_behind(&command);
+        let heard = self.hear(alloc, &command)?;
         self.push_call(alloc, table, command, line, steps)?;
-        self.push_hearing(heard, line, steps)?;
+        self.push_hearing(&heard, line, steps)?;
         Ok(heard)
     }
 
@@ -143,70 +224,67 @@ impl Known {
         }
     }
 
+    /// Forgets what may wait for the client at the slot, which was taken out.
+    fn forget(&mut self, slot: u32) {
+        self.read.remove(&slot);
+        self.waiting.remove(&slot);
+    }
+
     /// Keeps the client as the one that was inserted last at its slot.
     fn keep_client(&mut self, client: ClientId) -> Result<(), Stop> {
         let seat = Seat {
             client,
             open: Open::Nothing,
+            limits: 0,
         };
+        self.forget(client.slot());
         self.seats.insert(client.slot(), seat)?;
         Ok(())
     }
 
     /// Keeps what a later command has to know of the reply to one.
-    pub fn keep(&mut self, heard: Heard, reply: &Told) -> Result<(), Stop> {
+    pub fn keep(&mut self, heard: &Heard, reply: &Told) -> Result<(), Stop> {
         match (heard, reply) {
             (_, Reply::InsertClient(Ok(client))) => self.keep_client(*client)?,
             (_, Reply::CreateGlobal(Ok(global))) => {
                 self.globals.insert(global.name(), *global)?;
             }
             (Heard::Client(slot), Reply::NextAction(Ok(action))) => {
-                self.keep_open(slot, opened(action));
+                self.keep_open(*slot, opened(action));
             }
             (Heard::Client(slot), Reply::FinishRequest(Ok(())) | Reply::FinishBind(Ok(()))) => {
-                self.keep_open(slot, Open::Nothing);
+                self.keep_open(*slot, Open::Nothing);
+            }
+            (_, Reply::Cleanup(Ok(out))) => {
+                for (client, _) in out.as_slice() {
+                    self.forget(client.slot());
+                }
             }
             _ => {}
         }
         Ok(())
     }
-
-    /// Prints what each client was sent, by rising slot, of the replies to the steps that took their records.
-    fn print_all_sends(&self, text: &mut String, replies: &[Told]) -> Result<(), Stop> {
-        for (slot, reply) in self.seats.keys().zip(replies) {
-            if let Reply::TakeSent(Ok(sends)) = reply {
-                print_sends(text, *slot, sends.as_slice())?;
-            }
-        }
-        Ok(())
-    }
-
-    /// Prints what clients were sent, of the replies to the steps of a command.
-    pub fn print_heard(
-        &self,
-        text: &mut String,
-        heard: Heard,
-        replies: &[Told],
-    ) -> Result<(), Stop> {
-        match (heard, replies) {
-            (Heard::Nobody, [Reply::Cleanup(Ok(out))]) => print_taken_out(text, out.as_slice()),
-            (Heard::Client(slot), [.., Reply::TakeSent(Ok(sends))]) => {
-                Ok(print_sends(text, slot, sends.as_slice())?)
-            }
-            (Heard::Everybody, [_, taken @ ..]) => self.print_all_sends(text, taken),
-            _ => Ok(()),
-        }
-    }
 }
 
-/// Whose transports are looked at behind a command.
-fn heard_behind(command: &Command) -> Heard {
-    match command {
-        Command::Insert | Command::Notes | Command::Cleanup => Heard::Nobody,
-        Command::Client(slot, _) => Heard::Client(*slot),
-        Command::Create(..) | Command::Disable(_) | Command::Remove(_) | Command::Flush => {
-            Heard::Everybody
+/// Prints what the clients at these slots were sent, of the replies to the steps that took their records.
+fn print_all_sends(text: &mut String, slots: &[u32], replies: &[Told]) -> Result<(), Stop> {
+    for (slot, reply) in slots.iter().zip(replies) {
+        if let Reply::TakeSent(Ok(sends)) = reply {
+            print_sends(text, *slot, sends.as_slice())?;
         }
+    }
+    Ok(())
+}
+
+/// Prints what clients were sent, of the replies to the steps of a command.
+pub fn print_heard(text: &mut String, heard: &Heard, replies: &[Told]) -> Result<(), Stop> {
+    match (heard, replies) {
+        (Heard::Nobody, [Reply::Cleanup(Ok(out))]) => print_taken_out(text, out.as_slice()),
+        (Heard::Client(slot), [.., Reply::TakeSent(Ok(sends))]) => {
+            Ok(print_sends(text, *slot, sends.as_slice())?)
+        }
+        (Heard::Clients(slots), [_, taken @ ..]) => print_all_sends(text, slots.as_slice(), taken),
+        _ => Ok(()),
     }
 }
 
