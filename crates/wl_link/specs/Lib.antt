@@ -48,5 +48,6 @@ pub mod FoundLaws
 pub mod TotalLaws
 pub mod Growth
 pub mod AnsweringLaws
+pub mod HoldingLaws
 pub mod Parts
 pub mod Refusals

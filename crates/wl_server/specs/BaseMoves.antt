@@ -194,8 +194,8 @@ pub data Moves {T U C : Type 0} (sends : T → Queue → Result ℕ IoFault → 
       → ((id : HandedId) → IsAmong ids id → IsAmong a.handed id) → d ≡ record a { handed = ids } → Moves sends receives client p d q
   -- the link: a message was read, or the program changed the transport or a limit; a receive; messages are put, up to the
   -- first that fails; a flush
-  relinked : {p q : Part T U C} {d : Doings U} (link : LinkState T) → link.outgoing ≡ p.link.outgoing → d ≡ nothing_done → q ≡ with_link p link
-      → Moves sends receives client p d q
+  relinked : {p q : Part T U C} {d : Doings U} (link : LinkState T) → link.outgoing ≡ p.link.outgoing → link.storage ≡ p.link.storage → d ≡ nothing_done
+      → q ≡ with_link p link → Moves sends receives client p d q
   received : {p q : Part T U C} {d : Doings U} (r : Result Queue IoFault) (answer : Result (Unit {0}) IoFault) (link : LinkState T)
       → FilledBy receives p.link r answer link → d ≡ receiving r → q ≡ with_link p link → Moves sends receives client p d q
   told : {p q : Part T U C} {d : Doings U} (messages : List Said) (es : List Sending) (put : List Said) (answer : Result (Unit {0}) IoFault)

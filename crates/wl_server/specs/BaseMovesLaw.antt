@@ -157,7 +157,7 @@ module _ {T U C : Type 0} (sends : T → Queue → Result ℕ IoFault → T → 
       ]
 
   transport_moves : (becomes : T → T → Type 0) (p : Part T U C) (did : List (Deed U)) (q : Part T U C) → did ≡ [] → WithTransport becomes p q → Leads p (done did) q
-  transport_moves becomes p did q none (t, b, same) = relinked (with_transport p.link t) refl (ap done none) same
+  transport_moves becomes p did q none (t, b, same) = relinked (with_transport p.link t) refl refl (ap done none) same
 
   -- ---- what is held of a client
 
@@ -312,7 +312,7 @@ module _ {T U G C : Type 0} (w : World T G C) (id : ClientParts) (offer : Offer 
   step_goes (step.SetDefaultMaxBufferSize limit) answer s lacked did t about (is, h) = unfelt_goes w.sends w.receives id s lacked did t h
   step_goes (step.SetClientMaxBufferSize target limit) answer s lacked did t about (is, h) =
       of_client w.sends w.receives id (same_client target id) s _ _ lacked did t
-      (λ p q (no_memory, none, (link, (l, limits, set), same)). relinked link (ap (λ (k : LinkState T). k.outgoing) set) (ap done none) same) h
+      (λ p q (no_memory, none, (link, (l, limits, set), same)). relinked link (ap (λ (k : LinkState T). k.outgoing) set) (ap (λ (k : LinkState T). k.storage) set) (ap done none) same) h
   step_goes (step.NextAction target) answer s lacked did t about (r, left, is, h) = reads_goes target _ _ left s lacked did t h
   step_goes (step.NextActionWithin target reading) answer s lacked did t about (r, left, is, h) = reads_goes target reading _ left s lacked did t h
   step_goes (step.FinishRequest target u) answer s lacked did t about (r, is, h) =

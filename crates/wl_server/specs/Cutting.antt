@@ -15,6 +15,7 @@ use Rattle.wl_server.specs.declared.error.FinishRefused.{FinishRefused}
 use Rattle.wl_server.specs.declared.step.Reply.TheVariants as reply
 use Rattle.wl_server.specs.declared.step.Step.TheVariants as step
 use Rattle.wl_server.specs.Deeds.{Deed, Handed, Sent, notes_in}
+use Rattle.wl_server.specs.Ids.{ClientParts}
 use Rattle.wl_server.specs.Part.{Part}
 use Rattle.wl_server.specs.PartStep.{Asked, Call, World, around}
 use Rattle.wl_server.specs.Reading.{Around, action_content, answered, exchanges_in, new_reading, server}
@@ -63,6 +64,18 @@ module _ {T U G C : Type 0} (a : Around G C) where
       × (did ≡ deeds_of (map Sent es) gave end.core)
       × (after ≡ seen_after before end did)
       × ((finishes : List (Finish U)) → GoesOn (reader_part p) nothing es (u ∷ finishes) gave end finishes)
+
+-- ---- a run of a server
+
+-- Of each client that was inserted in the run and is stored at its end: of whatever waits and comes, with whatever finishes,
+-- something is served, by some answers to the sends.
+abbrev pub EachIsServed : {T U G C : Type 0} → World T G C → List (Entry T U G C) → ServerState T U G C → Type 0
+EachIsServed {T = T} {U = U} {G = G} {C = C} w run after =
+    (id : ClientParts) (transport : T) (info : C) (earlier later : List (Entry T U G C)) (e : Entry T U G C) →
+    run ≡ earlier ++ e ∷ later → e.call ≡ Asked (step.InsertClient transport info) (reply.InsertClient (Ok id)) →
+    (p : Part T U C) → (seen id after).part ≡ Some p → (more : Queue) (finishes : List (Finish U)) →
+    (answers : Answers) × (gave : List (Given (Told U))) × (end : ReaderPart Answers (Core U C))
+    × IsServed (around w id after.offer) (reader_part p) more answers finishes gave end
 
 -- ---- the calls of a server
 

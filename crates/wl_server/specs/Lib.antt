@@ -65,6 +65,7 @@ pub mod Identified
 pub mod ChangeLaws
 pub mod ReplyLaws
 pub mod CuttingLaws
+pub mod StorageLaws
 pub mod Stretches
 pub mod AnswerLaws
 pub mod StretchLaws

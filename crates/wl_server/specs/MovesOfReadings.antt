@@ -11,6 +11,7 @@ use Rattle.wl_wire.specs.Message.{WireMessage}
 use Rattle.wl_wire.specs.Parse.{opcode_of, sender_of}
 use Rattle.wl_link.specs.Branches.{either_bool, either_option, either_result}
 use Rattle.wl_link.specs.Exchange.{Queue, Sending}
+use Rattle.wl_link.specs.HoldingLaws.{read_stays}
 use Rattle.wl_link.specs.Link.{LinkState, ReadFound, ReadOne, count_of, counted_answer}
 use Rattle.wl_link.specs.Puts.{Said}
 use Rattle.wl_link.specs.Reader.{CarriesOut, Given, Gives, Handled, Reads, Received, Stops, Turn, Unread, Verdict, behind, with_link}
@@ -79,15 +80,15 @@ module _ {T U G C : Type 0} (sends : T → Queue → Result ℕ IoFault → T �
 
   -- a turn: bytes are read, and a verdict carried out
   turn_moves : (before : ReaderPart T (Core U C)) (link : LinkState T) (v : Verdict (Core U C) (Told U)) → link.outgoing ≡ before.link.outgoing
-      → Comes sends receives a.client before.core v → Calm before.core → (es : List Sending) (first : List (Given (Told U))) (lacked : Bool) (mid : ReaderPart T (Core U C))
+      → link.storage ≡ before.link.storage → Comes sends receives a.client before.core v → Calm before.core → (es : List Sending) (first : List (Given (Told U))) (lacked : Bool) (mid : ReaderPart T (Core U C))
       → CarriesOut sends (server a) v link es first lacked mid
       → before.core.ended ≡ None
       → Step (part_of before) (done (deeds_of (map Sent es) first mid.core)) (part_of mid) × Calm mid.core × IsQuiet (deeds_in first)
-  turn_moves before link v waits comes calm es first lacked mid by none =
+  turn_moves before link v waits stays comes calm es first lacked mid by none =
       let c = carried sends receives a.client (server a) (λ d f. refl) before.core v comes calm link es first lacked mid by in
       let so : notes_at_end sends receives a.client mid.core ≡ c.notes =
       c.so ∙ ap (λ (o : Option _). notes_in (end_deeds {U = U} o) ++ c.notes) none in (
-        followed (relinked link waits refl refl) c.moves
+        followed (relinked link waits stays refl refl) c.moves
             (verdict_done es c.put c.made first mid.core c.deeds
             ∙ ap (λ (n : List (Happening U)). joined (putting es c.put) (joined (done c.made) (noting n))) so),
         c.calm,
@@ -179,11 +180,12 @@ module _ {T U G C : Type 0} (sends : T → Queue → Result ℕ IoFault → T �
   reads_moves left before (Handled es ∷ turns) out after none calm (on, (v, link, first, lacked, mid, rest, (m, read, is), by, split, more)) =
       then_moves left before mid after es turns first lacked rest out split
       (turn_moves before link v (read_waits (λ sender opcode found. found ≡ (server a).signature before.core sender opcode) before.link link (Ok m) read)
+      (read_stays (λ sender opcode found. found ≡ (server a).signature before.core sender opcode) before.link link m read)
       (subst (λ (w : Verdict (Core U C) (Told U)). Comes sends receives a.client before.core w) (sym is) (handles_comes sends receives a before.core m calm)) calm es first lacked mid by none)
       more (λ no_end calm'. reads_moves left mid turns rest after no_end calm' more)
   reads_moves left before (Unread es ∷ turns) out after none calm (on, (v, link, first, lacked, mid, rest, (read, same, is), by, split, more)) =
       then_moves left before mid after es turns first lacked rest out split
-      (turn_moves before link v (ap (λ (l : LinkState T). l.outgoing) same)
+      (turn_moves before link v (ap (λ (l : LinkState T). l.outgoing) same) (ap (λ (l : LinkState T). l.storage) same)
       (subst (λ (w : Verdict (Core U C) (Told U)). Comes sends receives a.client before.core w) (sym is) (malformed_comes sends receives a before.core calm)) calm es first lacked mid by none)
       more (λ no_end calm'. reads_moves left mid turns rest after no_end calm' more)
 

@@ -21,7 +21,7 @@ ghost use Rattle.wl_server.specs.declared.step.Reply.{Reply};
 ghost use Rattle.wl_server.specs.declared.step.Step.{Step};
 ghost use Rattle.wl_server.specs.Accounts.{AreAccountedFor};
 ghost use Rattle.wl_server.specs.Announced.{EachAnnouncesShown, HaveAnnouncements};
-ghost use Rattle.wl_server.specs.Cutting.{GoesOn, HistoriesAreCut, IsServed};
+ghost use Rattle.wl_server.specs.Cutting.{EachIsServed, GoesOn, HistoriesAreCut, IsServed};
 ghost use Rattle.wl_server.specs.Globals.{CreatesGlobal, Globals, Offer};
 ghost use Rattle.wl_server.specs.Ids.{ClientParts, GlobalParts};
 ghost use Rattle.wl_server.specs.Outcome.{ClientsHaveOneOutcome, OffersHaveOneOutcome, OwnRunsHaveOneOutcome, StepsHaveOneOutcome};
@@ -181,7 +181,7 @@ pub fn each_client_of_a_script_is_accounted_for<U, G: GlobalHandler<C>, C>()
 /// received and then the rest, is what the reading gave, followed by what is served of the client after it over the rest.
 /// The end of an action is the next of the finishes. So it is of each history that a call may have: its deeds are those of such
 /// turns, or of such an end. What is served is determined; and of whatever waits something is served, by some answers to the
-/// sends, where the storage for what is sent holds a byte.
+/// sends, where the storage for what is sent holds a byte: so of each client that is stored, over every run of calls.
 pub fn cutting_does_not_matter_to_a_client<T: Transport, U, G, C>()
     ensures reading { (a : Around G C) (left : ℕ) (before after : ReaderPart T (Core U C)) (turns : List Turn) (out : Gives (Told U)) →
         Reads T.sends (server a) T.receives left before turns out after → AllFed turns → out.refused ≡ false →
@@ -196,6 +196,8 @@ pub fn cutting_does_not_matter_to_a_client<T: Transport, U, G, C>()
         IsServed a before more answers finishes gave x → IsServed a before more answers finishes others y → (gave ≡ others) × (x ≡ y) }
     ensures some { (a : Around G C) (before : ReaderPart T (Core U C)) (more : Queue) (finishes : List (Finish U)) → 0 < before.link.storage →
         (answers : Answers) × (gave : List (Given (Told U))) × (after : _) × IsServed a before more answers finishes gave after }
+    ensures each { (views : G → ClientParts → C → GlobalParts → Bool) (table : List InterfaceRow) (run : List (Entry T U G C)) (after : ServerState T U G C) →
+        Leads (over T.sends T.receives views) (new_server table) run after → EachIsServed (over T.sends T.receives views) run after }
 {}
 
 /// The same over a stretch of a client's own run, over the transport by script: what it gives, and what it leads to, is

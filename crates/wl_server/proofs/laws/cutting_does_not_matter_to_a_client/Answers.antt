@@ -1,5 +1,6 @@
 use Rattle.wl_server.specs.CuttingLaws.{ending_cuts, histories_cut, one_served, reading_cuts, some_served}
 use Rattle.wl_server.specs.PartStep.{over}
+use Rattle.wl_server.specs.StorageLaws.{each_served}
 use Rattle.wl_server.proofs.laws.cutting_does_not_matter_to_a_client.Goals as goal
 
 pub returns-clause-reading : goal.returns-clause-reading
@@ -16,3 +17,6 @@ returns-clause-calls g c = λ views. histories_cut (over g.T.Transport.sends g.T
 
 pub returns-clause-some : goal.returns-clause-some
 returns-clause-some g c = some_served
+
+pub returns-clause-each : goal.returns-clause-each
+returns-clause-each g c = λ views. each_served (over g.T.Transport.sends g.T.Transport.receives views)
