@@ -14,7 +14,7 @@ limits {T} limit id p lacked did q = Quietly lacked did ((link : LinkState T) ×
 
 own : {T U G C : Type 0} (id : ClientParts) (limit : ℕ)
     → IsOwn {T = T} {U = U} {G = G} {C = C} (Asked (step.SetClientMaxBufferSize id limit) reply.SetClientMaxBufferSize)
-own id limit = record { offer = λ o. refl; last = refl; client = λ b. tt; global = λ o. tt; order = tt; growth = refl }
+own id limit = record { offer = λ o. refl; last = refl; client = λ b. tt; global = λ o. tt; order = tt; room = λ b. tt; growth = refl }
 
 pub returns-then-not-is_stored : goal.returns-then-not-is_stored
 returns-then-not-is_stored g c = rw (← c.self.view_is)
