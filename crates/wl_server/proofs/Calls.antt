@@ -17,7 +17,7 @@ use Rattle.wl_server.specs.Globals.{Offer}
 use Rattle.wl_server.specs.Ids.{ClientParts, same_client}
 use Rattle.wl_server.specs.PartStep.{Asked, Call, OfClient, PartStep, World}
 use Rattle.wl_server.specs.Server.{Seen, ServerState, Stored, client_at}
-use Rattle.wl_server.specs.Steps.{NumbersClient, NumbersGlobal, RisesBySlot, StepOf, inserted_by, lacks_growth, offer_after}
+use Rattle.wl_server.specs.Steps.{AsksForRoom, NumbersClient, NumbersGlobal, RisesBySlot, StepOf, inserted_by, lacks_growth, offer_after}
 use Rattle.wl_server.proofs.Slots.{Kind, did_at, each_missing, each_set, lacks_at, same_self, slot_has}
 
 -- a call that is about one client: nothing changes that all share, and no memory is wanted but for that client
@@ -27,6 +27,7 @@ pub record IsOwn {T U G C : Type 0} (call : Call T U G C) : Type 0 where
   pub client : (before : ServerState T U G C) → NumbersClient before call
   pub global : (offer : Offer G) → NumbersGlobal offer call
   pub order : RisesBySlot call
+  pub room : (before : ServerState T U G C) → AsksForRoom before call
   pub growth : lacks_growth call ≡ false
 
 -- a server of these values
@@ -59,6 +60,7 @@ module _ {T U G C : Type 0} (w : World T G C) (before : ServerState T U G C) (s 
       client = own.client before;
       global = own.global before.offer;
       order = own.order;
+      room = own.room before;
       refused = (is_refused, λ h. was_refused h);
       each = λ id. to id _ _ _ _ (each_set before.clients before.notes target c c' R missing lacked did q here known does is id);
     },
@@ -100,6 +102,7 @@ module _ {T U G C : Type 0} (w : World T G C) (before : ServerState T U G C) (s 
       client = own.client before;
       global = own.global before.offer;
       order = own.order;
+      room = own.room before;
       refused = (λ h. absurd (false≢true h), λ h. was_refused h);
       each = λ id. to id _ _ _ _ (each_missing before.clients before.notes target R missing none is id);
     },

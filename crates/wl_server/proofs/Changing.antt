@@ -34,6 +34,7 @@ module _ {T U G C : Type 0} (w : World T G C) (before : ServerState T U G C) (ta
       client = tt;
       global = tt;
       order = tt;
+      room = tt;
       refused = (λ h. absurd (false≢true h), λ h. was_refused h);
       each = λ id. each_set before.clients before.notes target c (over_transport c t) changes (Unit {0}) false [] _ here known (refl, refl, (t, refl, refl)) made id;
     },

@@ -1,5 +1,5 @@
 -- A cleanup of all clients, as a step of the server.
-use Rattle.std.proofs.Common.{◌≡◌, Bool, true, false, List, [], ◌++◌, Option, Ok, Err, Vec, refl, sym, ap, subst, ◌∙◌, arith}
+use Rattle.std.proofs.Common.{◌≡◌, ◌+◌, ◌<◌, length, Bool, true, false, List, [], ◌++◌, Option, Ok, Err, Vec, refl, sym, ap, subst, ◌∙◌, arith}
 use mathlib.Core.Logic.{inl, inr}
 use Rattle.std.specs.Global.{Global}
 use Rattle.std.specs.Prelude.{◌⊎◌}
@@ -12,11 +12,13 @@ use Rattle.wl_server.specs.declared.step.Step.TheVariants as step
 use Rattle.wl_server.specs.AccountLaws.{calls}
 use Rattle.wl_server.specs.Backend.{Calls}
 use Rattle.wl_server.specs.Cleanup.{CleansUp}
+use Rattle.wl_server.specs.Gathering.{count_leaving}
 use Rattle.wl_server.specs.Ids.{ClientParts}
-use Rattle.wl_server.specs.Leaving.{FlushesKilled}
+use Rattle.wl_server.specs.Leaving.{FlushesKilled, collected, given_at}
 use Rattle.wl_server.specs.PartStep.{Asked, World, share_of}
 use Rattle.wl_server.specs.Server.{ServerState, Stored, client_at, notes_of}
 use Rattle.wl_server.specs.Steps.{StepOf}
+use Rattle.wl_server.proofs.Asking.{cleanup_asks}
 use Rattle.wl_server.proofs.Cleaning.{CleanedBy, cleaned_one}
 use Rattle.wl_server.proofs.Collecting.{Rises, ends_for, given_for, given_rises, staying_for}
 use Rattle.wl_server.proofs.Feeling.{each_felt, lacks_of, one_lacks, some_lacks}
@@ -41,6 +43,7 @@ module _ {T U G C : Type 0} (w : World T G C) (before : ServerState T U G C) whe
       client = tt;
       global = tt;
       order = subst Rises (sym (are ∙ by.gave)) (given_rises 0 by.left);
+      room = tt;
       refused = (λ is. inr (some_lacks flush refused before.clients by.flushed by.flushes is), λ h. was_refused h);
       each = λ id. (Ok out, refl, (one id).1);
     },
@@ -65,8 +68,9 @@ module _ {T U G C : Type 0} (w : World T G C) (before : ServerState T U G C) whe
       was_refused (inr (id, lacks)) = one_lacks flush refused before.clients by.flushed by.flushes id lacks
 
   -- there is no memory for it
-  not_cleaned : (e : OutOfMemory) → StepOf w before step.Cleanup (reply.Cleanup (Err e)) true before
-  not_cleaned e = (
+  not_cleaned : (e : OutOfMemory) → 0 < count_leaving true before.clients + length (collected given_at 0 before.clients)
+      → StepOf w before step.Cleanup (reply.Cleanup (Err e)) true before
+  not_cleaned e some = (
     record { call = Asked step.Cleanup (reply.Cleanup (Err e)); refused = true; lacks = λ id. false; did = λ id. [] },
     refl,
     refl,
@@ -76,12 +80,14 @@ module _ {T U G C : Type 0} (w : World T G C) (before : ServerState T U G C) whe
       client = tt;
       global = tt;
       order = tt;
+      room = cleanup_asks before.clients some;
       refused = (λ h. inl refl, λ h. refl);
       each = λ id. (Err e, refl, (refl, refl, refl));
     },
   )
 
   pub cleanup_starved : {was : Bool} (e : OutOfMemory) (notes' : List (Note U)) → notes' ≡ before.notes
+      → 0 < count_leaving true before.clients + length (collected given_at 0 before.clients)
       → Calls w (record { server = before; refused = was }) step.Cleanup (reply.Cleanup (Err e)) (record { server = record before { notes = notes' }; refused = true })
-  cleanup_starved e notes' same =
-      calls _ _ _ _ _ (subst (λ (ns : List (Note U)). StepOf w before step.Cleanup (reply.Cleanup (Err e)) true (record before { notes = ns })) (sym same) (not_cleaned e))
+  cleanup_starved e notes' same some =
+      calls _ _ _ _ _ (subst (λ (ns : List (Note U)). StepOf w before step.Cleanup (reply.Cleanup (Err e)) true (record before { notes = ns })) (sym same) (not_cleaned e some))

@@ -18,7 +18,7 @@ use Rattle.wl_server.specs.Ids.{ClientParts}
 use Rattle.wl_server.specs.PartStep.{Asked, Call, Feels, PartStep, World}
 use Rattle.wl_server.specs.Places.{AllFeel, FeltAt, PlaceFeels}
 use Rattle.wl_server.specs.Server.{Seen, ServerState, Stored, client_at, if_serial, seen_as, notes_of}
-use Rattle.wl_server.specs.Steps.{NumbersClient, NumbersGlobal, RisesBySlot, inserted_by, lacks_growth, offer_after}
+use Rattle.wl_server.specs.Steps.{AsksForRoom, NumbersClient, NumbersGlobal, RisesBySlot, inserted_by, lacks_growth, offer_after}
 use Rattle.wl_server.proofs.Slots.{Kind, client_present, get_set_other, get_set_same, on_part, other_of, same_parts, slot_within}
 
 module _ {T U C : Type 0} (R : Kind T U C) where
@@ -183,6 +183,7 @@ pub record IsFelt {T U G C : Type 0} (call : Call T U G C) : Type 0 where
   pub last : inserted_by call ≡ 0
   pub client : (before : ServerState T U G C) → NumbersClient before call
   pub order : RisesBySlot call
+  pub room : (before : ServerState T U G C) → AsksForRoom before call
 
 module _ {T U G C : Type 0} (w : World T G C) (before : ServerState T U G C) (s : Step T U G C) (answer : Reply T U) (felt : IsFelt (Asked s answer)) where
   last : (n : ℕ) → n ≡ 0 → before.last_client ≡ before.last_client + n
@@ -205,6 +206,7 @@ module _ {T U G C : Type 0} (w : World T G C) (before : ServerState T U G C) (s 
       client = felt.client before;
       global = numbers;
       order = felt.order;
+      room = felt.room before;
       refused = (λ is. inr (some_lacks R refused before.clients clients all is), λ h. was_refused h);
       each = λ id. to id _ _ _ _ (by id).1;
     },
@@ -231,6 +233,7 @@ module _ {T U G C : Type 0} (w : World T G C) (before : ServerState T U G C) (s 
       client = felt.client before;
       global = numbers;
       order = felt.order;
+      room = felt.room before;
       refused = (λ is. inl (growth ∙ is), λ h. was_refused h);
       each = λ id. to id _;
     },

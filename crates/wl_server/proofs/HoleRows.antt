@@ -1,6 +1,7 @@
 -- What no step does, whatever else it is free to do: it says what was meant.
 use Rattle.std.proofs.Common.{◌≡◌, ℕ, zero, suc, ◌⊎◌, inl, inr, Bool, List, [], None, Ok, Err, true, false, refl, ap, sym, ◌∙◌, arith, lit<, true≢false}
 use Rattle.std.specs.Prelude.{is_some}
+use Rattle.wl_wire.specs.declared.error.OutOfMemory.{OutOfMemory}
 use Rattle.wl_server.specs.declared.error.GlobalError.TheVariants as global
 use Rattle.wl_server.specs.declared.error.InsertClientError.TheVariants as insert
 use Rattle.wl_server.specs.declared.step.Reply.{Reply}
@@ -42,6 +43,14 @@ module _ (w : World ℕ ℕ Bool) (lacks : ClientParts → Bool) (did : ClientPa
           → lacks id ≡ false
       nobody id (Ok g, is, h) = h.1.0
       nobody id (Err e, is, h) = h.0
+
+  -- ---- nor where there is nothing to be made room for
+
+  a_cleanup_of_nobody : (e : OutOfMemory) (refused : Bool) → First step.Cleanup (reply.Cleanup (Err e)) refused → ⊥
+  a_cleanup_of_nobody e refused by = let (slot, s, here, some) = by.room in true≢false (sym (ap is_some here))
+
+  no_notes_of_nobody : (e : OutOfMemory) (refused : Bool) → First step.TakeNotes (reply.TakeNotes (Err e)) refused → ⊥
+  no_notes_of_nobody e refused by = let (slot, s, here, some) = by.room in true≢false (sym (ap is_some here))
 
   -- ---- a new client
 

@@ -157,6 +157,7 @@ module _ {T U G C : Type 0} (w : World T G C) where
       client = (free, below, serial);
       global = tt;
       order = tt;
+      room = tt;
       refused = (λ h. absurd (false≢true h), λ h. was_refused h);
       each = λ id. (Ok new, refl, each_inserted before.offer transport info before.clients clients' before.notes new s free.free put is id);
     },
@@ -179,6 +180,7 @@ module _ {T U G C : Type 0} (w : World T G C) where
       client = lacks;
       global = tt;
       order = tt;
+      room = tt;
       refused = (λ h. absurd (false≢true h), λ h. was_refused h);
       each = λ id. (Err insert.Full, refl, (refl, refl, refl));
     },
@@ -202,6 +204,7 @@ module _ {T U G C : Type 0} (w : World T G C) where
       client = (new, (free, below, serial));
       global = tt;
       order = tt;
+      room = tt;
       refused = (λ h. inl refl, λ h. refl);
       each = λ id. (Err insert.OutOfMemory, refl, (refl, refl, refl));
     },

@@ -39,6 +39,7 @@ mod Opened
 mod Handling
 mod Requesting
 mod Announcing
+mod Asking
 mod TakingNotes
 mod GatheredSlots
 mod Turning

@@ -216,3 +216,13 @@ module _ {T U C : Type 0} where
       ap length (collected_drop give slot slot clients x here) ∙ length-append (give slot x) (collected give (slot + 1) (drop (slot + 1) clients))
       in
       omega (arith, is, below, all, this, part)
+
+  pub counted_fewer : {A : Type 0} (give : ℕ → Option (Stored T U C) → List A) (clients : List (Option (Stored T U C))) (slot : ℕ) (x : Option (Stored T U C)) (count one count' : ℕ)
+      → slice_get clients slot ≡ Some x → count + length (collected give slot (drop slot clients)) ≤ length (collected give 0 clients)
+      → one ≤ length (give slot x) → count' ≡ min (count + one) 0xFFFFFFFFFFFFFFFF
+      → count' + length (collected give (slot + 1) (drop (slot + 1) clients)) ≤ length (collected give 0 clients)
+  counted_fewer give clients slot x count one count' here before some is =
+      let part : length (collected give slot (drop slot clients)) ≡ length (give slot x) + length (collected give (slot + 1) (drop (slot + 1) clients)) =
+      ap length (collected_drop give slot slot clients x here) ∙ length-append (give slot x) (collected give (slot + 1) (drop (slot + 1) clients))
+      in
+      omega (arith, is, before, some, part)

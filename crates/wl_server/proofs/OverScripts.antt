@@ -93,6 +93,7 @@ module _ {U G C : Type 0} (views : G → ClientParts → C → GlobalParts → B
       client = one.client;
       global = one.global;
       order = one.order;
+      room = one.room;
       refused = one.refused;
       each = λ id. part_call id before.offer e.call _ _ _ _ (one.each id);
     },

@@ -26,11 +26,11 @@ module _ {T U G C : Type 0} where
   reads_kind w offer r answer r' id p lacked did q = NextAction w.sends w.receives (around w id offer) r p answer r' lacked did q
 
   pub own_next : (id : ClientParts) (answer : Result Action ActionError) → IsOwn {T = T} {U = U} {G = G} {C = C} (Asked (step.NextAction id) (reply.NextAction answer))
-  own_next id answer = record { offer = λ o. refl; last = refl; client = λ b. tt; global = λ o. tt; order = tt; growth = refl }
+  own_next id answer = record { offer = λ o. refl; last = refl; client = λ b. tt; global = λ o. tt; order = tt; room = λ b. tt; growth = refl }
 
   pub own_within : (id : ClientParts) (r : Reading) (answer : Result Action ActionError) (r' : Reading)
       → IsOwn {T = T} {U = U} {G = G} {C = C} (Asked (step.NextActionWithin id r) (reply.NextActionWithin answer r'))
-  own_within id r answer r' = record { offer = λ o. refl; last = refl; client = λ b. tt; global = λ o. tt; order = tt; growth = refl }
+  own_within id r answer r' = record { offer = λ o. refl; last = refl; client = λ b. tt; global = λ o. tt; order = tt; room = λ b. tt; growth = refl }
 
 module _ {T U G C : Type 0} (sends : T → Queue → Result ℕ IoFault → T → Type 0) (receives : T → ℕ → Result Queue IoFault → T → Type 0)
     (views : G → ClientParts → C → GlobalParts → Bool) (before : ServerState T U G C) (id : ClientParts) (r r' : Reading) (answer : Result Action ActionError) where

@@ -1,5 +1,5 @@
 -- The notes that were gathered are handed out, as a step of the server.
-use Rattle.std.proofs.Common.{◌≡◌, ℕ, Bool, true, false, List, [], ◌++◌, map, Option, None, Some, Ok, Err, Vec, refl, sym, ap, subst, ◌∙◌, append-nil, arith}
+use Rattle.std.proofs.Common.{◌≡◌, ◌≢◌, ℕ, ◌<◌, Bool, true, false, List, [], ◌++◌, map, Option, None, Some, Ok, Err, Vec, refl, sym, ap, subst, ◌∙◌, append-nil, arith}
 use mathlib.Core.Logic.{inl, inr}
 use Rattle.std.specs.Global.{Global}
 use Rattle.std.specs.Option.{option_map, option_map_or}
@@ -14,13 +14,14 @@ use Rattle.wl_server.specs.declared.step.Step.TheVariants as step
 use Rattle.wl_server.specs.AccountLaws.{calls}
 use Rattle.wl_server.specs.Backend.{Calls}
 use Rattle.wl_server.specs.Deeds.{NoteTaken}
-use Rattle.wl_server.specs.Gathering.{AllLeft, Gathers, all_emptied, emptied, leaving}
+use Rattle.wl_server.specs.Gathering.{AllLeft, Gathers, all_emptied, count_leaving, emptied, leaving}
 use Rattle.wl_server.specs.Globals.{Offer}
 use Rattle.wl_server.specs.Ids.{ClientParts}
 use Rattle.wl_server.specs.Part.{Part}
 use Rattle.wl_server.specs.PartStep.{Asked, NotesTaken, World}
 use Rattle.wl_server.specs.Server.{Seen, ServerState, Stored, client_at, if_serial, notes_of, seen_as}
-use Rattle.wl_server.specs.Steps.{StepOf}
+use Rattle.wl_server.specs.Steps.{SomeClient, StepOf}
+use Rattle.wl_server.proofs.Asking.{notes_ask}
 
 module _ {T U C : Type 0} where
   -- ---- what is left of each client
@@ -113,6 +114,7 @@ module _ {T U G C : Type 0} (w : World T G C) (before : ServerState T U G C) whe
       client = tt;
       global = tt;
       order = tt;
+      room = tt;
       refused = (λ h. absurd (false≢true h), λ h. was_refused h);
       each = λ id. (Ok out, refl, each_taken w before.offer before.clients before.notes clients' out by left id);
     },
@@ -131,8 +133,8 @@ module _ {T U G C : Type 0} (w : World T G C) (before : ServerState T U G C) whe
       (taken_so clients' out (subst (λ (ns : List (Note U)). Gathers false before.clients before.notes clients' ns) (sym are) by) left))
 
   -- there is no memory for it
-  not_taken : (e : OutOfMemory) → StepOf w before step.TakeNotes (reply.TakeNotes (Err e)) true before
-  not_taken e = (
+  not_taken : (e : OutOfMemory) → SomeClient before.clients (λ s. s.made ≢ []) → StepOf w before step.TakeNotes (reply.TakeNotes (Err e)) true before
+  not_taken e some = (
     record { call = Asked step.TakeNotes (reply.TakeNotes (Err e)); refused = true; lacks = λ id. false; did = λ id. [] },
     refl,
     refl,
@@ -142,14 +144,16 @@ module _ {T U G C : Type 0} (w : World T G C) (before : ServerState T U G C) whe
       client = tt;
       global = tt;
       order = tt;
+      room = some;
       refused = (λ h. inl refl, λ h. refl);
       each = λ id. (Err e, refl, (refl, refl, refl));
     },
   )
 
   pub notes_starved : {was : Bool} (e : OutOfMemory) (clients' : List (Option (Stored T U C))) (notes' : List (Note U)) → clients' ≡ before.clients → notes' ≡ before.notes
+      → 0 < count_leaving false before.clients
       → Calls w (record { server = before; refused = was }) step.TakeNotes (reply.TakeNotes (Err e)) (record { server = record before { clients = clients'; notes = notes' }; refused = true })
-  notes_starved e clients' notes' same same' =
+  notes_starved e clients' notes' same same' some =
       calls _ _ _ _ _
       (subst (λ (xs : List (Option (Stored T U C))). StepOf w before step.TakeNotes (reply.TakeNotes (Err e)) true (record before { clients = xs; notes = notes' })) (sym same)
-      (subst (λ (ns : List (Note U)). StepOf w before step.TakeNotes (reply.TakeNotes (Err e)) true (record before { notes = ns })) (sym same') (not_taken e)))
+      (subst (λ (ns : List (Note U)). StepOf w before step.TakeNotes (reply.TakeNotes (Err e)) true (record before { notes = ns })) (sym same') (not_taken e (notes_ask before.clients some))))

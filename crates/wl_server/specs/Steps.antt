@@ -1,5 +1,5 @@
 -- What a call does to a server: to what all clients share, and to what is held of every client id.
-use Rattle.std.specs.Prelude.{◌≡◌, ℕ, ◌+◌, ◌<◌, ◌⊎◌, List, Bool, true, false, Option, None, IsSome, Result, Ok, Err, AllPairs, ◌↔◌}
+use Rattle.std.specs.Prelude.{◌≡◌, ◌≢◌, ℕ, ◌+◌, ◌<◌, ◌⊎◌, ◌++◌, List, [], Bool, true, false, Option, None, Some, IsSome, Result, Ok, Err, AllPairs, ◌↔◌}
 use Rattle.wl_wire.specs.declared.interface.InterfaceId.{InterfaceId}
 use Rattle.wl_server.specs.declared.error.GlobalError.TheVariants as global
 use Rattle.wl_server.specs.declared.error.InsertClientError.{InsertClientError}
@@ -23,9 +23,13 @@ pub record Entry (T U G C : Type 0) : Type 0 where
   pub lacks : ClientParts → Bool
   pub did : ClientParts → List (Deed U)
 
--- ---- new clients
+-- ---- clients
 
 module _ {T U C : Type 0} where
+  -- some client is such
+  abbrev pub SomeClient : List (Option (Stored T U C)) → (Stored T U C → Type 0) → Type 0
+  SomeClient clients R = (slot : ℕ) × (s : Stored T U C) × (stored_at slot clients ≡ Some s) × R s
+
   -- the least slot that no client has
   pub record IsLeastFree (clients : List (Option (Stored T U C))) (slot : ℕ) : Type 0 where
     pub below : slot < 0x100000000
@@ -84,6 +88,14 @@ module _ {T U G C : Type 0} where
 
   -- ---- whether memory was refused
 
+  -- A cleanup asks for memory only where notes are to be gathered or a client is to be taken out, and so does the list of
+  -- notes only where some are to be gathered.
+  abbrev pub AsksForRoom : ServerState T U G C → Call T U G C → Type 0
+  AsksForRoom before (Asked step.Cleanup (reply.Cleanup (Err _))) =
+      SomeClient before.clients (λ s. (s.made ++ s.part.waiting ≢ []) ⊎ (s.part.is_killed ≡ true))
+  AsksForRoom before (Asked step.TakeNotes (reply.TakeNotes (Err _))) = SomeClient before.clients (λ s. s.made ≢ [])
+  AsksForRoom before _ = Unit {0}
+
   -- the call met a want of memory for what it makes of its own, and not of any client
   abbrev pub lacks_growth : Call T U G C → Bool
   lacks_growth (Asked _ (reply.InsertClient (Err insert.OutOfMemory))) = true
@@ -105,6 +117,7 @@ pub record OneStep {T U G C : Type 0} (w : World T G C) (before : ServerState T 
   pub client : NumbersClient before e.call
   pub global : NumbersGlobal before.offer e.call
   pub order : RisesBySlot e.call
+  pub room : AsksForRoom before e.call
   pub refused : IsRefused e
   pub each : (id : ClientParts) → PartCall w id before.offer e.call (seen id before) (e.lacks id) (e.did id) (seen id after)
 

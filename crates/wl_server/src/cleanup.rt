@@ -1,6 +1,6 @@
 //! The end of killed clients, and of what waited for a cleanup.
 
-ghost use Rattle.std.specs.Prelude.{◌≡◌, ℕ, ◌+◌, ◌++◌, ◌<◌, ◌≤◌, [], length, true, IfOk, OnOk};
+ghost use Rattle.std.specs.Prelude.{◌≡◌, ℕ, ◌+◌, ◌++◌, ◌<◌, ◌≤◌, [], length, true, IfOk, OnErr, OnOk};
 ghost use Rattle.std.specs.Vec.{vec_capacity, vec_len};
 ghost use Rattle.wl_server.specs.Backend.{Calls};
 ghost use Rattle.wl_server.specs.Cleanup.{CleansUp};
@@ -104,7 +104,7 @@ pub fn count_ends<T: Drop, U: Drop, C: Drop>(clients: &[Option<Client<T, U, C>>]
 
 /// One where the client of a slot leaves, and else nothing.
 fn count_given_at<T, U, C>(client: &Option<Client<T, U, C>>) -> usize
-    ensures { (slot : ℕ) → length (given_at slot client.now) ≤ result }
+    ensures { (slot : ℕ) → length (given_at slot client.now) ≡ result }
 {
     match client {
         Some(client) if client.is_killed => 1,
@@ -114,7 +114,8 @@ fn count_given_at<T, U, C>(client: &Option<Client<T, U, C>>) -> usize
 
 /// How many clients leave; the greatest number stands for more.
 pub fn count_given<T, U, C>(clients: &[Option<Client<T, U, C>>]) -> usize
-    ensures { result < 0xFFFFFFFFFFFFFFFF → length (collected given_at 0 clients.now) ≤ result }
+    ensures all { result < 0xFFFFFFFFFFFFFFFF → length (collected given_at 0 clients.now) ≤ result }
+    ensures no_more { result ≤ length (collected given_at 0 clients.now) }
 {
     let mut count: usize = 0;
     for slot in 0..clients.len() {
@@ -134,39 +135,52 @@ pub struct Room<T> {
     pub given: Vec<(ClientId, T)>,
 }
 
-/// Makes room for the notes of a cleanup. The answer is at least how many are gathered, and room for the numbers of the
-/// objects that are noted.
+/// Makes room for the notes of a cleanup, of which so many are gathered. The answer is room for the numbers of the objects
+/// that are noted.
 fn notes_room<T: Drop, U: Drop, C: Drop>(
     clients: &[Option<Client<T, U, C>>],
+    gathered: usize,
     notes: &mut Vec<Note<U>>,
-) -> Result<(usize, Vec<u32>), OutOfMemory>
+) -> Result<Vec<u32>, OutOfMemory>
+    requires { gathered < 0xFFFFFFFFFFFFFFFF → count_leaving true clients.now ≤ gathered }
     ensures room { OnOk result (vec_len notes.new + count_leaving true clients.now + length (collected ends_at 0 clients.now) ≤ vec_capacity notes.new) }
-    ensures numbers { IfOk result (λ made. length (collected ends_at 0 clients.now) ≤ vec_capacity made.1) }
+    ensures numbers { IfOk result (λ numbers. length (collected ends_at 0 clients.now) ≤ vec_capacity numbers) }
     ensures items { notes.new.items ≡ notes.old.items }
 {
-    let gathered = count_notes(clients, true);
     let ends = count_ends(clients);
     let numbers = Vec::with_capacity(*notes.allocator(), ends)?;
     notes.reserve(gathered.saturating_add(ends))?;
-    Ok((gathered, numbers))
+    Ok(numbers)
 }
 
-/// Makes the room that a cleanup takes, and that for its notes.
+/// Makes the room that a cleanup takes, and that for its notes. Where no notes are to be gathered and no client leaves, it
+/// asks for no memory.
 pub fn room_for<T: Drop, U: Drop, C: Drop>(
     clients: &[Option<Client<T, U, C>>],
     notes: &mut Vec<Note<U>>,
 ) -> Result<Room<T>, OutOfMemory>
-    ensures slots { IfOk result (λ _. length clients.now ≤ 0x100000000) }
+    requires slots { length clients.now ≤ 0x100000000 }
     ensures notes { OnOk result (vec_len notes.new + count_leaving true clients.now + length (collected ends_at 0 clients.now) ≤ vec_capacity notes.new) }
     ensures numbers { IfOk result (λ room. length (collected ends_at 0 clients.now) ≤ vec_capacity room.numbers) }
     ensures given { IfOk result (λ room. length (collected given_at 0 clients.now) ≤ vec_capacity room.given) }
     ensures none { IfOk result (λ room. room.given.items ≡ []) }
     ensures items { notes.new.items ≡ notes.old.items }
+    ensures some { OnErr result (0 < count_leaving true clients.now + length (collected given_at 0 clients.now)) }
 {
     let alloc = *notes.allocator();
-    let (gathered, numbers) = notes_room(clients, notes)?;
+    let gathered = count_notes(clients, true);
+    let leaving = count_given(clients);
+    let count = gathered.saturating_add(leaving);
+    if count == 0 {
+        return Ok(Room {
+            turns: Vec::new(alloc),
+            numbers: Vec::new(alloc),
+            given: Vec::new(alloc),
+        });
+    }
+    let numbers = notes_room(clients, gathered, notes)?;
     let turns = turns_of(alloc, clients, true, gathered)?;
-    let given = Vec::with_capacity(alloc, count_given(clients))?;
+    let given = Vec::with_capacity(alloc, leaving)?;
     Ok(Room {
         turns,
         numbers,
@@ -200,7 +214,8 @@ impl<T: Transport + Drop, U: Drop, G: GlobalHandler<C> + Drop, C: Drop> Backend<
     /// for it is sent, as far as its transport takes it; a fault is dropped. The answer is the clients that were taken
     /// out, with their transports. Their slots are free then.
     ///
-    /// Where there is no memory for it, nothing changes.
+    /// Where there is no memory for it, nothing changes. It asks for none where no notes are to be gathered and no client is
+    /// to be taken out.
     pub fn cleanup(&mut self) -> Result<Vec<(ClientId, T)>, OutOfMemory>
         ensures { Calls (over T.sends T.receives G.views) self.old step.Cleanup (reply.Cleanup result) self.new }
     {

@@ -124,9 +124,10 @@ fn count_of<T, U, C>(client: &Option<Client<T, U, C>>, waits: bool) -> usize
     }
 }
 
-/// At least how many notes of all clients are gathered; the greatest number stands for more.
+/// How many notes of all clients are gathered; the greatest number stands for more.
 pub fn count_notes<T, U, C>(clients: &[Option<Client<T, U, C>>], waits: bool) -> usize
-    ensures { result < 0xFFFFFFFFFFFFFFFF → count_leaving waits clients.now ≤ result }
+    ensures all { result < 0xFFFFFFFFFFFFFFFF → count_leaving waits clients.now ≤ result }
+    ensures no_more { result ≤ count_leaving waits clients.now }
 {
     let mut count: usize = 0;
     for place in clients {
@@ -171,31 +172,32 @@ pub fn turns_of<T, U, C>(
     waits: bool,
     count: usize,
 ) -> Result<Vec<Turn>, OutOfMemory>
-    ensures { IfOk result (λ _. length clients.now ≤ 0x100000000) }
+    requires { length clients.now ≤ 0x100000000 }
 {
     let mut turns = Vec::with_capacity(alloc, count)?;
     for (slot, place) in clients.iter().enumerate() {
-        // There are never more slots than these.
-        let Ok(slot) = u32::try_from(slot) else {
-            return Err(OutOfMemory);
-        };
-        push_turns_of(&mut turns, slot, place, waits)?;
+        push_turns_of(&mut turns, slot as u32, place, waits)?;
     }
     turns.sort_unstable();
     Ok(turns)
 }
 
 /// Moves the notes of all clients that were made behind these notes, in order of time. Where there is no memory for it,
-/// nothing changes.
+/// nothing changes; where there are no such notes, none is asked for.
 pub fn gather_made<T, U, C>(
     clients: &mut Vec<Option<Client<T, U, C>>>,
     notes: &mut Vec<Note<U>>,
 ) -> Result<(), OutOfMemory>
+    requires slots { length clients.old.items ≤ 0x100000000 }
     ensures gathered { IfOk result (λ _. Gathers false clients.old.items notes.old.items clients.new.items notes.new.items) }
     ensures ended { IfOk result (λ _. AllLeft false clients.new.items) }
     ensures unchanged { OnErr result ((clients.new.items ≡ clients.old.items) × (notes.new.items ≡ notes.old.items)) }
+    ensures some { OnErr result (0 < count_leaving false clients.old.items) }
 {
     let count = count_notes(clients, false);
+    if count == 0 {
+        return Ok(());
+    }
     let turns = turns_of(*notes.allocator(), clients, false, count)?;
     notes.reserve(count)?;
     gather(clients, false, &turns, notes);

@@ -14,7 +14,8 @@ use wl_link::Transport;
 use wl_wire::OutOfMemory;
 
 impl<T: Transport + Drop, U: Drop, G: GlobalHandler<C> + Drop, C: Drop> Backend<T, U, G, C> {
-    /// Takes the notes that were made, the oldest first. Where there is no memory for the list, nothing changes.
+    /// Takes the notes that were made, the oldest first. Where there is no memory for the list, nothing changes. It asks for
+    /// none where no note was made since the last call of this or of `cleanup`.
     pub fn take_notes(&mut self) -> Result<Vec<Note<U>>, OutOfMemory>
         ensures { Calls (over T.sends T.receives G.views) self.old step.TakeNotes (reply.TakeNotes result) self.new }
     {

@@ -1,6 +1,7 @@
-use Rattle.std.proofs.Common.{◌≤◌, arith, length, refl, subst}
+use Rattle.std.proofs.Common.{◌<◌, ◌≤◌, ◌+◌, true, arith, length, refl, subst}
 use Rattle.std.specs.Vec.{vec_capacity}
 use Rattle.wl_server.specs.Cleanup.{CleansUp}
+use Rattle.wl_server.specs.Gathering.{count_leaving}
 use Rattle.wl_server.specs.Leaving.{collected, given_at}
 use Rattle.wl_server.proofs.CleanedSlots.{slots_cleaned}
 use Rattle.wl_server.proofs.CleaningUp.{cleaned_up, cleanup_starved}
@@ -21,7 +22,9 @@ returns-in-Ok g c =
     rw (← c.self.view_is) (cleaned_up _ _ _ _ _ c.clean_up-self-inside.new.room.given _ refl by)
 
 pub returns-in-Err : goal.returns-in-Err
-returns-in-Err g c = rw (← c.self.view_is) (cleanup_starved _ _ _ c.room_for.new.notes.items c.room_for.ensures.items)
+returns-in-Err g c =
+    let some = subst (λ xs. 0 < count_leaving true xs + length (collected given_at 0 xs)) c.deref.ensures.value c.in-Err.ensures.some in
+    rw (← c.self.view_is) (cleanup_starved _ _ _ c.room_for.new.notes.items c.room_for.ensures.items some)
 
 pub invariant_of-self : goal.invariant_of-self
 invariant_of-self g c =

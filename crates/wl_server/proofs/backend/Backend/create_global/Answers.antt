@@ -22,7 +22,7 @@ use Rattle.wl_server.proofs.backend.Backend.create_global.Goals.{in-OutOfMemory,
 
 felt : {T U G C : Type 0} (i : InterfaceId) (version : ℕ) (handler : G) (answer : Result GlobalParts GlobalError)
     → IsFelt {T = T} {U = U} {G = G} {C = C} (Asked (step.CreateGlobal i version handler) (reply.CreateGlobal answer))
-felt i version handler answer = record { last = refl; client = λ b. tt; order = tt }
+felt i version handler answer = record { last = refl; client = λ b. tt; order = tt; room = λ b. tt }
 
 abbrev is_memory : GlobalError → Bool
 is_memory refused.OutOfMemory = true

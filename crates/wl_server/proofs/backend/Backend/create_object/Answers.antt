@@ -20,7 +20,7 @@ creates table i version u answer id p lacked did q = (lacked ≡ lacks_create an
 
 own : {T U G C : Type 0} (id : ClientParts) (i : InterfaceId) (version : ℕ) (u : U) (answer : Result IdParts CreateError)
     → IsOwn {T = T} {U = U} {G = G} {C = C} (Asked (step.CreateObject id i version u) (reply.CreateObject answer))
-own id i version u answer = record { offer = λ o. refl; last = refl; client = λ b. tt; global = λ o. tt; order = tt; growth = refl }
+own id i version u answer = record { offer = λ o. refl; last = refl; client = λ b. tt; global = λ o. tt; order = tt; room = λ b. tt; growth = refl }
 
 -- with whether memory was refused
 does : {T U C : Type 0} (table : List InterfaceRow) (id : ClientParts) (before after : Stored T U C) (i : InterfaceId) (version : ℕ) (u : U) (answer : Result IdParts CreateError)

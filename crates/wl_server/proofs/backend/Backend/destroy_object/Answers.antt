@@ -21,7 +21,7 @@ destroys sends o answer id p lacked did q = Destroys sends id p o answer lacked 
 
 own : {T U G C : Type 0} (o : IdParts) (answer : Result (Unit {0}) DestroyError)
     → IsOwn {T = T} {U = U} {G = G} {C = C} (Asked (step.DestroyObject o) (reply.DestroyObject answer))
-own o answer = record { offer = λ o. refl; last = refl; client = λ b. tt; global = λ o. tt; order = tt; growth = refl }
+own o answer = record { offer = λ o. refl; last = refl; client = λ b. tt; global = λ o. tt; order = tt; room = λ b. tt; growth = refl }
 
 -- with whether memory was refused
 does : {T U C : Type 0} (sends : T → Queue → Result ℕ IoFault → T → Type 0) (o : IdParts) (before after : Stored T U C) (answer : Result (Unit {0}) DestroyError)

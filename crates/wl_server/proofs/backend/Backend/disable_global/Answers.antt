@@ -15,7 +15,7 @@ use Rattle.wl_server.proofs.Taken.{slots_felt}
 use Rattle.wl_server.proofs.backend.Backend.disable_global.Goals as goal
 
 felt : {T U G C : Type 0} (id : GlobalParts) → IsFelt {T = T} {U = U} {G = G} {C = C} (Asked (step.DisableGlobal id) reply.DisableGlobal)
-felt id = record { last = refl; client = λ b. tt; order = tt }
+felt id = record { last = refl; client = λ b. tt; order = tt; room = λ b. tt }
 
 pub returns-then-was_enabled : goal.returns-then-was_enabled
 returns-then-was_enabled g c =

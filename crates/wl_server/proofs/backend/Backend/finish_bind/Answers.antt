@@ -17,7 +17,7 @@ finishes u answer id p lacked did q = FinishesBind p u answer lacked did q
 
 own : {T U G C : Type 0} (id : ClientParts) (u : U) (answer : Result (Unit {0}) (FinishRefused U))
     → IsOwn {T = T} {U = U} {G = G} {C = C} (Asked (step.FinishBind id u) (reply.FinishBind answer))
-own id u answer = record { offer = λ o. refl; last = refl; client = λ b. tt; global = λ o. tt; order = tt; growth = refl }
+own id u answer = record { offer = λ o. refl; last = refl; client = λ b. tt; global = λ o. tt; order = tt; room = λ b. tt; growth = refl }
 
 abbrev Unknown : {U : Type 0} → U → Result (Unit {0}) (FinishRefused U) → Type 0
 Unknown u answer = answer ≡ Err (record { error = finish.InvalidId; user_data = u })

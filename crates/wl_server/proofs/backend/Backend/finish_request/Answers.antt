@@ -20,7 +20,7 @@ finishes sends u answer id p lacked did q = FinishesRequest sends id p u answer 
 
 own : {T U G C : Type 0} (id : ClientParts) (u : Option U) (answer : Result (Unit {0}) (FinishRefused (Option U)))
     → IsOwn {T = T} {U = U} {G = G} {C = C} (Asked (step.FinishRequest id u) (reply.FinishRequest answer))
-own id u answer = record { offer = λ o. refl; last = refl; client = λ b. tt; global = λ o. tt; order = tt; growth = refl }
+own id u answer = record { offer = λ o. refl; last = refl; client = λ b. tt; global = λ o. tt; order = tt; room = λ b. tt; growth = refl }
 
 abbrev Unknown : {U : Type 0} → Option U → Result (Unit {0}) (FinishRefused (Option U)) → Type 0
 Unknown u answer = answer ≡ Err (record { error = finish.InvalidId; user_data = u })

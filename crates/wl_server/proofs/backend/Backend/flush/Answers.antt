@@ -12,10 +12,10 @@ use Rattle.wl_server.proofs.Taken.{slots_felt, slots_set}
 use Rattle.wl_server.proofs.backend.Backend.flush.Goals as goal
 
 own : {T U G C : Type 0} (client : Option ClientParts) (answer : _) → IsOwn {T = T} {U = U} {G = G} {C = C} (Asked (step.Flush client) (reply.Flush answer))
-own client answer = record { offer = λ o. refl; last = refl; client = λ b. tt; global = λ o. tt; order = tt; growth = refl }
+own client answer = record { offer = λ o. refl; last = refl; client = λ b. tt; global = λ o. tt; order = tt; room = λ b. tt; growth = refl }
 
 felt : {T U G C : Type 0} (client : Option ClientParts) (answer : _) → IsFelt {T = T} {U = U} {G = G} {C = C} (Asked (step.Flush client) (reply.Flush answer))
-felt client answer = record { last = refl; client = λ b. tt; order = tt }
+felt client answer = record { last = refl; client = λ b. tt; order = tt; room = λ b. tt }
 
 pub returns-in_default : goal.returns-in_default
 returns-in_default g c =

@@ -16,7 +16,7 @@ abbrev kills : {T U C : Type 0} → DisconnectReason → Kind T U C
 kills reason id p lacked did q = (lacked ≡ false) × Kills p reason did q
 
 own : {T U G C : Type 0} (id : ClientParts) (reason : DisconnectReason) → IsOwn {T = T} {U = U} {G = G} {C = C} (Asked (step.KillClient id reason) reply.KillClient)
-own id reason = record { offer = λ o. refl; last = refl; client = λ b. tt; global = λ o. tt; order = tt; growth = refl }
+own id reason = record { offer = λ o. refl; last = refl; client = λ b. tt; global = λ o. tt; order = tt; room = λ b. tt; growth = refl }
 
 kill_does : {T U C : Type 0} (before : Stored T U C) (reason : DisconnectReason) (after : Stored T U C) → Does before (λ p did q. Kills p reason did q) after
     → Does before (λ p did q. (false ≡ false) × Kills p reason did q) after

@@ -16,7 +16,7 @@ abbrev posts : {T U C : Type 0} → (T → Queue → Result ℕ IoFault → T �
 posts sends table o code text id p lacked did q = PostsError sends table p o code text lacked did q
 
 own : {T U G C : Type 0} (o : IdParts) (code : ℕ) (text : List ℕ) → IsOwn {T = T} {U = U} {G = G} {C = C} (Asked (step.PostError o code text) reply.PostError)
-own o code text = record { offer = λ o. refl; last = refl; client = λ b. tt; global = λ o. tt; order = tt; growth = refl }
+own o code text = record { offer = λ o. refl; last = refl; client = λ b. tt; global = λ o. tt; order = tt; room = λ b. tt; growth = refl }
 
 pub returns-then-not-is_stored : goal.returns-then-not-is_stored
 returns-then-not-is_stored g c = rw (← c.self.view_is)

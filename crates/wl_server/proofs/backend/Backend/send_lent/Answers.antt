@@ -20,7 +20,7 @@ abbrev sends_event : {T U C : Type 0} → (T → Queue → Result ℕ IoFault �
 sends_event sends table m answer id p lacked did q = SendsEvent sends id table p (session_content m) answer lacked did q
 
 own : {T U G C : Type 0} (m : Message IdParts Token) (answer : Result (Unit {0}) EventError) → IsOwn {T = T} {U = U} {G = G} {C = C} (Asked (step.SendEvent m) (reply.SendEvent answer))
-own m answer = record { offer = λ o. refl; last = refl; client = λ b. tt; global = λ o. tt; order = tt; growth = refl }
+own m answer = record { offer = λ o. refl; last = refl; client = λ b. tt; global = λ o. tt; order = tt; room = λ b. tt; growth = refl }
 
 abbrev unknown : Result (Unit {0}) EventError
 unknown = Err refused.InvalidId

@@ -19,7 +19,7 @@ limits {T} limit id p lacked did q = Quietly lacked did ((link : LinkState T) ×
 
 own : {T U G C : Type 0} (id : ClientParts) (limit : ℕ)
     → IsOwn {T = T} {U = U} {G = G} {C = C} (Asked (step.SetClientMaxBufferSize id limit) reply.SetClientMaxBufferSize)
-own id limit = record { offer = λ o. refl; last = refl; client = λ b. tt; global = λ o. tt; order = tt; growth = refl }
+own id limit = record { offer = λ o. refl; last = refl; client = λ b. tt; global = λ o. tt; order = tt; room = λ b. tt; growth = refl }
 
 limit_set : {T U C : Type 0} (s : Stored T U C) (limit : ℕ) (before link : LinkState T) → s.part.link ≡ before → LimitSet before (Some limit) link
     → Does s (λ p did q. Quietly false did ((link : LinkState T) × LimitSet p.link (Some limit) link × (q ≡ with_link p link)))

@@ -6,7 +6,7 @@ use Rattle.wl_server.proofs.Feeling.{IsFelt, unfelt_call}
 use Rattle.wl_server.proofs.backend.Backend.set_default_max_buffer_size.Goals as goal
 
 felt : {T U G C : Type 0} (limit : ℕ) → IsFelt {T = T} {U = U} {G = G} {C = C} (Asked (step.SetDefaultMaxBufferSize limit) reply.SetDefaultMaxBufferSize)
-felt limit = record { last = refl; client = λ b. tt; order = tt }
+felt limit = record { last = refl; client = λ b. tt; order = tt; room = λ b. tt }
 
 pub returns : goal.returns
 returns g c = rw (← c.self.view_is) (unfelt_call _ _ _ _ (felt _) _ _ refl tt refl (λ i b. (refl, (refl, refl, refl))))

@@ -11,7 +11,7 @@ returns-in-Ok g c = rw (← c.self.view_is)
     c.in-Ok.ensures.gathered c.in-Ok.ensures.ended)
 
 pub returns-in-Err : goal.returns-in-Err
-returns-in-Err g c = rw (← c.self.view_is) (notes_starved _ _ _ _ _ c.in-Err.ensures.unchanged.0 c.in-Err.ensures.unchanged.1)
+returns-in-Err g c = rw (← c.self.view_is) (notes_starved _ _ _ _ _ c.in-Err.ensures.unchanged.0 c.in-Err.ensures.unchanged.1 c.in-Err.ensures.some)
 
 pub invariant_of-self : goal.invariant_of-self
 invariant_of-self g c =

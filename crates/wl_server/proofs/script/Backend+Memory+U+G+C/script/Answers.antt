@@ -22,10 +22,10 @@ scripts x answer id p lacked did q = (lacked ≡ lacks_move (done answer)) × (d
 
 own : {T U G C : Type 0} (id : ClientParts) (x : ScriptCall) (answer : Result (Unit {0}) ScriptError)
     → IsOwn {T = T} {U = U} {G = G} {C = C} (Asked (step_of id x) (reply_to x answer))
-own id (call.Arrive bytes tokens) answer = record { offer = λ o. refl; last = refl; client = λ b. tt; global = λ o. tt; order = tt; growth = refl }
-own id (call.ArriveFault f) answer = record { offer = λ o. refl; last = refl; client = λ b. tt; global = λ o. tt; order = tt; growth = refl }
-own id (call.Accept n) answer = record { offer = λ o. refl; last = refl; client = λ b. tt; global = λ o. tt; order = tt; growth = refl }
-own id (call.AcceptFault f) answer = record { offer = λ o. refl; last = refl; client = λ b. tt; global = λ o. tt; order = tt; growth = refl }
+own id (call.Arrive bytes tokens) answer = record { offer = λ o. refl; last = refl; client = λ b. tt; global = λ o. tt; order = tt; room = λ b. tt; growth = refl }
+own id (call.ArriveFault f) answer = record { offer = λ o. refl; last = refl; client = λ b. tt; global = λ o. tt; order = tt; room = λ b. tt; growth = refl }
+own id (call.Accept n) answer = record { offer = λ o. refl; last = refl; client = λ b. tt; global = λ o. tt; order = tt; room = λ b. tt; growth = refl }
+own id (call.AcceptFault f) answer = record { offer = λ o. refl; last = refl; client = λ b. tt; global = λ o. tt; order = tt; room = λ b. tt; growth = refl }
 
 -- the step is that of its script's call, whichever it is
 to : {U G C : Type 0} (views : _) (before : ServerState Script U G C) (target : ClientParts) (x : ScriptCall) (answer : Result (Unit {0}) ScriptError) (id : ClientParts) (lacked : Bool)

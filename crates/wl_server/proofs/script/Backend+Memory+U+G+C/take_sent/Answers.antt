@@ -20,7 +20,7 @@ abbrev takes : {U C : Type 0} → Moved → Kind Script U C
 takes answer id p lacked did q = (lacked ≡ lacks_move answer) × (did ≡ []) × WithTransport (λ t t'. ScriptMoves t TakeSent answer t') p q
 
 own : {T U G C : Type 0} (id : ClientParts) (answer : Result _ InvalidId) → IsOwn {T = T} {U = U} {G = G} {C = C} (Asked (step.TakeSent id) (reply.TakeSent answer))
-own id answer = record { offer = λ o. refl; last = refl; client = λ b. tt; global = λ o. tt; order = tt; growth = refl }
+own id answer = record { offer = λ o. refl; last = refl; client = λ b. tt; global = λ o. tt; order = tt; room = λ b. tt; growth = refl }
 
 does : {U C : Type 0} (id : ClientParts) (before after : Stored Script U C) (answer : Moved) → lacks_move answer ≡ false
     → Does before (λ p did q. (did ≡ []) × Scripts p TakeSent answer q) after → Does before (λ p did q. takes answer id p false did q) after
