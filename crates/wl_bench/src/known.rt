@@ -230,6 +230,13 @@ impl Known {
         self.waiting.remove(&slot);
     }
 
+    /// The same for all clients that were taken out.
+    fn forget_all(&mut self, out: &[(ClientId, Memory)]) {
+        for (client, _) in out {
+            self.forget(client.slot());
+        }
+    }
+
     /// Keeps the client as the one that was inserted last at its slot.
     fn keep_client(&mut self, client: ClientId) -> Result<(), Stop> {
         let seat = Seat {
@@ -255,11 +262,7 @@ impl Known {
             (Heard::Client(slot), Reply::FinishRequest(Ok(())) | Reply::FinishBind(Ok(()))) => {
                 self.keep_open(*slot, Open::Nothing);
             }
-            (_, Reply::Cleanup(Ok(out))) => {
-                for (client, _) in out.as_slice() {
-                    self.forget(client.slot());
-                }
-            }
+            (_, Reply::Cleanup(Ok(out))) => self.forget_all(out.as_slice()),
             _ => {}
         }
         Ok(())

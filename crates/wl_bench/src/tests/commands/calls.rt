@@ -164,3 +164,65 @@ fn output_that_fails(rt: HostRuntime) {
     let end = run_commands(rt.alloc(), &mut input, &mut output);
     assert_eq!(rt; end, Err(Stop::Failed));
 }
+
+/// What a flush leaves is sent by a later one, behind any number of faults; a client that was taken out is sent nothing.
+#[test]
+fn sends_that_stop(rt: HostRuntime) -> Result<(), Fail> {
+    tells(
+        &rt,
+        printed(
+            rt.alloc(),
+            b"client
+client
+in 1 0100000000000c0002000000 -
+read 1
+fail 1 out WouldBlock
+fail 1 out Pipe
+accept 1 5
+fail 1 out Other
+flush
+flush
+flush
+flush
+flush
+in 1 0100000000000c0002000000 -
+read 1
+fail 1 out WouldBlock
+flush
+kill 1
+flush
+cleanup
+flush
+client
+flush
+",
+        ),
+        "client 0 1
+client 1 2
+ok
+fault WouldBlock
+ok
+ok
+ok
+ok
+ok
+ok
+ok
+out 1 0200000000 -
+ok
+out 1 000c00000000000100000001000c0002000000 -
+ok
+ok
+fault WouldBlock
+ok
+ok
+ok
+ok
+ok
+out 1 0200000000000c00000000000100000001000c0002000000 -
+ok
+client 1 3
+ok
+",
+    )
+}
