@@ -8,7 +8,7 @@ use Rattle.wl_server.specs.declared.step.Step.TheVariants as step
 use Rattle.wl_server.proofs.Calls.{IsOwn, done_at, not_stored}
 use Rattle.wl_server.proofs.Feeling.{IsFelt, felt_call}
 use Rattle.wl_server.proofs.Slots.{slot_in, slot_not_empty}
-use Rattle.wl_server.proofs.Taken.{slots_felt, slots_set}
+use Rattle.wl_server.proofs.Taken.{slots_set, taken_felt}
 use Rattle.wl_server.proofs.backend.Backend.flush.Goals as goal
 
 own : {T U G C : Type 0} (client : Option ClientParts) (answer : _) → IsOwn {T = T} {U = U} {G = G} {C = C} (Asked (step.Flush client) (reply.Flush answer))
@@ -25,11 +25,12 @@ returns-in_default g c =
 
 pub invariant_of-self : goal.invariant_of-self
 invariant_of-self g c =
-    let same = c.flush_each-self-inside.ensures.len in
+    let all = c.flush_each-self-inside.ensures in
+    let same = all.len in
     let before = c.self.inside.clients.ok.0 in
     let after = c.flush_each-self-inside.new.clients.ok.0 in
-    let within = c.self.invariant in
-    omega (arith, same, before, after, within)
+    let within = c.self.invariant.within in
+    record { within = omega (arith, same, before, after, within); taken = taken_felt _ _ _ _ _ all c.self.invariant.taken }
 
 pub returns-then-not-is_stored : goal.returns-then-not-is_stored
 returns-then-not-is_stored g c = rw (← c.self.view_is, c.in-Some.is)
@@ -52,13 +53,6 @@ returns g c =
     (done_at _ _ _ _ (own _ _) c.in-Some.id (λ i p lacked did q. FlushedTo g.T.Transport.sends p c.flush-answer.result lacked did q) (c.flush-answer.result ≡ Ok tt) (λ i l d b a h. (_, refl, h))
     c.slot.result c.index_mut.result.now c.in-Some-index_mut.client c.flush-answer.new.self c.lacks_memory-self-inside.result (sym c.is_stored.ensures.stored ∙ c.if-not-is_stored.false) c.slot.ensures c.index_mut.ensures.value
     c.in-Some-index_mut.is does)
-
-pub invariant_of-self : goal.invariant_of-self
-invariant_of-self g c =
-    let len : length c.flush_all-self-inside.new.clients ≡ vec_len c.self.inside.clients = c.flush_all-self-inside.ensures.len ∙ c.deref_mut.ensures.len in
-    let all = subst (λ (xs : List (Option (Stored _ _ _))). AllFeel (λ id p lacked did q. FlushesLive g.T.Transport.sends p lacked did q) c.flush_all-self-inside.result (length xs) xs
-    c.flush_all-self-inside.new.clients) c.deref_mut.ensures.value c.flush_all-self-inside.ensures in
-    rw (with_items_is c.self.inside.clients c.flush_all-self-inside.new.clients len) (slots_felt _ _ _ _ _ _ all c.self.invariant)
 
 pub invariant_of-self-in-Some-index_mut : goal.invariant_of-self-in-Some-index_mut
 invariant_of-self-in-Some-index_mut g c = slots_set _ _ _ _ _ c.self.invariant
