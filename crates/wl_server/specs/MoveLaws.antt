@@ -140,6 +140,7 @@ module _ {U G C : Type 0} (views : G → ClientParts → C → GlobalParts → B
       client = h.client;
       global = h.global;
       order = h.order;
+      room = h.room;
       refused = h.refused;
       each = λ id. call_so id before.offer e.call _ _ _ _ (h.each id);
     },
