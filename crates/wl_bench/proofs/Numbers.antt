@@ -1,9 +1,9 @@
 -- Which words are numbers, and lists of them.
-use Rattle.std.proofs.Common.{◌≡◌, ◌≢◌, ℕ, zero, suc, ◌+◌, ◌<◌, ◌≤◌, ◌^◌, ◌==◌, List, [], ◌∷◌, ◌++◌, length, map, take, get_or, take-suc, Fits, SFits, w32, ℤ, pos, Option, Some, None, Result, Ok, Err, Vec, Global, sym, ap, subst, ◌∙◌, refl, arith, codes}
+use Rattle.std.proofs.Common.{◌≡◌, ◌≢◌, ℕ, zero, suc, ◌+◌, ◌<◌, ◌≤◌, ◌==◌, List, [], ◌∷◌, ◌++◌, length, map, take, get_or, take-suc, SFits, w32, ℤ, pos, Option, Some, None, Result, Ok, Err, Vec, Global, sym, ap, subst, ◌∙◌, refl, arith, codes}
 use Rattle.std.specs.Prelude.{IfOk, MatchOption}
-use Rattle.std.specs.Result.{OkIff, result_ok}
+use Rattle.std.specs.Result.{result_ok}
 use Rattle.std.specs.Fmt.{decimal}
-use Rattle.std.specs.List.{All, AllZip, slice_split}
+use Rattle.std.specs.List.{All, AllZip}
 use Rattle.std.specs.Str.Parse.{AllDigits, ParsesUnsigned, digits_value}
 use Rattle.std.proofs.lemmas.Fmt.{decimal-digits_value, decimal_injective, decimal_nonempty, digits_decimal, first_decimal, parse-decimal, decimal_digit}
 use Rattle.std.proofs.lemmas.Int.{ints}

@@ -1,5 +1,5 @@
 -- Lines and words, computed from the definition.
-use Rattle.std.proofs.Common.{◌≡◌, ◌<◌, ◌≤◌, ℕ, List, [], ◌∷◌, Vec, String, Global, lit≤, lit<, refl, arith, codes, string_bytes, pos}
+use Rattle.std.proofs.Common.{◌≡◌, [], ◌∷◌, String, Global, lit≤, lit<, refl, codes, string_bytes, pos}
 use Rattle.std.specs.Fmt.{digits}
 use Rattle.std.proofs.lemmas.List.Elements.{All-cons, All-nil}
 use Rattle.wl_bench.specs.Commands.{AreBytes, AreNumbers, IsByte, IsCommand, words}

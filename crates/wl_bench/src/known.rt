@@ -249,6 +249,17 @@ impl Known {
         Ok(())
     }
 
+    /// Keeps what the reply to a call about the client at the slot leaves open.
+    fn keep_end(&mut self, slot: u32, reply: &Told) {
+        match reply {
+            Reply::NextAction(Ok(action)) => self.keep_open(slot, opened(action)),
+            Reply::FinishRequest(Ok(())) | Reply::FinishBind(Ok(())) => {
+                self.keep_open(slot, Open::Nothing);
+            }
+            _ => {}
+        }
+    }
+
     /// Keeps what a later command has to know of the reply to one.
     pub fn keep(&mut self, heard: &Heard, reply: &Told) -> Result<(), Stop> {
         match (heard, reply) {
@@ -256,13 +267,8 @@ impl Known {
             (_, Reply::CreateGlobal(Ok(global))) => {
                 self.globals.insert(global.name(), *global)?;
             }
-            (Heard::Client(slot), Reply::NextAction(Ok(action))) => {
-                self.keep_open(*slot, opened(action));
-            }
-            (Heard::Client(slot), Reply::FinishRequest(Ok(())) | Reply::FinishBind(Ok(()))) => {
-                self.keep_open(*slot, Open::Nothing);
-            }
             (_, Reply::Cleanup(Ok(out))) => self.forget_all(out.as_slice()),
+            (Heard::Client(slot), _) => self.keep_end(*slot, reply),
             _ => {}
         }
         Ok(())

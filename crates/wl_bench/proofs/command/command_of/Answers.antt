@@ -1,4 +1,4 @@
-use Rattle.std.proofs.Common.{◌≡◌, ◌<◌, ℕ, List, length, map, Bor, arith}
+use Rattle.std.proofs.Common.{◌<◌, ℕ, List, length, map, Bor, arith}
 use Rattle.std.proofs.lemmas.List.{length-map}
 use Rattle.wl_bench.proofs.Lines.{many_words}
 use Rattle.wl_bench.proofs.command.command_of.Goals as goal

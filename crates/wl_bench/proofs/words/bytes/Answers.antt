@@ -1,8 +1,6 @@
-use Rattle.std.proofs.Common.{◌≡◌, ◌++◌, ℕ, List, arith, subst}
-use Rattle.std.specs.List.{flat_map}
+use Rattle.std.proofs.Common.{ℕ, List, arith, subst}
 use Rattle.std.proofs.lemmas.Bool.Decides.{nat_tests}
 use Rattle.wl_bench.specs.Commands.{AreHex}
-use Rattle.wl_bench.specs.Hex.{hex_digits}
 use Rattle.wl_bench.proofs.HexWords.{behind, front_byte, no_single}
 use Rattle.wl_bench.proofs.words.bytes.Goals as goal
 

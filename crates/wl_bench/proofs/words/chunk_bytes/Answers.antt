@@ -1,4 +1,4 @@
-use Rattle.std.proofs.Common.{rules, ◌≡◌, ◌≢◌, ◌<◌, ℕ, List, length, codes}
+use Rattle.std.proofs.Common.{rules, ◌≢◌, ◌<◌, length, codes}
 use Rattle.wl_bench.proofs.HexWords.{bytes_found}
 use Rattle.wl_bench.proofs.words.chunk_bytes.Goals as goal
 

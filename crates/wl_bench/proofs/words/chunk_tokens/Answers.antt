@@ -1,4 +1,4 @@
-use Rattle.std.proofs.Common.{rules, ◌≡◌, ◌≢◌, ◌<◌, ℕ, List, length, codes}
+use Rattle.std.proofs.Common.{rules, ◌≢◌, codes}
 use Rattle.wl_bench.specs.Commands.{AreNumbers}
 use Rattle.wl_bench.proofs.Numbers.{tokens_found}
 use Rattle.wl_bench.proofs.words.chunk_tokens.Goals as goal

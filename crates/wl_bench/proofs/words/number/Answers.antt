@@ -1,4 +1,4 @@
-use Rattle.std.proofs.Common.{arith, lit<, ◌≡◌, ◌≢◌, ◌≤◌, ℕ, length, get_or}
+use Rattle.std.proofs.Common.{arith, lit<, ◌≡◌, ◌≢◌, ◌≤◌, length, get_or}
 use Rattle.std.proofs.lemmas.Str.Pattern.{starts_char}
 use Rattle.wl_bench.proofs.Numbers.{parsed, signed, zero_led}
 use Rattle.wl_bench.proofs.words.number.Goals as goal

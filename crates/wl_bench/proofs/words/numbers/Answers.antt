@@ -1,4 +1,4 @@
-use Rattle.std.proofs.Common.{lit<, ℕ, List, map, Bor, subst, ◌++◌, ◌∷◌, []}
+use Rattle.std.proofs.Common.{lit<, ℕ, List, map, Bor, subst, ◌∷◌, []}
 use Rattle.std.specs.List.{AllZip}
 use Rattle.std.proofs.lemmas.Iterator.Consumers.{YieldsList-end, YieldsList-turn}
 use Rattle.std.proofs.lemmas.Iterator.Splits.{YieldsList-from_str_split}
