@@ -149,22 +149,6 @@ fn push_turns<U>(
     Ok(())
 }
 
-/// The same of the client of a slot.
-fn push_turns_of<T, U, C>(
-    turns: &mut Vec<Turn>,
-    slot: u32,
-    client: &Option<Client<T, U, C>>,
-    waits: bool,
-) -> Result<(), OutOfMemory> {
-    let Some(client) = client else {
-        return Ok(());
-    };
-    if waits {
-        push_turns(turns, true, slot, &client.waiting)?;
-    }
-    push_turns(turns, false, slot, &client.made)
-}
-
 /// The turns of these notes, in order. Room is made for so many at once.
 pub fn turns_of<T, U, C>(
     alloc: Global,
@@ -176,7 +160,13 @@ pub fn turns_of<T, U, C>(
 {
     let mut turns = Vec::with_capacity(alloc, count)?;
     for (slot, place) in clients.iter().enumerate() {
-        push_turns_of(&mut turns, slot as u32, place, waits)?;
+        let Some(client) = place else {
+            continue;
+        };
+        if waits {
+            push_turns(&mut turns, true, slot as u32, &client.waiting)?;
+        }
+        push_turns(&mut turns, false, slot as u32, &client.made)?;
     }
     turns.sort_unstable();
     Ok(turns)

@@ -42,20 +42,8 @@ fn first_objects<U: Drop>(alloc: Global) -> Result<ObjectMap<Kept<U>>, OutOfMemo
     }
 }
 
-/// The notes of a client in which nothing has happened but that it was inserted, with room for that of its end.
-fn first_notes<U>(
-    alloc: Global,
-    numbers: &mut NoteNumbers,
-) -> Result<VecDeque<(u128, Happening<U>)>, OutOfMemory>
-    ensures notes { IfOk result (λ made. map (λ m. m.1) made.items ≡ Initialized ∷ []) }
-    ensures room { IfOk result (λ made. deque_len made < deque_capacity made) }
-{
-    let mut made = VecDeque::with_capacity(alloc, 2)?;
-    made.push_back_reserved((numbers.next_made(), Happening::Initialized));
-    Ok(made)
-}
-
-/// What a new client keeps beside its link: its objects, and its notes.
+/// What a client in which nothing has happened keeps beside its link: its objects, and the note that it was inserted, with
+/// room for that of its end.
 fn first_lists<U: Drop>(
     alloc: Global,
     numbers: &mut NoteNumbers,
@@ -65,7 +53,8 @@ fn first_lists<U: Drop>(
     ensures room { IfOk result (λ lists. deque_len lists.1 < deque_capacity lists.1) }
 {
     let objects = first_objects(alloc)?;
-    let made = first_notes(alloc, numbers)?;
+    let mut made = VecDeque::with_capacity(alloc, 2)?;
+    made.push_back_reserved((numbers.next_made(), Happening::Initialized));
     Ok((objects, made))
 }
 
@@ -158,19 +147,6 @@ fn free_slot<T, U, C>(clients: &[Option<Client<T, U, C>>], from: usize) -> Optio
     u32::try_from(first_free(clients, from)).ok()
 }
 
-/// Puts a client at a slot that there is, and that no client has.
-fn put_within<T: Drop, U: Drop, C: Drop>(
-    clients: &mut Vec<Option<Client<T, U, C>>>,
-    slot: usize,
-    client: Client<T, U, C>,
-)
-    requires { slot < vec_len clients.old }
-    ensures put { IsPut clients.old.items slot client clients.new.items }
-    ensures len { vec_len clients.new ≡ vec_len clients.old }
-{
-    clients[slot] = Some(client);
-}
-
 /// Puts a client at a slot that no client has, for which there is room.
 fn put_at<T: Drop, U: Drop, C: Drop>(
     clients: &mut Vec<Option<Client<T, U, C>>>,
@@ -183,7 +159,7 @@ fn put_at<T: Drop, U: Drop, C: Drop>(
     ensures slots { vec_len clients.old ≤ 0x100000000 → slot < 0x100000000 → vec_len clients.new ≤ 0x100000000 }
 {
     if slot < clients.len() {
-        put_within(clients, slot, client);
+        clients[slot] = Some(client);
     } else {
         clients.push_reserved(Some(client));
     }

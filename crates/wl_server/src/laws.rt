@@ -73,9 +73,22 @@ pub fn each_client_has_one_outcome<T: Transport, U, G: GlobalHandler<C>, C>()
     ensures script_offer { OffersHaveOneOutcome U (over_scripts G.views) }
 {}
 
-/// What a server answers of what all its clients share has one outcome, where memory is not refused: the id of a new
-/// client, that of a new global, and why there is none; and the list that a cleanup hands out, by each client's share.
-pub fn what_is_shared_has_one_outcome<T, U, G, C>()
+/// A run of a server has one outcome, over every transport whose answers follow from its value.
+///
+/// Two runs of the same calls, in which memory is not refused, from values of a server that are the same to their program,
+/// have the same replies and lead to values that are the same: what is held of each client id, the offer, and how many
+/// clients there were. Which lists lie where in memory is not told, nor in which order the notes of two clients stand.
+///
+/// Values that are the same to their program answer the same of themselves (`answers`): which clients are live, what is known
+/// of a client, an object and a global, and what handler a global has. And what a call answers of what all clients share has
+/// one outcome: the id of a new client, that of a new global, and why there is none; and the list that a cleanup hands out,
+/// by each client's share.
+pub fn each_run_of_a_server_has_one_outcome<T: Transport, U, G: GlobalHandler<C>, C>()
+    ensures run { IsFunction T.sends → IsReceiveFunction T.receives → RunsHaveOneOutcome U (over T.sends T.receives G.views) }
+    ensures steps { IsFunction T.sends → IsReceiveFunction T.receives → PerformancesHaveOneOutcome U (over T.sends T.receives G.views) }
+    ensures script_run { RunsHaveOneOutcome U (over_scripts G.views) }
+    ensures script_steps { PerformancesHaveOneOutcome U (over_scripts G.views) }
+    ensures answers { (s t : ServerState T U G C) → SameServer s t → AnswersAlike s t }
     ensures client { (last : ℕ) (clients : List (Option (Stored T U C))) (a b : Result ClientParts InsertClientError) →
         a ≢ Err insert.OutOfMemory → b ≢ Err insert.OutOfMemory →
         InsertsNext last clients a → InsertsNext last clients b → a ≡ b }
@@ -84,24 +97,6 @@ pub fn what_is_shared_has_one_outcome<T, U, G, C>()
         CreatesGlobal table globals i version a → CreatesGlobal table globals i version b → a ≡ b }
     ensures cleanup { (out out' : List (ClientParts × T)) → RiseBySlot out → RiseBySlot out' →
         ((id : ClientParts) → share_of id out ≡ share_of id out') → out ≡ out' }
-{}
-
-/// A run of a server has one outcome, over every transport whose answers follow from its value.
-///
-/// Two runs of the same calls, in which memory is not refused, from values of a server that are the same to their program,
-/// have the same replies and lead to values that are the same: what is held of each client id, the offer, and how many
-/// clients there were. Which lists lie where in memory is not told, nor in which order the notes of two clients stand.
-pub fn each_run_of_a_server_has_one_outcome<T: Transport, U, G: GlobalHandler<C>, C>()
-    ensures run { IsFunction T.sends → IsReceiveFunction T.receives → RunsHaveOneOutcome U (over T.sends T.receives G.views) }
-    ensures steps { IsFunction T.sends → IsReceiveFunction T.receives → PerformancesHaveOneOutcome U (over T.sends T.receives G.views) }
-    ensures script_run { RunsHaveOneOutcome U (over_scripts G.views) }
-    ensures script_steps { PerformancesHaveOneOutcome U (over_scripts G.views) }
-{}
-
-/// Values of a server that are the same to their program answer the same of themselves: which clients are live, what is
-/// known of a client, an object and a global, and what handler a global has.
-pub fn servers_that_are_the_same_answer_alike<T, U, G, C>()
-    ensures { (s t : ServerState T U G C) → SameServer s t → AnswersAlike s t }
 {}
 
 /// The identity law of a server, over every transport.

@@ -72,7 +72,6 @@ pub use laws::{
     each_client_of_a_script_is_accounted_for, each_id_names_its_own_object,
     each_object_that_leaves_is_noted_once, each_run_of_a_server_has_one_outcome,
     log_is_what_was_sent, registries_announce_what_is_shown,
-    servers_that_are_the_same_answer_alike, what_is_shared_has_one_outcome,
 };
 pub use note::{DisconnectReason, Note};
 pub use object_id::ObjectId;

@@ -1,4 +1,7 @@
+use Rattle.wl_server.specs.LookupLaws.{answers_alike}
 use Rattle.wl_server.specs.MoveLaws.{scripts_determined, transport_determined}
+use Rattle.wl_server.specs.NumberLaws.{creates_global_one, inserts_next_one}
+use Rattle.wl_server.specs.ShareLaws.{shares_one}
 use Rattle.wl_server.specs.WholeRuns.{performance_one, run_one}
 use Rattle.wl_server.proofs.laws.each_run_of_a_server_has_one_outcome.Goals as goal
 
@@ -13,3 +16,15 @@ returns-clause-script_run g c = run_one _ (scripts_determined g.G.GlobalHandler.
 
 pub returns-clause-script_steps : goal.returns-clause-script_steps
 returns-clause-script_steps g c = performance_one _ (scripts_determined g.G.GlobalHandler.views)
+
+pub returns-clause-answers : goal.returns-clause-answers
+returns-clause-answers g c = answers_alike
+
+pub returns-clause-client : goal.returns-clause-client
+returns-clause-client g c = inserts_next_one
+
+pub returns-clause-global : goal.returns-clause-global
+returns-clause-global g c = λ table globals i version a b. creates_global_one globals table i version a b
+
+pub returns-clause-cleanup : goal.returns-clause-cleanup
+returns-clause-cleanup g c = shares_one
