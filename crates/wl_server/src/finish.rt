@@ -24,7 +24,7 @@ use crate::error::{FinishError, FinishRefused};
 use crate::handler::GlobalHandler;
 use crate::kept::Kept;
 use crate::note::Happening;
-use crate::note_numbers::NoteNumbers;
+use crate::note_numbers::{NoteNumbers, next_number};
 use crate::object_id::ObjectId;
 use crate::objects::{give_data, id_at, named_in, take_out};
 use crate::registry::Registry;
@@ -101,7 +101,7 @@ fn take_out_made<U: Drop>(
     };
     let id = id_at(client, number, &object);
     if let Some(user_data) = object.value.user_data {
-        made.push_back_reserved((numbers.next_made(), Happening::Destroyed(id, user_data)));
+        made.push_back_reserved((next_number(&mut numbers.made), Happening::Destroyed(id, user_data)));
     }
 }
 

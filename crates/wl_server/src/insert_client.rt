@@ -22,7 +22,7 @@ use crate::error::InsertClientError;
 use crate::handler::GlobalHandler;
 use crate::kept::Kept;
 use crate::note::Happening;
-use crate::note_numbers::NoteNumbers;
+use crate::note_numbers::{NoteNumbers, next_number};
 use crate::objects::fresh_object;
 use crate::telling::DISPLAY;
 use std::alloc::Global;
@@ -30,19 +30,8 @@ use std::collections::VecDeque;
 use wl_link::{BufferedSocket, ObjectMap, Transport};
 use wl_wire::{OutOfMemory, WL_DISPLAY_INTERFACE};
 
-/// The objects of a client in which nothing has happened: the display alone.
-fn first_objects<U: Drop>(alloc: Global) -> Result<ObjectMap<Kept<U>>, OutOfMemory>
-    ensures { IfOk result (λ objects. objects.store ≡ stored empty_store 1 display_object) }
-{
-    let mut objects = ObjectMap::new(alloc);
-    let display = fresh_object(WL_DISPLAY_INTERFACE, 1, 0, None);
-    match objects.insert_at(DISPLAY, display) {
-        Ok(()) => Ok(objects),
-        Err(_) => Err(OutOfMemory),
-    }
-}
-
-/// What a client in which nothing has happened keeps beside its link: its objects, and the note that it was inserted, with
+/// What a client in which nothing has happened keeps beside its link: its objects, of which the display is the only one, and the note
+/// that it was inserted, with
 /// room for that of its end.
 fn first_lists<U: Drop>(
     alloc: Global,
@@ -52,9 +41,13 @@ fn first_lists<U: Drop>(
     ensures notes { IfOk result (λ lists. map (λ m. m.1) lists.1.items ≡ Initialized ∷ []) }
     ensures room { IfOk result (λ lists. deque_len lists.1 < deque_capacity lists.1) }
 {
-    let objects = first_objects(alloc)?;
+    let mut objects = ObjectMap::new(alloc);
+    let display = fresh_object(WL_DISPLAY_INTERFACE, 1, 0, None);
+    let Ok(()) = objects.insert_at(DISPLAY, display) else {
+        return Err(OutOfMemory);
+    };
     let mut made = VecDeque::with_capacity(alloc, 2)?;
-    made.push_back_reserved((numbers.next_made(), Happening::Initialized));
+    made.push_back_reserved((next_number(&mut numbers.made), Happening::Initialized));
     Ok((objects, made))
 }
 
@@ -125,26 +118,17 @@ fn reserve_slot<T, U, C>(
     Ok(clients.reserve(1)?)
 }
 
-/// The first place without a client, or the one behind all; those before `from` have one.
-fn first_free<T, U, C>(clients: &[Option<Client<T, U, C>>], from: usize) -> usize
-    requires { AreTaken from clients.now }
-    ensures free { stored_at result clients.now ≡ None }
-    ensures taken { AreTaken result clients.now }
-{
-    for slot in from..clients.len() {
-        if clients[slot].is_none() {
-            return slot;
-        }
-    }
-    clients.len()
-}
-
 /// The least slot that no client has; `None` where each has one. Those below `from` have one.
 fn free_slot<T, U, C>(clients: &[Option<Client<T, U, C>>], from: usize) -> Option<u32>
     requires { AreTaken from clients.now }
     ensures { MatchOption result ((k : ℕ) → k < 0x100000000 → IsSome (stored_at k clients.now)) (IsLeastFree clients.now) }
 {
-    u32::try_from(first_free(clients, from)).ok()
+    for slot in from..clients.len() {
+        if clients[slot].is_none() {
+            return u32::try_from(slot).ok();
+        }
+    }
+    u32::try_from(clients.len()).ok()
 }
 
 /// Puts a client at a slot that no client has, for which there is room.

@@ -15,7 +15,7 @@ use crate::client::Client;
 use crate::client_id::ClientId;
 use crate::handler::GlobalHandler;
 use crate::note::{DisconnectReason, Happening};
-use crate::note_numbers::NoteNumbers;
+use crate::note_numbers::{NoteNumbers, next_number};
 use wl_link::Transport;
 use wl_wire::IoFault;
 
@@ -29,7 +29,7 @@ impl<T: Drop, U: Drop, C: Drop> Client<T, U, C> {
         }
         self.is_killed = true;
         self.made
-            .push_back_reserved((numbers.next_made(), Happening::Disconnected(reason)));
+            .push_back_reserved((next_number(&mut numbers.made), Happening::Disconnected(reason)));
     }
 
     /// What it comes to that a write to the client was answered so: where it failed, the client is closed down. The

@@ -10,18 +10,9 @@ pub struct NoteNumbers {
     pub made: u128,
 }
 
-impl NoteNumbers {
-    /// The number of a note that waits.
-    pub fn next_waiting(&mut self) -> u128 {
-        let number = self.waiting;
-        self.waiting = number.saturating_add(1);
-        number
-    }
-
-    /// The number of a note that is made.
-    pub fn next_made(&mut self) -> u128 {
-        let number = self.made;
-        self.made = number.saturating_add(1);
-        number
-    }
+/// The number of the next note, behind which the next one gets a greater one.
+pub fn next_number(next: &mut u128) -> u128 {
+    let number = *next;
+    *next = number.saturating_add(1);
+    number
 }

@@ -17,7 +17,7 @@ use crate::error::InvalidId;
 use crate::handler::GlobalHandler;
 use crate::kept::Kept;
 use crate::note::Happening;
-use crate::note_numbers::NoteNumbers;
+use crate::note_numbers::{NoteNumbers, next_number};
 use crate::object_id::ObjectId;
 use crate::registry::Registry;
 use std::collections::VecDeque;
@@ -127,7 +127,7 @@ pub fn take_out_noted<U: Drop>(
     let gone = id_at(&id.client(), number, &object);
     if let Some(user_data) = object.value.user_data {
         waiting.push_back_reserved((
-            numbers.next_waiting(),
+            next_number(&mut numbers.waiting),
             Happening::Destroyed(gone, user_data),
         ));
     }

@@ -1,6 +1,6 @@
 use Rattle.std.proofs.Common.{◌≡◌, length}
 use Rattle.wl_server.specs.Inserting.{AreTaken}
-use Rattle.wl_server.proofs.insert_client.first_free.Given as goal
+use Rattle.wl_server.proofs.insert_client.free_slot.Given as goal
 
 abbrev pub invariant-loop-slot : goal.invariant-loop-slot
 invariant-loop-slot g l = record {
