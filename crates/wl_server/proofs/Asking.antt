@@ -1,9 +1,8 @@
 -- What a cleanup, and what the list of notes, asks for memory for.
 use Rattle.std.proofs.Common.{◌≡◌, ◌≢◌, ℕ, zero, suc, ◌+◌, ◌<◌, ◌≤◌, ◌^◌, Bool, true, false, List, [], ◌∷◌, ◌++◌, length, min, Option, None, Some, Result, Ok, Err, OnErr, refl, sym, ap, ◌∙◌, arith, append-nil}
 use mathlib.Core.Logic.{inl, inr}
-use Rattle.std.specs.Prelude.{◌⊎◌, if◌then◌else◌, slice_get}
-use Rattle.std.proofs.lemmas.Bool.{true≢false}
-use Rattle.std.proofs.lemmas.List.{length-append, nil_from_length}
+use Rattle.std.specs.Prelude.{◌⊎◌}
+use Rattle.std.proofs.lemmas.List.{nil_from_length}
 use Rattle.wl_server.specs.declared.note.Happening.{Happening}
 use Rattle.wl_server.specs.Gathering.{AllLeft, count_leaving, leaving}
 use Rattle.wl_server.specs.Leaving.{collected, ends_at, given_at, id_in}

@@ -101,7 +101,10 @@ fn take_out_made<U: Drop>(
     };
     let id = id_at(client, number, &object);
     if let Some(user_data) = object.value.user_data {
-        made.push_back_reserved((next_number(&mut numbers.made), Happening::Destroyed(id, user_data)));
+        made.push_back_reserved((
+            next_number(&mut numbers.made),
+            Happening::Destroyed(id, user_data),
+        ));
     }
 }
 

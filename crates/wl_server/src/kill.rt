@@ -28,8 +28,10 @@ impl<T: Drop, U: Drop, C: Drop> Client<T, U, C> {
             return;
         }
         self.is_killed = true;
-        self.made
-            .push_back_reserved((next_number(&mut numbers.made), Happening::Disconnected(reason)));
+        self.made.push_back_reserved((
+            next_number(&mut numbers.made),
+            Happening::Disconnected(reason),
+        ));
     }
 
     /// What it comes to that a write to the client was answered so: where it failed, the client is closed down. The

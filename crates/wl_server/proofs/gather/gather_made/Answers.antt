@@ -1,4 +1,4 @@
-use Rattle.std.proofs.Common.{◌<◌, ◌≤◌, false, length, subst}
+use Rattle.std.proofs.Common.{◌<◌, ◌≤◌, false, subst}
 use Rattle.std.specs.Vec.{vec_capacity, vec_len}
 use Rattle.wl_server.specs.Gathering.{count_leaving}
 use Rattle.wl_server.proofs.Asking.{none_leaving, none_of, on_err, positive, room_of}
