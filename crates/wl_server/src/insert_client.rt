@@ -131,6 +131,19 @@ fn free_slot<T, U, C>(clients: &[Option<Client<T, U, C>>], from: usize) -> Optio
     u32::try_from(clients.len()).ok()
 }
 
+/// Puts a client at a slot that there is, and that no client has.
+fn put_within<T: Drop, U: Drop, C: Drop>(
+    clients: &mut Vec<Option<Client<T, U, C>>>,
+    slot: usize,
+    client: Client<T, U, C>,
+)
+    requires { slot < vec_len clients.old }
+    ensures put { IsPut clients.old.items slot client clients.new.items }
+    ensures len { vec_len clients.new ≡ vec_len clients.old }
+{
+    clients[slot] = Some(client);
+}
+
 /// Puts a client at a slot that no client has, for which there is room.
 fn put_at<T: Drop, U: Drop, C: Drop>(
     clients: &mut Vec<Option<Client<T, U, C>>>,
@@ -143,7 +156,7 @@ fn put_at<T: Drop, U: Drop, C: Drop>(
     ensures slots { vec_len clients.old ≤ 0x100000000 → slot < 0x100000000 → vec_len clients.new ≤ 0x100000000 }
 {
     if slot < clients.len() {
-        clients[slot] = Some(client);
+        put_within(clients, slot, client);
     } else {
         clients.push_reserved(Some(client));
     }

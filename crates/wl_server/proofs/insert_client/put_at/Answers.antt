@@ -1,12 +1,12 @@
 use Rattle.std.proofs.Common.{arith, subst, sym}
 use Rattle.wl_server.specs.Inserting.{IsPut}
-use Rattle.wl_server.proofs.Inserting.{put_behind, put_within}
+use Rattle.wl_server.proofs.Inserting.{put_behind}
 use Rattle.wl_server.proofs.insert_client.put_at.Goals as goal
 
 pub returns-then-slot-len-clause-put : goal.returns-then-slot-len-clause-put
 returns-then-slot-len-clause-put g c =
     let len = c.args.clients.now.ok.0 in
-    put_within c.args.clients.now.items c.args.slot c.args.client (omega arith)
+    c.put_within.ensures.put
 
 pub returns-else-slot-len-clause-put : goal.returns-else-slot-len-clause-put
 returns-else-slot-len-clause-put g c =
