@@ -63,10 +63,18 @@ impl Write for Sink {
     }
 }
 
-/// Fails where the output took anything but these bytes, or not all of them were flushed.
-fn took(rt: &impl Abort, output: &Sink, bytes: &[u8]) {
+/// Fails where the output took anything but these bytes, or another number of them was flushed.
+fn took(rt: &impl Abort, output: &Sink, bytes: &[u8], flushed: usize) {
     assert_eq!(rt; output.taken.as_slice(), bytes);
-    assert_eq!(rt; output.flushed, bytes.len());
+    assert_eq!(rt; output.flushed, flushed);
+}
+
+/// Fails where three lines are not given up at the second, with the third unread.
+fn stops(rt: &(impl Abort + AllocGlobal), output: &mut Sink) {
+    let mut input = b"client\nclient\nflush\n".as_slice();
+    let end = run_commands(rt.alloc(), &mut input, output);
+    assert_eq!(rt; end, Err(Stop::Failed));
+    assert_eq!(rt; input.len(), b"flush\n".len());
 }
 
 /// Where the input fails, the lines before it were answered; one that is cut is not carried out.
@@ -77,32 +85,22 @@ fn input_that_breaks(rt: HostRuntime) -> Result<(), Fail> {
     let mut output = Sink::new(alloc, 9, 9);
     let end = run_commands(alloc, &mut reader, &mut output);
     assert_eq!(rt; end, Err(Stop::Failed));
-    took(&rt, &output, b"client 0 1\nclient 1 2\n");
+    took(&rt, &output, b"client 0 1\nclient 1 2\n", 22);
     Ok(())
 }
 
 /// Where a write fails, the answers before it were flushed, and no later line is read.
 #[test]
 fn write_that_breaks(rt: HostRuntime) {
-    let mut input = b"client\nclient\nflush\n".as_slice();
     let mut output = Sink::new(rt.alloc(), 1, 9);
-    let end = run_commands(rt.alloc(), &mut input, &mut output);
-    assert_eq!(rt; end, Err(Stop::Failed));
-    assert_eq!(rt; input, b"flush\n".as_slice());
-    took(&rt, &output, b"client 0 1\n");
+    stops(&rt, &mut output);
+    took(&rt, &output, b"client 0 1\n", 11);
 }
 
-/// So it is where a flush fails.
+/// So it is where a flush fails: that answer was written, and not flushed.
 #[test]
 fn flush_that_breaks(rt: HostRuntime) {
-    let mut input = b"client\nclient\nflush\n".as_slice();
     let mut output = Sink::new(rt.alloc(), 9, 1);
-    let end = run_commands(rt.alloc(), &mut input, &mut output);
-    assert_eq!(rt; end, Err(Stop::Failed));
-    assert_eq!(rt; input, b"flush\n".as_slice());
-    assert_eq!(rt;
-        output.taken.as_slice(),
-        b"client 0 1\nclient 1 2\n".as_slice()
-    );
-    assert_eq!(rt; output.flushed, 11);
+    stops(&rt, &mut output);
+    took(&rt, &output, b"client 0 1\nclient 1 2\n", 11);
 }
