@@ -236,7 +236,8 @@ impl<T> BufferedSocket<T> {
     fn grow_incoming(&mut self) -> Result<(), OutOfMemory>
         ensures ok { OnOk result (self.new ≡ with_room self.old (grown_room self.old)) }
         ensures err { OnErr result (self.new ≡ self.old) }
-        ensures room { FindsRoom self.old (grown_room self.old) }
+        ensures room { OnOk result (FindsRoom self.old self.new.room) }
+        ensures doubled { FindsRoom self.old (grown_room self.old) }
     {
         let size = self.incoming.size();
         self.fds_in.reserve(MAX_FDS_OUT)?;
@@ -399,7 +400,8 @@ impl<T: Transport> BufferedSocket<T> {
     /// is `OutOfMemory`, and nothing was received.
     pub fn fill_incoming_buffers(&mut self) -> Result<(), IoFault>
         ensures filled { Filled T.receives self.old result self.new }
-        ensures room { FindsRoom self.old (grown_room self.old) }
+        ensures room { result ≢ Err IoFault.OutOfMemory → FindsRoom self.old self.new.room }
+        ensures doubled { FindsRoom self.old (grown_room self.old) }
     {
         let Ok(()) = self.grow_incoming() else {
             return Err(IoFault::OutOfMemory);

@@ -30,7 +30,7 @@ module _ {U G C : Type 0} (w : World Script G C) where
   OfMoved b answer m before lacked did after =
       OfClient b before (λ p q. Moves answer m lacked did p q) (answer ≡ Err script.InvalidId) lacked did after
 
-abbrev by_script : {G C : Type 0} → (G → ClientParts → C → GlobalParts → Bool) → World Script G C
+abbrev pub by_script : {G C : Type 0} → (G → ClientParts → C → GlobalParts → Bool) → World Script G C
 by_script views = over ScriptSends ScriptReceives views
 
 module _ {U G C : Type 0} (views : G → ClientParts → C → GlobalParts → Bool) where
@@ -81,7 +81,7 @@ module _ {U G C : Type 0} (views : G → ClientParts → C → GlobalParts → B
     part_call (Asked s answer) before lacked did after h = part_step s answer before lacked did after h
     part_call (Changed target t) before lacked did after h = h
 
-  step_over_script : (before : ServerState Script U G C) (s : Step Script U G C) (answer : Reply Script U) (refused : Bool) (after : ServerState Script U G C)
+  pub step_over_script : (before : ServerState Script U G C) (s : Step Script U G C) (answer : Reply Script U) (refused : Bool) (after : ServerState Script U G C)
       → StepOf (by_script views) before s answer refused after → StepOf (over_scripts views) before s answer refused after
   step_over_script before s answer refused after (e, call, is, one) = (
     e,
