@@ -26,15 +26,6 @@ pub struct Granted {
     pub is_destructor: bool,
 }
 
-/// Whether the request creates an object.
-fn creates(desc: &MessageDesc) -> bool
-    ensures { result ≡ creates (message_row desc.now) }
-{
-    desc.signature
-        .iter()
-        .any(|kind| matches!(kind, ArgumentType::NewId))
-}
-
 /// Whether each new id is null.
 fn are_placeholders(args: &[Argument<ObjectId, Token>]) -> bool
     ensures { result ≡ list_all is_placeholder args.now }
@@ -155,7 +146,7 @@ fn refusal<U: Drop>(
     if !check_for_signature(&desc.signature, args) {
         return Some(RequestError::BadSignature);
     }
-    if creates(desc) {
+    if desc.creates_object() {
         if let Some(error) = child_refusal(protocol, desc, sender.version, spec, has_data, args) {
             return Some(error);
         }
@@ -186,7 +177,7 @@ pub(crate) fn check_request<U: Drop>(
         return Err(error);
     }
     // As the caller says, or else as the table says, of the sender's version.
-    let child = match (creates(desc), spec, desc.child_interface) {
+    let child = match (desc.creates_object(), spec, desc.child_interface) {
         (true, Some(spec), _) => Some(spec),
         (true, None, Some(child)) => Some((child, sender.version)),
         _ => None,

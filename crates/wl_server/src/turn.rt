@@ -3,7 +3,7 @@
 ghost use Rattle.std.specs.Prelude.{◌≡◌, ◌≢◌, ◌≤◌, ◌<◌, List, [], true, false, None, Some, Ok, Err, length, vec_len, vec_capacity, IfOk, IfSome, OnErr, OnOk, option_copied, option_map};
 ghost use Rattle.smallvec.specs.SmallVec.{HasRoomFor};
 ghost use Rattle.wl_wire.specs.Argument.{Matches};
-ghost use Rattle.wl_wire.specs.Asked.{creates as row_creates};
+ghost use Rattle.wl_wire.specs.Asked.{creates};
 ghost use Rattle.wl_wire.specs.Message.{content};
 ghost use Rattle.wl_wire.specs.Parse.{IsThere};
 ghost use Rattle.wl_wire.specs.Table.{IsAcceptedTable, holds_zero, message_row};
@@ -96,15 +96,6 @@ fn read_under<T>(
     socket.read_into(|_, _| Some(signature), message)
 }
 
-/// Whether the request makes an object.
-fn creates(desc: &MessageDesc) -> bool
-    ensures { result ≡ row_creates (message_row desc.now) }
-{
-    desc.signature
-        .iter()
-        .any(|kind| matches!(kind, ArgumentType::NewId))
-}
-
 /// Makes room for what the message at the front becomes, where it is there whole: for its arguments, and for the object
 /// that it may make, which may be a registry. Of a message that is not there nothing is asked for.
 fn make_room<T: Drop, U: Drop>(
@@ -123,13 +114,13 @@ fn make_room<T: Drop, U: Drop>(
     ensures room { OnOk result (IsThere socket.now.incoming.bytes desc.now.signature.items socket.now.incoming.tokens
         → length desc.now.signature.items ≤ converted.new.capacity) }
     ensures can_make { OnOk result (IsThere socket.now.incoming.bytes desc.now.signature.items socket.now.incoming.tokens
-        → row_creates (message_row desc.now) ≡ true → objects.new.reserved ≡ true) }
+        → creates (message_row desc.now) ≡ true → objects.new.reserved ≡ true) }
     ensures can_register { OnOk result (IsThere socket.now.incoming.bytes desc.now.signature.items socket.now.incoming.tokens
-        → row_creates (message_row desc.now) ≡ true → vec_len registries.new < vec_capacity registries.new) }
+        → creates (message_row desc.now) ≡ true → vec_len registries.new < vec_capacity registries.new) }
     ensures asked { OnErr result ((row_asks (Some (message_row desc.now)) ≡ true)
         × IsThere socket.now.incoming.bytes desc.now.signature.items socket.now.incoming.tokens) }
 {
-    let creates = creates(desc);
+    let creates = desc.creates_object();
     let asks_for_memory = creates || desc.signature.len() > INLINE_ARGS;
     if !asks_for_memory || !socket.holds_message(desc.signature.as_slice()) {
         return Ok(());
@@ -166,8 +157,8 @@ fn take<'p, T: Drop, U: Drop>(
     ensures room { OnOk result (HasRoomFor converted.new (length message.new.args.items)) }
     ensures inline { INLINE_ARGS ≤ converted.new.capacity }
     ensures empty { converted.new.items ≡ [] }
-    ensures can_make { IfOk result (λ desc. row_creates (message_row desc.now) ≡ true → objects.new.reserved ≡ true) }
-    ensures can_register { IfOk result (λ desc. row_creates (message_row desc.now) ≡ true → vec_len registries.new < vec_capacity registries.new) }
+    ensures can_make { IfOk result (λ desc. creates (message_row desc.now) ≡ true → objects.new.reserved ≡ true) }
+    ensures can_register { IfOk result (λ desc. creates (message_row desc.now) ≡ true → vec_len registries.new < vec_capacity registries.new) }
 {
     converted.clear();
     let (sender, opcode) = header;

@@ -1,5 +1,9 @@
 //! Interfaces, and the requests and events that they describe.
 
+ghost use Rattle.std.specs.Prelude.{◌≡◌};
+ghost use Rattle.wl_wire.specs.Asked.{creates};
+ghost use Rattle.wl_wire.specs.Table.{message_row};
+
 use crate::argument::ArgumentType;
 
 /// The place of an interface in the table of a `Protocol`.
@@ -46,6 +50,17 @@ pub struct MessageDesc {
     pub child_interface: Option<InterfaceId>,
     /// The interface of each `Object` argument, in order.
     pub arg_interfaces: Vec<InterfaceId>,
+}
+
+impl MessageDesc {
+    /// Whether the message creates an object: one of its arguments is a `NewId`.
+    pub fn creates_object(&self) -> bool
+        ensures { result ≡ creates (message_row self.now) }
+    {
+        self.signature
+            .iter()
+            .any(|kind| matches!(kind, ArgumentType::NewId))
+    }
 }
 
 /// What the protocol says of an object.
