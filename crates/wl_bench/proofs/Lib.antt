@@ -4,3 +4,4 @@ mod Lines
 mod OneCommand
 mod Numbers
 mod Rows
+mod TakenLines

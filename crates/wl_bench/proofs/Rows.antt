@@ -1,10 +1,13 @@
 -- Lines and words, computed from the definition.
-use Rattle.std.proofs.Common.{◌≡◌, [], ◌∷◌, String, Global, lit≤, lit<, refl, codes, string_bytes, pos}
+use Rattle.std.proofs.Common.{◌≡◌, [], ◌∷◌, ◌++◌, Err, String, Global, lit≤, lit<, refl, codes, string_bytes, pos}
+use mathlib.Core.Logic.{inl}
+use Rattle.std.specs.Prelude.{⊤}
 use Rattle.std.specs.Fmt.{digits}
 use Rattle.std.proofs.lemmas.List.Elements.{All-cons, All-nil}
-use Rattle.wl_bench.specs.Commands.{AreBytes, AreNumbers, IsByte, IsCommand, words}
+use Rattle.wl_bench.specs.Commands.{AreBytes, AreNumbers, EndsOver, IsByte, IsCommand, IsTaken, lines, words}
 use Rattle.wl_bench.specs.declared.command.ClientCommand.TheVariants.{Read, Finish, FailIn, FailOut}
 use Rattle.wl_bench.specs.declared.command.Command.TheVariants.{Insert, Client, Create, Flush, Notes}
+use Rattle.wl_bench.specs.declared.stop.Stop.TheVariants.{BadLine}
 use Rattle.wl_wire.specs.declared.error.IoFault.TheVariants.{WouldBlock, Other}
 
 row_client : IsCommand Insert (words (codes "client"))
@@ -53,3 +56,11 @@ row_fail_out = (lit≤ tt, (codes "WouldBlock", refl, refl))
 -- two spaces in a row leave an empty word between them
 row_empty_word : words (codes "read  0") ≡ codes "read" ∷ [] ∷ codes "0" ∷ []
 row_empty_word = refl
+
+-- two line feeds in a row leave an empty line between them
+row_lines : lines (codes "flush" ++ 10 ∷ 10 ∷ codes "x") ≡ codes "flush" ∷ [] ∷ codes "x" ∷ []
+row_lines = refl
+
+-- a run over an empty line and one that is not may end at the second
+row_bad_line : EndsOver {X = ⊤} 1 (lines (10 ∷ codes "x")) (Err (BadLine 2))
+row_bad_line = ([] ∷ [], [], codes "x", refl, refl, All-cons IsTaken [] [] (inl refl) (All-nil IsTaken), λ e. cc)

@@ -1,5 +1,5 @@
 -- The language of lines that drive a server: which lines are commands.
-use Rattle.std.specs.Prelude.{◌≡◌, ℕ, ◌<◌, ◌≤◌, ◌==◌, List, [], ◌∷◌, length, map, codes, pos, ◌⊎◌, ⊤, Option, MatchOption, Result, Err, Vec}
+use Rattle.std.specs.Prelude.{◌≡◌, ◌≢◌, ℕ, ◌+◌, ◌<◌, ◌≤◌, ◌==◌, List, [], ◌∷◌, ◌++◌, length, map, codes, pos, ◌⊎◌, ⊤, Option, MatchOption, Result, Ok, Err, Vec}
 use Rattle.std.specs.Fmt.{decimal}
 use Rattle.std.specs.List.{All, AllZip, flat_map, slice_split}
 use Rattle.std.specs.Str.{IsUtf8}
@@ -13,7 +13,7 @@ use Rattle.wl_bench.specs.declared.command.Command.TheVariants.{Insert, Client, 
 use Rattle.wl_wire.specs.declared.error.IoFault.{IoFault}
 use Rattle.wl_wire.specs.declared.error.IoFault.TheVariants.{WouldBlock, Pipe, TooBig, Proto, InvalidInput, OutOfMemory, Other}
 use Rattle.wl_bench.specs.declared.stop.Stop.{Stop}
-use Rattle.wl_bench.specs.declared.stop.Stop.TheVariants.{BadLine, Failed}
+use Rattle.wl_bench.specs.declared.stop.Stop.TheVariants.{BadLine, Failed, Usage}
 use Rattle.wl_wire.specs.declared.argument.Token.{Token}
 
 -- what stands between the bytes of this value
@@ -129,6 +129,25 @@ Finds {X} Is text found = MatchOption found ((x : X) → ¬ (Is x text)) (λ x. 
 abbrev pub FindsAll : {X T : Type 0} → (List X → T → Type 0) → T → Option (Vec X Global) → Type 0
 FindsAll {X} Are text found = MatchOption found ((xs : List X) → ¬ (Are xs text)) (λ v. Are v.items text)
 
--- a run ends at the line of this number, which is no command, or for want of memory
+-- ---- runs
+
+-- the lines of an input: what stands between its line feeds
+abbrev pub lines : List ℕ → List (List ℕ)
+lines input = parts 10 input
+
+-- a line at which a run does not end is empty, or a command
+abbrev pub IsTaken : List ℕ → Type 0
+IsTaken line = (line ≡ []) ⊎ ((command : Command) × IsLine command line)
+
+-- a run ends at the line of this number, as at one that is no command; or memory, its reader or its writer failed
 abbrev pub EndsAt : {X : Type 0} → ℕ → Result X Stop → Type 0
 EndsAt n result = (result ≡ Err (BadLine n)) ⊎ (result ≡ Err Failed)
+
+-- how a run over these lines may end, of which the first has this number: well where each is empty or a command; at the
+-- line of a number where that one is not empty, and each before it is empty or a command; or something failed
+abbrev pub EndsOver : {X : Type 0} → ℕ → List (List ℕ) → Result X Stop → Type 0
+EndsOver n all (Ok _) = All IsTaken all
+EndsOver n all (Err (BadLine m)) = (before behind : List (List ℕ)) × (line : List ℕ) × (all ≡ before ++ line ∷ behind)
+    × (m ≡ n + length before) × All IsTaken before × (line ≢ [])
+EndsOver n all (Err Failed) = ⊤
+EndsOver n all (Err Usage) = ⊥

@@ -1,15 +1,17 @@
 //! Runs of commands: lines are read, carried out and answered, one after another.
 
-ghost use Rattle.std.specs.Prelude.{◌≡◌, ◌≢◌, []};
-ghost use Rattle.wl_bench.specs.Commands.{EndsAt, IsLine};
+ghost use Rattle.std.specs.Prelude.{◌≡◌, ◌≢◌, [], Err, IfSome, OnErr, OnOk};
+ghost use Rattle.std.specs.Io.BufRead.{strip_last};
+ghost use Rattle.wl_bench.specs.Commands.{EndsAt, EndsOver, IsLine, IsTaken, lines};
 ghost use Rattle.wl_bench.specs.declared.command.Command.{Command};
+ghost use Rattle.wl_bench.specs.declared.stop.Stop.TheVariants.{BadLine};
 
 use crate::answer::{Answer, print_answer};
 use crate::command::{Command, parse_line};
 use crate::known::{Heard, Known, Server, Told, print_heard};
 use crate::stop::Stop;
 use crate::table::bench_table;
-use std::alloc::Global;
+use std::alloc::{AllocError, Global};
 use std::io::{BufRead, Write};
 use wl_server::{Backend, Reply};
 
@@ -34,7 +36,12 @@ fn answer_of(reply: &Told) -> Answer<'_> {
 }
 
 /// Keeps and prints the replies to the steps of a command.
-fn tell(known: &mut Known, heard: &Heard, replies: &[Told], text: &mut String) -> Result<(), Stop> {
+fn tell(
+    known: &mut Known,
+    heard: &Heard,
+    replies: &[Told],
+    text: &mut String,
+) -> Result<(), AllocError> {
     if let Some(reply) = replies.first() {
         known.keep(heard, reply)?;
         print_answer(text, answer_of(reply))?;
@@ -50,17 +57,21 @@ fn carry_out(
     command: Command,
     line: u64,
     text: &mut String,
-) -> Result<(), Stop> {
+) -> Result<(), Stop>
+    ensures { OnErr result (EndsAt line result) }
+{
     let mut steps = Vec::new(alloc);
     let heard = known.plan(alloc, server.protocol(), command, line, &mut steps)?;
     match server.replay(steps) {
-        Ok(replies) => tell(known, &heard, replies.as_slice(), text),
+        Ok(replies) => Ok(tell(known, &heard, replies.as_slice(), text)?),
         Err(_) => Err(Stop::Failed),
     }
 }
 
 /// A line without the line feed at its end.
-fn without_line_feed(line: &[u8]) -> &[u8] {
+fn without_line_feed(line: &[u8]) -> &[u8]
+    ensures { result.now ≡ strip_last 10 line.now }
+{
     match line {
         [front @ .., b'\n'] => front,
         _ => line,
@@ -76,7 +87,9 @@ fn run_line(
     number: u64,
     text: &mut String,
 ) -> Result<(), Stop>
-    ensures bad { line.now ≢ [] → ((c : Command) → ¬ (IsLine c line.now)) → EndsAt number result }
+    ensures taken { OnOk result (IsTaken line.now) }
+    ensures ends { OnErr result (EndsAt number result) }
+    ensures bad { result ≡ Err (BadLine number) → line.now ≢ [] }
     ensures same { line.now ≢ [] → ((c : Command) → ¬ (IsLine c line.now)) → server.new ≡ server.old }
 {
     if line.is_empty() {
@@ -96,7 +109,11 @@ fn answer_line<W: Write>(
     line: &[u8],
     number: u64,
     writer: &mut W,
-) -> Result<(), Stop> {
+) -> Result<(), Stop>
+    ensures taken { OnOk result (IsTaken line.now) }
+    ensures ends { OnErr result (EndsAt number result) }
+    ensures bad { result ≡ Err (BadLine number) → line.now ≢ [] }
+{
     let mut text = String::new(alloc);
     run_line(alloc, server, known, line, number, &mut text)?;
     writer.write_all(text.as_bytes())?;
@@ -110,7 +127,9 @@ fn run_lines<R: BufRead, W: Write>(
     known: &mut Known,
     reader: &mut R,
     writer: &mut W,
-) -> Result<(), Stop> {
+) -> Result<(), Stop>
+    ensures { IfSome (R.remaining reader.old) (λ input. EndsOver 1 (lines input) result) }
+{
     let mut line = Vec::new(alloc);
     for number in 1..u64::MAX {
         line.clear();
@@ -128,12 +147,15 @@ fn run_lines<R: BufRead, W: Write>(
 ///
 /// A line ends in a line feed, which the last may lack. Empty lines are skipped, and counted. At the first line that
 /// is no command the run ends with `BadLine` of its number, from 1; the commands before it were carried out. It ends
-/// with `Failed` where memory was refused, or the reader or the writer failed.
+/// with `Failed` where memory was refused, or the reader or the writer failed. The clause is of a reader whose bytes are
+/// known, as those of a slice are.
 pub fn run_commands<R: BufRead, W: Write>(
     alloc: Global,
     reader: &mut R,
     writer: &mut W,
-) -> Result<(), Stop> {
+) -> Result<(), Stop>
+    ensures { IfSome (R.remaining reader.old) (λ input. EndsOver 1 (lines input) result) }
+{
     let table = bench_table(alloc)?;
     let mut known = Known::new(alloc);
     let mut server = Backend::new(alloc, table);

@@ -1,10 +1,14 @@
 //! What a bench knows of the server that it drives, and the steps that each command is.
 
+ghost use Rattle.std.specs.Prelude.{◌≡◌, IfErr, OnErr};
+ghost use Rattle.wl_bench.specs.Commands.{EndsAt};
+ghost use Rattle.wl_bench.specs.declared.stop.Stop.TheVariants.{Failed};
+
 use crate::answer::print_sends;
 use crate::command::{ClientCommand, Command};
 use crate::stop::Stop;
 use crate::table::interface_named;
-use std::alloc::Global;
+use std::alloc::{AllocError, Global};
 use std::collections::{BTreeMap, BTreeSet};
 use wl_link::Memory;
 use wl_server::{Action, Backend, ClientId, DisconnectReason, GlobalId, Reply, ShownToAll, Step};
@@ -74,7 +78,9 @@ impl Known {
     }
 
     /// The client at the slot. A line that names a slot at which none was inserted is no command.
-    fn seat(&self, slot: u32, line: u64) -> Result<Seat, Stop> {
+    fn seat(&self, slot: u32, line: u64) -> Result<Seat, Stop>
+        ensures { OnErr result (EndsAt line result) }
+    {
         match self.seats.get(&slot) {
             Some(seat) => Ok(*seat),
             None => Err(Stop::BadLine(line)),
@@ -97,7 +103,9 @@ impl Known {
         command: Command,
         line: u64,
         steps: &mut Vec<Made>,
-    ) -> Result<(), Stop> {
+    ) -> Result<(), Stop>
+        ensures { OnErr result (EndsAt line result) }
+    {
         match command {
             Command::Insert => push(steps, Step::InsertClient(Memory::new(alloc), ())),
             Command::Client(slot, command) => {
@@ -116,7 +124,7 @@ impl Known {
     }
 
     /// Keeps that something may wait for the client at the slot.
-    fn wait(&mut self, slot: u32) -> Result<(), Stop> {
+    fn wait(&mut self, slot: u32) -> Result<(), AllocError> {
         if let Some(seat) = self.seats.get(&slot) {
             self.waiting.insert(slot, seat.limits.saturating_add(1))?;
         }
@@ -124,7 +132,7 @@ impl Known {
     }
 
     /// Keeps that the sends to the client at the slot were given so many counts and faults more.
-    fn limit(&mut self, slot: u32, more: u64) -> Result<(), Stop> {
+    fn limit(&mut self, slot: u32, more: u64) -> Result<(), AllocError> {
         if let Some(seat) = self.seats.get_mut(&slot) {
             seat.limits = seat.limits.saturating_add(more);
         }
@@ -135,7 +143,7 @@ impl Known {
     }
 
     /// Keeps what a command about the client at the slot may leave for later flushes.
-    fn await_client(&mut self, slot: u32, command: &ClientCommand) -> Result<(), Stop> {
+    fn await_client(&mut self, slot: u32, command: &ClientCommand) -> Result<(), AllocError> {
         match command {
             ClientCommand::Read | ClientCommand::Finish => {
                 self.read.insert(slot)?;
@@ -148,7 +156,7 @@ impl Known {
     }
 
     /// The slots of the clients that may be told of a change of globals, for all of which something may wait behind it.
-    fn told(&mut self, alloc: Global) -> Result<Vec<u32>, Stop> {
+    fn told(&mut self, alloc: Global) -> Result<Vec<u32>, AllocError> {
         let mut slots = Vec::new(alloc);
         for slot in self.read.iter() {
             slots.push(*slot)?;
@@ -160,7 +168,7 @@ impl Known {
     }
 
     /// The slots of the clients that a flush may send something to.
-    fn flushed(&mut self, alloc: Global) -> Result<Vec<u32>, Stop> {
+    fn flushed(&mut self, alloc: Global) -> Result<Vec<u32>, AllocError> {
         let mut slots = Vec::new(alloc);
         for slot in self.waiting.keys() {
             slots.push(*slot)?;
@@ -173,7 +181,7 @@ impl Known {
     }
 
     /// Whose transports are looked at behind a command; what it may leave for later flushes is kept.
-    fn hear(&mut self, alloc: Global, command: &Command) -> Result<Heard, Stop> {
+    fn hear(&mut self, alloc: Global, command: &Command) -> Result<Heard, AllocError> {
         match command {
             Command::Insert | Command::Notes | Command::Cleanup => Ok(Heard::Nobody),
             Command::Client(slot, command) => {
@@ -188,7 +196,9 @@ impl Known {
     }
 
     /// Puts the steps that take the records of what these clients were sent behind the others.
-    fn push_hearing(&self, heard: &Heard, line: u64, steps: &mut Vec<Made>) -> Result<(), Stop> {
+    fn push_hearing(&self, heard: &Heard, line: u64, steps: &mut Vec<Made>) -> Result<(), Stop>
+        ensures { OnErr result (EndsAt line result) }
+    {
         match heard {
             Heard::Nobody => Ok(()),
             Heard::Client(slot) => push(steps, Step::TakeSent(self.seat(*slot, line)?.client)),
@@ -210,7 +220,9 @@ impl Known {
         command: Command,
         line: u64,
         steps: &mut Vec<Made>,
-    ) -> Result<Heard, Stop> {
+    ) -> Result<Heard, Stop>
+        ensures { OnErr result (EndsAt line result) }
+    {
         let heard = self.hear(alloc, &command)?;
         self.push_call(alloc, table, command, line, steps)?;
         self.push_hearing(&heard, line, steps)?;
@@ -238,7 +250,7 @@ impl Known {
     }
 
     /// Keeps the client as the one that was inserted last at its slot.
-    fn keep_client(&mut self, client: ClientId) -> Result<(), Stop> {
+    fn keep_client(&mut self, client: ClientId) -> Result<(), AllocError> {
         let seat = Seat {
             client,
             open: Open::Nothing,
@@ -261,7 +273,7 @@ impl Known {
     }
 
     /// Keeps what a later command has to know of the reply to one.
-    pub fn keep(&mut self, heard: &Heard, reply: &Told) -> Result<(), Stop> {
+    pub fn keep(&mut self, heard: &Heard, reply: &Told) -> Result<(), AllocError> {
         match (heard, reply) {
             (_, Reply::InsertClient(Ok(client))) => self.keep_client(*client)?,
             (_, Reply::CreateGlobal(Ok(global))) => {
@@ -276,7 +288,7 @@ impl Known {
 }
 
 /// Prints what the clients at these slots were sent, of the replies to the steps that took their records.
-fn print_all_sends(text: &mut String, slots: &[u32], replies: &[Told]) -> Result<(), Stop> {
+fn print_all_sends(text: &mut String, slots: &[u32], replies: &[Told]) -> Result<(), AllocError> {
     for (slot, reply) in slots.iter().zip(replies) {
         if let Reply::TakeSent(Ok(sends)) = reply {
             print_sends(text, *slot, sends.as_slice())?;
@@ -286,11 +298,11 @@ fn print_all_sends(text: &mut String, slots: &[u32], replies: &[Told]) -> Result
 }
 
 /// Prints what clients were sent, of the replies to the steps of a command.
-pub fn print_heard(text: &mut String, heard: &Heard, replies: &[Told]) -> Result<(), Stop> {
+pub fn print_heard(text: &mut String, heard: &Heard, replies: &[Told]) -> Result<(), AllocError> {
     match (heard, replies) {
         (Heard::Nobody, [Reply::Cleanup(Ok(out))]) => print_taken_out(text, out.as_slice()),
         (Heard::Client(slot), [.., Reply::TakeSent(Ok(sends))]) => {
-            Ok(print_sends(text, *slot, sends.as_slice())?)
+            print_sends(text, *slot, sends.as_slice())
         }
         (Heard::Clients(slots), [_, taken @ ..]) => print_all_sends(text, slots.as_slice(), taken),
         _ => Ok(()),
@@ -298,12 +310,16 @@ pub fn print_heard(text: &mut String, heard: &Heard, replies: &[Told]) -> Result
 }
 
 /// Puts a step behind the others.
-fn push(steps: &mut Vec<Made>, step: Made) -> Result<(), Stop> {
+fn push(steps: &mut Vec<Made>, step: Made) -> Result<(), Stop>
+    ensures { IfErr result (λ stop. stop ≡ Failed) }
+{
     Ok(steps.push(step)?)
 }
 
 /// Puts the steps by which the next sends take so many bytes behind the others.
-fn push_counts(client: ClientId, counts: &[u32], steps: &mut Vec<Made>) -> Result<(), Stop> {
+fn push_counts(client: ClientId, counts: &[u32], steps: &mut Vec<Made>) -> Result<(), Stop>
+    ensures { IfErr result (λ stop. stop ≡ Failed) }
+{
     for count in counts {
         push(steps, Step::Accept(client, *count as usize))?;
     }
@@ -316,7 +332,9 @@ fn push_client_call(
     command: ClientCommand,
     line: u64,
     steps: &mut Vec<Made>,
-) -> Result<(), Stop> {
+) -> Result<(), Stop>
+    ensures { IfErr result (λ stop. stop ≡ Failed) }
+{
     let client = seat.client;
     match command {
         ClientCommand::Arrive(bytes, tokens) => push(steps, Step::Arrive(client, bytes, tokens)),
@@ -333,7 +351,7 @@ fn push_client_call(
 }
 
 /// Prints what the clients that were taken out had been sent.
-fn print_taken_out(text: &mut String, out: &[(ClientId, Memory)]) -> Result<(), Stop> {
+fn print_taken_out(text: &mut String, out: &[(ClientId, Memory)]) -> Result<(), AllocError> {
     for (client, transport) in out {
         print_sends(text, client.slot(), transport.sent())?;
     }

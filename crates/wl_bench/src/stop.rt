@@ -1,5 +1,8 @@
 //! Why the program ends before its work is done.
 
+ghost use Rattle.std.specs.Prelude.{◌≡◌};
+ghost use Rattle.wl_bench.specs.declared.stop.Stop.TheVariants.{Failed};
+
 use std::alloc::{AllocError, AllocFailed};
 use std::io;
 use wl_client::{FlushError, RequestError};
@@ -19,9 +22,6 @@ pub enum Stop {
 }
 
 impl From<AllocError> for Stop {
-    ghost use Rattle.std.specs.Prelude.{◌≡◌};
-    ghost use Rattle.wl_bench.specs.declared.stop.Stop.TheVariants.{Failed};
-
     ghost from_gives = { λ _ e. e ≡ Failed };
 
     fn from(_e: AllocError) -> Stop {
@@ -30,60 +30,80 @@ impl From<AllocError> for Stop {
 }
 
 impl<T: Drop> From<AllocFailed<T>> for Stop {
+    ghost from_gives = { λ _ e. e ≡ Failed };
+
     fn from(_e: AllocFailed<T>) -> Stop {
         Stop::Failed
     }
 }
 
 impl From<OutOfMemory> for Stop {
+    ghost from_gives = { λ _ e. e ≡ Failed };
+
     fn from(_e: OutOfMemory) -> Stop {
         Stop::Failed
     }
 }
 
 impl From<io::Error> for Stop {
+    ghost from_gives = { λ _ e. e ≡ Failed };
+
     fn from(_e: io::Error) -> Stop {
         Stop::Failed
     }
 }
 
 impl From<TableError> for Stop {
+    ghost from_gives = { λ _ e. e ≡ Failed };
+
     fn from(_e: TableError) -> Stop {
         Stop::Failed
     }
 }
 
 impl From<IoFault> for Stop {
+    ghost from_gives = { λ _ e. e ≡ Failed };
+
     fn from(_e: IoFault) -> Stop {
         Stop::Failed
     }
 }
 
 impl From<RequestError> for Stop {
+    ghost from_gives = { λ _ e. e ≡ Failed };
+
     fn from(_e: RequestError) -> Stop {
         Stop::Failed
     }
 }
 
 impl From<FlushError> for Stop {
+    ghost from_gives = { λ _ e. e ≡ Failed };
+
     fn from(_e: FlushError) -> Stop {
         Stop::Failed
     }
 }
 
 impl From<ArriveError> for Stop {
+    ghost from_gives = { λ _ e. e ≡ Failed };
+
     fn from(_e: ArriveError) -> Stop {
         Stop::Failed
     }
 }
 
 impl From<InsertClientError> for Stop {
+    ghost from_gives = { λ _ e. e ≡ Failed };
+
     fn from(_e: InsertClientError) -> Stop {
         Stop::Failed
     }
 }
 
 impl From<InvalidId> for Stop {
+    ghost from_gives = { λ _ e. e ≡ Failed };
+
     fn from(_e: InvalidId) -> Stop {
         Stop::Failed
     }

@@ -1,5 +1,8 @@
 //! The table of interfaces of the program: the fixed ones, and `quad`, of version 3.
 
+ghost use Rattle.std.specs.Prelude.{◌≡◌, IfErr};
+ghost use Rattle.wl_bench.specs.declared.stop.Stop.TheVariants.{Failed};
+
 use crate::stop::Stop;
 use std::alloc::{AllocError, Global};
 use wl_wire::{AllowNull, ArgumentType, Interface, InterfaceId, MessageDesc, Protocol};
@@ -158,7 +161,9 @@ pub fn push_quad(alloc: Global, interfaces: &mut Vec<Interface>) -> Result<(), A
 }
 
 /// The table.
-pub fn bench_table(alloc: Global) -> Result<Protocol, Stop> {
+pub fn bench_table(alloc: Global) -> Result<Protocol, Stop>
+    ensures { IfErr result (λ stop. stop ≡ Failed) }
+{
     let mut interfaces = Vec::new(alloc);
     push_quad(alloc, &mut interfaces)?;
     Ok(Protocol::new(alloc, interfaces)?)
