@@ -36,7 +36,7 @@ AreNumbers numbers word = AllZip IsNumber numbers (parts 44 word)
 abbrev pub token : ℕ → Token
 token n = record { 0 = pos n }
 
--- and at most this
+-- the number of a token is at most this
 abbrev pub IsTokenNumber : ℕ → Type 0
 IsTokenNumber n = n ≤ 2147483647
 
@@ -131,20 +131,22 @@ FindsAll {X} Are text found = MatchOption found ((xs : List X) → ¬ (Are xs te
 
 -- ---- runs
 
--- the lines of an input: what stands between its line feeds
+-- the lines of an input: what stands between its line feeds; behind a last one stands an empty line more, which changes
+-- nothing
 abbrev pub lines : List ℕ → List (List ℕ)
 lines input = parts 10 input
 
--- a line at which a run does not end is empty, or a command
+-- a run goes on only behind a line that is empty or a command
 abbrev pub IsTaken : List ℕ → Type 0
 IsTaken line = (line ≡ []) ⊎ ((command : Command) × IsLine command line)
 
--- a run ends at the line of this number, as at one that is no command; or memory, its reader or its writer failed
+-- the result is `BadLine` of this number, or `Failed`; why is not said
 abbrev pub EndsAt : {X : Type 0} → ℕ → Result X Stop → Type 0
 EndsAt n result = (result ≡ Err (BadLine n)) ⊎ (result ≡ Err Failed)
 
--- how a run over these lines may end, of which the first has this number: well where each is empty or a command; at the
--- line of a number where that one is not empty, and each before it is empty or a command; or something failed
+-- how a run may end over these lines, the first of which has this number: well, where each is empty or a command; at the
+-- line of a number, where that is not empty and each before it is empty or a command; whether it is bad is not said; and
+-- as failed, at any time
 abbrev pub EndsOver : {X : Type 0} → ℕ → List (List ℕ) → Result X Stop → Type 0
 EndsOver n all (Ok _) = All IsTaken all
 EndsOver n all (Err (BadLine m)) = (before behind : List (List ℕ)) × (line : List ℕ) × (all ≡ before ++ line ∷ behind)

@@ -1,7 +1,7 @@
 //! The commands of a bench, and which lines are commands.
 //!
-//! A line is cut at its spaces, and its words are those of one command or of none: so a word is never empty, and no
-//! other space stands anywhere. Numbers are decimal, without a sign or leading zeros, and at most 4294967295.
+//! A line is UTF-8 and is cut at its spaces (the byte 32), and its words are those of one command or of none: so a word
+//! is never empty. Numbers are decimal, without a sign or leading zeros, and at most 4294967295.
 
 ghost use Rattle.std.specs.Prelude.{◌∷◌, ℕ, [], List, map, codes, IfOk};
 ghost use Rattle.std.specs.Borrow.{Bor};

@@ -90,7 +90,7 @@ fn run_line(
     ensures taken { OnOk result (IsTaken line.now) }
     ensures ends { OnErr result (EndsAt number result) }
     ensures bad { result ≡ Err (BadLine number) → line.now ≢ [] }
-    ensures same { line.now ≢ [] → ((c : Command) → ¬ (IsLine c line.now)) → server.new ≡ server.old }
+    ensures same { ((c : Command) → ¬ (IsLine c line.now)) → server.new ≡ server.old }
 {
     if line.is_empty() {
         return Ok(());
@@ -145,10 +145,11 @@ fn run_lines<R: BufRead, W: Write>(
 /// Runs the commands of the lines that are read, over a new server, and writes the answer of each before the next
 /// line is read; the writer is flushed behind each answer.
 ///
-/// A line ends in a line feed, which the last may lack. Empty lines are skipped, and counted. At the first line that
-/// is no command the run ends with `BadLine` of its number, from 1; the commands before it were carried out. It ends
-/// with `Failed` where memory was refused, or the reader or the writer failed. The clause is of a reader whose bytes are
-/// known, as those of a slice are.
+/// A line ends in a line feed, which the last may lack. Empty lines are skipped, and counted. At the first bad line, which
+/// is no command or names a slot at which no client was inserted, the run ends with `BadLine` of its number, from 1; the
+/// commands before it were carried out. It ends with `Failed` where memory was refused, or the reader or the writer
+/// failed. Of this the clause has, for a reader whose bytes are known, as those of a slice are, how the run may end; the
+/// rest is tested.
 pub fn run_commands<R: BufRead, W: Write>(
     alloc: Global,
     reader: &mut R,

@@ -46,7 +46,7 @@ struct Seat {
 /// Whose transports are looked at behind a command, for what they were sent.
 #[derive(Drop)]
 pub enum Heard {
-    /// None: the command sends nothing.
+    /// None: the command sends nothing, or hands out the transports that it sent over, as `cleanup` does.
     Nobody,
     /// That of the client at a slot: the command does nothing to others.
     Client(u32),
@@ -60,8 +60,8 @@ pub struct Known {
     seats: BTreeMap<u32, Seat>,
     /// The slots of the clients that were read of: no other one has a registry, and nothing was ever written for another.
     read: BTreeSet<u32>,
-    /// The slots of the clients for which something may wait, each with the number of flushes behind which nothing does:
-    /// one that finds something uses up a count or a fault, or there is none and all is sent.
+    /// The slots of the clients for which something may wait, each with a number of flushes behind which nothing does: a
+    /// flush that finds something uses up a count or a fault, and where none is left it sends all.
     waiting: BTreeMap<u32, u64>,
     globals: BTreeMap<u32, GlobalId>,
 }
@@ -77,7 +77,7 @@ impl Known {
         }
     }
 
-    /// The client at the slot. A line that names a slot at which none was inserted is no command.
+    /// The client at the slot. A command of a slot at which none was inserted makes its line bad.
     fn seat(&self, slot: u32, line: u64) -> Result<Seat, Stop>
         ensures { OnErr result (EndsAt line result) }
     {
@@ -156,7 +156,7 @@ impl Known {
     }
 
     /// The slots of the clients that may be told of a change of globals, for all of which something may wait behind it.
-    fn told(&mut self, alloc: Global) -> Result<Vec<u32>, AllocError> {
+    fn listeners(&mut self, alloc: Global) -> Result<Vec<u32>, AllocError> {
         let mut slots = Vec::new(alloc);
         for slot in self.read.iter() {
             slots.push(*slot)?;
@@ -189,7 +189,7 @@ impl Known {
                 Ok(Heard::Client(*slot))
             }
             Command::Create(..) | Command::Disable(_) | Command::Remove(_) => {
-                Ok(Heard::Clients(self.told(alloc)?))
+                Ok(Heard::Clients(self.listeners(alloc)?))
             }
             Command::Flush => Ok(Heard::Clients(self.flushed(alloc)?)),
         }

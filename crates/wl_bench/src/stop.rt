@@ -15,7 +15,7 @@ use wl_wire::{IoFault, OutOfMemory, TableError};
 pub enum Stop {
     /// The arguments name no program.
     Usage,
-    /// This line of the input, counted from 1, is no command.
+    /// This line of the input, counted from 1, is no command, or names a slot at which no client was inserted.
     BadLine(u64),
     /// Memory, input or output failed.
     Failed,
