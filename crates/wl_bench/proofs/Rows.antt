@@ -1,12 +1,13 @@
 -- Lines and words, computed from the definition.
-use Rattle.std.proofs.Common.{◌≡◌, [], ◌∷◌, ◌++◌, Err, String, Global, lit≤, lit<, refl, codes, string_bytes, pos}
+use Rattle.std.proofs.Common.{◌≡◌, [], ◌∷◌, ◌++◌, Err, String, Global, lit≤, lit<, ap, arith, length, refl, codes, string_bytes, pos}
 use mathlib.Core.Logic.{inl}
 use Rattle.std.specs.Prelude.{⊤}
 use Rattle.std.specs.Fmt.{digits}
 use Rattle.std.proofs.lemmas.List.Elements.{All-cons, All-nil}
-use Rattle.wl_bench.specs.Commands.{AreBytes, AreNumbers, EndsOver, IsByte, IsCommand, IsTaken, lines, words}
+use Rattle.wl_bench.specs.Commands.{AreBytes, AreNumbers, EndsOver, IsByte, IsCommand, IsLine, IsOfClient, IsTaken, lines, words}
 use Rattle.wl_bench.specs.declared.command.ClientCommand.TheVariants.{Read, Finish, FailIn, FailOut}
-use Rattle.wl_bench.specs.declared.command.Command.TheVariants.{Insert, Client, Create, Flush, Notes}
+use Rattle.wl_bench.specs.declared.command.Command.{Command}
+use Rattle.wl_bench.specs.declared.command.Command.TheVariants.{Insert, Client, Create, Disable, Remove, Flush, Cleanup, Notes}
 use Rattle.wl_bench.specs.declared.stop.Stop.TheVariants.{BadLine}
 use Rattle.wl_wire.specs.declared.error.IoFault.TheVariants.{WouldBlock, Other}
 
@@ -61,6 +62,17 @@ row_empty_word = refl
 row_lines : lines (codes "flush" ++ 10 ∷ 10 ∷ codes "x") ≡ codes "flush" ∷ [] ∷ codes "x" ∷ []
 row_lines = refl
 
--- a run over an empty line and one that is not may end at the second
+-- the line is no command
+x_is_none : (c : Command) → IsLine c (codes "x") → IsOfClient c
+x_is_none Insert h = absurd (cc)
+x_is_none (Client slot c) h = tt
+x_is_none (Create name version) h = let n = ap length h.1.2 in absurd (omega arith)
+x_is_none (Disable name) h = let n = ap length h.1.1 in absurd (omega arith)
+x_is_none (Remove name) h = let n = ap length h.1.1 in absurd (omega arith)
+x_is_none Flush h = absurd (cc)
+x_is_none Cleanup h = absurd (cc)
+x_is_none Notes h = absurd (cc)
+
+-- a run over an empty line and one that is bad ends at the second
 row_bad_line : EndsOver {X = ⊤} 1 (lines (10 ∷ codes "x")) (Err (BadLine 2))
-row_bad_line = ([] ∷ [], [], codes "x", refl, refl, All-cons IsTaken [] [] (inl refl) (All-nil IsTaken), λ e. cc)
+row_bad_line = ([] ∷ [], [], codes "x", refl, refl, All-cons IsTaken [] [] (inl refl) (All-nil IsTaken), (λ e. cc, x_is_none))

@@ -7,7 +7,7 @@ use Rattle.std.specs.List.{All, onto_first, slice_index}
 use Rattle.std.proofs.lemmas.List.Elements.{All-cons}
 use Rattle.std.proofs.lemmas.Bool.{lt-ltb}
 use mathlib.Core.Logic.{inl, inr}
-use Rattle.wl_bench.specs.Commands.{EndsAt, EndsOver, IsTaken, lines}
+use Rattle.wl_bench.specs.Commands.{EndsAt, EndsOver, IsBad, IsTaken, lines}
 use Rattle.wl_bench.specs.declared.stop.Stop.{Stop}
 use Rattle.wl_bench.specs.declared.stop.Stop.TheVariants.{BadLine, Failed, Usage}
 
@@ -93,7 +93,7 @@ taken_more n line rest (Err Usage) is h = absurd h
 -- behind an input without a last line feed nothing is left
 taken_last : {X : Type 0} (n : ℕ) (line : List ℕ) (r : Result X Stop) → IsTaken line → EndsOver (n + 1) ([] ∷ []) r → EndsOver n (line ∷ []) r
 taken_last n line (Ok x) is h = All-cons IsTaken line [] is none_taken
-taken_last n line (Err (BadLine m)) is ([], behind, at, same, number, all, some) = absurd (some (sym (ap front same)))
+taken_last n line (Err (BadLine m)) is ([], behind, at, same, number, all, some) = absurd (some.0 (sym (ap front same)))
 taken_last n line (Err (BadLine m)) is (b ∷ bs, behind, at, same, number, all, some) = let l = ap length same ∙ length-append (b ∷ bs) (at ∷ behind) in absurd (omega (arith, l))
 taken_last n line (Err Failed) is h = tt
 taken_last n line (Err Usage) is h = absurd h
@@ -108,11 +108,11 @@ goes_on n input r is h = at (are_lines input)
     at (inr l) = subst (λ (ls : List (List ℕ)). EndsOver n ls r) (sym l.0)
         (taken_last n (first_piece 10 input) r is (subst (λ (d : List ℕ). EndsOver (n + 1) (lines d) r) l.1 h))
 
-stopped : (n : ℕ) (line : List ℕ) (rest : List (List ℕ)) → line ≢ [] → EndsOver {X = ⊤} n (line ∷ rest) (Err (BadLine n))
+stopped : (n : ℕ) (line : List ℕ) (rest : List (List ℕ)) → IsBad line → EndsOver {X = ⊤} n (line ∷ rest) (Err (BadLine n))
 stopped n line rest some = ([], rest, line, refl, omega arith, none_taken, some)
 
--- a run may end at a line that is not empty
-pub stops_here : (n : ℕ) (input : List ℕ) → first_piece 10 input ≢ [] → EndsOver {X = ⊤} n (lines input) (Err (BadLine n))
+-- a run may end at a bad line
+pub stops_here : (n : ℕ) (input : List ℕ) → IsBad (first_piece 10 input) → EndsOver {X = ⊤} n (lines input) (Err (BadLine n))
 stops_here n input some = at (are_lines input)
   where
     at : AreLines input → EndsOver {X = ⊤} n (lines input) (Err (BadLine n))
@@ -151,12 +151,12 @@ at_next n (Some input) now next before line front (rest, e, k) empty read left c
 
 pub at_stop : (n : ℕ) (whole now : Option (List ℕ)) (before line front : List ℕ) (r : Result ⊤ Stop) → HasComeTo n whole now → before ≡ []
     → IfSome now (λ xs. line ≡ before ++ take_through 10 xs) → front ≡ strip_last 10 line
-    → EndsAt n r → (r ≡ Err (BadLine n) → front ≢ []) → IfSome whole (λ input. EndsOver 1 (lines input) r)
+    → EndsAt n r → (r ≡ Err (BadLine n) → IsBad front) → IfSome whole (λ input. EndsOver 1 (lines input) r)
 at_stop n None now before line front r h empty read cut ends some = tt
 at_stop n (Some input) now before line front r (rest, e, k) empty read cut (inl bad) some =
     let all = subst (λ (o : Option (List ℕ)). IfSome o (λ xs. line ≡ before ++ take_through 10 xs)) e read ∙ ap (λ (b : List ℕ). b ++ take_through 10 rest) empty in
     let first = is_first rest line front all cut in
-    k r (subst (λ (x : Result ⊤ Stop). EndsOver n (lines rest) x) (sym bad) (stops_here n rest (λ none. some bad (first ∙ none))))
+    k r (subst (λ (x : Result ⊤ Stop). EndsOver n (lines rest) x) (sym bad) (stops_here n rest (subst IsBad first (some bad))))
 at_stop n (Some input) now before line front r (rest, e, k) empty read cut (inr failed) some =
     subst (λ (x : Result ⊤ Stop). EndsOver 1 (lines input) x) (sym failed) tt
 

@@ -140,16 +140,25 @@ lines input = parts 10 input
 abbrev pub IsTaken : List ℕ → Type 0
 IsTaken line = (line ≡ []) ⊎ ((command : Command) × IsLine command line)
 
+-- the command is about the client at a slot
+abbrev pub IsOfClient : Command → Type 0
+IsOfClient (Client slot command) = ⊤
+IsOfClient command = ⊥
+
+-- a run ends at the number of a line only where that is not empty, and is a command of no client: so it is none, or it
+-- names a slot, at which no client need stand
+abbrev pub IsBad : List ℕ → Type 0
+IsBad line = (line ≢ []) × ((command : Command) → IsLine command line → IsOfClient command)
+
 -- the result is `BadLine` of this number, or `Failed`; why is not said
 abbrev pub EndsAt : {X : Type 0} → ℕ → Result X Stop → Type 0
 EndsAt n result = (result ≡ Err (BadLine n)) ⊎ (result ≡ Err Failed)
 
 -- how a run may end over these lines, the first of which has this number: well, where each is empty or a command; at the
--- line of a number, where that is not empty and each before it is empty or a command; whether it is bad is not said; and
--- as failed, at any time
+-- line of a number, where that is bad, or may be, and each before it is empty or a command; and as failed, at any time
 abbrev pub EndsOver : {X : Type 0} → ℕ → List (List ℕ) → Result X Stop → Type 0
 EndsOver n all (Ok _) = All IsTaken all
 EndsOver n all (Err (BadLine m)) = (before behind : List (List ℕ)) × (line : List ℕ) × (all ≡ before ++ line ∷ behind)
-    × (m ≡ n + length before) × All IsTaken before × (line ≢ [])
+    × (m ≡ n + length before) × All IsTaken before × IsBad line
 EndsOver n all (Err Failed) = ⊤
 EndsOver n all (Err Usage) = ⊥

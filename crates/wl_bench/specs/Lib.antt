@@ -1,3 +1,4 @@
 pub mod Commands
+pub mod Hearing
 pub mod Hex
 pub mod Sync

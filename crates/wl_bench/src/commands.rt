@@ -2,7 +2,7 @@
 
 ghost use Rattle.std.specs.Prelude.{◌≡◌, ◌≢◌, [], Err, IfSome, OnErr, OnOk};
 ghost use Rattle.std.specs.Io.BufRead.{strip_last};
-ghost use Rattle.wl_bench.specs.Commands.{EndsAt, EndsOver, IsLine, IsTaken, lines};
+ghost use Rattle.wl_bench.specs.Commands.{EndsAt, EndsOver, IsBad, IsLine, IsOfClient, IsTaken, lines};
 ghost use Rattle.wl_bench.specs.declared.command.Command.{Command};
 ghost use Rattle.wl_bench.specs.declared.stop.Stop.TheVariants.{BadLine};
 
@@ -58,7 +58,8 @@ fn carry_out(
     line: u64,
     text: &mut String,
 ) -> Result<(), Stop>
-    ensures { OnErr result (EndsAt line result) }
+    ensures ends { OnErr result (EndsAt line result) }
+    ensures bad { result ≡ Err (BadLine line) → IsOfClient command }
 {
     let mut steps = Vec::new(alloc);
     let heard = known.plan(alloc, server.protocol(), command, line, &mut steps)?;
@@ -89,7 +90,7 @@ fn run_line(
 ) -> Result<(), Stop>
     ensures taken { OnOk result (IsTaken line.now) }
     ensures ends { OnErr result (EndsAt number result) }
-    ensures bad { result ≡ Err (BadLine number) → line.now ≢ [] }
+    ensures bad { result ≡ Err (BadLine number) → IsBad line.now }
     ensures same { ((c : Command) → ¬ (IsLine c line.now)) → server.new ≡ server.old }
 {
     if line.is_empty() {
@@ -112,7 +113,7 @@ fn answer_line<W: Write>(
 ) -> Result<(), Stop>
     ensures taken { OnOk result (IsTaken line.now) }
     ensures ends { OnErr result (EndsAt number result) }
-    ensures bad { result ≡ Err (BadLine number) → line.now ≢ [] }
+    ensures bad { result ≡ Err (BadLine number) → IsBad line.now }
 {
     let mut text = String::new(alloc);
     run_line(alloc, server, known, line, number, &mut text)?;
@@ -148,8 +149,8 @@ fn run_lines<R: BufRead, W: Write>(
 /// A line ends in a line feed, which the last may lack. Empty lines are skipped, and counted. At the first bad line, which
 /// is no command or names a slot at which no client was inserted, the run ends with `BadLine` of its number, from 1; the
 /// commands before it were carried out. It ends with `Failed` where memory was refused, or the reader or the writer
-/// failed. Of this the clause has, for a reader whose bytes are known, as those of a slice are, how the run may end; the
-/// rest is tested.
+/// failed. Of this the clause has, for a reader whose bytes are known, as those of a slice are, how the run may end
+/// (`EndsOver`); the rest is tested.
 pub fn run_commands<R: BufRead, W: Write>(
     alloc: Global,
     reader: &mut R,

@@ -1,8 +1,9 @@
 //! What a bench knows of the server that it drives, and the steps that each command is.
 
-ghost use Rattle.std.specs.Prelude.{◌≡◌, IfErr, OnErr};
-ghost use Rattle.wl_bench.specs.Commands.{EndsAt};
-ghost use Rattle.wl_bench.specs.declared.stop.Stop.TheVariants.{Failed};
+ghost use Rattle.std.specs.Prelude.{◌≡◌, Err, IfErr, IfOk, OnErr};
+ghost use Rattle.wl_bench.specs.Commands.{EndsAt, IsOfClient};
+ghost use Rattle.wl_bench.specs.Hearing.{IsOfOne};
+ghost use Rattle.wl_bench.specs.declared.stop.Stop.TheVariants.{BadLine, Failed};
 
 use crate::answer::print_sends;
 use crate::command::{ClientCommand, Command};
@@ -104,7 +105,8 @@ impl Known {
         line: u64,
         steps: &mut Vec<Made>,
     ) -> Result<(), Stop>
-        ensures { OnErr result (EndsAt line result) }
+        ensures ends { OnErr result (EndsAt line result) }
+        ensures bad { result ≡ Err (BadLine line) → IsOfClient command }
     {
         match command {
             Command::Insert => push(steps, Step::InsertClient(Memory::new(alloc), ())),
@@ -181,7 +183,9 @@ impl Known {
     }
 
     /// Whose transports are looked at behind a command; what it may leave for later flushes is kept.
-    fn hear(&mut self, alloc: Global, command: &Command) -> Result<Heard, AllocError> {
+    fn hear(&mut self, alloc: Global, command: &Command) -> Result<Heard, AllocError>
+        ensures { IfOk result (λ heard. IsOfOne heard → IsOfClient command.now) }
+    {
         match command {
             Command::Insert | Command::Notes | Command::Cleanup => Ok(Heard::Nobody),
             Command::Client(slot, command) => {
@@ -197,14 +201,18 @@ impl Known {
 
     /// Puts the steps that take the records of what these clients were sent behind the others.
     fn push_hearing(&self, heard: &Heard, line: u64, steps: &mut Vec<Made>) -> Result<(), Stop>
-        ensures { OnErr result (EndsAt line result) }
+        ensures ends { OnErr result (EndsAt line result) }
+        ensures bad { result ≡ Err (BadLine line) → IsOfOne heard.now }
     {
         match heard {
             Heard::Nobody => Ok(()),
             Heard::Client(slot) => push(steps, Step::TakeSent(self.seat(*slot, line)?.client)),
             Heard::Clients(slots) => {
                 for slot in slots.as_slice() {
-                    push(steps, Step::TakeSent(self.seat(*slot, line)?.client))?;
+                    let Some(seat) = self.seats.get(slot) else {
+                        return Err(Stop::Failed);
+                    };
+                    push(steps, Step::TakeSent(seat.client))?;
                 }
                 Ok(())
             }
@@ -221,7 +229,8 @@ impl Known {
         line: u64,
         steps: &mut Vec<Made>,
     ) -> Result<Heard, Stop>
-        ensures { OnErr result (EndsAt line result) }
+        ensures ends { OnErr result (EndsAt line result) }
+        ensures bad { result ≡ Err (BadLine line) → IsOfClient command }
     {
         let heard = self.hear(alloc, &command)?;
         self.push_call(alloc, table, command, line, steps)?;
