@@ -145,8 +145,8 @@ abbrev pub IsOfClient : Command → Type 0
 IsOfClient (Client slot command) = ⊤
 IsOfClient command = ⊥
 
--- a run ends at the number of a line only where that is not empty, and is a command of no client: so it is none, or it
--- names a slot, at which no client need stand
+-- a run ends at the number of a line only where that is not empty, and is no command or one about the client at a slot,
+-- where none need stand
 abbrev pub IsBad : List ℕ → Type 0
 IsBad line = (line ≢ []) × ((command : Command) → IsLine command line → IsOfClient command)
 
