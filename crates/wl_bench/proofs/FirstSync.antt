@@ -10,19 +10,19 @@ use Rattle.wl_link.specs.declared.object.Object.{Object}
 use Rattle.wl_link.specs.Exchange.{Queue, Sending, nothing, joined}
 use Rattle.wl_link.specs.Identity.{named_in}
 use Rattle.wl_link.specs.Link.{LinkState, Wrote, Flushed, FlushedBy, spelled, with_outgoing, offer_of, left_of}
-use Rattle.wl_link.specs.OneLaws.{one_flush_lem, one_write_lem}
+use Rattle.wl_link.proofs.Calls.OneLaws.{one_flush_lem, one_write_lem}
 use Rattle.wl_link.specs.Puts.{lacked_memory}
 use Rattle.wl_link.specs.Script.{Script, ScriptSends, script_after_send}
-use Rattle.wl_link.specs.ScriptLaws.{script_sends_function}
+use Rattle.wl_link.proofs.Calls.OneScript.{script_sends_function}
 use Rattle.wl_link.specs.Store.{Store, client_range, empty_store, stored, IsLeastAbsent}
-use Rattle.wl_link.specs.StoreLaws.{held_empty, stored_here, stored_other, least_unique}
-use Rattle.wl_link.specs.WriteLaws.{wrote_at_once}
+use Rattle.wl_link.proofs.Ids.StoreLaws.{held_empty, stored_here, stored_other, least_unique}
+use Rattle.wl_link.proofs.Calls.WriteLaws.{wrote_at_once}
 use Rattle.wl_client.specs.declared.error.FlushError.{FlushError}
 use Rattle.wl_client.specs.declared.error.FlushError.TheVariants as flush
 use Rattle.wl_client.specs.declared.error.RequestError.{RequestError}
 use Rattle.wl_client.specs.declared.error.RequestError.TheVariants as refused
 use Rattle.wl_client.specs.declared.error.WaylandError.{WaylandError}
-use Rattle.wl_client.specs.declared.kept.Kept.{Kept}
+use Rattle.wl_client.specs.declared.objects.Kept.{Kept}
 use Rattle.wl_client.specs.declared.request.Granted.{Granted}
 use Rattle.wl_client.specs.Finish.{SessionFlushed, FlushEnds}
 use Rattle.wl_client.specs.ObjectId.{IdParts}
@@ -36,7 +36,7 @@ abbrev pub fresh_script : Script
 fresh_script = record { arrivals = []; answers = []; sent = [] }
 
 abbrev fresh_link : LinkState Script
-fresh_link = record { transport = fresh_script; incoming = nothing; room = 4096; outgoing = nothing; storage = 4096; limit = None }
+fresh_link = record { transport = fresh_script; incoming = nothing; incoming_capacity = 4096; outgoing = nothing; outgoing_capacity = 4096; limit = None }
 
 abbrev pub sync_message : SessionMessage
 sync_message = record {

@@ -1,7 +1,11 @@
 mod FirstSync
 mod HexWords
+mod InputLines
 mod Lines
+mod Making
 mod OneCommand
 mod Numbers
+mod Places
 mod Rows
-mod TakenLines
+mod RunLines
+mod Sharing

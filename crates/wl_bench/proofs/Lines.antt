@@ -1,5 +1,7 @@
 -- Which lines are commands.
-use Rattle.std.proofs.Common.{◌≡◌, ℕ, ◌<◌, List, length, Option, Some, None, Result, Ok, Err, sym, ap, subst, arith}
+use Rattle.std.proofs.Common.{◌≡◌, ◌∙◌, ℕ, ◌<◌, ◌≤◌, nat_lt, Bool, true, false, List, length, take, take_all, Option, Some, None, Result, Ok, Err, refl, sym, ap, subst, arith}
+use Rattle.std.proofs.lemmas.Bool.{ltb-false, ltb-true}
+use Rattle.std.proofs.lemmas.List.{length-take-le}
 use Rattle.std.specs.Prelude.{IfOk}
 use Rattle.std.specs.Str.{IsUtf8}
 use Rattle.wl_bench.specs.Commands.{Finds, IsClientCommand, IsCommand, IsLine, words}
@@ -44,3 +46,22 @@ line_found line ws (Ok (Some c)) text same h = (text, subst (λ (vs : List (List
 line_found line ws (Ok None) text same h =
     λ (c : Command) (is : IsLine c line). h c (subst (λ (vs : List (List ℕ)). IsCommand c vs) (sym same) is.1)
 line_found line ws (Err e) text same h = tt
+
+-- five words are enough to see which command it is
+pub first_words : {E : Type 0} (all ws : List (List ℕ)) (r : Result (Option Command) E) → ws ≡ take 5 all → IfOk r (Finds IsCommand ws)
+    → IfOk r (Finds IsCommand all)
+first_words {E} all ws r same h = at (nat_lt 4 (length all)) refl
+  where
+    few : length all ≤ 4 → IfOk r (Finds IsCommand all)
+    few least = subst (λ (vs : List (List ℕ)). IfOk r (Finds IsCommand vs)) (same ∙ take_all 5 all (omega (arith, least))) h
+
+    many : 4 < length all → (q : Result (Option Command) E) → IfOk q (Finds IsCommand ws) → IfOk q (Finds IsCommand all)
+    many more (Ok (Some c)) k =
+        let size = ap length same ∙ length-take-le 5 all (omega (arith, more)) in
+        absurd (many_words ws (omega (arith, size)) c k)
+    many more (Ok None) k = many_words all more
+    many more (Err e) k = tt
+
+    at : (b : Bool) → nat_lt 4 (length all) ≡ b → IfOk r (Finds IsCommand all)
+    at false e = few (ltb-false 4 (length all) e)
+    at true e = many (ltb-true 4 (length all) e) r h

@@ -12,8 +12,6 @@ use Rattle.wl_bench.specs.declared.command.Command.{Command}
 use Rattle.wl_bench.specs.declared.command.Command.TheVariants.{Insert, Client, Create, Disable, Remove, Flush, Cleanup, Notes}
 use Rattle.wl_wire.specs.declared.error.IoFault.{IoFault}
 use Rattle.wl_wire.specs.declared.error.IoFault.TheVariants.{WouldBlock, Pipe, TooBig, Proto, InvalidInput, OutOfMemory, Other}
-use Rattle.wl_bench.specs.declared.stop.Stop.{Stop}
-use Rattle.wl_bench.specs.declared.stop.Stop.TheVariants.{BadLine, Failed, Usage}
 use Rattle.wl_wire.specs.declared.argument.Token.{Token}
 
 -- what stands between the bytes of this value
@@ -128,37 +126,3 @@ Finds {X} Is text found = MatchOption found ((x : X) → ¬ (Is x text)) (λ x. 
 -- the same of a vector, as the list of its elements
 abbrev pub FindsAll : {X T : Type 0} → (List X → T → Type 0) → T → Option (Vec X Global) → Type 0
 FindsAll {X} Are text found = MatchOption found ((xs : List X) → ¬ (Are xs text)) (λ v. Are v.items text)
-
--- ---- runs
-
--- the lines of an input: what stands between its line feeds; behind a last one stands an empty line more, which changes
--- nothing
-abbrev pub lines : List ℕ → List (List ℕ)
-lines input = parts 10 input
-
--- a run goes on only behind a line that is empty or a command
-abbrev pub IsTaken : List ℕ → Type 0
-IsTaken line = (line ≡ []) ⊎ ((command : Command) × IsLine command line)
-
--- the command is about the client at a slot
-abbrev pub IsOfClient : Command → Type 0
-IsOfClient (Client slot command) = ⊤
-IsOfClient command = ⊥
-
--- a run ends at the number of a line only where that is not empty, and is no command or one about the client at a slot,
--- where none need stand
-abbrev pub IsBad : List ℕ → Type 0
-IsBad line = (line ≢ []) × ((command : Command) → IsLine command line → IsOfClient command)
-
--- the result is `BadLine` of this number, or `Failed`; why is not said
-abbrev pub EndsAt : {X : Type 0} → ℕ → Result X Stop → Type 0
-EndsAt n result = (result ≡ Err (BadLine n)) ⊎ (result ≡ Err Failed)
-
--- how a run may end over these lines, the first of which has this number: well, where each is empty or a command; at the
--- line of a number, where that is bad, or may be, and each before it is empty or a command; and as failed, at any time
-abbrev pub EndsOver : {X : Type 0} → ℕ → List (List ℕ) → Result X Stop → Type 0
-EndsOver n all (Ok _) = All IsTaken all
-EndsOver n all (Err (BadLine m)) = (before behind : List (List ℕ)) × (line : List ℕ) × (all ≡ before ++ line ∷ behind)
-    × (m ≡ n + length before) × All IsTaken before × IsBad line
-EndsOver n all (Err Failed) = ⊤
-EndsOver n all (Err Usage) = ⊥

@@ -1,4 +1,8 @@
+pub mod Answers
+pub mod Bench
 pub mod Commands
-pub mod Hearing
 pub mod Hex
+pub mod Record
+pub mod Rows
 pub mod Sync
+pub mod Table

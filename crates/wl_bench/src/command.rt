@@ -174,6 +174,9 @@ fn of_four(
     }
 }
 
+/// No command has more words than this.
+const MOST_WORDS: usize = 4;
+
 /// The command of these words.
 fn command_of(alloc: Global, words: &[&str]) -> Result<Option<Command>, AllocError>
     ensures { IfOk result (Finds IsCommand (map (λ (w : Bor (List ℕ)). w.now) words.now)) }
@@ -197,6 +200,6 @@ pub fn parse_line(alloc: Global, line: &[u8]) -> Result<Option<Command>, AllocEr
     let Ok(text) = str::from_utf8(line) else {
         return Ok(None);
     };
-    let words: Vec<&str> = text.split(' ').collect(alloc)?;
+    let words: Vec<&str> = text.split(' ').take(MOST_WORDS + 1).collect(alloc)?;
     command_of(alloc, &words)
 }

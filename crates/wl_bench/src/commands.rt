@@ -1,76 +1,31 @@
 //! Runs of commands: lines are read, carried out and answered, one after another.
 
-ghost use Rattle.std.specs.Prelude.{◌≡◌, ◌≢◌, [], Err, IfSome, OnErr, OnOk};
+ghost use Rattle.std.specs.Prelude.{◌≡◌, ◌++◌, IfErr, IfOk, IfSome, OnErr, OnOk, ◌≢◌, map};
 ghost use Rattle.std.specs.Io.BufRead.{strip_last};
-ghost use Rattle.wl_bench.specs.Commands.{EndsAt, EndsOver, IsBad, IsLine, IsOfClient, IsTaken, lines};
-ghost use Rattle.wl_bench.specs.declared.command.Command.{Command};
-ghost use Rattle.wl_bench.specs.declared.stop.Stop.TheVariants.{BadLine};
+ghost use Rattle.std.specs.String.{string_bytes};
+ghost use Rattle.wl_bench.specs.Bench.{new_bench};
+ghost use Rattle.wl_bench.specs.Record.{Answers, Runs, StopsAt, fed, lines, quoted, text_of, written_of};
+ghost use Rattle.wl_bench.specs.Table.{bench_rows};
+ghost use Rattle.wl_bench.specs.declared.commands.Form.TheVariants as shape;
+ghost use Rattle.wl_bench.specs.declared.stop.Stop.TheVariants.{Failed};
 
-use crate::answer::{Answer, print_answer};
-use crate::command::{Command, parse_line};
-use crate::known::{Heard, Known, Server, Told, print_heard};
+use crate::bench::Bench;
+use crate::command::parse_line;
 use crate::stop::Stop;
-use crate::table::bench_table;
 use std::alloc::{AllocError, Global};
 use std::io::{BufRead, Write};
-use wl_server::{Backend, Reply};
 
-/// What a command answers, by the reply to its first step.
-fn answer_of(reply: &Told) -> Answer<'_> {
-    match reply {
-        Reply::InsertClient(Ok(id)) => Answer::Client(*id),
-        Reply::InsertClient(Err(reason)) => Answer::NotInserted(*reason),
-        Reply::CreateGlobal(Ok(id)) => Answer::Global(*id),
-        Reply::CreateGlobal(Err(reason)) => Answer::NotCreated(*reason),
-        Reply::NextAction(Ok(action)) => Answer::Asked(action),
-        Reply::NextAction(Err(fault)) => Answer::Fault(*fault),
-        Reply::FinishRequest(Err(refused)) => Answer::NotFinished(refused.error),
-        Reply::FinishBind(Err(refused)) => Answer::NotFinished(refused.error),
-        Reply::Arrive(Err(reason))
-        | Reply::ArriveFault(Err(reason))
-        | Reply::Accept(Err(reason))
-        | Reply::AcceptFault(Err(reason)) => Answer::NotScripted(*reason),
-        Reply::TakeNotes(Ok(notes)) => Answer::Notes(notes.as_slice()),
-        _ => Answer::Done,
-    }
-}
-
-/// Keeps and prints the replies to the steps of a command.
-fn tell(
-    known: &mut Known,
-    heard: &Heard,
-    replies: &[Told],
-    text: &mut String,
-) -> Result<(), AllocError> {
-    if let Some(reply) = replies.first() {
-        known.keep(heard, reply)?;
-        print_answer(text, answer_of(reply))?;
-    }
-    print_heard(text, heard, replies)
-}
-
-/// Carries out a command, and prints its answer.
-fn carry_out(
-    alloc: Global,
-    server: &mut Server,
-    known: &mut Known,
-    command: Command,
-    line: u64,
-    text: &mut String,
-) -> Result<(), Stop>
-    ensures ends { OnErr result (EndsAt line result) }
-    ensures bad { result ≡ Err (BadLine line) → IsOfClient command }
-{
-    let mut steps = Vec::new(alloc);
-    let heard = known.plan(alloc, server.protocol(), command, line, &mut steps)?;
-    match server.replay(steps) {
-        Ok(replies) => Ok(tell(known, &heard, replies.as_slice(), text)?),
-        Err(_) => Err(Stop::Failed),
-    }
+/// What is written of each command.
+#[derive(Clone, Copy)]
+pub enum Form {
+    /// The lines that it prints.
+    Answers,
+    /// Its number, a space and the command; and then the lines that it prints, each behind `> `.
+    Record,
 }
 
 /// A line without the line feed at its end.
-fn without_line_feed(line: &[u8]) -> &[u8]
+pub fn without_line_feed(line: &[u8]) -> &[u8]
     ensures { result.now ≡ strip_last 10 line.now }
 {
     match line {
@@ -79,57 +34,93 @@ fn without_line_feed(line: &[u8]) -> &[u8]
     }
 }
 
-/// Carries out the command that a line is, and prints its answer. An empty line is none, and nothing is done.
-fn run_line(
+/// Puts a line behind the text, behind these characters and with its line feed.
+fn push_line(text: &mut Vec<u8>, before: &str, line: &[u8]) -> Result<(), AllocError>
+    ensures { OnOk result (text.new.items ≡ text.old.items ++ fed (before.now ++ line.now)) }
+{
+    text.extend_from_slice(before.as_bytes())?;
+    text.extend_from_slice(line)?;
+    Ok(text.push(b'\n')?)
+}
+
+/// Puts lines behind the text.
+fn push_lines(text: &mut Vec<u8>, lines: &[String]) -> Result<(), AllocError>
+    ensures { OnOk result (text.new.items ≡ text.old.items ++ text_of (map string_bytes lines.now)) }
+{
+    for line in lines {
+        push_line(text, "", line.as_bytes())?;
+    }
+    Ok(())
+}
+
+/// Puts lines behind the text, each behind `> `.
+fn push_quoted(text: &mut Vec<u8>, lines: &[String]) -> Result<(), AllocError>
+    ensures { OnOk result (text.new.items ≡ text.old.items ++ text_of (map quoted (map string_bytes lines.now))) }
+{
+    for line in lines {
+        push_line(text, "> ", line.as_bytes())?;
+    }
+    Ok(())
+}
+
+/// What is written of a command: the lines that it printed, or its record.
+fn written(
     alloc: Global,
-    server: &mut Server,
-    known: &mut Known,
-    line: &[u8],
+    form: Form,
     number: u64,
-    text: &mut String,
+    line: &[u8],
+    answer: &[String],
+) -> Result<Vec<u8>, AllocError>
+    ensures { IfOk result (λ text. text.items ≡ text_of (written_of form (record { number = number; line = line.now; answer = map string_bytes answer.now }))) }
+{
+    let mut text = Vec::new(alloc);
+    match form {
+        Form::Answers => push_lines(&mut text, answer)?,
+        Form::Record => {
+            let before = format!(in alloc; "{number} ")?;
+            push_line(&mut text, before.as_str(), line)?;
+            push_quoted(&mut text, answer)?;
+        }
+    }
+    Ok(text)
+}
+
+/// Carries out the command that a line is, and writes what is written of it. An empty line is none, and nothing is done.
+fn answer_line<W: Write>(
+    alloc: Global,
+    bench: &mut Bench,
+    form: Form,
+    number: u64,
+    line: &[u8],
+    writer: &mut W,
 ) -> Result<(), Stop>
-    ensures taken { OnOk result (IsTaken line.now) }
-    ensures ends { OnErr result (EndsAt number result) }
-    ensures bad { result ≡ Err (BadLine number) → IsBad line.now }
-    ensures same { ((c : Command) → ¬ (IsLine c line.now)) → server.new ≡ server.old }
+    ensures answers { OnOk result (Answers form number bench.old line.now bench.new (W.contents writer.old) (W.contents writer.new)) }
+    ensures stops { IfErr result (λ stop. StopsAt number bench.new line.now stop (W.contents writer.old) (W.contents writer.new)) }
+    ensures same { IfErr result (λ stop. stop ≢ Failed → bench.new ≡ bench.old) }
 {
     if line.is_empty() {
         return Ok(());
     }
-    match parse_line(alloc, line)? {
-        Some(command) => carry_out(alloc, server, known, command, number, text),
-        None => Err(Stop::BadLine(number)),
-    }
-}
-
-/// Runs a line, and writes its answer.
-fn answer_line<W: Write>(
-    alloc: Global,
-    server: &mut Server,
-    known: &mut Known,
-    line: &[u8],
-    number: u64,
-    writer: &mut W,
-) -> Result<(), Stop>
-    ensures taken { OnOk result (IsTaken line.now) }
-    ensures ends { OnErr result (EndsAt number result) }
-    ensures bad { result ≡ Err (BadLine number) → IsBad line.now }
-{
-    let mut text = String::new(alloc);
-    run_line(alloc, server, known, line, number, &mut text)?;
-    writer.write_all(text.as_bytes())?;
+    let Some(command) = parse_line(alloc, line)? else {
+        return Err(Stop::BadLine(number));
+    };
+    let Some(answer) = bench.carry_out(alloc, command, number)? else {
+        return Err(Stop::BadLine(number));
+    };
+    let text = written(alloc, form, number, line, answer.as_slice())?;
+    writer.write_all(text.as_slice())?;
     Ok(writer.flush()?)
 }
 
-/// Runs the lines up to the end of the input.
+/// Carries out the commands of the lines up to the end of the input.
 fn run_lines<R: BufRead, W: Write>(
     alloc: Global,
-    server: &mut Server,
-    known: &mut Known,
+    bench: &mut Bench,
+    form: Form,
     reader: &mut R,
     writer: &mut W,
 ) -> Result<(), Stop>
-    ensures { IfSome (R.remaining reader.old) (λ input. EndsOver 1 (lines input) result) }
+    ensures { IfSome (R.remaining reader.old) (λ input. Runs form 1 bench.old (lines input) result (W.contents writer.old) (W.contents writer.new)) }
 {
     let mut line = Vec::new(alloc);
     for number in 1..u64::MAX {
@@ -138,28 +129,38 @@ fn run_lines<R: BufRead, W: Write>(
             return Ok(());
         }
         let front = without_line_feed(line.as_slice());
-        answer_line(alloc, server, known, front, number, writer)?;
+        answer_line(alloc, bench, form, number, front, writer)?;
     }
     Err(Stop::Failed)
 }
 
-/// Runs the commands of the lines that are read, over a new server, and writes the answer of each before the next
-/// line is read; the writer is flushed behind each answer.
+/// Carries out the commands of the lines that are read, over a new server, and writes what each prints before the next
+/// line is read; the writer is flushed behind each command.
 ///
 /// A line ends in a line feed, which the last may lack. Empty lines are skipped, and counted. At the first bad line, which
 /// is no command or names a slot at which no client was inserted, the run ends with `BadLine` of its number, from 1; the
 /// commands before it were carried out. It ends with `Failed` where memory was refused, or the reader or the writer
-/// failed. Of this the clause has, for a reader whose bytes are known, as those of a slice are, how the run may end
-/// (`EndsOver`); the rest is tested.
+/// failed.
 pub fn run_commands<R: BufRead, W: Write>(
     alloc: Global,
     reader: &mut R,
     writer: &mut W,
 ) -> Result<(), Stop>
-    ensures { IfSome (R.remaining reader.old) (λ input. EndsOver 1 (lines input) result) }
+    ensures { IfSome (R.remaining reader.old) (λ input. Runs shape.Answers 1 (new_bench bench_rows) (lines input) result (W.contents writer.old) (W.contents writer.new)) }
 {
-    let table = bench_table(alloc)?;
-    let mut known = Known::new(alloc);
-    let mut server = Backend::new(alloc, table);
-    run_lines(alloc, &mut server, &mut known, reader, writer)
+    let mut bench = Bench::new(alloc)?;
+    run_lines(alloc, &mut bench, Form::Answers, reader, writer)
+}
+
+/// Carries out the commands of the lines that are read as `run_commands` does, and writes the record of each: its number,
+/// which is that of its line, a space and the command, and behind that line each line that it prints, behind `> `.
+pub fn record<R: BufRead, W: Write>(
+    alloc: Global,
+    reader: &mut R,
+    writer: &mut W,
+) -> Result<(), Stop>
+    ensures { IfSome (R.remaining reader.old) (λ input. Runs shape.Record 1 (new_bench bench_rows) (lines input) result (W.contents writer.old) (W.contents writer.new)) }
+{
+    let mut bench = Bench::new(alloc)?;
+    run_lines(alloc, &mut bench, Form::Record, reader, writer)
 }

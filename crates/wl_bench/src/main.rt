@@ -2,23 +2,27 @@
 //!
 //! `wl-bench sync` prints the bytes that a fresh client sends for its first `wl_display.sync`, and those of the
 //! server's answer, a line each. `wl-bench run` drives a server by the lines of its standard input, and prints what
-//! each comes to. It ends with status 0; with 2 and its usage on standard error where the arguments are others; with 2
-//! and `line <number>: bad command` there at the first bad line; with 3 and `failed` there where memory, input or output
-//! failed.
+//! each comes to; `wl-bench record` prints each command beside that, and `wl-bench replay` compares such a recording with
+//! what its commands come to now. It ends with status 0; with 1 where a recording differs; with 2 and its usage on standard
+//! error where the arguments are others; with 2 and `line <number>: bad command` there at the first bad line; with 3 and
+//! `failed` there where memory, input or output failed.
 #![tactic(auto)]
 
 mod answer;
+mod bench;
 mod command;
 mod commands;
 mod hex;
-mod known;
+mod latest;
+mod replay;
 mod stop;
 mod sync;
 mod table;
 mod words;
 
-use commands::run_commands;
+use commands::{record, run_commands};
 use hex::hex_line;
+use replay::{Replayed, replay};
 use std::io::BufReader;
 use std::process::ExitCode;
 use std::rt::Env;
@@ -29,6 +33,8 @@ use stop::Stop;
 enum Program {
     Sync,
     Run,
+    Record,
+    Replay,
     Other,
 }
 
@@ -44,6 +50,8 @@ fn program_of(mut args: env::Args) -> Program {
     match word.as_str() {
         "sync" => Program::Sync,
         "run" => Program::Run,
+        "record" => Program::Record,
+        "replay" => Program::Replay,
         _ => Program::Other,
     }
 }
@@ -79,10 +87,29 @@ fn drive(rt: &(impl Input + Print + AllocGlobal)) -> Result<(), Stop> {
     run_commands(alloc, &mut reader, &mut io::writer(rt))
 }
 
+/// Records the commands of the standard input.
+fn record_input(rt: &(impl Input + Print + AllocGlobal)) -> Result<(), Stop> {
+    let alloc = rt.alloc();
+    let mut reader = BufReader::new(alloc, rt.reader())?;
+    record(alloc, &mut reader, &mut io::writer(rt))
+}
+
+/// Replays the recording of the standard input.
+fn replay_input(rt: &(impl Input + Print + AllocGlobal)) -> Result<(), Stop> {
+    let alloc = rt.alloc();
+    let mut reader = BufReader::new(alloc, rt.reader())?;
+    match replay(alloc, &mut reader, &mut io::writer(rt))? {
+        Replayed::Same(_) => Ok(()),
+        Replayed::Differs(_) => Err(Stop::Differs),
+    }
+}
+
 fn run(rt: &(impl Env + Input + Print + AllocGlobal)) -> Result<(), Stop> {
     match requested(rt)? {
         Program::Sync => print_sync(rt),
         Program::Run => drive(rt),
+        Program::Record => record_input(rt),
+        Program::Replay => replay_input(rt),
         Program::Other => Err(Stop::Usage),
     }
 }
@@ -90,8 +117,9 @@ fn run(rt: &(impl Env + Input + Print + AllocGlobal)) -> Result<(), Stop> {
 fn main(rt: HostRuntime) -> ExitCode {
     match run(&rt) {
         Ok(()) => ExitCode::SUCCESS,
+        Err(Stop::Differs) => ExitCode::from(1),
         Err(Stop::Usage) => {
-            let _ = eprintln!(rt; "usage: wl-bench sync | run");
+            let _ = eprintln!(rt; "usage: wl-bench sync | run | record | replay");
             ExitCode::from(2)
         }
         Err(Stop::BadLine(number)) => {

@@ -17,6 +17,8 @@ pub enum Stop {
     Usage,
     /// This line of the input, counted from 1, is no command, or names a slot at which no client was inserted.
     BadLine(u64),
+    /// A recording differs from the record of its own commands.
+    Differs,
     /// Memory, input or output failed.
     Failed,
 }

@@ -1,6 +1,10 @@
 //! The table of interfaces of the program: the fixed ones, and `quad`, of version 3.
 
-ghost use Rattle.std.specs.Prelude.{◌≡◌, IfErr};
+ghost use Rattle.std.specs.Prelude.{◌≡◌, ◌∷◌, ◌++◌, [], IfErr, IfOk, OnOk, map};
+ghost use Rattle.wl_wire.specs.Table.{interface_row, interface_rows, message_row};
+ghost use Rattle.wl_bench.specs.Bench.{interface_of};
+ghost use Rattle.wl_bench.specs.Rows.{message_of};
+ghost use Rattle.wl_bench.specs.Table.{bench_rows, quad_row};
 ghost use Rattle.wl_bench.specs.declared.stop.Stop.TheVariants.{Failed};
 
 use crate::stop::Stop;
@@ -103,7 +107,9 @@ static QUAD_EVENTS: [Row; 3] = [
 ];
 
 /// The description of the message.
-fn described(alloc: Global, row: &Row) -> Result<MessageDesc, AllocError> {
+fn described(alloc: Global, row: &Row) -> Result<MessageDesc, AllocError>
+    ensures { IfOk result (λ message. message_row message ≡ message_of row.now) }
+{
     let child_interface = match row.kind {
         Kind::Maker => Some(QUAD),
         Kind::Plain | Kind::Destructor => None,
@@ -123,7 +129,9 @@ fn push_messages(
     alloc: Global,
     messages: &mut Vec<MessageDesc>,
     rows: &[Row],
-) -> Result<(), AllocError> {
+) -> Result<(), AllocError>
+    ensures { OnOk result (map message_row messages.new.items ≡ map message_row messages.old.items ++ map message_of rows.now) }
+{
     for row in rows {
         messages.push(described(alloc, row)?)?;
     }
@@ -131,7 +139,9 @@ fn push_messages(
 }
 
 /// The interface of that name and version, without messages yet.
-fn named(alloc: Global, name: &str, version: u32) -> Result<Interface, AllocError> {
+fn named(alloc: Global, name: &str, version: u32) -> Result<Interface, AllocError>
+    ensures { IfOk result (λ interface. interface_row interface ≡ record { name = name.now; version = version; requests = []; events = [] }) }
+{
     Ok(Interface {
         name: String::from_str(alloc, name)?,
         version,
@@ -144,10 +154,14 @@ fn named(alloc: Global, name: &str, version: u32) -> Result<Interface, AllocErro
 pub fn push_interface(
     alloc: Global,
     interfaces: &mut Vec<Interface>,
-    (name, version): (&str, u32),
+    name: &str,
+    version: u32,
     requests: &[Row],
     events: &[Row],
-) -> Result<(), AllocError> {
+) -> Result<(), AllocError>
+    ensures { OnOk result (interface_rows interfaces.new.items ≡ interface_rows interfaces.old.items
+        ++ record { name = name.now; version = version; requests = map message_of requests.now; events = map message_of events.now } ∷ []) }
+{
     let mut interface = named(alloc, name, version)?;
     push_messages(alloc, &mut interface.requests, requests)?;
     push_messages(alloc, &mut interface.events, events)?;
@@ -156,29 +170,35 @@ pub fn push_interface(
 }
 
 /// Puts `quad` behind the others.
-pub fn push_quad(alloc: Global, interfaces: &mut Vec<Interface>) -> Result<(), AllocError> {
-    push_interface(alloc, interfaces, ("quad", 3), &QUAD_REQUESTS, &QUAD_EVENTS)
+pub fn push_quad(alloc: Global, interfaces: &mut Vec<Interface>) -> Result<(), AllocError>
+    ensures { OnOk result (interface_rows interfaces.new.items ≡ interface_rows interfaces.old.items ++ quad_row ∷ []) }
+{
+    push_interface(alloc, interfaces, "quad", 3, &QUAD_REQUESTS, &QUAD_EVENTS)
 }
 
 /// The table.
 pub fn bench_table(alloc: Global) -> Result<Protocol, Stop>
-    ensures { IfErr result (λ stop. stop ≡ Failed) }
+    ensures rows { IfOk result (λ table. table ≡ bench_rows) }
+    ensures failed { IfErr result (λ stop. stop ≡ Failed) }
 {
     let mut interfaces = Vec::new(alloc);
     push_quad(alloc, &mut interfaces)?;
     Ok(Protocol::new(alloc, interfaces)?)
 }
 
-/// How many interfaces the table has.
-const INTERFACES: usize = 5;
-
-/// The interface of that name, and one outside the table where none has it.
-pub fn interface_named(table: &Protocol, name: &str) -> InterfaceId {
-    for number in 0..INTERFACES {
-        let interface = InterfaceId(number);
-        if table.name(interface) == name {
-            return interface;
+/// The first interface of that name, and one outside the table where none has it. `Failed` where the table has more
+/// interfaces than can be counted.
+pub fn interface_named(table: &Protocol, name: &str) -> Result<InterfaceId, Stop>
+    ensures named { IfOk result (λ id. id ≡ interface_of name.now table.now) }
+    ensures failed { IfErr result (λ stop. stop ≡ Failed) }
+{
+    for place in 0..usize::MAX {
+        let Some(interface) = table.get(InterfaceId(place)) else {
+            return Ok(InterfaceId(place));
+        };
+        if interface.name.as_str() == name {
+            return Ok(InterfaceId(place));
         }
     }
-    InterfaceId(INTERFACES)
+    Err(Stop::Failed)
 }

@@ -2,10 +2,13 @@
 
 mod client;
 mod commands;
+mod cuts;
+mod embedding;
 mod hex;
 mod link;
 mod message;
 mod quad;
+mod recordings;
 mod server;
 mod wire;
 

@@ -1,5 +1,5 @@
 -- How the handling of a message leads to a turn of a reading.
-use Rattle.std.proofs.Common.{◌≡◌, ◌≢◌, Bool, cond, [], Option, None, Some, Result, Ok, Err, MatchOption, refl, sym, ap, ap₂, subst}
+use Rattle.std.proofs.Common.{◌≡◌, [], ◌≢◌, Bool, cond, Option, None, Some, Result, Ok, Err, MatchOption, refl, sym, ap, ap₂, subst}
 use mathlib.Core.Logic.{inr}
 use Rattle.std.proofs.lemmas.Bool.{ne_eqb}
 use Rattle.wl_wire.specs.declared.argument.Token.{Token}
@@ -11,19 +11,24 @@ use Rattle.wl_link.specs.Identity.{Objects}
 use Rattle.wl_link.specs.Link.{LinkState}
 use Rattle.wl_link.specs.ObjectMap.{MapState}
 use Rattle.wl_link.specs.Store.{Store, held}
-use Rattle.wl_client.specs.declared.event_fault.EventFault.{EventFault}
-use Rattle.wl_client.specs.declared.kept.Kept.{Kept}
-use Rattle.wl_client.specs.declared.open_event.OpenEvent.{OpenEvent}
-use Rattle.wl_client.specs.declared.turn.NoEvent.{NoEvent}
-use Rattle.wl_client.specs.declared.turn.TurnEnd.{TurnEnd}
+use Rattle.wl_client.specs.declared.protocol_error.EventFault.{EventFault}
+use Rattle.wl_client.specs.declared.objects.Kept.{Kept}
+use Rattle.wl_client.specs.declared.event.OpenEvent.{OpenEvent}
+use Rattle.wl_client.specs.declared.message.NoEvent.{NoEvent}
+use Rattle.wl_client.specs.declared.message.TurnEnd.{TurnEnd}
 use Rattle.wl_client.specs.ObjectId.{IdParts}
-use Rattle.wl_client.specs.Conversion.{objects_in}
+use Rattle.wl_client.specs.Inside.Conversion.{objects_in}
 use Rattle.wl_client.specs.Events.{Outcome, Whole, Wrong, convert, start, error_of, display_event}
-use Rattle.wl_client.specs.Handling.{Handling, Swallows, HandsOut, Breaks, handling, of_converted, of_display, of_event, event_of, opened_of}
-use Rattle.wl_client.specs.Reading.{ReadsAs, row_of, with_link}
+use Rattle.wl_client.specs.Handling.{Handling, Swallows, HandsOut, Breaks, handling, of_converted, of_display, of_event, event_of, opened_of, row_in}
+use Rattle.wl_client.specs.Reading.{ReadsAs, with_link}
 use Rattle.wl_client.specs.Requests.{SessionMessage, session_content}
 use Rattle.wl_client.specs.Session.{SessionState, objects_of, with_objects}
-use Rattle.wl_client.specs.Turns.{CarriedOut, HandledAs, HandledTo, Turned, GaveEvent, WentOn, Ended, Turns, turned}
+use Rattle.wl_client.specs.Inside.Turns.{CarriedOut, HandledAs, HandledTo, Turned, GaveEvent, WentOn, Ended, Turns, turned}
+use Rattle.std.specs.Prelude.{ℕ}
+
+-- the event of that opcode of the object that the number holds
+abbrev row_of : {T U : Type 0} → SessionState T U → ℕ → ℕ → Option MessageRow
+row_of s sender opcode = row_in s.table (held s.store sender) opcode
 
 -- ---- events of objects
 

@@ -1,3 +1,6 @@
+-- Laws: what follows from the definitions, by topic.
+pub mod OverRuns
+-- What the proofs of functions share, and worked values.
 pub mod Requests
 pub mod Sending
 pub mod Vacating

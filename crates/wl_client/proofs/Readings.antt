@@ -12,23 +12,24 @@ use Rattle.wl_wire.specs.declared.message.Message.{Message}
 use Rattle.wl_wire.specs.Message.{WireMessage}
 use Rattle.wl_wire.specs.Parse.{length_of}
 use Rattle.wl_link.specs.Exchange.{Queue}
-use Rattle.wl_link.specs.Link.{LinkState, Filled, FindsRoom, ReadFound, grown_room}
+use Rattle.wl_link.specs.Link.{LinkState, Filled, FindsRoom, ReadFound, grown_capacity}
 use Rattle.wl_link.specs.Puts.{lacked_memory}
-use Rattle.wl_link.specs.Reader.{FrontAsks, CarriesOut, Given, HandedOut, Part}
-use Rattle.wl_link.specs.ReaderLoops.{EndsSo, LeadsOn, ReceivedTo as PartReceived, SoFar, begins, ends_at, ends_there, leads_on, none_left, one_more, receive_ends, receive_goes_on, received_fault, starves_there}
+use Rattle.wl_link.specs.Reader.{FrontAsks, CarriesOut, Given, HandedOut, ReaderState}
+use Rattle.wl_link.specs.Inside.ReaderLoops.{EndsSo, LeadsOn, ReceivedTo as PartReceived}
+use Rattle.wl_link.proofs.Readings.ReaderLoops.{SoFar, begins, ends_at, ends_there, leads_on, none_left, one_more, receive_ends, receive_goes_on, received_fault, starves_there}
 use Rattle.wl_link.specs.Served.{Handles}
 use Rattle.wl_client.specs.declared.error.EventError.{EventError}
 use Rattle.wl_client.specs.declared.error.EventError.TheVariants as no_event
 use Rattle.wl_client.specs.declared.error.WaylandError.TheVariants.{Io}
 use Rattle.wl_client.specs.declared.error.WaylandError.{WaylandError}
-use Rattle.wl_client.specs.declared.open_event.OpenEvent.{OpenEvent}
-use Rattle.wl_client.specs.declared.turn.NoEvent.{NoEvent}
+use Rattle.wl_client.specs.declared.event.OpenEvent.{OpenEvent}
+use Rattle.wl_client.specs.declared.message.NoEvent.{NoEvent}
 use Rattle.wl_client.specs.ObjectId.{IdParts}
 use Rattle.wl_client.specs.Handling.{Handling, Swallows, HandsOut, Breaks, handling}
-use Rattle.wl_client.specs.Reading.{NextEvent, Lacks, ReadsAs, ReadsTo, answered, by_fault, client, faulted, handed_by, part_of, reads_on, receives_allowed, row_asks, verdict, with_link}
+use Rattle.wl_client.specs.Reading.{NextEvent, Lacks, ReadsAs, ReadsTo, answered, by_fault, client, faulted, handed_by, reader_state_of, reads_on, receives_allowed, row_asks, verdict, with_link}
 use Rattle.wl_client.specs.Requests.{SessionMessage, session_content}
 use Rattle.wl_client.specs.Session.{Core, SessionState, core_of, objects_of}
-use Rattle.wl_client.specs.Turns.{Turned, GaveEvent, WentOn, LacksMore, Ended, EndsAs, HandledTo, Leads, Live, NotTaken, ReceivedTo, Turns, event_answer, event_refused, malformed}
+use Rattle.wl_client.specs.Inside.Turns.{Turned, GaveEvent, WentOn, LacksMore, Ended, EndsAs, HandledTo, Leads, Live, NotTaken, ReceivedTo, Turns, event_answer, event_refused, malformed}
 
 abbrev ok_answer : WireMessage → Result WireMessage MessageParseError
 ok_answer m = Ok m
@@ -77,7 +78,7 @@ module _ {T U : Type 0} where
 
   -- what a message came to is a verdict that was carried out
   pub carried : (sends : T → Queue → Result ℕ IoFault → T → Type 0) (s : SessionState T U) (h : Handling U) (turned : Turned) (after : SessionState T U) → HandledTo s h turned after
-      → CarriesOut sends client (verdict (core_of s) h) s.link [] (given_by turned) (refused_by turned) (part_of after)
+      → CarriesOut sends client (verdict (core_of s) h) s.link [] (given_by turned) (refused_by turned) (reader_state_of after)
   carried sends s (Swallows o) WentOn after same =
       inl ([], [], [], Ok tt, s.link, false, (refl, refl, refl, refl), (refl, ap (λ (x : SessionState T U). x.link) same, refl), refl, ap core_of same, refl, refl)
   carried sends s (HandsOut m event o) (GaveEvent e) after (content, same) =
@@ -97,7 +98,7 @@ module _ {T U : Type 0} where
       )
   carried sends s (Breaks e o) (Ended end) after (failed, inl (unasked, same)) =
       inl ([], [], [], Ok tt, s.link, false, (refl, refl, refl, refl), (refl, ap (λ (x : SessionState T U). x.link) same, refl), refl, ap core_of same, refl, unasked)
-  carried sends s (Breaks e o) (Ended end) after (failed, inr (asked, same)) = inr (refl, asked, refl, refl, ap part_of same)
+  carried sends s (Breaks e o) (Ended end) after (failed, inr (asked, same)) = inr (refl, asked, refl, refl, ap reader_state_of same)
   carried sends s (Swallows o) LacksMore after h = absurd h
   carried sends s (Swallows o) (GaveEvent e) after h = absurd h
   carried sends s (Swallows o) (Ended end) after h = absurd h
@@ -130,21 +131,21 @@ module _ {T U : Type 0} where
     -- a message that was taken and handled
     took : (before after : SessionState T U) (m : WireMessage) (link : LinkState T) (turned : Turned) → ReadsAs before (Ok m) link
         → HandledTo (with_link before link) (handling before.table (objects_of before) m) turned after
-        → Handles sends client (part_of before) (given_by turned) (refused_by turned) (part_of after)
+        → Handles sends client (reader_state_of before) (given_by turned) (refused_by turned) (reader_state_of after)
     took before after m link turned read h =
         let came : Handling U = handling before.table (objects_of before) m in
         (verdict (core_of before) came, link, [], inl (m, read, refl), carried sends (with_link before link) came turned after h)
 
     left_there : (before after : SessionState T U) (turned : Turned) → ReadsAs before (Err parse.Malformed) before.link → HandledTo before (malformed before) turned after
-        → Handles sends client (part_of before) (given_by turned) (refused_by turned) (part_of after)
+        → Handles sends client (reader_state_of before) (given_by turned) (refused_by turned) (reader_state_of after)
     left_there before after turned read h =
         (verdict (core_of before) (malformed before), before.link, [], inr (read, refl, refl), carried sends before (malformed before) turned after h)
 
     then : (start before after : SessionState T U) (gave : List (Given SessionMessage)) (refused : Bool) → Leads sends receives start before → Live before
-        → Handles sends client (part_of before) gave refused (part_of after) → LeadsOn sends receives client (part_of start) gave refused (part_of after)
+        → Handles sends client (reader_state_of before) gave refused (reader_state_of after) → LeadsOn sends receives client (reader_state_of start) gave refused (reader_state_of after)
     then start before after gave refused leads live handles =
-        leads_on sends receives client (part_of start) (part_of before) (part_of after) [] gave false refused leads
-        (one_more sends receives client (part_of before) (part_of after) gave refused (live_reads before live) handles)
+        leads_on sends receives client (reader_state_of start) (reader_state_of before) (reader_state_of after) [] gave false refused leads
+        (one_more sends receives client (reader_state_of before) (reader_state_of after) gave refused (live_reads before live) handles)
 
     pub on_more : (start before after : SessionState T U) → Live before → Leads sends receives start before → Turns before WentOn after → Live after × Leads sends receives start after
     on_more start before after live leads (inl impossible) = absurd impossible
@@ -163,21 +164,21 @@ module _ {T U : Type 0} where
           lacked = false;
           stopped = None;
           short = false;
-          ends = ends_there sends receives client (part_of start) (part_of after) gave false on (opens (with_link before link) after (handling before.table (objects_of before) m) e h);
+          ends = ends_there sends receives client (reader_state_of start) (reader_state_of after) gave false on (opens (with_link before link) after (handling before.table (objects_of before) m) e h);
           answer_is = refl;
           refused_is = refl;
         }
 
     -- an error was stored
     stored : (start before after : SessionState T U) (end : NoEvent) → Live before → Leads sends receives start before
-        → Handles sends client (part_of before) [] end.refused (part_of after) → (reads_on (core_of after) ≡ false) × (end.error ≡ no_event.Failed)
+        → Handles sends client (reader_state_of before) [] end.refused (reader_state_of after) → (reads_on (core_of after) ≡ false) × (end.error ≡ no_event.Failed)
         → EndsAs sends receives start (Err end) after
     stored start before after end live leads handles (off, failed) =
         record {
           lacked = end.refused;
           stopped = None;
           short = false;
-          ends = ends_there sends receives client (part_of start) (part_of after) [] end.refused (then start before after [] end.refused leads live handles) off;
+          ends = ends_there sends receives client (reader_state_of start) (reader_state_of after) [] end.refused (then start before after [] end.refused leads live handles) off;
           answer_is = ap Err failed;
           refused_is = or_false end.refused;
         }
@@ -193,13 +194,13 @@ module _ {T U : Type 0} where
           lacked = false;
           stopped = Some fault.OutOfMemory;
           short = true;
-          ends = subst (λ (x : SessionState T U). EndsSo sends receives client (part_of start) [] false (Some fault.OutOfMemory) true (part_of x)) (sym same)
-              (starves_there sends receives client (part_of start) (part_of before) [] false leads (live_reads before live) (asked asks));
+          ends = subst (λ (x : SessionState T U). EndsSo sends receives client (reader_state_of start) [] false (Some fault.OutOfMemory) true (reader_state_of x)) (sym same)
+              (starves_there sends receives client (reader_state_of start) (reader_state_of before) [] false leads (live_reads before live) (asked asks));
           answer_is = ap (λ (e : NoEvent). let r : Result SessionMessage EventError = Err e.error in r) is;
           refused_is = ap (λ (e : NoEvent). e.refused) is;
         }
       where
-        asked : NotTaken before parse.OutOfMemory → FrontAsks sends client (part_of before)
+        asked : NotTaken before parse.OutOfMemory → FrontAsks sends client (reader_state_of before)
         asked (inl read) = inr read
         asked (inr (same, (row, front, asks, there))) =
             inl (ap row_asks front ∙ asks, (row.signature, ap (option_map (λ r. r.signature)) front, there))
@@ -227,14 +228,14 @@ module _ {T U : Type 0} where
 
     -- ---- receives
 
-    pub received : (before : SessionState T U) (link : LinkState T) (f : IoFault) → Filled receives before.link (Err f) link → FindsRoom before.link (grown_room before.link)
+    pub received : (before : SessionState T U) (link : LinkState T) (f : IoFault) → Filled receives before.link (Err f) link → FindsRoom before.link (grown_capacity before.link)
         → ReceivedTo sends receives before (Some (record { error = by_fault f; refused = lacked_memory (Err f) })) (record before { link = link; error = (faulted (core_of before) f).error })
-    received before link f filled finds = (f, subst (λ (p : Part T (Core U)). PartReceived sends receives client (part_of before) (Some f) p) (end f) made, refl)
+    received before link f filled finds = (f, subst (λ (p : ReaderState T (Core U)). PartReceived sends receives client (reader_state_of before) (Some f) p) (end f) made, refl)
       where
-        made : PartReceived sends receives client (part_of before) (Some f) (record { core = faulted (core_of before) f; link = link })
-        made = received_fault sends receives client (λ c. refl) (part_of before) link f filled finds
+        made : PartReceived sends receives client (reader_state_of before) (Some f) (record { core = faulted (core_of before) f; link = link })
+        made = received_fault sends receives client (λ c. refl) (reader_state_of before) link f filled finds
 
-        end : (f : IoFault) → ◌≡◌ {A = Part T (Core U)} (record { core = faulted (core_of before) f; link = link }) (part_of (record before { link = link; error = (faulted (core_of before) f).error }))
+        end : (f : IoFault) → ◌≡◌ {A = ReaderState T (Core U)} (record { core = faulted (core_of before) f; link = link }) (reader_state_of (record before { link = link; error = (faulted (core_of before) f).error }))
         end fault.WouldBlock = refl
         end fault.Pipe = refl
         end fault.TooBig = refl
@@ -245,7 +246,7 @@ module _ {T U : Type 0} where
 
     -- a fault after which no more may come is stored
     pub received_other : (before : SessionState T U) (link : LinkState T) (f : IoFault) → f ≢ fault.WouldBlock → f ≢ fault.OutOfMemory → Filled receives before.link (Err f) link
-        → FindsRoom before.link (grown_room before.link)
+        → FindsRoom before.link (grown_capacity before.link)
         → ReceivedTo sends receives before (Some (record { error = no_event.Failed; refused = false })) (record before { link = link; error = Some (Io f) })
     received_other before link fault.WouldBlock blocks memory filled finds = absurd (blocks refl)
     received_other before link fault.Pipe blocks memory filled finds = received before link fault.Pipe filled finds
@@ -256,32 +257,32 @@ module _ {T U : Type 0} where
     received_other before link (fault.Other n) blocks memory filled finds = received before link (fault.Other n) filled finds
 
     abbrev pub So : SessionState T U → ℕ → SessionState T U → Type 0
-    So start used now = SoFar sends receives client receives_allowed (part_of start) [] false used (part_of now)
+    So start used now = SoFar sends receives client receives_allowed (reader_state_of start) [] false used (reader_state_of now)
 
     pub starts : (s : SessionState T U) → So s 0 s
-    starts s = begins sends receives client receives_allowed (part_of s)
+    starts s = begins sends receives client receives_allowed (reader_state_of s)
 
     pub some_ends : (start before after : SessionState T U) (used : ℕ) (r : Result (Message IdParts Token) NoEvent) → used ≤ receives_allowed → So start used before
         → EndsAs sends receives before r after → ReadsTo sends receives start (event_answer r) (event_refused r) after
     some_ends start before after used r within so e =
-        let at = ends_at sends receives client receives_allowed (part_of start) [] false used (part_of before) so (handed_by (event_answer r)) e.lacked e.stopped e.short (part_of after) within e.ends in
+        let at = ends_at sends receives client receives_allowed (reader_state_of start) [] false used (reader_state_of before) so (handed_by (event_answer r)) e.lacked e.stopped e.short (reader_state_of after) within e.ends in
         (at.1.0, _, at.1.1, e.answer_is ∙ ap (answered e.stopped) (sym (append-nil (handed_by (event_answer r)))), append-nil (handed_by (event_answer r)), e.refused_is)
 
     module _ (start before mid : SessionState T U) (used : ℕ) (so : So start used before) (live : Live mid) (lacks : Lacks mid) (leads : Leads sends receives before mid) where
       pub fault_ends : (end : NoEvent) (after : SessionState T U) → used < receives_allowed → ReceivedTo sends receives mid (Some end) after
           → ReadsTo sends receives start (Err end.error) end.refused after
       fault_ends end after within (f, made, is) =
-          let at = receive_ends sends receives client receives_allowed (part_of start) [] false used (part_of before) so (part_of mid) [] false leads (live_reads mid live) lacks f (part_of after) within made in
+          let at = receive_ends sends receives client receives_allowed (reader_state_of start) [] false used (reader_state_of before) so (reader_state_of mid) [] false leads (live_reads mid live) lacks f (reader_state_of after) within made in
           (at.1.0, _, at.1.1, ap (λ (e : NoEvent). let r : Result SessionMessage EventError = Err e.error in r) is, refl, ap (λ (e : NoEvent). e.refused) is)
 
       pub none_is_left : used ≡ receives_allowed → ReadsTo sends receives start (Err no_event.WouldBlock) false mid
       none_is_left all =
-          let at = none_left sends receives client receives_allowed (part_of start) [] false used (part_of before) so (part_of mid) [] false leads (live_reads mid live) lacks all in
+          let at = none_left sends receives client receives_allowed (reader_state_of start) [] false used (reader_state_of before) so (reader_state_of mid) [] false leads (live_reads mid live) lacks all in
           (at.0, _, at.1, refl, refl, refl)
 
       pub goes_on : (after : SessionState T U) → ReceivedTo sends receives mid None after → Live after × So start (used + 1) after
       goes_on after (made, alive) =
-          (alive, receive_goes_on sends receives client receives_allowed (part_of start) [] false used (part_of before) so (part_of mid) [] false leads (live_reads mid live) lacks (part_of after) made)
+          (alive, receive_goes_on sends receives client receives_allowed (reader_state_of start) [] false used (reader_state_of before) so (reader_state_of mid) [] false leads (live_reads mid live) lacks (reader_state_of after) made)
 
     -- a session that has no error and no open event reads
     pub next_reads : (before after : SessionState T U) (answer : Result SessionMessage EventError) (refused : Bool)

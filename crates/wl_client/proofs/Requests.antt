@@ -8,7 +8,7 @@ use Rattle.wl_wire.specs.declared.argument.ArgumentType.{ArgumentType}
 use Rattle.wl_wire.specs.declared.argument.Token.{Token}
 use Rattle.wl_wire.specs.declared.interface.InterfaceId.{InterfaceId}
 use Rattle.wl_client.specs.declared.error.RequestError.{RequestError}
-use Rattle.wl_client.specs.declared.kept.Kept.{Kept}
+use Rattle.wl_client.specs.declared.objects.Kept.{Kept}
 use Rattle.wl_client.specs.ObjectId.{IdParts}
 use Rattle.wl_link.specs.Refusals.{first_refusal}
 use Rattle.wl_client.specs.Requests.{argument_faults}

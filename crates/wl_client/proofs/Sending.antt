@@ -16,17 +16,17 @@ use Rattle.wl_link.specs.Exchange.{Queue}
 use Rattle.wl_link.specs.Identity.{Id, named_in}
 use Rattle.wl_link.specs.Link.{LinkState, Wrote}
 use Rattle.wl_link.specs.Store.{Store, held}
-use Rattle.wl_link.specs.StoreLaws.{stored_other}
+use Rattle.wl_link.proofs.Ids.StoreLaws.{stored_other}
 use Rattle.wl_link.specs.Puts.{lacked_memory}
 use Rattle.wl_client.specs.declared.error.RequestError.{RequestError}
 use Rattle.wl_client.specs.declared.error.RequestError.TheVariants as refused
 use Rattle.wl_client.specs.declared.error.WaylandError.{WaylandError}
-use Rattle.wl_client.specs.declared.kept.Kept.{Kept}
-use Rattle.wl_client.specs.declared.note.Note.{Note}
-use Rattle.wl_client.specs.declared.note.Note.TheVariants.{Destroyed}
+use Rattle.wl_client.specs.declared.objects.Kept.{Kept}
+use Rattle.wl_client.specs.declared.objects.Note.{Note}
+use Rattle.wl_client.specs.declared.objects.Note.TheVariants.{Destroyed}
 use Rattle.wl_client.specs.ObjectId.{IdParts}
 use Rattle.wl_client.specs.Requests.{SessionMessage, Spec, Numbered, session_content, wire_argument, wire_message, number_of_new, id_of_new, ended_by, error_after, with_born, with_ended, Sent, SentWithChild, new_child}
-use Rattle.wl_client.specs.Sending.{IsNext, IsNextObject, WrittenTo, store_with, serial_with, ending, given_up_at, store_ending, notes_ending}
+use Rattle.wl_client.specs.Inside.Sending.{IsNext, IsNextObject, WrittenTo, store_with, serial_with, ending, given_up_at, store_ending, notes_ending}
 use Rattle.wl_client.specs.Session.{SessionState, serial_of, named, noted, id_at}
 
 -- ---- what a number holds

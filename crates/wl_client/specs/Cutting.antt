@@ -6,11 +6,11 @@
 use Rattle.std.specs.Prelude.{◌≡◌, ℕ, Bool, false, List, [], ◌∷◌, Option, None, Result, Ok}
 use Rattle.wl_wire.specs.declared.error.IoFault.{IoFault}
 use Rattle.wl_link.specs.Exchange.{Queue, nothing}
-use Rattle.wl_link.specs.Reader.{AllFed, Given, Gives, Part, Reads, Turn, came_in}
+use Rattle.wl_link.specs.Reader.{AllFed, Given, Gives, ReaderState, Reads, Turn, received_in}
 use Rattle.wl_link.specs.Served.{GoesOnAs, Served}
 use Rattle.wl_client.specs.declared.error.EventError.{EventError}
 use Rattle.wl_client.specs.declared.error.FinishRefused.{FinishRefused}
-use Rattle.wl_client.specs.Reading.{answered, client, handed_by, part_of, receives_allowed}
+use Rattle.wl_client.specs.Reading.{answered, client, handed_by, reader_state_of, receives_allowed}
 use Rattle.wl_client.specs.Requests.{SessionMessage}
 use Rattle.wl_client.specs.Session.{Core, SessionState}
 
@@ -20,12 +20,12 @@ no_sends before offer answer after = ⊥
 
 module _ {T U : Type 0} where
   -- With this behind what waits, and with the data of these finishes, a client hands this out and comes to this.
-  abbrev pub IsServed : Part T (Core U) → Queue → List (Option U) → List (Given SessionMessage) → Part (Unit {0}) (Core U) → Type 0
+  abbrev pub IsServed : ReaderState T (Core U) → Queue → List (Option U) → List (Given SessionMessage) → ReaderState (Unit {0}) (Core U) → Type 0
   IsServed p more finishes gave end = Served no_sends client p more tt finishes gave end
 
   -- Whatever comes later: what is served of the one over what came and then the rest is what was given, followed by what
   -- is served of the other over the rest.
-  abbrev pub GoesOn : Part T (Core U) → Queue → List (Option U) → List (Given SessionMessage) → Part T (Core U) → List (Option U) → Type 0
+  abbrev pub GoesOn : ReaderState T (Core U) → Queue → List (Option U) → List (Given SessionMessage) → ReaderState T (Core U) → List (Option U) → Type 0
   GoesOn before came finishes gave after left = GoesOnAs (no_sends {S = Unit {0}}) client before came [] finishes gave after left
 
   -- A reading of a live session with no open event, in which memory is not refused, is some turns with this answer. Where
@@ -35,11 +35,11 @@ module _ {T U : Type 0} where
       → Result SessionMessage EventError → Bool → SessionState T U → Type 0
   CutsReading sends receives before answer refused after =
       before.error ≡ None → before.open_event ≡ None → refused ≡ false →
-      (turns : List Turn) × (out : Gives SessionMessage) × Reads sends client receives receives_allowed (part_of before) turns out (part_of after)
+      (turns : List Turn) × (out : Gives SessionMessage) × Reads sends client receives receives_allowed (reader_state_of before) turns out (reader_state_of after)
       × (answer ≡ answered out.stopped out.gave)
-      × (AllFed turns → (finishes : List (Option U)) → GoesOn (part_of before) (came_in turns) finishes (handed_by answer) (part_of after) finishes)
+      × (AllFed turns → (finishes : List (Option U)) → GoesOn (reader_state_of before) (received_in turns) finishes (handed_by answer) (reader_state_of after) finishes)
 
   -- an accepted finish of a live session is the next of the finishes
   abbrev pub CutsFinish : SessionState T U → Option U → Result (Unit {0}) (FinishRefused U) → SessionState T U → Type 0
   CutsFinish before u answer after =
-      before.error ≡ None → answer ≡ Ok tt → (finishes : List (Option U)) → GoesOn (part_of before) nothing (u ∷ finishes) [] (part_of after) finishes
+      before.error ≡ None → answer ≡ Ok tt → (finishes : List (Option U)) → GoesOn (reader_state_of before) nothing (u ∷ finishes) [] (reader_state_of after) finishes

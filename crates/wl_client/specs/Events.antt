@@ -16,9 +16,9 @@ use Rattle.wl_link.specs.declared.object.Object.{Object}
 use Rattle.wl_link.specs.Identity.{Objects}
 use Rattle.wl_link.specs.Store.{Store, held, is_free, is_server_number, removed, rewritten, stored}
 use Rattle.wl_wire.specs.Asked.{fits, next_interface, rest_of}
-use Rattle.wl_client.specs.declared.event_fault.EventFault.{EventFault}
-use Rattle.wl_client.specs.declared.event_fault.EventFault.TheVariants as wrong
-use Rattle.wl_client.specs.declared.kept.Kept.{Kept}
+use Rattle.wl_client.specs.declared.protocol_error.EventFault.{EventFault}
+use Rattle.wl_client.specs.declared.protocol_error.EventFault.TheVariants as wrong
+use Rattle.wl_client.specs.declared.objects.Kept.{Kept}
 use Rattle.wl_client.specs.ObjectId.{IdParts}
 use Rattle.wl_client.specs.Session.{null_parts, id_at, last_possible_serial, fresh_object, with_flags}
 

@@ -13,8 +13,8 @@ use Rattle.wl_client.specs.declared.error.FinishRefused.{FinishRefused}
 use Rattle.wl_client.specs.declared.error.FlushError.{FlushError}
 use Rattle.wl_client.specs.declared.error.FlushError.TheVariants as flush
 use Rattle.wl_client.specs.declared.error.WaylandError.TheVariants.{Io}
-use Rattle.wl_client.specs.declared.kept.Kept.{Kept}
-use Rattle.wl_client.specs.declared.open_event.OpenEvent.{OpenEvent}
+use Rattle.wl_client.specs.declared.objects.Kept.{Kept}
+use Rattle.wl_client.specs.declared.event.OpenEvent.{OpenEvent}
 use Rattle.wl_client.specs.ObjectId.{IdParts}
 use Rattle.wl_client.specs.Session.{Core, SessionState, named, alive, core_of, noted, id_at, with_core, with_flags, with_user_data}
 

@@ -4,16 +4,13 @@
 -- id is made of it, which then names it. Each id that a reply hands out is one of these; and what an id names follows from
 -- the changes alone. No program stores them.
 use Rattle.std.specs.Prelude.{◌≡◌, ◌≢◌, List, [], ◌∷◌, ◌++◌, map, All, Bool, Some, IsSome, Contains, Result, Ok, Err}
-use Rattle.wl_wire.specs.declared.argument.Argument.{Argument}
-use Rattle.wl_wire.specs.declared.argument.Argument.TheVariants as arg
-use Rattle.wl_wire.specs.declared.argument.Token.{Token}
-use Rattle.wl_link.specs.Identity.{Birth, Change, Ended, IsBornInStep, IsMadeInStep, HasIdentity, births_of, RunEnds, StepEnds, begun}
+use Rattle.wl_link.specs.Identity.{Birth, Change, Ended, IsBornInStep, IsMadeInStep, HasIdentity, births_of, RunEnds, StepEnds, first_objects, HandedId, Found, New, argument_ids}
 use Rattle.wl_link.specs.Script.{Script}
 use Rattle.wl_client.specs.declared.error.EventError.{EventError}
 use Rattle.wl_client.specs.declared.error.RequestError.{RequestError}
-use Rattle.wl_client.specs.declared.kept.Kept.{Kept}
-use Rattle.wl_client.specs.declared.note.Note.{Note}
-use Rattle.wl_client.specs.declared.note.Note.TheVariants.{Destroyed}
+use Rattle.wl_client.specs.declared.objects.Kept.{Kept}
+use Rattle.wl_client.specs.declared.objects.Note.{Note}
+use Rattle.wl_client.specs.declared.objects.Note.TheVariants.{Destroyed}
 use Rattle.wl_client.specs.declared.step.Reply.{Reply}
 use Rattle.wl_client.specs.declared.step.Reply.TheVariants as reply
 use Rattle.wl_client.specs.ObjectId.{IdParts}
@@ -25,35 +22,18 @@ use Rattle.wl_client.specs.Steps.{Entry, StepOf}
 
 -- ---- the ids of a reply
 
--- an id that is handed out: of an object that is there, or of one that the step puts there
-pub data HandedId : Type 0 where
-  Found : IdParts → HandedId
-  New : IdParts → HandedId
-
--- the ids among the arguments of an event
-abbrev pub argument_ids : List (Argument IdParts Token) → List HandedId
-argument_ids [] = []
-argument_ids (arg.Int _ ∷ args) = argument_ids args
-argument_ids (arg.Uint _ ∷ args) = argument_ids args
-argument_ids (arg.Fixed _ ∷ args) = argument_ids args
-argument_ids (arg.Str _ ∷ args) = argument_ids args
-argument_ids (arg.Object id ∷ args) = Found id ∷ argument_ids args
-argument_ids (arg.NewId id ∷ args) = New id ∷ argument_ids args
-argument_ids (arg.Array _ ∷ args) = argument_ids args
-argument_ids (arg.Fd _ ∷ args) = argument_ids args
-
 -- the id of the object that a request made
-abbrev pub request_ids : Result IdParts RequestError → List HandedId
+abbrev pub request_ids : Result IdParts RequestError → List (HandedId IdParts)
 request_ids (Ok id) = New id ∷ []
 request_ids (Err e) = []
 
 -- the ids of an event: its sender's, and those among its arguments
-abbrev pub event_ids : Result SessionMessage EventError → List HandedId
+abbrev pub event_ids : Result SessionMessage EventError → List (HandedId IdParts)
 event_ids (Ok m) = Found m.sender ∷ argument_ids m.args
 event_ids (Err e) = []
 
 -- the ids that a reply hands out, but for those of notes
-abbrev pub ids_in : {U : Type 0} → Reply U → List HandedId
+abbrev pub ids_in : {U : Type 0} → Reply U → List (HandedId IdParts)
 ids_in (reply.SendRequest r) = request_ids r
 ids_in (reply.NextEvent r) = event_ids (event_content r)
 ids_in _ = []
@@ -82,7 +62,7 @@ module _ {U : Type 0} where
 
   -- The id is made in this step, of an object that it then names; a new one of an object that the step puts there. An id
   -- of the number 0 names none.
-  abbrev pub IsHandedIn : List (Change (Kept U)) → HandedId → Type 0
+  abbrev pub IsHandedIn : List (Change (Kept U)) → HandedId IdParts → Type 0
   IsHandedIn changes (Found id) = id.number ≢ 0 → IsMadeInStep changes (id_of id)
   IsHandedIn changes (New id) = id.number ≢ 0 → IsMadeInStep changes (id_of id) × IsBornInStep serial_of changes (id_of id)
 
@@ -108,7 +88,7 @@ module _ {U : Type 0} where
   pub record HasOwnIds (begins : SessionState Script U) (run : List (Entry U)) (ends : SessionState Script U) : Type 0 where
     pub changes : List (List (Change (Kept U)))
     pub follows : Follows begins run changes ends
-    pub ends_so : RunEnds serial_of is_over (begun display_object) changes (objects_of ends)
+    pub ends_so : RunEnds serial_of is_over (first_objects display_object) changes (objects_of ends)
     pub identity : HasIdentity serial_of changes (objects_of ends)
     pub info : (id : IdParts) (birth : Birth) → Contains (births_of changes).made (id_of id, birth) → IsSome (info_of ends id)
         → (births_of changes).of_number id.number ≡ Some birth

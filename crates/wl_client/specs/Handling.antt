@@ -13,9 +13,9 @@ use Rattle.wl_wire.specs.Table.{InterfaceRow, MessageRow}
 use Rattle.wl_link.specs.declared.object.Object.{Object}
 use Rattle.wl_link.specs.Identity.{Objects}
 use Rattle.wl_link.specs.Store.{Store, held}
-use Rattle.wl_client.specs.declared.event_fault.EventFault.TheVariants as wrong
-use Rattle.wl_client.specs.declared.kept.Kept.{Kept}
-use Rattle.wl_client.specs.declared.open_event.OpenEvent.{OpenEvent}
+use Rattle.wl_client.specs.declared.protocol_error.EventFault.TheVariants as wrong
+use Rattle.wl_client.specs.declared.objects.Kept.{Kept}
+use Rattle.wl_client.specs.declared.event.OpenEvent.{OpenEvent}
 use Rattle.wl_client.specs.ObjectId.{IdParts}
 use Rattle.wl_client.specs.Events.{Outcome, Whole, Wrong, convert, start, error_of, DisplayEvent, Fails, Deletes, Unreadable, display_event, told_error, deleted}
 use Rattle.wl_client.specs.Requests.{SessionMessage}
@@ -79,9 +79,3 @@ abbrev pub handed : {U : Type 0} → Handling U → List SessionMessage
 handed (Swallows objects) = []
 handed (HandsOut m event objects) = m ∷ []
 handed (Breaks e objects) = []
-
--- the objects then
-abbrev pub objects_after : {U : Type 0} → Handling U → Objects (Kept U)
-objects_after (Swallows objects) = objects
-objects_after (HandsOut m event objects) = objects
-objects_after (Breaks e objects) = objects

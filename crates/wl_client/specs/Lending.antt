@@ -2,8 +2,7 @@
 use Rattle.std.specs.Borrow.{Lends, MutBor, Fml}
 use denote.RattleType.{RattleType}
 use Rattle.wl_link.specs.Link.{with_transport}
-use Rattle.wl_client.specs.Session.{SessionState}
-use Rattle.wl_client.specs.Client.{ClientState}
+use Rattle.wl_client.specs.Session.{SessionState, ClientState}
 use Rattle.wl_client.specs.contracts.backend.Backend.{the_row}
 
 -- the session with another value of its transport

@@ -1,28 +1,20 @@
+-- What a session holds, and what a call of it does.
 pub mod ObjectId
 pub mod Session
+pub mod Lending
 pub mod Objects
 pub mod Requests
-pub mod Sending
 pub mod Events
 pub mod Handling
 pub mod Reading
 pub mod Finish
-pub mod Conversion
-pub mod Turns
 pub mod Steps
-pub mod Performing
-pub mod Client
+-- Laws of runs.
 pub mod Handed
-pub mod ChangeLaws
-pub mod IdentityLaws
 pub mod Noted
 pub mod Failed
-pub mod FailedLaws
 pub mod Replies
 pub mod Cutting
-pub mod ReadingLaws
-pub mod RoomLaws
-pub mod OutcomeLaws
 pub mod Stretches
-pub mod StretchLaws
-pub mod Lending
+-- What only the functions inside promise each other.
+pub mod Inside

@@ -3,8 +3,8 @@ use Rattle.std.specs.Prelude.{◌≡◌, ◌≢◌, List, [], ◌∷◌, ◌++�
 use Rattle.wl_link.specs.Identity.{Change}
 use Rattle.wl_link.specs.Runs.{IsWhereItStops}
 use Rattle.wl_link.specs.Script.{Script}
-use Rattle.wl_client.specs.declared.kept.Kept.{Kept}
-use Rattle.wl_client.specs.declared.note.Note.{Note}
+use Rattle.wl_client.specs.declared.objects.Kept.{Kept}
+use Rattle.wl_client.specs.declared.objects.Note.{Note}
 use Rattle.wl_client.specs.declared.step.Reply.{Reply}
 use Rattle.wl_client.specs.declared.step.Step.{Step}
 use Rattle.wl_client.specs.Handed.{HasOwnIds, ended_notes, note_ids, notes_in}

@@ -6,7 +6,7 @@ use Rattle.wl_link.specs.Store.{Store, rewritten}
 use Rattle.wl_client.specs.declared.error.InvalidId.{InvalidId}
 use Rattle.wl_client.specs.declared.error.DestroyError.{DestroyError}
 use Rattle.wl_client.specs.declared.error.DestroyError.TheVariants as destroy
-use Rattle.wl_client.specs.declared.kept.Kept.{Kept}
+use Rattle.wl_client.specs.declared.objects.Kept.{Kept}
 use Rattle.wl_client.specs.ObjectId.{IdParts}
 use Rattle.wl_client.specs.Session.{SessionState, named, alive, noted, id_at, with_flags, with_user_data}
 

@@ -13,15 +13,15 @@ use Rattle.wl_link.specs.declared.object.Object.{Object}
 use Rattle.wl_link.specs.Exchange.{Queue}
 use Rattle.wl_link.specs.Identity.{Objects}
 use Rattle.wl_link.specs.Link.{FindsRoom, LinkState, ReadOne}
-use Rattle.wl_link.specs.Reader.{Given, Gives, HandedOut, Part, Queued, Reader, Reads, Turn, Verdict}
+use Rattle.wl_link.specs.Reader.{Given, Gives, HandedOut, ReaderState, Queued, Reader, Reads, Turn, Verdict}
 use Rattle.wl_link.specs.Store.{held}
 use Rattle.wl_client.specs.declared.error.EventError.{EventError}
 use Rattle.wl_client.specs.declared.error.EventError.TheVariants as no_event
 use Rattle.wl_client.specs.declared.error.WaylandError.{WaylandError}
 use Rattle.wl_client.specs.declared.error.WaylandError.TheVariants.{Io, Protocol}
-use Rattle.wl_client.specs.declared.event_fault.EventFault.TheVariants as wrong
-use Rattle.wl_client.specs.declared.kept.Kept.{Kept}
-use Rattle.wl_client.specs.declared.open_event.OpenEvent.{OpenEvent}
+use Rattle.wl_client.specs.declared.protocol_error.EventFault.TheVariants as wrong
+use Rattle.wl_client.specs.declared.objects.Kept.{Kept}
+use Rattle.wl_client.specs.declared.event.OpenEvent.{OpenEvent}
 use Rattle.wl_client.specs.ObjectId.{IdParts}
 use Rattle.wl_client.specs.Events.{error_of}
 use Rattle.wl_client.specs.Finish.{closed, refusal}
@@ -155,23 +155,8 @@ module _ {T U : Type 0} where
   with_error s e = record s { error = Some e }
 
   -- the session as a part whose core reads
-  abbrev pub part_of : SessionState T U → Part T (Core U)
-  part_of s = record { core = core_of s; link = s.link }
-
-  abbrev pub session_of : Part T (Core U) → SessionState T U
-  session_of p = record {
-    table = p.core.table;
-    link = p.link;
-    store = p.core.store;
-    last_serial = p.core.last_serial;
-    error = p.core.error;
-    open_event = p.core.open_event;
-    notes = p.core.notes;
-  }
-
-  -- the event of that opcode of the object that the number holds
-  abbrev pub row_of : SessionState T U → ℕ → ℕ → Option MessageRow
-  row_of s sender opcode = row_in s.table (held s.store sender) opcode
+  abbrev pub reader_state_of : SessionState T U → ReaderState T (Core U)
+  reader_state_of s = record { core = core_of s; link = s.link }
 
   -- what a read of the message at the front answers, and the link after it
   abbrev pub ReadsAs : SessionState T U → Result WireMessage MessageParseError → LinkState T → Type 0
@@ -184,13 +169,13 @@ module _ {T U : Type 0} where
   -- Where it ends the session because no bytes came, a byte is free for what the message at the front lacks, unless this
   -- is longer than the incoming storage may become.
   abbrev pub EndsWithRoom : SessionState T U → SessionState T U → Type 0
-  EndsWithRoom before after = before.error ≡ None → after.error ≡ Some (Io fault.Pipe) → FindsRoom after.link after.link.room
+  EndsWithRoom before after = before.error ≡ None → after.error ≡ Some (Io fault.Pipe) → FindsRoom after.link after.link.incoming_capacity
 
   module _ (sends : T → Queue → Result ℕ IoFault → T → Type 0) (receives : T → ℕ → Result Queue IoFault → T → Type 0) where
     -- a reading that is allowed so many receives answers so
     abbrev pub ReadsTo : SessionState T U → Result SessionMessage EventError → Bool → SessionState T U → Type 0
     ReadsTo before answer refused after =
-        (turns : List Turn) × (out : Gives SessionMessage) × Reads sends client receives receives_allowed (part_of before) turns out (part_of after)
+        (turns : List Turn) × (out : Gives SessionMessage) × Reads sends client receives receives_allowed (reader_state_of before) turns out (reader_state_of after)
         × (answer ≡ answered out.stopped out.gave) × (out.gave ≡ handed_by answer) × (refused ≡ out.refused)
 
     -- a stored error is answered first, and then that an event is open

@@ -7,10 +7,10 @@ use Rattle.wl_link.specs.Identity.{Id, Objects, names}
 use Rattle.wl_link.specs.Link.{LinkState, IsFresh}
 use Rattle.wl_link.specs.Store.{Store, empty_store, stored}
 use Rattle.wl_client.specs.declared.error.WaylandError.{WaylandError}
-use Rattle.wl_client.specs.declared.kept.Kept.{Kept}
-use Rattle.wl_client.specs.declared.note.Note.{Note}
-use Rattle.wl_client.specs.declared.note.Note.TheVariants.{Destroyed}
-use Rattle.wl_client.specs.declared.open_event.OpenEvent.{OpenEvent}
+use Rattle.wl_client.specs.declared.objects.Kept.{Kept}
+use Rattle.wl_client.specs.declared.objects.Note.{Note}
+use Rattle.wl_client.specs.declared.objects.Note.TheVariants.{Destroyed}
+use Rattle.wl_client.specs.declared.event.OpenEvent.{OpenEvent}
 use Rattle.wl_client.specs.ObjectId.{IdParts}
 
 -- the table, the link to the server, the kept objects, the last serial given out, the error that ended the session,
@@ -23,6 +23,11 @@ pub record SessionState (T U : Type 0) : Type 0 where
   pub error : Option WaylandError
   pub open_event : Option OpenEvent
   pub notes : List Note
+
+-- what contracts see of a client: its session, and whether its last call met a want of memory
+pub record ClientState (T U : Type 0) : Type 0 where
+  pub session : SessionState T U
+  pub refused : Bool
 
 -- all of a session but its link
 pub record Core (U : Type 0) : Type 0 where

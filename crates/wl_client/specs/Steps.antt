@@ -8,7 +8,7 @@ use Rattle.wl_link.specs.declared.memory.ArriveError.{ArriveError}
 use Rattle.wl_link.specs.declared.memory.ArriveError.TheVariants as arrive
 use Rattle.wl_link.specs.Exchange.{Queue}
 use Rattle.wl_link.specs.Link.{LinkState, LimitSet, with_transport}
-use Rattle.wl_link.specs.Runs.{Entry as RunEntry, Leads as RunLeads, StopsAt as RunStopsAt, entries as run_entries}
+use Rattle.wl_link.specs.Runs.{RunEntry, Leads as RunLeads, StopsAt as RunStopsAt, entries as run_entries}
 use Rattle.wl_link.specs.Script.{Script, ScriptSends, ScriptReceives, parcel}
 use Rattle.wl_client.specs.declared.error.DestroyError.TheVariants as destroy
 use Rattle.wl_client.specs.declared.error.FinishError.TheVariants as finish

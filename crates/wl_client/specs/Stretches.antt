@@ -4,10 +4,10 @@ use Rattle.wl_wire.specs.declared.error.IoFault.TheVariants as fault
 use Rattle.wl_wire.specs.declared.error.MessageParseError.TheVariants as parse
 use Rattle.wl_link.specs.Exchange.{Queue, joined, nothing}
 use Rattle.wl_link.specs.Link.{EachWithin, incoming_limit}
-use Rattle.wl_link.specs.Parts.{EachPart}
+use Rattle.wl_link.specs.Runs.{EachPart}
 use Rattle.wl_link.specs.Reader.{Given}
 use Rattle.wl_link.specs.Script.{Script, ScriptSends}
-use Rattle.wl_link.specs.Served.{Served, part_as}
+use Rattle.wl_link.specs.Served.{Served, state_as}
 use Rattle.wl_link.specs.Stretch.{AllPieces, arrivals_of, left_over, sending_side}
 use Rattle.wl_client.specs.declared.error.EventError.TheVariants as no_event
 use Rattle.wl_client.specs.declared.error.WaylandError.TheVariants.{Io}
@@ -15,7 +15,7 @@ use Rattle.wl_client.specs.declared.step.Reply.{Reply}
 use Rattle.wl_client.specs.declared.step.Reply.TheVariants as reply
 use Rattle.wl_client.specs.declared.step.Step.{Step}
 use Rattle.wl_client.specs.declared.step.Step.TheVariants as step
-use Rattle.wl_client.specs.Reading.{ReadsAs, client, event_content, handed_by, part_of, reads_on}
+use Rattle.wl_client.specs.Reading.{ReadsAs, client, event_content, handed_by, reader_state_of, reads_on}
 use Rattle.wl_client.specs.Requests.{SessionMessage}
 use Rattle.wl_client.specs.Session.{SessionState, core_of}
 use Rattle.wl_client.specs.Steps.{Entry, Leads}
@@ -80,8 +80,8 @@ module _ {U : Type 0} where
   pub record Spans (before : SessionState Script U) (run : List (Entry U)) (after : SessionState Script U) : Type 0 where
     pub heard : AllHeard run
     pub live : before.error ≡ None
-    pub pieces : AllPieces (arrivals_of (part_of before))
-    pub ends : (reads_on (core_of after) ≡ false) ⊎ (EndsWaiting run × (arrivals_of (part_of after) ≡ []))
+    pub pieces : AllPieces (arrivals_of (reader_state_of before))
+    pub ends : (reads_on (core_of after) ≡ false) ⊎ (EndsWaiting run × (arrivals_of (reader_state_of after) ≡ []))
 
   -- A stretch, in which no receive found the storage full: the transport answers by no byte only into a full one, which ends
   -- the session with `Pipe`.
@@ -91,7 +91,7 @@ module _ {U : Type 0} where
 
   -- what is left over of the arrivals, behind what waits
   abbrev pub left_in : SessionState Script U → Queue
-  left_in s = left_over (arrivals_of (part_of s))
+  left_in s = left_over (arrivals_of (reader_state_of s))
 
   -- A stretch of messages each of which is no longer than the incoming storage may become, and whose tokens come no later
   -- than its last byte: where it ends with `Pipe`, none waits whole for tokens.
@@ -101,21 +101,21 @@ module _ {U : Type 0} where
     pub in_time : after.error ≡ Some (Io fault.Pipe) → ReadsAs after (Err parse.MissingFD) after.link → ⊥
 
   -- What it handed out, and what it came to, is what is served of all that arrived, with the finishes that were accepted.
-  abbrev pub IsServed : SessionState Script U → List (Entry U) → SessionState Script U → Type 0
-  IsServed before run after =
-      Served ScriptSends client (part_of before) (joined (left_in before) (arrived run)) (sending_side before.link.transport) (finished run) (events_of run)
-      (part_as (part_of after) (left_in after) (sending_side after.link.transport))
+  abbrev pub IsRunServed : SessionState Script U → List (Entry U) → SessionState Script U → Type 0
+  IsRunServed before run after =
+      Served ScriptSends client (reader_state_of before) (joined (left_in before) (arrived run)) (sending_side before.link.transport) (finished run) (events_of run)
+      (state_as (reader_state_of after) (left_in after) (sending_side after.link.transport))
 
   -- the whole of a session as it is over what waits and what is left over of the arrivals, joined
   abbrev pub SameLeft : SessionState Script U → SessionState Script U → Type 0
   SameLeft s t =
-      part_as (part_of s) (left_in s) (sending_side s.link.transport) ≡ part_as (part_of t) (left_in t) (sending_side t.link.transport)
+      state_as (reader_state_of s) (left_in s) (sending_side s.link.transport) ≡ state_as (reader_state_of t) (left_in t) (sending_side t.link.transport)
 
   -- ---- runs
 
   -- where a run is a stretch, it is served so; and one of messages that are short enough is a stretch
   abbrev pub CutsStretch : SessionState Script U → List (Entry U) → SessionState Script U → Type 0
-  CutsStretch before run after = (IsStretch before run after → IsServed before run after) × (IsStretchWithin before run after → IsStretch before run after)
+  CutsStretch before run after = (IsStretch before run after → IsRunServed before run after) × (IsStretchWithin before run after → IsStretch before run after)
 
   -- so it is over each part of a run
   abbrev pub EachPartIsCut : SessionState Script U → List (Entry U) → Type 0

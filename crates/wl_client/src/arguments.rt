@@ -5,12 +5,11 @@ ghost use Rattle.smallvec.specs.SmallVec.{HasRoomFor};
 ghost use Rattle.wl_link.specs.Store.{is_free};
 ghost use Rattle.wl_wire.specs.Asked.{next_interface, rest_of};
 ghost use Rattle.wl_client.specs.Events.{Wrong, convert, object_argument, vacated};
-ghost use Rattle.wl_client.specs.Conversion.{CanMake, Converts, EndsWhole, Makes, objects_in, state};
+ghost use Rattle.wl_client.specs.Inside.Conversion.{CanMake, Converts, EndsWhole, Makes, objects_in, state};
 
-use crate::event_fault::EventFault;
-use crate::kept::Kept;
 use crate::object_id::ObjectId;
-use crate::objects::id_at;
+use crate::objects::{Kept, id_at};
+use crate::protocol_error::EventFault;
 use smallvec::SmallVec;
 use wl_link::{InsertError, Object, ObjectMap, SERVER_ID_LIMIT};
 use wl_wire::{

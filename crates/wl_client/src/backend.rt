@@ -8,11 +8,9 @@ ghost use Rattle.wl_link.specs.Store.{empty_store, stored};
 ghost use Rattle.wl_client.specs.Session.{IsConnected, display_object};
 
 use crate::error::WaylandError;
-use crate::kept::Kept;
-use crate::note::Note;
+use crate::event::OpenEvent;
 use crate::object_id::ObjectId;
-use crate::objects::fresh_object;
-use crate::open_event::OpenEvent;
+use crate::objects::{Kept, Note, fresh_object};
 use std::alloc::Global;
 use std::marker::Model;
 use std::mem;
@@ -41,7 +39,7 @@ pub struct Backend<T, U> {
 impl<T, U> Model for Backend<T, U> {
     ghost use Rattle.std.specs.Coded.{codes};
     ghost use Rattle.wl_link.specs.ObjectMap.{store_code};
-    ghost use Rattle.wl_client.specs.Client.{ClientState};
+    ghost use Rattle.wl_client.specs.Session.{ClientState};
 
     ghost Value = { ClientState T U };
 

@@ -2,9 +2,9 @@
 
 ghost use Rattle.std.specs.Prelude.{◌≡◌};
 ghost use Rattle.wl_client.specs.Events.{deleted, display_event};
-ghost use Rattle.wl_client.specs.Turns.{told_by};
+ghost use Rattle.wl_client.specs.Inside.Turns.{told_by};
 
-use crate::kept::Kept;
+use crate::objects::Kept;
 use wl_link::ObjectMap;
 use wl_wire::{Argument, CString, Message, Token};
 

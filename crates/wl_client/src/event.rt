@@ -6,18 +6,27 @@ ghost use Rattle.wl_wire.specs.Message.{content};
 ghost use Rattle.wl_wire.specs.Table.{message_row};
 ghost use Rattle.wl_link.specs.Store.{held};
 ghost use Rattle.wl_client.specs.Events.{convert as outcome_of, start};
-ghost use Rattle.wl_client.specs.Conversion.{objects_in};
+ghost use Rattle.wl_client.specs.Inside.Conversion.{objects_in};
 ghost use Rattle.wl_client.specs.Requests.{session_content};
-ghost use Rattle.wl_client.specs.Turns.{HandledAs};
+ghost use Rattle.wl_client.specs.Inside.Turns.{HandledAs};
 
 use crate::arguments::{Progress, Receiver, convert};
-use crate::event_fault::EventFault;
-use crate::kept::Kept;
 use crate::object_id::ObjectId;
-use crate::objects::id_at;
-use crate::open_event::OpenEvent;
+use crate::objects::{Kept, id_at};
+use crate::protocol_error::EventFault;
 use wl_link::ObjectMap;
 use wl_wire::{Message, MessageDesc, Token};
+
+/// What the end of an event has to know of it.
+#[derive(Clone, Copy)]
+pub struct OpenEvent {
+    /// The object that the event was sent to.
+    pub sender: ObjectId,
+    /// Whether it ends that object.
+    pub is_destructor: bool,
+    /// The object that it made.
+    pub created: Option<ObjectId>,
+}
 
 /// Makes an event of a message: goes through its arguments, which are taken out of it. `event` has no arguments yet and
 /// room for them, and the map has room for the object that the event may make. `None` where the event is not handed

@@ -8,9 +8,9 @@ ghost use Rattle.wl_client.specs.Steps.{refused_finish};
 
 use crate::backend::Backend;
 use crate::error::{FinishError, FinishRefused};
+use crate::event::OpenEvent;
 use crate::object_id::ObjectId;
 use crate::objects::{give_data, named_in, note_end};
-use crate::open_event::OpenEvent;
 use wl_wire::OutOfMemory;
 
 impl<T: Drop, U: Drop> Backend<T, U> {

@@ -3,11 +3,11 @@
 ghost use Rattle.std.specs.Prelude.{◌≡◌, ◌∷◌, [], List, Option, None, Ok, IsSome, false, length, ℕ};
 ghost use Rattle.wl_wire.specs.Table.{InterfaceRow};
 ghost use Rattle.wl_link.specs.Exchange.{Queue, nothing};
-ghost use Rattle.wl_link.specs.Reader.{AllFed, Given, Gives, Part, Reads, Turn, came_in};
+ghost use Rattle.wl_link.specs.Reader.{AllFed, Given, Gives, ReaderState, Reads, Turn, received_in};
 ghost use Rattle.wl_link.specs.Script.{Script};
 ghost use Rattle.wl_client.specs.Cutting.{GoesOn, IsServed};
 ghost use Rattle.wl_client.specs.Finish.{Finishes};
-ghost use Rattle.wl_client.specs.Reading.{client, part_of};
+ghost use Rattle.wl_client.specs.Reading.{client, reader_state_of};
 ghost use Rattle.wl_client.specs.Requests.{SessionMessage};
 ghost use Rattle.wl_client.specs.declared.step.Reply.{Reply};
 ghost use Rattle.wl_client.specs.declared.step.Step.{Step};
@@ -17,7 +17,7 @@ ghost use Rattle.wl_client.specs.Noted.{NotesWhatEnded};
 ghost use Rattle.wl_client.specs.Replies.{SameReply, SameReplies};
 ghost use Rattle.wl_client.specs.Session.{Core, SessionState, IsConnected};
 ghost use Rattle.wl_client.specs.Steps.{Entry, Leads, StepOf, entries};
-ghost use Rattle.wl_client.specs.Stretches.{IsServed as IsRunServed, IsStretch, IsStretchWithin, SameLeft, arrived, events_of, finished};
+ghost use Rattle.wl_client.specs.Stretches.{IsRunServed, IsStretch, IsStretchWithin, SameLeft, arrived, events_of, finished};
 
 use crate::next_event::READ_TURNS;
 use wl_link::Transport;
@@ -71,14 +71,14 @@ pub fn each_run_has_one_outcome<U>()
 /// reading handed out, followed by what is served of the session after it over the rest. An accepted finish of a session
 /// without an error is the next of the finishes. Something is served of whatever waits, and it is determined.
 pub fn cutting_does_not_matter_to_a_client<T: Transport, U>()
-    ensures reading { (left : ℕ) (before after : Part T (Core U)) (turns : List Turn) (out : Gives SessionMessage) →
+    ensures reading { (left : ℕ) (before after : ReaderState T (Core U)) (turns : List Turn) (out : Gives SessionMessage) →
         Reads T.sends client T.receives left before turns out after → AllFed turns → out.refused ≡ false →
-        (finishes : List (Option U)) → GoesOn before (came_in turns) finishes out.gave after finishes }
+        (finishes : List (Option U)) → GoesOn before (received_in turns) finishes out.gave after finishes }
     ensures finish { (before after : SessionState T U) (u : Option U) → before.error ≡ None → Finishes before u (Ok tt) after →
-        (finishes : List (Option U)) → GoesOn (part_of before) nothing (u ∷ finishes) [] (part_of after) finishes }
-    ensures one { (before : Part T (Core U)) (more : Queue) (finishes : List (Option U)) (events others : List (Given SessionMessage)) (x y : _) →
+        (finishes : List (Option U)) → GoesOn (reader_state_of before) nothing (u ∷ finishes) [] (reader_state_of after) finishes }
+    ensures one { (before : ReaderState T (Core U)) (more : Queue) (finishes : List (Option U)) (events others : List (Given SessionMessage)) (x y : _) →
         IsServed before more finishes events x → IsServed before more finishes others y → (events ≡ others) × (x ≡ y) }
-    ensures some { (before : Part T (Core U)) (more : Queue) (finishes : List (Option U)) →
+    ensures some { (before : ReaderState T (Core U)) (more : Queue) (finishes : List (Option U)) →
         (events : List (Given SessionMessage)) × (after : _) × IsServed before more finishes events after }
 {}
 

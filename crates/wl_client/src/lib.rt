@@ -1,9 +1,22 @@
 //! The client's session of the Wayland protocol: objects by id, requests, events.
 //!
-//! A program makes a `Backend` of its table of interfaces and a transport. It sends requests with `send_request` and
+//! A program makes a [`Backend`] of its table of interfaces and a transport. It sends requests with `send_request` and
 //! `flush`, reads events with `next_event`, ends each with `finish_event`, and takes notes of what was destroyed with
-//! `take_notes`. `backend` is the place to read first; `request` and `send_request` have the way of a request,
-//! `next_event`, `turn` and `event` that of an event.
+//! `take_notes`. The page of this crate, `README.md`, has an example and the order of the refusals.
+//!
+//! `specs/Session` says what a session holds. Each call has one relation between the session before it and after it:
+//!
+//! | Calls | Code | Relations, in `specs/` |
+//! |---|---|---|
+//! | `connect`, `take_notes`, the limit, `transport_mut` | `backend`: read it first | `Session`, `Lending` |
+//! | `send_request`, `flush` | `request`, `send_request`, `flush` | `Requests`, `Finish` |
+//! | `next_event` | `next_event`, `message`, `event`, `arguments`, `display` | `Reading`, `Handling`, `Events`, `Cutting` |
+//! | `finish_event` | `finish_event` | `Finish`, `Cutting` |
+//! | `info`, `get_data`, `set_data`, `destroy_object` | `objects` | `Objects` |
+//! | `replay` | `step`, `replay` | `Steps`, `Handed`, `Noted`, `Replies`, `Stretches` |
+//!
+//! The laws of runs are the contracts of the functions of [`laws`]. Each names its statement: `Handed` (ids), `Noted`
+//! (notes), `Failed` (errors), `Replies` (there is one outcome), `Cutting` and `Stretches` (cutting does not matter).
 #![tactic(auto)]
 
 mod arguments;
@@ -11,34 +24,25 @@ mod backend;
 mod display;
 mod error;
 mod event;
-mod event_fault;
 mod finish_event;
 mod flush;
-mod kept;
-mod laws;
+pub mod laws;
+mod message;
 mod next_event;
-mod note;
 mod object_id;
 mod objects;
-mod open_event;
 mod protocol_error;
 mod replay;
 mod request;
 mod send_request;
 mod step;
-mod turn;
 
 pub use backend::Backend;
 pub use error::{
     DestroyError, EventError, FinishError, FinishRefused, FlushError, InvalidId, RequestError,
     WaylandError,
 };
-pub use laws::{
-    a_failed_session_stays_failed, a_reading_receives_64_times,
-    cutting_does_not_matter_to_a_client, cutting_does_not_matter_to_a_run,
-    each_id_names_its_own_object, each_object_that_ends_is_noted_once, each_run_has_one_outcome,
-};
 pub use next_event::READ_TURNS;
-pub use note::Note;
 pub use object_id::ObjectId;
+pub use objects::Note;
 pub use step::{Reply, Step, Stopped};

@@ -3,12 +3,12 @@
 ghost use Rattle.std.specs.Prelude.{◌≤◌, option_map};
 ghost use Rattle.wl_client.specs.Cutting.{CutsReading};
 ghost use Rattle.wl_client.specs.Reading.{EndsWithRoom, NextEvent, ReadsTo, event_content};
-ghost use Rattle.wl_client.specs.Turns.{Live, ReceivedTo, Waited, event_answer, event_refused, with_event};
+ghost use Rattle.wl_client.specs.Inside.Turns.{Live, ReceivedTo, Waited, event_answer, event_refused, with_event};
 
 use crate::backend::Backend;
 use crate::error::{EventError, WaylandError};
+use crate::message::{NoEvent, TurnEnd};
 use crate::object_id::ObjectId;
-use crate::turn::{NoEvent, TurnEnd};
 use smallvec::SmallVec;
 use wl_link::Transport;
 use wl_wire::{INLINE_ARGS, IoFault, Message, Token};

@@ -5,16 +5,35 @@ ghost use Rattle.wl_link.specs.Store.{held};
 ghost use Rattle.wl_client.specs.Session.{named, noted, alive, fresh_object as the_object, id_at as the_id};
 ghost use Rattle.wl_client.specs.Objects.{info_of, user_data_of, DataSet, DestroyedBy};
 ghost use Rattle.wl_client.specs.Finish.{data_given};
-ghost use Rattle.wl_client.specs.Sending.{given_up_at};
+ghost use Rattle.wl_client.specs.Inside.Sending.{given_up_at};
 ghost use Rattle.wl_client.specs.Steps.{refused_destroy};
 
 use crate::backend::{Backend, DISPLAY};
 use crate::error::{DestroyError, InvalidId};
-use crate::kept::Kept;
-use crate::note::Note;
 use crate::object_id::ObjectId;
 use wl_link::{Object, ObjectMap};
 use wl_wire::{InterfaceId, ObjectInfo, OutOfMemory};
+
+/// What the session keeps of an object beside its interface and version.
+#[derive(Drop)]
+pub struct Kept<U> {
+    /// The serial, which no other object of the session has.
+    pub serial: u64,
+    /// The program's data.
+    pub user_data: Option<U>,
+    /// Whether the client destroyed it, or an event did.
+    pub client_destroyed: bool,
+    /// Whether the server gave up its number, or an event destroyed it. It is part of what a session knows of an object;
+    /// no call decides by it.
+    pub server_destroyed: bool,
+}
+
+/// What happened to an object.
+#[derive(Clone, Copy, Debug, PartialEq, Eq)]
+pub enum Note {
+    /// The object, which had user data, was destroyed: by the client or by an event.
+    Destroyed(ObjectId),
+}
 
 /// An object that nobody has destroyed.
 pub fn fresh_object<U>(

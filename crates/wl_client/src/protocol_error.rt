@@ -1,15 +1,28 @@
-//! The errors that a reading stores.
+//! The errors that a reading stores: what is wrong with an event, and what the server told.
 
 ghost use Rattle.std.specs.Prelude.{◌≡◌, IfOk};
 ghost use Rattle.std.specs.String.{string_bytes};
-ghost use Rattle.wl_client.specs.declared.event_fault.EventFault.TheVariants as wrong;
+ghost use Rattle.wl_client.specs.declared.protocol_error.EventFault.TheVariants as wrong;
 ghost use Rattle.wl_client.specs.Events.{fault_text as text_of_fault, told_error as error_told};
 
-use crate::event_fault::EventFault;
-use crate::kept::Kept;
+use crate::objects::Kept;
 use std::alloc::Global;
 use wl_link::ObjectMap;
 use wl_wire::{CString, InterfaceId, OutOfMemory, Protocol, ProtocolError, Text};
+
+/// Why an event ends the session.
+#[derive(Clone, Copy)]
+pub enum EventFault {
+    /// The bytes are no event.
+    Malformed,
+    /// An object argument has a number that no object holds.
+    UnknownObject(u32),
+    /// An object argument is of another interface than the one asked for: the number, the interface asked for, and
+    /// the object's.
+    WrongInterface(u32, InterfaceId, InterfaceId),
+    /// A new id is no number that the server may use: the number, and the interface of the new object.
+    InvalidNewId(u32, InterfaceId),
+}
 
 /// The text of an object of a wrong interface.
 fn wrong_interface_text(

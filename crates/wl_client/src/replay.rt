@@ -7,7 +7,7 @@ ghost use Rattle.wl_client.specs.Handed.{HasOwnIds};
 ghost use Rattle.wl_client.specs.Noted.{AccountsForStopped, NotesWhatEnded};
 ghost use Rattle.wl_client.specs.Replies.{SameReplies};
 ghost use Rattle.wl_client.specs.Session.{IsConnected, SessionState};
-ghost use Rattle.wl_client.specs.Performing.{IsOfScript};
+ghost use Rattle.wl_client.specs.Inside.Performing.{IsOfScript};
 ghost use Rattle.wl_client.specs.Steps.{ArrivesWith, Entry, Leads, Scripts, StepOf, StopsAt, entries, refused_arrive, refused_script, with_script};
 ghost use Rattle.wl_client.specs.Stretches.{EachPartIsCut};
 

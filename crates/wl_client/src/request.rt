@@ -8,9 +8,8 @@ ghost use Rattle.wl_link.specs.Refusals.{first_refusal};
 ghost use Rattle.wl_client.specs.Requests.{child_refusals, is_placeholder, argument_fault, argument_faults, refusals, request_check, session_content};
 
 use crate::error::RequestError;
-use crate::kept::Kept;
 use crate::object_id::ObjectId;
-use crate::objects::{live_in, named_in};
+use crate::objects::{Kept, live_in, named_in};
 use wl_link::{Object, ObjectMap};
 use wl_wire::{
     ANONYMOUS_INTERFACE, AllowNull, Argument, ArgumentType, InterfaceId, Message, MessageDesc,

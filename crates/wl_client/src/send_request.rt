@@ -3,15 +3,13 @@
 ghost use Rattle.std.specs.Prelude.{◌≡◌, ◌<◌, ◌⊎◌, true, IfSome, IsSome, IsTrue, OnErr, OnOk, MatchResult, is_some, vec_len, vec_capacity};
 ghost use Rattle.wl_wire.specs.MapIds.{numbered};
 ghost use Rattle.wl_client.specs.Requests.{Requested, Sent, SentAs, SentWithChild, ended_by, id_of_new, number_of_new, session_content};
-ghost use Rattle.wl_client.specs.Sending.{IsNext, IsNextObject, LacksNext, WrittenTo, ending, is_noted, notes_ending, serial_with, store_ending, store_with};
+ghost use Rattle.wl_client.specs.Inside.Sending.{IsNext, IsNextObject, LacksNext, WrittenTo, ending, is_noted, notes_ending, serial_with, store_ending, store_with};
 ghost use Rattle.wl_client.specs.Steps.{refused_request};
 
 use crate::backend::Backend;
 use crate::error::{RequestError, WaylandError};
-use crate::kept::Kept;
-use crate::note::Note;
 use crate::object_id::ObjectId;
-use crate::objects::{fresh_object, give_up, id_at, named_in};
+use crate::objects::{Kept, Note, fresh_object, give_up, id_at, named_in};
 use crate::request::{Granted, RequestNumbers, check_request};
 use wl_link::{BufferedSocket, Object, ObjectMap, Transport};
 use wl_wire::{InterfaceId, IoFault, Message, OutOfMemory, Token};

@@ -3,8 +3,8 @@
 use crate::error::{
     DestroyError, EventError, FinishRefused, FlushError, InvalidId, RequestError, WaylandError,
 };
-use crate::note::Note;
 use crate::object_id::ObjectId;
+use crate::objects::Note;
 use wl_link::ArriveError;
 use wl_wire::{InterfaceId, IoFault, Message, OutOfMemory, Token};
 

@@ -5,7 +5,6 @@ use Rattle.std.proofs.lemmas.Bool.{eq-eqb, ne_eqb, lt-leb, le-leb, lt-ltb, cases
 use Rattle.std.proofs.lemmas.List.{get_or_past}
 use Rattle.std.proofs.lemmas.Grind.{get_or-set_at}
 use Rattle.std.specs.Option.{option_or}
-use Rattle.std.specs.Result.{result_map_both}
 use Rattle.std.specs.Cmp.{unsigned_tied, nat_cmp_total, nat_cmp_is}
 use Rattle.std.specs.Ordering.{eq_by_cmp}
 use Rattle.std.specs.FinMap as map
@@ -17,8 +16,8 @@ use Rattle.wl_link.specs.declared.object_map.InsertError.TheVariants as insert
 use Rattle.wl_link.specs.declared.object_map.NewError.{NewError}
 use Rattle.wl_link.specs.declared.object_map.NewError.TheVariants as new
 use Rattle.wl_link.specs.ObjectMap.{InsertsAt, InsertsNew, NextNew, InsertionsGive, Lends}
-use Rattle.wl_link.specs.StoreLaws.{walk_of_entries}
-use Rattle.wl_link.specs.PlaceList.{place, put_len, Puts, is_free_place, PutsAt, PutsNew, LendsAt, IsFirstFree, entries_from, store_of, Within}
+use Rattle.wl_link.proofs.Ids.StoreLaws.{walk_of_entries}
+use Rattle.wl_link.specs.Inside.PlaceList.{place, put_len, Puts, is_free_place, PutsAt, PutsNew, LendsAt, IsFirstFree, entries_from, store_of, Within}
 
 -- ---- tests on numbers
 
@@ -410,22 +409,22 @@ module _ {D : Type 0} (c s : List (Option (Object D))) (w : Within c s) where
   inserts_server s' at n x (Err insert.OutOfMemory) e h (free, last, same) =
       (free_server c s w n at e ∙ free, unused_server c s w n at e last, ap (λ k. store_of c k) same)
 
-  pub inserts_new_client : (c' : List (Option (Object D))) (x : Object D) (r : Result ℕ NewError) → PutsNew c 4278190079 x r c'
-      → InsertsNew client_range (store_of c s) x (result_map_both (λ at. at + 1) (λ e. e) r) (store_of c' s)
-  inserts_new_client c' x (Ok at) (below, first, puts, len) =
-      let h : at + 1 < client_range.end = omega arith in
-      (least_client c s w at (at + 1) (omega arith) h first, stored_client c s w c' at (at + 1) x (omega arith) h puts len)
+  pub inserts_new_client : (c' : List (Option (Object D))) (x : Object D) (r : Result ℕ NewError) → PutsNew c 1 4278190079 x r c'
+      → InsertsNew client_range (store_of c s) x r (store_of c' s)
+  inserts_new_client c' x (Ok n) (at, is, below, first, puts, len) =
+      let h : n < client_range.end = omega arith in
+      (least_client c s w at n (omega arith) h first, stored_client c s w c' at n x (omega arith) h puts len)
   inserts_new_client c' x (Err new.IdsExhausted) ((at, past, first), same) =
       (full_client c s w at (omega arith) first, ap (λ k. store_of k s) same)
   inserts_new_client c' x (Err new.OutOfMemory) ((at, below, first, last), same) =
       let h : at + 1 < client_range.end = omega arith in
       ((at + 1, least_client c s w at (at + 1) (omega arith) h first, unused_client c s w (at + 1) at (omega arith) h last), ap (λ k. store_of k s) same)
 
-  pub inserts_new_server : (s' : List (Option (Object D))) (x : Object D) (r : Result ℕ NewError) → PutsNew s 16777216 x r s'
-      → InsertsNew server_range (store_of c s) x (result_map_both (λ at. at + 4278190080) (λ e. e) r) (store_of c s')
-  inserts_new_server s' x (Ok at) (below, first, puts, len) =
-      let h : at + 4278190080 < server_range.end = omega arith in
-      (least_server c s w at (at + 4278190080) (omega arith) h first, stored_server c s w s' at (at + 4278190080) x (omega arith) h puts len)
+  pub inserts_new_server : (s' : List (Option (Object D))) (x : Object D) (r : Result ℕ NewError) → PutsNew s 4278190080 16777216 x r s'
+      → InsertsNew server_range (store_of c s) x r (store_of c s')
+  inserts_new_server s' x (Ok n) (at, is, below, first, puts, len) =
+      let h : n < server_range.end = omega arith in
+      (least_server c s w at n (omega arith) h first, stored_server c s w s' at n x (omega arith) h puts len)
   inserts_new_server s' x (Err new.IdsExhausted) ((at, past, first), same) =
       (full_server c s w at (omega arith) first, ap (λ k. store_of c k) same)
   inserts_new_server s' x (Err new.OutOfMemory) ((at, below, first, last), same) =

@@ -11,21 +11,21 @@ use Rattle.wl_wire.specs.declared.error.IoFault.TheVariants as fault
 use Rattle.wl_wire.specs.declared.error.MessageParseError.{MessageParseError}
 use Rattle.wl_wire.specs.declared.error.MessageParseError.TheVariants as errors
 use Rattle.wl_wire.specs.Message.{WireMessage, word, piece, size}
-use Rattle.wl_wire.specs.Cursor.{argument_at, arguments_at, word_at}
-use Rattle.wl_wire.specs.CursorLaws.{arguments_read}
+use Rattle.wl_wire.specs.Inside.Cursor.{argument_at, arguments_at, word_at}
+use Rattle.wl_wire.proofs.Spelling.CursorLaws.{arguments_read}
 use Rattle.wl_wire.specs.Parse.{sender_of, second_word}
 use Rattle.wl_link.specs.declared.object.Object.{Object}
 use Rattle.wl_link.specs.declared.object_map.InsertError.TheVariants as insert
 use Rattle.wl_link.specs.declared.object_map.NewError.TheVariants as new
 use Rattle.wl_link.specs.Exchange.{Queue, Sending, nothing}
-use Rattle.wl_link.specs.FlushLaws.{some_bytes}
-use Rattle.wl_link.specs.FreeTree.{IsHeight, lowest_bit, reads_of}
+use Rattle.wl_link.proofs.Calls.FlushLaws.{some_bytes}
+use Rattle.wl_link.specs.Inside.FreeTree.{IsHeight, lowest_bit, reads_of}
 use Rattle.wl_link.specs.Identity.{named_in, names}
-use Rattle.wl_link.specs.Link.{AreLimits, FilledBy, Flushes, Grows, IsLimit, LinkState, ReadOne, Wants, WroteBy, grown_room, ignoring, incoming_limit, left_of, offer_of, offer_size, spelled, with_room}
+use Rattle.wl_link.specs.Link.{AreLimits, FilledBy, Flushes, Grows, IsLimit, LinkState, ReadOne, Wants, WroteBy, grown_capacity, ignoring, incoming_limit, left_of, offer_of, offer_size, spelled, with_incoming_capacity}
 use Rattle.wl_link.specs.ObjectMap.{InsertsAt, InsertsNew, NextNew, WordsRead}
 use Rattle.wl_link.specs.Script.{Script, ScriptReceives, ScriptSends, script_after_receive, script_after_send, script_gives, send_answer}
 use Rattle.wl_link.specs.Store.{Store, client_range, empty_store, first_unused, held, is_free, removed, server_range, stored}
-use Rattle.wl_link.specs.StoreLaws.{held_empty, held_removed, held_stored}
+use Rattle.wl_link.proofs.Ids.StoreLaws.{held_empty, held_removed, held_stored}
 use Rattle.wl_link.proofs.Limits.{rounded_is_limit}
 
 abbrev token : ℕ → Token
@@ -207,9 +207,9 @@ abbrev link_over : Script → Queue → Queue → ℕ → Option ℕ → LinkSta
 link_over script incoming outgoing storage limit = record {
   transport = script;
   incoming = incoming;
-  room = 4096;
+  incoming_capacity = 4096;
   outgoing = outgoing;
-  storage = storage;
+  outgoing_capacity = storage;
   limit = limit;
 }
 
@@ -298,15 +298,15 @@ full_storage = (inl (lit≤ tt, refl, refl), refl, refl)
 
 -- where it may, it is doubled, and the chunk comes
 grown_storage : FilledBy ScriptReceives (receiving_link (Ok chunk ∷ []) (queue (replicate 4096 1) [])) (Ok chunk) (Ok tt)
-    (with_room (receiving_link [] (queue (replicate 4096 1 ++ 1 ∷ 2 ∷ 3 ∷ []) chunk.tokens)) 8192)
+    (with_incoming_capacity (receiving_link [] (queue (replicate 4096 1 ++ 1 ∷ 2 ∷ 3 ∷ []) chunk.tokens)) 8192)
 grown_storage = (inl (lit≤ tt, refl, refl), refl, refl)
 
 -- a storage of 65536 bytes is not doubled
-greatest_storage : grown_room (with_room (receiving_link [] (queue (replicate 65536 1) [])) 65536) ≡ 65536
+greatest_storage : grown_capacity (with_incoming_capacity (receiving_link [] (queue (replicate 65536 1) [])) 65536) ≡ 65536
 greatest_storage = refl
 
 -- a storage that is larger than a limit that was lowered stays
-lowered_limit : grown_room (with_room (limited_link [] (queue (replicate 8192 1) [])) 8192) ≡ 8192
+lowered_limit : grown_capacity (with_incoming_capacity (limited_link [] (queue (replicate 8192 1) [])) 8192) ≡ 8192
 lowered_limit = refl
 
 -- a fault is answered, and changes nothing that waits

@@ -7,8 +7,8 @@ use Rattle.std.proofs.lemmas.Nat.Bits.{bit_at-trailing_zeros, bit_at-zero, bit_a
 use Rattle.std.specs.Int.{bit_at, trailing_zeros, w64}
 use Rattle.std.proofs.Math.Seq.{take-append_seam}
 use Rattle.std.proofs.Math.Nat.{pow-succ'}
-use Rattle.wl_link.specs.PlaceList.{place, IsFirstFree, free_flag, ShowsFree, WordsReadIn}
-use Rattle.wl_link.specs.FreeTree.{word, is_set, as_bit, flags_above, IsLevel, IsTree, changed, IsLeast, FindsLeast, lowest_bit, with_first, height, reads_of, IsHeight, words_of, is_ready, has_room}
+use Rattle.wl_link.specs.Inside.PlaceList.{place, IsFirstFree, free_flag, ShowsFree, WordsReadIn}
+use Rattle.wl_link.specs.Inside.FreeTree.{word, is_set, as_bit, flags_above, IsLevel, IsTree, changed, IsLeast, FindsLeast, lowest_bit, with_first, height, reads_of, IsHeight, words_of, is_ready, has_room}
 
 -- ---- bits and flags
 

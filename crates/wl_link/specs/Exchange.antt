@@ -2,6 +2,8 @@
 use Rattle.std.specs.Prelude.{◌≡◌, ℕ, ◌≤◌, List, [], ◌∷◌, ◌++◌, length, take, drop, Result, Ok, Err}
 use Rattle.wl_wire.specs.declared.argument.Token.{Token}
 use Rattle.wl_wire.specs.declared.error.IoFault.{IoFault}
+use Rattle.std.proofs.Common.{◌≢◌}
+use Rattle.wl_wire.specs.declared.error.IoFault.TheVariants as fault
 
 -- bytes in their order, and tokens in theirs: a message, an offer, or what waits on one side of a link
 pub record Queue : Type 0 where
@@ -39,3 +41,27 @@ pub record Sending : Type 0 where
 abbrev pub Chain : {T : Type 0} → (T → Queue → Result ℕ IoFault → T → Type 0) → T → List Sending → T → Type 0
 Chain sends before [] after = after ≡ before
 Chain {T = T} sends before (e ∷ es) after = (mid : T) × sends before e.offer e.answer mid × Chain sends mid es after
+
+-- ---- what may be asked of a transport
+
+-- two sends of one offer, neither refused for want of memory, have one answer and leave one value
+abbrev pub IsFunction : {T : Type 0} → (T → Queue → Result ℕ IoFault → T → Type 0) → Type 0
+IsFunction {T = T} sends =
+    (before : T) (offer : Queue) (one two : Result ℕ IoFault) (after after' : T)
+    → sends before offer one after → sends before offer two after' → one ≢ Err fault.OutOfMemory → two ≢ Err fault.OutOfMemory
+    → (one ≡ two) × (after ≡ after')
+
+-- so have two receives into one room
+abbrev pub IsReceiveFunction : {T : Type 0} → (T → ℕ → Result Queue IoFault → T → Type 0) → Type 0
+IsReceiveFunction {T = T} receives =
+    (before : T) (room : ℕ) (one two : Result Queue IoFault) (after after' : T)
+    → receives before room one after → receives before room two after' → one ≢ Err fault.OutOfMemory → two ≢ Err fault.OutOfMemory
+    → (one ≡ two) × (after ≡ after')
+
+-- no more is taken than is offered
+pub record IsWithinOffer {T : Type 0} (sends : T → Queue → Result ℕ IoFault → T → Type 0) : Type 0 where
+  pub law : (before after : T) (offer : Queue) (n : ℕ) → sends before offer (Ok n) after → n ≤ length offer.bytes
+
+-- the transport answers each send that it may be offered, and lacks no memory
+abbrev pub AlwaysAnswers : {S : Type 0} → (S → Queue → Result ℕ IoFault → S → Type 0) → Type 0
+AlwaysAnswers {S = S} sends = (t : S) (offer : Queue) → (answer : Result ℕ IoFault) × (u : S) × sends t offer answer u × (answer ≢ Err fault.OutOfMemory)

@@ -3,6 +3,9 @@
 -- Objects carry a serial, which `serial_of` reads. A session gives the serials out by one counter, so that an id,
 -- which has a number and a serial, never names an object that took the number of its own.
 use Rattle.std.specs.Prelude.{◌≡◌, ◌≢◌, ℕ, ◌+◌, ◌≤◌, ◌==◌, if◌then◌else◌, Bool, true, false, List, [], ◌∷◌, ◌++◌, length, Option, None, Some, IsSome, AllPairs, Contains, ◌↔◌, ◌⊎◌}
+use Rattle.wl_wire.specs.declared.argument.Argument.{Argument}
+use Rattle.wl_wire.specs.declared.argument.Argument.TheVariants as arg
+use Rattle.wl_wire.specs.declared.argument.Token.{Token}
 use Rattle.wl_link.specs.declared.object.Object.{Object}
 use Rattle.wl_link.specs.Store.{Store, empty_store, held, stored, removed, rewritten}
 
@@ -10,6 +13,23 @@ use Rattle.wl_link.specs.Store.{Store, empty_store, held, stored, removed, rewri
 pub record Id : Type 0 where
   pub number : ℕ
   pub serial : ℕ
+
+-- an id that a call hands out, as its session writes ids: of an object that is there, or of one that the call puts there
+pub data HandedId (I : Type 0) : Type 0 where
+  Found : (id : I) → HandedId I
+  New : (id : I) → HandedId I
+
+-- the ids among arguments
+abbrev pub argument_ids : {I : Type 0} → List (Argument I Token) → List (HandedId I)
+argument_ids [] = []
+argument_ids (arg.Int _ ∷ args) = argument_ids args
+argument_ids (arg.Uint _ ∷ args) = argument_ids args
+argument_ids (arg.Fixed _ ∷ args) = argument_ids args
+argument_ids (arg.Str _ ∷ args) = argument_ids args
+argument_ids (arg.Object id ∷ args) = Found id ∷ argument_ids args
+argument_ids (arg.NewId id ∷ args) = New id ∷ argument_ids args
+argument_ids (arg.Array _ ∷ args) = argument_ids args
+argument_ids (arg.Fd _ ∷ args) = argument_ids args
 
 -- the step that put an object into the store, and its place among that step's new objects
 pub record Birth : Type 0 where
@@ -84,8 +104,8 @@ display_born = record { of_number = at_number (λ _. None) 1 (Some (record { ste
 abbrev pub births_of : {D : Type 0} → List (List (Change D)) → Births
 births_of run = births_over 1 display_born run
 
-abbrev pub begun : {D : Type 0} → Object D → Objects D
-begun display = record { store = stored empty_store 1 display; last_serial = 0 }
+abbrev pub first_objects : {D : Type 0} → Object D → Objects D
+first_objects display = record { store = stored empty_store 1 display; last_serial = 0 }
 
 module _ {D : Type 0} (serial_of : D → ℕ) where
   -- the object at an id's number, if it has the id's serial
@@ -153,7 +173,7 @@ module _ {D : Type 0} (serial_of : D → ℕ) where
   abbrev pub IdentityLaw : Type 0
   IdentityLaw =
       (display : Object D) → serial_of display.value ≡ 0 → (run : List (List (Change D))) (after : Objects D)
-      → RunLeads (begun display) run after → HasIdentity run after
+      → RunLeads (first_objects display) run after → HasIdentity run after
 
 -- ---- objects that end
 
@@ -204,9 +224,6 @@ module _ {D : Type 0} (is_over : D → Bool) where
   OwnsExactly before (Made id) = Unit {0}
 
 module _ {D : Type 0} (serial_of : D → ℕ) (is_over : D → Bool) where
-  abbrev pub StepOwns : Objects D → List (Change D) → Objects D → Type 0
-  StepOwns before changes after = StepKeeps serial_of (Owns is_over) before changes after
-
   abbrev pub RunOwns : Objects D → List (List (Change D)) → Objects D → Type 0
   RunOwns before run after = RunKeeps serial_of (Owns is_over) before run after
 
@@ -220,4 +237,4 @@ module _ {D : Type 0} (serial_of : D → ℕ) (is_over : D → Bool) where
   abbrev pub EndsOnceLaw : (Object D → Bool) → Type 0
   EndsOnceLaw counts =
       (display : Object D) → serial_of display.value ≡ 0 → (run : List (List (Change D))) (after : Objects D)
-      → RunOwns (begun display) run after → AllPairs (λ a b. a ≢ b) (ended_over serial_of counts run)
+      → RunOwns (first_objects display) run after → AllPairs (λ a b. a ≢ b) (ended_over serial_of counts run)

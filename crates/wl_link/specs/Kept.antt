@@ -31,7 +31,7 @@ abbrev pub NoZero : List Sending → Type 0
 NoZero es = AllByRecursion (λ e. e.answer ≢ Ok 0) es
 
 -- What is gone, followed by what waits, is what waited, followed by what was added.
-pub record Kept (es : List Sending) (before added after : Queue) : Type 0 where
+pub record LosesNothing (es : List Sending) (before added after : Queue) : Type 0 where
   pub bytes : (taken es).bytes ++ after.bytes ≡ before.bytes ++ added.bytes
   pub tokens : gone es ++ after.tokens ≡ before.tokens ++ added.tokens
 
@@ -43,7 +43,7 @@ queued_by (Err fault) m = nothing
 -- What a flush's sends took or dropped, and what waits after it, is what waited.
 abbrev pub FlushKeeps : {T : Type 0} → (T → Queue → Result ℕ IoFault → T → Type 0) → LinkState T → Result (Unit {0}) IoFault → LinkState T → Type 0
 FlushKeeps sends before answer after =
-    (es : List Sending) × FlushedBy sends before es answer after × Kept es before.outgoing nothing after.outgoing
+    (es : List Sending) × FlushedBy sends before es answer after × LosesNothing es before.outgoing nothing after.outgoing
 
 -- A flush that is answered by Ok, and in which no send answered 0, leaves no bytes, and the tokens behind 28 for each
 -- byte.
@@ -56,4 +56,4 @@ FlushDrains sends before answer after =
 -- A write that is answered by Ok makes what was taken and what waits longer by one spelling; another adds nothing.
 abbrev pub WriteKeeps : {T : Type 0} → (T → Queue → Result ℕ IoFault → T → Type 0) → LinkState T → WireMessage → Result (Unit {0}) IoFault → LinkState T → Type 0
 WriteKeeps sends before m answer after =
-    (es : List Sending) × WroteBy sends before m es answer after × Kept es before.outgoing (queued_by answer m) after.outgoing
+    (es : List Sending) × WroteBy sends before m es answer after × LosesNothing es before.outgoing (queued_by answer m) after.outgoing

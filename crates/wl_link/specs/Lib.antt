@@ -1,53 +1,26 @@
+-- What a call of the object map does.
 pub mod Store
 pub mod ObjectMap
-pub mod FreeTree
-pub mod PlaceList
-pub mod StoreLaws
-pub mod Identity
-pub mod IdentityLaw
-pub mod EndsLaw
+-- What a transport is asked and answers, and what a call of a link does.
 pub mod Exchange
 pub mod Script
 pub mod ScriptLaws
 pub mod Link
-pub mod Storage
-pub mod FlushLaws
-pub mod WriteLaws
-pub mod ReadLaws
-pub mod TakenLaws
+pub mod Lending
+pub mod Refusals
+-- Laws of a link: what is kept, what is read back, that there is one outcome.
 pub mod Kept
-pub mod KeptLaws
-pub mod OneLaws
-pub mod NumberLaws
+pub mod Outcome
 pub mod Sides
-pub mod StreamLaws
-pub mod Branches
-pub mod QueueLaws
-pub mod LaterLaws
+-- What a session is as a reader: what it puts, what a reading gives, what is served.
 pub mod Puts
-pub mod PutsLaws
 pub mod Reader
 pub mod Served
-pub mod ServedLaws
-pub mod CuttingLaws
-pub mod ReaderLaws
-pub mod RespectLaws
-pub mod ReaderLoops
-pub mod Lending
-pub mod Runs
-pub mod RunLaws
+pub mod Respect
+pub mod Total
 pub mod Stretch
-pub mod SendingLaws
-pub mod ArrivalLaws
-pub mod RanLaws
-pub mod StretchLaws
-pub mod LengthLaws
-pub mod RoomLaws
-pub mod LogLaws
-pub mod FoundLaws
-pub mod TotalLaws
-pub mod Growth
-pub mod AnsweringLaws
-pub mod HoldingLaws
-pub mod Parts
-pub mod Refusals
+-- Laws of runs: of calls, and of objects by their ids.
+pub mod Runs
+pub mod Identity
+-- What only the functions inside promise each other.
+pub mod Inside

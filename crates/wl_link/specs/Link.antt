@@ -22,19 +22,19 @@ pub record LinkState (T : Type 0) : Type 0 where
   pub transport : T
   -- received and not read yet, and how many bytes there is storage for
   pub incoming : Queue
-  pub room : ℕ
+  pub incoming_capacity : ℕ
   -- written and not sent yet, how many bytes there is storage for, and how far that may grow
   pub outgoing : Queue
-  pub storage : ℕ
+  pub outgoing_capacity : ℕ
   pub limit : Option ℕ
 
 abbrev pub with_transport : {T : Type 0} → LinkState T → T → LinkState T
 with_transport l transport = record {
   transport = transport;
   incoming = l.incoming;
-  room = l.room;
+  incoming_capacity = l.incoming_capacity;
   outgoing = l.outgoing;
-  storage = l.storage;
+  outgoing_capacity = l.outgoing_capacity;
   limit = l.limit;
 }
 
@@ -42,19 +42,19 @@ abbrev pub with_outgoing : {T : Type 0} → LinkState T → T → Queue → Link
 with_outgoing l transport outgoing = record {
   transport = transport;
   incoming = l.incoming;
-  room = l.room;
+  incoming_capacity = l.incoming_capacity;
   outgoing = outgoing;
-  storage = l.storage;
+  outgoing_capacity = l.outgoing_capacity;
   limit = l.limit;
 }
 
-abbrev pub with_storage : {T : Type 0} → LinkState T → ℕ → LinkState T
-with_storage l storage = record {
+abbrev pub with_outgoing_capacity : {T : Type 0} → LinkState T → ℕ → LinkState T
+with_outgoing_capacity l storage = record {
   transport = l.transport;
   incoming = l.incoming;
-  room = l.room;
+  incoming_capacity = l.incoming_capacity;
   outgoing = l.outgoing;
-  storage = storage;
+  outgoing_capacity = storage;
   limit = l.limit;
 }
 
@@ -62,19 +62,19 @@ abbrev pub with_incoming : {T : Type 0} → LinkState T → T → Queue → Link
 with_incoming l transport incoming = record {
   transport = transport;
   incoming = incoming;
-  room = l.room;
+  incoming_capacity = l.incoming_capacity;
   outgoing = l.outgoing;
-  storage = l.storage;
+  outgoing_capacity = l.outgoing_capacity;
   limit = l.limit;
 }
 
-abbrev pub with_room : {T : Type 0} → LinkState T → ℕ → LinkState T
-with_room l room = record {
+abbrev pub with_incoming_capacity : {T : Type 0} → LinkState T → ℕ → LinkState T
+with_incoming_capacity l room = record {
   transport = l.transport;
   incoming = l.incoming;
-  room = room;
+  incoming_capacity = room;
   outgoing = l.outgoing;
-  storage = l.storage;
+  outgoing_capacity = l.outgoing_capacity;
   limit = l.limit;
 }
 
@@ -97,7 +97,7 @@ AreLimits (Some asked) limit = (n : ℕ) × (limit ≡ Some n) × IsLimit asked 
 abbrev pub IsFresh : {T : Type 0} → T → Option ℕ → LinkState T → Type 0
 IsFresh transport asked l =
     (limit : Option ℕ) × AreLimits asked limit
-    × (l ≡ record { transport = transport; incoming = nothing; room = 4096; outgoing = nothing; storage = 4096; limit = limit })
+    × (l ≡ record { transport = transport; incoming = nothing; incoming_capacity = 4096; outgoing = nothing; outgoing_capacity = 4096; limit = limit })
 
 -- the limit is another one, and all else as it was
 abbrev pub LimitSet : {T : Type 0} → LinkState T → Option ℕ → LinkState T → Type 0
@@ -106,9 +106,9 @@ LimitSet before asked after =
     × (after ≡ record {
       transport = before.transport;
       incoming = before.incoming;
-      room = before.room;
+      incoming_capacity = before.incoming_capacity;
       outgoing = before.outgoing;
-      storage = before.storage;
+      outgoing_capacity = before.outgoing_capacity;
       limit = limit;
     })
 
@@ -173,7 +173,7 @@ needed l more = length l.outgoing.bytes + more
 
 abbrev pub Grown : {T : Type 0} → LinkState T → ℕ → LinkState T → Type 0
 Grown before more after =
-    Grows before.limit (needed before more) before.storage after.storage × (after ≡ with_storage before after.storage)
+    Grows before.limit (needed before more) before.outgoing_capacity after.outgoing_capacity × (after ≡ with_outgoing_capacity before after.outgoing_capacity)
 
 -- the message stands behind what waits; or there is no memory for its tokens, and nothing is changed
 abbrev pub Put : {T : Type 0} → LinkState T → WireMessage → Result (Unit {0}) IoFault → LinkState T → Type 0
@@ -182,7 +182,7 @@ Put before m answer after =
     ⊎ ((answer ≡ Err fault.OutOfMemory) × (after ≡ before) × (tokens m.args ≢ []))
 
 abbrev pub has_room : {T : Type 0} → LinkState T → ℕ → Bool
-has_room l more = nat_le (needed l more) l.storage
+has_room l more = nat_le (needed l more) l.outgoing_capacity
 
 -- a flush in a write counts as done where the transport would block
 abbrev pub ignoring : Result (Unit {0}) IoFault → Result (Unit {0}) IoFault
@@ -211,7 +211,7 @@ abbrev pub WroteBy : {T : Type 0} → (T → Queue → Result ℕ IoFault → T 
 WroteBy {T = T} sends before m es answer after =
     MatchBool (nat_le (size m) 65535)
     (((es ≡ []) × (answer ≡ Err fault.OutOfMemory) × (after ≡ before)
-    × Wants before.limit (needed before (size m)) before.storage)
+    × Wants before.limit (needed before (size m)) before.outgoing_capacity)
     ⊎ ((grown : LinkState T) × Grown before (size m) grown × PlacedBy sends grown m es answer after))
     ((es ≡ []) × (answer ≡ Err fault.TooBig) × (after ≡ before))
 
@@ -242,12 +242,12 @@ incoming_limit None = 65536
 incoming_limit (Some limit) = min limit 65536
 
 -- the storage that a receive finds: one of which no byte is free is doubled, where it is smaller than it may become
-abbrev pub grown_room : {T : Type 0} → LinkState T → ℕ
-grown_room l = if nat_le l.room (length l.incoming.bytes) && nat_lt l.room (incoming_limit l.limit) then l.room * 2 else l.room
+abbrev pub grown_capacity : {T : Type 0} → LinkState T → ℕ
+grown_capacity l = if nat_le l.incoming_capacity (length l.incoming.bytes) && nat_lt l.incoming_capacity (incoming_limit l.limit) then l.incoming_capacity * 2 else l.incoming_capacity
 
 -- how many bytes of it are free
 abbrev pub free_room : {T : Type 0} → LinkState T → ℕ
-free_room l = grown_room l - length l.incoming.bytes
+free_room l = grown_capacity l - length l.incoming.bytes
 
 -- One receive is offered the free part of the storage, which is doubled first where no byte of it is free, and gives this.
 abbrev pub FilledBy : {T : Type 0} → (T → ℕ → Result Queue IoFault → T → Type 0)
@@ -255,7 +255,7 @@ abbrev pub FilledBy : {T : Type 0} → (T → ℕ → Result Queue IoFault → T
 FilledBy receives before received answer after =
     receives before.transport (free_room before) received after.transport
     × (answer ≡ counted_answer (count_of received))
-    × (after ≡ with_incoming (with_room before (grown_room before)) after.transport (with_came before.incoming received))
+    × (after ≡ with_incoming (with_incoming_capacity before (grown_capacity before)) after.transport (with_came before.incoming received))
 
 -- or there was no memory for that growth or for the tokens that a receive may give, and nothing was received
 abbrev pub Filled : {T : Type 0} → (T → ℕ → Result Queue IoFault → T → Type 0)

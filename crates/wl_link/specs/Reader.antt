@@ -44,7 +44,7 @@ pub record Reader (Core Event Finish : Type 0) : Type 0 where
   pub broken : Core → IoFault → Core
   pub faulted : Core → IoFault → Core
 
-pub record Part (T Core : Type 0) : Type 0 where
+pub record ReaderState (T Core : Type 0) : Type 0 where
   pub core : Core
   pub link : LinkState T
 
@@ -100,11 +100,11 @@ abbrev pub came_by : Result Queue IoFault → Queue
 came_by (Ok came) = came
 came_by (Err f) = nothing
 
-abbrev pub came_in : List Turn → Queue
-came_in [] = nothing
-came_in (Received r ∷ turns) = joined (came_by r) (came_in turns)
-came_in (Handled es ∷ turns) = came_in turns
-came_in (Unread es ∷ turns) = came_in turns
+abbrev pub received_in : List Turn → Queue
+received_in [] = nothing
+received_in (Received r ∷ turns) = joined (came_by r) (received_in turns)
+received_in (Handled es ∷ turns) = received_in turns
+received_in (Unread es ∷ turns) = received_in turns
 
 abbrev pub sends_in : List Turn → List Sending
 sends_in [] = []
@@ -113,7 +113,7 @@ sends_in (Handled es ∷ turns) = es ++ sends_in turns
 sends_in (Unread es ∷ turns) = es ++ sends_in turns
 
 module _ {T Core : Type 0} where
-  abbrev pub with_link : Part T Core → LinkState T → Part T Core
+  abbrev pub with_link : ReaderState T Core → LinkState T → ReaderState T Core
   with_link p link = record { core = p.core; link = link }
 
 -- ---- a verdict is carried out
@@ -129,7 +129,7 @@ module _ {Core Event Finish : Type 0} (reader : Reader Core Event Finish) where
   came_to v (Err f) = v.last (reader.broken v.core f)
 
 module _ {T Core Event Finish : Type 0} (sends : T → Queue → Result ℕ IoFault → T → Type 0) (reader : Reader Core Event Finish) where
-  abbrev pub Carries : Verdict Core Event → LinkState T → List Sending → List (Given Event) → Bool → Part T Core → Type 0
+  abbrev pub Carries : Verdict Core Event → LinkState T → List Sending → List (Given Event) → Bool → ReaderState T Core → Type 0
   Carries v before es gave refused after =
       (first : List Sending) × (others : List Sending) × (put : List Said) × (wrote : Result (Unit {0}) IoFault) × (mid : LinkState T) × (lacked : Bool)
       × PutsOut sends before v.puts first put wrote mid × FlushesOut sends v.flushes mid others lacked after.link
@@ -137,67 +137,67 @@ module _ {T Core Event Finish : Type 0} (sends : T → Queue → Result ℕ IoFa
       × (refused ≡ lacked_memory wrote || lacked)
 
   -- there is no memory, and nothing is put
-  abbrev pub Starves : Verdict Core Event → LinkState T → List Sending → List (Given Event) → Bool → Part T Core → Type 0
+  abbrev pub Starves : Verdict Core Event → LinkState T → List Sending → List (Given Event) → Bool → ReaderState T Core → Type 0
   Starves v before es gave refused after =
       (v.asks ≡ true) × (refused ≡ true) × (es ≡ []) × (gave ≡ map HandedOut (v.events v.starved)) × (after ≡ record { core = v.starved; link = before })
 
-  abbrev pub CarriesOut : Verdict Core Event → LinkState T → List Sending → List (Given Event) → Bool → Part T Core → Type 0
+  abbrev pub CarriesOut : Verdict Core Event → LinkState T → List Sending → List (Given Event) → Bool → ReaderState T Core → Type 0
   CarriesOut v before es gave refused after = Carries v before es gave refused after ⊎ Starves v before es gave refused after
 
   -- ---- a reading
 
-  abbrev pub ReadsAs : Part T Core → Result WireMessage MessageParseError → LinkState T → Type 0
+  abbrev pub ReadsAs : ReaderState T Core → Result WireMessage MessageParseError → LinkState T → Type 0
   ReadsAs p answer link = ReadOne (λ sender opcode found. found ≡ reader.signature p.core sender opcode) p.link answer link
 
-  abbrev pub Lacks : Part T Core → Type 0
+  abbrev pub Lacks : ReaderState T Core → Type 0
   Lacks p = ReadsAs p (Err parse.MissingData) p.link ⊎ ReadsAs p (Err parse.MissingFD) p.link
 
   -- the message at the front is there to its end, with its tokens
-  abbrev pub IsThereWhole : Part T Core → Type 0
+  abbrev pub IsThereWhole : ReaderState T Core → Type 0
   IsThereWhole p =
       (signature : List ArgumentType)
       × (reader.signature p.core (sender_of p.link.incoming.bytes) (opcode_of p.link.incoming.bytes) ≡ Some signature)
       × IsThere p.link.incoming.bytes signature p.link.incoming.tokens
 
   -- the message at the front asks for memory: before it is read, where it is there whole, or for its texts and arrays
-  abbrev pub FrontAsks : Part T Core → Type 0
+  abbrev pub FrontAsks : ReaderState T Core → Type 0
   FrontAsks p =
       ((reader.asks p.core (sender_of p.link.incoming.bytes) (opcode_of p.link.incoming.bytes) ≡ true) × IsThereWhole p)
       ⊎ ReadsAs p (Err parse.OutOfMemory) p.link
 
   -- the message at the front is taken, and comes to this; or malformed bytes, which stay
-  abbrev pub Takes : Part T Core → Verdict Core Event → LinkState T → Type 0
+  abbrev pub Takes : ReaderState T Core → Verdict Core Event → LinkState T → Type 0
   Takes p v link = (m : WireMessage) × ReadsAs p (Ok m) link × (v ≡ reader.handles p.core m)
 
-  abbrev pub Leaves : Part T Core → Verdict Core Event → LinkState T → Type 0
+  abbrev pub Leaves : ReaderState T Core → Verdict Core Event → LinkState T → Type 0
   Leaves p v link = ReadsAs p (Err parse.Malformed) p.link × (link ≡ p.link) × (v ≡ reader.malformed p.core)
 
   -- no receive is left; or there is no memory for what the message asks for, or for what a receive may give
-  abbrev pub Halts : ℕ → Part T Core → Gives Event → Type 0
+  abbrev pub Halts : ℕ → ReaderState T Core → Gives Event → Type 0
   Halts left p out =
       (Lacks p × (left ≡ 0) × (out ≡ stops (Some fault.WouldBlock) false left))
       ⊎ ((FrontAsks p × (out ≡ stops (Some fault.OutOfMemory) true left))
       ⊎ (Lacks p × ((n : ℕ) × (left ≡ suc n) × (out ≡ stops (Some fault.OutOfMemory) true n))))
 
-  abbrev pub Stops : ℕ → Part T Core → Gives Event → Type 0
+  abbrev pub Stops : ℕ → ReaderState T Core → Gives Event → Type 0
   Stops left p out = MatchBool (reader.reads_on p.core) (Halts left p out) (out ≡ stops None false left)
 
   -- a verdict is carried out, and then it goes on
-  abbrev pub Then : (Part T Core → Verdict Core Event → LinkState T → Type 0) → Part T Core → List Sending → Gives Event
-      → (Part T Core → Gives Event → Type 0) → Type 0
+  abbrev pub Then : (ReaderState T Core → Verdict Core Event → LinkState T → Type 0) → ReaderState T Core → List Sending → Gives Event
+      → (ReaderState T Core → Gives Event → Type 0) → Type 0
   Then Found before es out on =
       (reader.reads_on before.core ≡ true)
-      × ((v : Verdict Core Event) × (link : LinkState T) × (first : List (Given Event)) × (lacked : Bool) × (mid : Part T Core) × (rest : Gives Event)
+      × ((v : Verdict Core Event) × (link : LinkState T) × (first : List (Given Event)) × (lacked : Bool) × (mid : ReaderState T Core) × (rest : Gives Event)
       × Found before v link × CarriesOut v link es first lacked mid × (out ≡ behind first lacked rest) × on mid rest)
 
   -- A reading with so many receives left. A receive stands only where data or tokens lack, and it finds a byte free for a
   -- message that is no longer than the incoming storage may become.
-  abbrev pub Reads : (T → ℕ → Result Queue IoFault → T → Type 0) → ℕ → Part T Core → List Turn → Gives Event → Part T Core → Type 0
+  abbrev pub Reads : (T → ℕ → Result Queue IoFault → T → Type 0) → ℕ → ReaderState T Core → List Turn → Gives Event → ReaderState T Core → Type 0
   Reads receives left before [] out after = (after ≡ before) × Stops left before out
   Reads receives left before (Received r ∷ turns) out after =
       (reader.reads_on before.core ≡ true) × Lacks before
       × ((n : ℕ) × (left ≡ suc n)
-      × ((link : LinkState T) × FilledBy receives before.link r (counted_answer (count_of r)) link × FindsRoom before.link link.room
+      × ((link : LinkState T) × FilledBy receives before.link r (counted_answer (count_of r)) link × FindsRoom before.link link.incoming_capacity
       × MatchResult (counted_answer (count_of r))
       (λ _. Reads receives n (with_link before link) turns out after)
       (λ f. (turns ≡ []) × (out ≡ stops (Some f) (lacked_memory (Err f)) n) × (after ≡ record { core = reader.faulted before.core f; link = link }))))
@@ -207,6 +207,6 @@ module _ {T Core Event Finish : Type 0} (sends : T → Queue → Result ℕ IoFa
       Then Leaves before es out (λ mid rest. Reads receives left mid turns rest after)
 
   -- what is open is ended with these data, which it takes
-  abbrev pub Ends : Part T Core → Finish → List Sending → List (Given Event) → Bool → Part T Core → Type 0
+  abbrev pub Ends : ReaderState T Core → Finish → List Sending → List (Given Event) → Bool → ReaderState T Core → Type 0
   Ends before u es gave refused after =
       (v : Verdict Core Event) × (reader.takes before.core u ≡ Some v) × CarriesOut v before.link es gave refused after

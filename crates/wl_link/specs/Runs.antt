@@ -3,23 +3,23 @@
 -- A step is a call that changes something, with its arguments; what one does is a relation of the value before it, its
 -- reply, whether memory was refused in it, and the value after it. Of a call that moves a transport the relation names
 -- the transport's value after it.
-use Rattle.std.specs.Prelude.{◌≡◌, ◌⊎◌, ℕ, Bool, true, false, List, [], ◌∷◌, ◌++◌, length, reverse}
+use Rattle.std.specs.Prelude.{◌≡◌, ◌⊎◌, ℕ, Bool, true, false, List, [], ◌∷◌, ◌++◌, length}
 
 -- a step of a run, its reply, and whether memory was refused in it
-pub record Entry (Step Reply : Type 0) : Type 0 where
+pub record RunEntry (Step Reply : Type 0) : Type 0 where
   pub step : Step
   pub answer : Reply
   pub refused : Bool
 
 module _ {Step Reply : Type 0} where
   -- the steps in which no memory was refused, with their replies
-  abbrev pub entries : List Step → List Reply → List (Entry Step Reply)
+  abbrev pub entries : List Step → List Reply → List (RunEntry Step Reply)
   entries [] replies = []
   entries (s ∷ steps) [] = []
   entries (s ∷ steps) (r ∷ replies) = record { step = s; answer = r; refused = false } ∷ entries steps replies
 
   -- nothing, or the step behind so many, which met a want of memory
-  abbrev pub IsWhereItStops : List Step → ℕ → List (Entry Step Reply) → Type 0
+  abbrev pub IsWhereItStops : List Step → ℕ → List (RunEntry Step Reply) → Type 0
   IsWhereItStops steps n [] = Unit {0}
   IsWhereItStops steps n (e ∷ []) =
       (e.refused ≡ true) × ((done : List Step) × (left : List Step) × (steps ≡ done ++ e.step ∷ left) × (length done ≡ n))
@@ -34,7 +34,7 @@ AllSame same (r ∷ replies) (r' ∷ replies') = same r r' × AllSame same repli
 
 module _ {State Step Reply : Type 0} (makes : State → Step → Reply → Bool → State → Type 0) where
   -- the entries lead from one value to another
-  abbrev pub Leads : State → List (Entry Step Reply) → State → Type 0
+  abbrev pub Leads : State → List (RunEntry Step Reply) → State → Type 0
   Leads before [] after = after ≡ before
   Leads before (e ∷ run) after = (mid : State) × makes before e.step e.answer e.refused mid × Leads mid run after
 
@@ -52,9 +52,11 @@ module _ {State Step Reply : Type 0} (makes : State → Step → Reply → Bool 
   HasOneOutcome same =
       (before x y : State) (call : Step) (p q : Reply) → makes before call p false x → makes before call q false y → same p q × (x ≡ y)
 
-  -- ---- a run that is being made
+-- ---- the parts of a run
 
-  -- these steps were made and have these replies; what is left is kept with the last of it first
-  abbrev pub MadeSoFar : State → List Step → List Reply → List Step → State → Type 0
-  MadeSoFar start steps replies rest now =
-      (done : List Step) × (steps ≡ done ++ reverse rest) × (length done ≡ length replies) × Leads start (entries done replies) now
+-- Whichever entries stand before it and behind it: where those before lead from the run's begin to the value in which the
+-- part begins, and the part leads on, this holds of the part.
+abbrev pub EachPart : {S E : Type 0} → (S → List E → S → Type 0) → (S → List E → S → Type 0) → S → List E → Type 0
+EachPart {S = S} {E = E} Leads Holds begun run =
+    (earlier middle later : List E) (first last : S) → run ≡ earlier ++ (middle ++ later) → Leads begun earlier first → Leads first middle last
+    → Holds first middle last

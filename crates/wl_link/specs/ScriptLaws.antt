@@ -1,12 +1,10 @@
--- The laws of a transport, of the transport by script.
-use Rattle.std.specs.Prelude.{◌≡◌, ◌≢◌, ℕ, zero, suc, ◌≤◌, min, List, [], ◌∷◌, length, take, Result, Ok, Err}
-use Rattle.std.proofs.Common.{sym, ◌∙◌, ap, inl, inr, arith}
+-- The laws of a transport, of the transport by script: its `Transport` takes them.
+use Rattle.std.specs.Prelude.{◌≡◌, ℕ, zero, suc, ◌≤◌, min, List, [], ◌∷◌, length, take, Result, Ok, Err}
+use Rattle.std.proofs.Common.{ap, inl, inr, arith}
 use Rattle.std.proofs.lemmas.List.{length-take}
 use Rattle.wl_wire.specs.declared.error.IoFault.{IoFault}
-use Rattle.wl_wire.specs.declared.error.IoFault.TheVariants as fault
 use Rattle.wl_link.specs.Exchange.{Queue}
-use Rattle.wl_link.specs.Script.{Script, ScriptSends, ScriptReceives, count_taken, send_answer, script_after_send, given, script_gives, script_after_receive}
-use Rattle.wl_link.specs.OneLaws.{IsFunction, IsReceiveFunction}
+use Rattle.wl_link.specs.Script.{Script, ScriptSends, ScriptReceives, count_taken, given, script_gives}
 
 count_within : (answers : List (Result ℕ IoFault)) (offered n : ℕ) → Ok n ≡ count_taken answers offered → n ≤ offered
 count_within [] offered n e = let f : n ≡ offered = cc in omega arith
@@ -37,27 +35,3 @@ script_within_room before after room came (inr s) = let e = s.0 in absurd cc
 pub script_few_tokens : (before after : Script) (room : ℕ) (came : Queue) → ScriptReceives before room (Ok came) after → length came.tokens ≤ 28
 script_few_tokens before after room came (inl s) = s.0
 script_few_tokens before after room came (inr s) = let e = s.0 in absurd cc
-
--- ---- what a transport by script does follows from its value
-
-script_send_answered : (before after : Script) (offer : Queue) (answer : Result ℕ IoFault) → ScriptSends before offer answer after → answer ≢ Err fault.OutOfMemory
-    → (answer ≡ send_answer before offer) × (after ≡ script_after_send before offer)
-script_send_answered before after offer answer (inl s) ok = s
-script_send_answered before after offer answer (inr s) ok = absurd (ok s.0)
-
-pub script_sends_function : IsFunction ScriptSends
-script_sends_function before offer one two after after' s t ok ok' =
-    let a = script_send_answered before after offer one s ok in
-    let b = script_send_answered before after' offer two t ok' in
-    (a.0 ∙ sym b.0, a.1 ∙ sym b.1)
-
-script_receive_answered : (before after : Script) (room : ℕ) (answer : Result Queue IoFault) → ScriptReceives before room answer after → answer ≢ Err fault.OutOfMemory
-    → (answer ≡ script_gives before room) × (after ≡ script_after_receive before room)
-script_receive_answered before after room answer (inl s) ok = (s.1, s.2)
-script_receive_answered before after room answer (inr s) ok = absurd (ok s.0)
-
-pub script_receives_function : IsReceiveFunction ScriptReceives
-script_receives_function before room one two after after' s t ok ok' =
-    let a = script_receive_answered before after room one s ok in
-    let b = script_receive_answered before after' room two t ok' in
-    (a.0 ∙ sym b.0, a.1 ∙ sym b.1)

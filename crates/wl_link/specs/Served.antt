@@ -6,67 +6,63 @@ use Rattle.std.specs.Prelude.{◌≡◌, ◌⊎◌, ℕ, zero, suc, Bool, false,
 use Rattle.wl_wire.specs.declared.error.IoFault.{IoFault}
 use Rattle.wl_link.specs.Exchange.{Chain, Queue, Sending, joined}
 use Rattle.wl_link.specs.Link.{LinkState}
-use Rattle.wl_link.specs.Reader.{CarriesOut, Ends, Given, Lacks, Leaves, Part, Reader, Takes, Verdict}
+use Rattle.wl_link.specs.Reader.{CarriesOut, Ends, Given, Lacks, Leaves, ReaderState, Reader, Takes, Verdict}
 
 -- the answers to sends, in order
 abbrev pub Answers : Type 0
 Answers = List (Result ℕ IoFault)
 
-abbrev pub answers_of : List Sending → Answers
-answers_of [] = []
-answers_of (e ∷ es) = e.answer ∷ answers_of es
-
 -- the transport that answers each send by the next of the given answers
-abbrev pub Told : Answers → Queue → Result ℕ IoFault → Answers → Type 0
-Told before offer answer after = before ≡ answer ∷ after
+abbrev pub AsTold : Answers → Queue → Result ℕ IoFault → Answers → Type 0
+AsTold before offer answer after = before ≡ answer ∷ after
 
 abbrev pub link_as : {T S : Type 0} → LinkState T → Queue → S → LinkState S
 link_as l more transport = record {
   transport = transport;
   incoming = joined l.incoming more;
-  room = 0;
+  incoming_capacity = 0;
   outgoing = l.outgoing;
-  storage = l.storage;
+  outgoing_capacity = l.outgoing_capacity;
   limit = l.limit;
 }
 
 module _ {T Core : Type 0} where
   -- the part without its storage for reading, where more waits, over another transport
-  abbrev pub part_as : {S : Type 0} → Part T Core → Queue → S → Part S Core
-  part_as p more transport = record { core = p.core; link = link_as p.link more transport }
+  abbrev pub state_as : {S : Type 0} → ReaderState T Core → Queue → S → ReaderState S Core
+  state_as p more transport = record { core = p.core; link = link_as p.link more transport }
 
 module _ {T Core Event Finish : Type 0} (sends : T → Queue → Result ℕ IoFault → T → Type 0) (reader : Reader Core Event Finish) where
   -- ---- one turn
 
-  abbrev pub Finds : Part T Core → Verdict Core Event → LinkState T → Type 0
+  abbrev pub Finds : ReaderState T Core → Verdict Core Event → LinkState T → Type 0
   Finds p v link = Takes sends reader p v link ⊎ Leaves sends reader p v link
 
-  abbrev pub TakesNext : Part T Core → List Finish → List (Given Event) → Part T Core → List Finish → Type 0
+  abbrev pub TakesNext : ReaderState T Core → List Finish → List (Given Event) → ReaderState T Core → List Finish → Type 0
   TakesNext p [] gave after left = ⊥
   TakesNext p (u ∷ finishes) gave after left = (es : List Sending) × Ends sends reader p u es gave false after × (left ≡ finishes)
 
   -- what stands at the front is handled
-  abbrev pub Handles : Part T Core → List (Given Event) → Bool → Part T Core → Type 0
+  abbrev pub Handles : ReaderState T Core → List (Given Event) → Bool → ReaderState T Core → Type 0
   Handles p gave refused after = (v : Verdict Core Event) × (link : LinkState T) × (es : List Sending) × Finds p v link × CarriesOut sends reader v link es gave refused after
 
-  abbrev pub ServesOne : Part T Core → List Finish → List (Given Event) → Part T Core → List Finish → Type 0
+  abbrev pub ServesOne : ReaderState T Core → List Finish → List (Given Event) → ReaderState T Core → List Finish → Type 0
   ServesOne p finishes gave after left =
       MatchBool (reader.reads_on p.core) (Handles p gave false after × (left ≡ finishes)) (TakesNext p finishes gave after left)
 
-  abbrev pub Serves : ℕ → Part T Core → List Finish → List (Given Event) → Part T Core → List Finish → Type 0
+  abbrev pub Serves : ℕ → ReaderState T Core → List Finish → List (Given Event) → ReaderState T Core → List Finish → Type 0
   Serves zero p finishes gave after left = (gave ≡ []) × (after ≡ p) × (left ≡ finishes)
   Serves (suc n) p finishes gave after left =
-      (first : List (Given Event)) × (others : List (Given Event)) × (mid : Part T Core) × (between : List Finish)
+      (first : List (Given Event)) × (others : List (Given Event)) × (mid : ReaderState T Core) × (between : List Finish)
       × ServesOne p finishes first mid between × (gave ≡ first ++ others) × Serves n mid between others after left
 
   abbrev pub NoneFits : Core → List Finish → Type 0
   NoneFits core [] = Unit {0}
   NoneFits core (u ∷ finishes) = reader.takes core u ≡ None
 
-  abbrev pub Rests : Part T Core → List Finish → Type 0
+  abbrev pub Rests : ReaderState T Core → List Finish → Type 0
   Rests p finishes = MatchBool (reader.reads_on p.core) (Lacks sends reader p) (NoneFits p.core finishes)
 
-  pub record ServedFrom (p : Part T Core) (finishes : List Finish) (gave : List (Given Event)) (after : Part T Core) : Type 0 where
+  pub record ServedFrom (p : ReaderState T Core) (finishes : List Finish) (gave : List (Given Event)) (after : ReaderState T Core) : Type 0 where
     pub count : ℕ
     pub left : List Finish
     pub serves : Serves count p finishes gave after left
@@ -74,15 +70,15 @@ module _ {T Core Event Finish : Type 0} (sends : T → Queue → Result ℕ IoFa
 
 -- These bytes and tokens behind what waits, with these finishes and over this transport for the sends, are served to this, and
 -- lead there.
-abbrev pub Served : {T S Core Event Finish : Type 0} → (S → Queue → Result ℕ IoFault → S → Type 0) → Reader Core Event Finish → Part T Core → Queue → S → List Finish
-    → List (Given Event) → Part S Core → Type 0
-Served sends reader p more transport finishes gave after = ServedFrom sends reader (part_as p more transport) finishes gave after
+abbrev pub Served : {T S Core Event Finish : Type 0} → (S → Queue → Result ℕ IoFault → S → Type 0) → Reader Core Event Finish → ReaderState T Core → Queue → S → List Finish
+    → List (Given Event) → ReaderState S Core → Type 0
+Served sends reader p more transport finishes gave after = ServedFrom sends reader (state_as p more transport) finishes gave after
 
 -- Over each transport for sends that allows these sends, and whatever comes later: what is served of the one part over what
 -- came and then the rest is what was given, followed by what is served of the other over the rest.
-abbrev pub GoesOnAs : {T S Core Event Finish : Type 0} → (S → Queue → Result ℕ IoFault → S → Type 0) → Reader Core Event Finish → Part T Core → Queue → List Sending
-    → List Finish → List (Given Event) → Part T Core → List Finish → Type 0
+abbrev pub GoesOnAs : {T S Core Event Finish : Type 0} → (S → Queue → Result ℕ IoFault → S → Type 0) → Reader Core Event Finish → ReaderState T Core → Queue → List Sending
+    → List Finish → List (Given Event) → ReaderState T Core → List Finish → Type 0
 GoesOnAs {S = S} {Core = Core} {Event = Event} sends reader before came es finishes gave after left =
-    (rest : Queue) (first later : S) (all : List (Given Event)) (end : Part S Core) → Chain sends first es later →
+    (rest : Queue) (first later : S) (all : List (Given Event)) (end : ReaderState S Core) → Chain sends first es later →
     Served sends reader before (joined came rest) first finishes all end
     ↔ ((others : List (Given Event)) × (all ≡ gave ++ others) × Served sends reader after rest later left others end)

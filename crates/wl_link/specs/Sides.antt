@@ -168,7 +168,7 @@ roomy receives before room received after = receives before room received after 
 abbrev pub RoomLaw : {T : Type 0} → (T → ℕ → Result Queue IoFault → T → Type 0) → Type 0
 RoomLaw {T = T} receives =
     (look_up : ℕ → ℕ → Option (List ArgumentType)) (empty full : LinkState T) (got : List ReceiverCall)
-    → ReceiverRun receives look_up empty got full → empty.incoming ≡ nothing → 8 ≤ empty.room
+    → ReceiverRun receives look_up empty got full → empty.incoming ≡ nothing → 8 ≤ empty.incoming_capacity
     → EachWithin (incoming_limit empty.limit) (all_came got).bytes → InNeed true got → InTime got
     → ReceiverRun (roomy receives) look_up empty got full
 

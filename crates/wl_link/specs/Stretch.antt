@@ -7,8 +7,8 @@ use Rattle.wl_wire.specs.declared.error.IoFault.TheVariants as fault
 use Rattle.wl_wire.specs.declared.error.MessageParseError.TheVariants as parse
 use Rattle.wl_link.specs.Exchange.{Queue, Sending, joined, nothing}
 use Rattle.wl_link.specs.Link.{EachWithin, FrontFits, LinkState, incoming_limit, with_transport}
-use Rattle.wl_link.specs.Reader.{Ends, Given, Gives, IsFed, Lacks, Part, Reader, Reads, ReadsAs, Turn, came_by, with_link}
-use Rattle.wl_link.specs.Served.{Served, part_as}
+use Rattle.wl_link.specs.Reader.{Ends, Given, Gives, IsFed, Lacks, ReaderState, Reader, Reads, ReadsAs, Turn, came_by, with_link}
+use Rattle.wl_link.specs.Served.{Served, state_as}
 use Rattle.wl_link.specs.Script.{Script, ScriptReceives, ScriptSends}
 
 -- ---- what has not been received yet
@@ -75,19 +75,19 @@ module _ {Event Finish : Type 0} where
   EndsWaiting (_ ∷ acts) = EndsWaiting acts
 
 module _ {Core : Type 0} where
-  abbrev pub arrivals_of : Part Script Core → List (Result Queue IoFault)
+  abbrev pub arrivals_of : ReaderState Script Core → List (Result Queue IoFault)
   arrivals_of p = p.link.transport.arrivals
 
-  abbrev pub with_arrival : Part Script Core → Result Queue IoFault → Part Script Core
+  abbrev pub with_arrival : ReaderState Script Core → Result Queue IoFault → ReaderState Script Core
   with_arrival p r = with_link p (with_transport p.link (record p.link.transport { arrivals = arrivals_of p ++ r ∷ [] }))
 
 -- a byte of the incoming storage is free
 abbrev pub HasByteFree : LinkState Script → Type 0
-HasByteFree link = length link.incoming.bytes < link.room
+HasByteFree link = length link.incoming.bytes < link.incoming_capacity
 
 module _ {Core Event Finish : Type 0} (reader : Reader Core Event Finish) where
   -- memory is not refused in it
-  abbrev pub Does : Part Script Core → Act Event Finish → Part Script Core → Type 0
+  abbrev pub Does : ReaderState Script Core → Act Event Finish → ReaderState Script Core → Type 0
   Does before (Arrived r) after = IsFed r × (after ≡ with_arrival before r)
   Does before (HasRead out) after =
       (out.refused ≡ false) × ((left : ℕ) × (turns : List Turn) × Reads ScriptSends reader ScriptReceives left before turns out after)
@@ -95,9 +95,9 @@ module _ {Core Event Finish : Type 0} (reader : Reader Core Event Finish) where
       (reader.reads_on before.core ≡ false) × ((es : List Sending) × Ends ScriptSends reader before u es gave false after)
 
   -- the acts, one after another
-  abbrev pub DoesAll : Part Script Core → List (Act Event Finish) → Part Script Core → Type 0
+  abbrev pub DoesAll : ReaderState Script Core → List (Act Event Finish) → ReaderState Script Core → Type 0
   DoesAll before [] after = after ≡ before
-  DoesAll before (a ∷ acts) after = (mid : Part Script Core) × Does before a mid × DoesAll mid acts after
+  DoesAll before (a ∷ acts) after = (mid : ReaderState Script Core) × Does before a mid × DoesAll mid acts after
 
   -- the message at the front waits whole for its tokens
   abbrev pub LacksTokens : Core → LinkState Script → Type 0
@@ -108,12 +108,12 @@ module _ {Core Event Finish : Type 0} (reader : Reader Core Event Finish) where
   MayCome core link = FrontFits link × (LacksTokens core link → ⊥)
 
   -- a receive of no bytes may have ended the reader so, when this was its core, and data or tokens lacked
-  abbrev pub MayEndFrom : Core → Part Script Core → Type 0
+  abbrev pub MayEndFrom : Core → ReaderState Script Core → Type 0
   MayEndFrom core after = (after.core ≡ reader.faulted core fault.Pipe) × Lacks ScriptSends reader (record { core = core; link = after.link })
 
   -- No receive found the storage full: where one of no bytes may have ended the reader, a byte is free. So it is also where
   -- the rest of the message at the front may come, since then a receive finds a byte free.
-  abbrev pub NotFull : Part Script Core → Type 0
+  abbrev pub NotFull : ReaderState Script Core → Type 0
   NotFull after = (core : Core) → MayEndFrom core after → HasByteFree after.link ⊎ MayCome core after.link
 
   -- it reads on no more, and ends nothing
@@ -127,26 +127,26 @@ module _ {Core Event Finish : Type 0} (reader : Reader Core Event Finish) where
 
   -- The acts span from the one to the other: they end where the reader reads on no more, or with a reading that would block
   -- where no arrival is left.
-  pub record Spans (before : Part Script Core) (acts : List (Act Event Finish)) (after : Part Script Core) : Type 0 where
+  pub record Spans (before : ReaderState Script Core) (acts : List (Act Event Finish)) (after : ReaderState Script Core) : Type 0 where
     pub does : DoesAll before acts after
     pub pieces : AllPieces (arrivals_of before)
     pub ends : (reader.reads_on after.core ≡ false) ⊎ (EndsWaiting acts × (arrivals_of after ≡ []))
 
   -- a stretch, in which no receive found the storage full
-  pub record IsStretch (before : Part Script Core) (acts : List (Act Event Finish)) (after : Part Script Core) : Type 0 where
+  pub record IsStretch (before : ReaderState Script Core) (acts : List (Act Event Finish)) (after : ReaderState Script Core) : Type 0 where
     pub spans : Spans before acts after
     pub roomy : NotFull after
 
   -- A stretch of messages each of which is no longer than the incoming storage may become, and whose tokens come no later
   -- than its last byte: where its end may be a receive of no bytes, none waits whole for tokens.
-  pub record IsStretchWithin (before : Part Script Core) (acts : List (Act Event Finish)) (after : Part Script Core) : Type 0 where
+  pub record IsStretchWithin (before : ReaderState Script Core) (acts : List (Act Event Finish)) (after : ReaderState Script Core) : Type 0 where
     pub spans : Spans before acts after
     pub within : EachWithin (incoming_limit before.link.limit) (joined before.link.incoming (joined (left_over (arrivals_of before)) (arrived acts))).bytes
     pub in_time : (core : Core) → after.core ≡ reader.faulted core fault.Pipe → LacksTokens core after.link → ⊥
 
   -- What it gave, and what it came to, is what is served of all that arrived, with the data with which something was
   -- ended, over the script's answers to the sends.
-  abbrev pub IsServed : Part Script Core → List (Act Event Finish) → Part Script Core → Type 0
-  IsServed before acts after =
+  abbrev pub IsStretchServed : ReaderState Script Core → List (Act Event Finish) → ReaderState Script Core → Type 0
+  IsStretchServed before acts after =
       Served ScriptSends reader before (joined (left_over (arrivals_of before)) (arrived acts)) (sending_side before.link.transport) (ended acts) (given_in acts)
-      (part_as after (left_over (arrivals_of after)) (sending_side after.link.transport))
+      (state_as after (left_over (arrivals_of after)) (sending_side after.link.transport))

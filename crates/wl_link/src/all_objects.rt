@@ -59,7 +59,7 @@ impl<'a, Data> Model for RangeObjects<'a, Data> {
 
     ghost coded = { coded_list (coded× coded_ℕ (object_code Data.code)) };
 
-    ghost use Rattle.wl_link.specs.PlaceList.{entries_from};
+    ghost use Rattle.wl_link.specs.Inside.PlaceList.{entries_from};
 
     ghost view = { λ o. entries_from o.number o.slots.now };
 

@@ -3,7 +3,7 @@
 ghost use Rattle.std.specs.Prelude.{◌≡◌, ◌≢◌, ◌+◌, ◌-◌, ◌<◌, ◌≤◌, ◌^◌, [], length, take, drop, slice_range, Err, IfOk, OnOk, OnErr};
 ghost use Rattle.wl_wire.specs.MapIds.{numbered};
 ghost use Rattle.wl_wire.specs.Message.{IsMessage, size, tokens};
-ghost use Rattle.wl_link.specs.Storage.{waits, beside, arrived, Received, Appended};
+ghost use Rattle.wl_link.specs.Inside.Storage.{waits, beside, arrived, Received, Appended};
 
 use crate::token_queue::TokenQueue;
 use crate::transport::Transport;
@@ -26,7 +26,7 @@ pub struct Buffer {
 impl Model for Buffer {
     ghost use Rattle.std.specs.Prelude.{◌<◌, ◌≤◌, slice_range};
     ghost use Rattle.std.specs.Vec.{vec_len};
-    ghost use Rattle.wl_link.specs.Storage.{Waiting};
+    ghost use Rattle.wl_link.specs.Inside.Storage.{Waiting};
 
     ghost Value = { Waiting };
 

@@ -1,15 +1,16 @@
 //! The buffered link over a transport.
 
-ghost use Rattle.std.specs.Prelude.{◌≡◌, ◌≢◌, ◌+◌, ◌<◌, ◌≤◌, ◌∷◌, [], length, take, ◌↔◌, nat_le, if◌then◌else◌, IsTrue, Some, Ok, Err, IfOk, OnOk, OnErr, MatchOption, MatchResult};
+ghost use Rattle.std.specs.Prelude.{◌≡◌, ◌≢◌, ◌+◌, ◌<◌, ◌≤◌, ◌∷◌, [], length, take, ◌↔◌, nat_le, if◌then◌else◌, IsTrue, Some, Ok, Err, IfOk, IfErr, OnOk, OnErr, MatchOption, MatchResult};
 ghost use Rattle.std.specs.Borrow.{sem};
 ghost use Rattle.wl_wire.specs.Argument.{Matches};
 ghost use Rattle.wl_wire.specs.MapIds.{numbered};
 ghost use Rattle.wl_wire.specs.Message.{IsMessage, content, size};
-ghost use Rattle.wl_wire.specs.Parse.{IsThere, sender_of, opcode_of};
-ghost use Rattle.wl_link.specs.Link.{IsFresh, LimitSet, Flushed, Filled, Grown, Wants, Put, Placed, Wrote, ReadOne, looked_up, read_content, read_into, needed, has_room, ignoring, counted_answer, grown_room, with_room, FindsRoom};
+ghost use Rattle.wl_wire.specs.declared.error.MessageParseError.TheVariants as parse;
+ghost use Rattle.wl_wire.specs.Parse.{IsInline, IsThere, ReadsMessage, RefusesMessage, sender_of, opcode_of};
+ghost use Rattle.wl_link.specs.Link.{IsFresh, LimitSet, Flushed, Filled, Grown, Wants, Put, Placed, Wrote, ReadOne, looked_up, read_content, read_into, needed, has_room, ignoring, counted_answer, grown_capacity, with_incoming_capacity, with_incoming, behind_first, FindsRoom};
 ghost use Rattle.wl_link.specs.Kept.{FlushKeeps, FlushDrains, WriteKeeps};
 ghost use Rattle.wl_link.specs.Sides.{ReadTakes};
-ghost use Rattle.wl_link.specs.Storage.{write_answer_of};
+ghost use Rattle.wl_link.specs.Inside.Storage.{write_answer_of};
 
 use crate::buffer::Buffer;
 use crate::limit::{DEFAULT_MAX_BUFFER_SIZE, grown_size, incoming_limit, rounded};
@@ -38,16 +39,16 @@ pub struct BufferedSocket<T> {
 
 impl<T> Model for BufferedSocket<T> {
     ghost use Rattle.wl_link.specs.Link.{LinkState};
-    ghost use Rattle.wl_link.specs.Storage.{beside};
+    ghost use Rattle.wl_link.specs.Inside.Storage.{beside};
 
     ghost Value = { LinkState T };
 
     ghost view = { λ s. record {
       transport = s.transport;
       incoming = beside s.incoming.bytes s.fds_in.items;
-      room = s.incoming.size;
+      incoming_capacity = s.incoming.size;
       outgoing = beside s.outgoing.bytes s.fds_out;
-      storage = s.outgoing.size;
+      outgoing_capacity = s.outgoing.size;
       limit = s.limit;
     } };
 }
@@ -108,7 +109,7 @@ impl<T> BufferedSocket<T> {
 
     /// How many bytes the incoming and the outgoing storage hold.
     pub fn storage(&self) -> [usize; 2]
-        ensures { result ≡ self.now.room ∷ self.now.storage ∷ [] }
+        ensures { result ≡ self.now.incoming_capacity ∷ self.now.outgoing_capacity ∷ [] }
     {
         [self.incoming.size(), self.outgoing.size()]
     }
@@ -165,12 +166,22 @@ impl<T> BufferedSocket<T> {
         ensures matches { IfOk result (λ m. (found : _) × looked_up (F.post signature) m.sender_id m.opcode (Some found) × Matches found m.args.items) }
         ensures fewer { OnOk result (length self.new.incoming.bytes < length self.old.incoming.bytes) }
     {
+        let Some(header) = message_header(self.incoming.bytes()) else {
+            return Err(MessageParseError::MissingData);
+        };
+        let Some(signature) = signature(header.sender_id, header.opcode) else {
+            return Err(MessageParseError::Malformed);
+        };
+        // Where a part of the message is missing, no place is made for it.
+        if 8 <= header.len && self.incoming.len() < header.len {
+            return Err(MessageParseError::MissingData);
+        }
         let mut message = Message {
             sender_id: 0,
             opcode: 0,
             args: SmallVec::new(*self.fds_in.allocator()),
         };
-        self.read_into(signature, &mut message)?;
+        self.read_under(signature, &mut message)?;
         Ok(message)
     }
 
@@ -192,7 +203,6 @@ impl<T> BufferedSocket<T> {
         ensures fewer { OnOk result (length self.new.incoming.bytes < length self.old.incoming.bytes) }
         ensures capacity { INLINE_ARGS ≤ message.new.args.capacity }
     {
-        let alloc = *self.fds_in.allocator();
         let bytes = self.incoming.bytes();
         let Some(header) = message_header(bytes) else {
             return Err(MessageParseError::MissingData);
@@ -200,10 +210,46 @@ impl<T> BufferedSocket<T> {
         let Some(signature) = signature(header.sender_id, header.opcode) else {
             return Err(MessageParseError::Malformed);
         };
+        self.read_under(signature, message)?;
+        Ok(())
+    }
+
+    /// Reads the message at the front of what was received under the signature, in a place for it.
+    fn read_under(
+        &mut self,
+        signature: &[ArgumentType],
+        message: &mut Message<u32, Token>,
+    ) -> Result<(), MessageParseError>
+        requires inline { INLINE_ARGS ≤ message.old.args.capacity }
+        ensures found { OnOk result (ReadsMessage self.old.incoming.bytes signature.now self.old.incoming.tokens (content message.new)) }
+        ensures taken { OnOk result (self.new ≡ with_incoming self.old self.old.transport (behind_first signature.now self.old.incoming)) }
+        ensures matches { OnOk result (Matches signature.now message.new.args.items) }
+        ensures refused { IfErr result (RefusesMessage self.old.incoming.bytes signature.now self.old.incoming.tokens) }
+        ensures small { IsInline signature.now → IfErr result (λ e. e ≢ parse.OutOfMemory) }
+        ensures unchanged { OnErr result (self.new ≡ self.old) }
+        ensures capacity { INLINE_ARGS ≤ message.new.args.capacity }
+    {
+        let alloc = *self.fds_in.allocator();
+        let bytes = self.incoming.bytes();
         let rest = parse_into(alloc, bytes, signature, &mut self.fds_in, message)?;
         let len = bytes.len() - rest.len();
         self.incoming.consume(len);
         Ok(())
+    }
+
+    /// The same under this signature, whatever the sender and the opcode are.
+    pub fn read_with_signature(
+        &mut self,
+        signature: &[ArgumentType],
+        message: &mut Message<u32, Token>,
+    ) -> Result<(), MessageParseError>
+        requires { INLINE_ARGS ≤ message.old.args.capacity }
+        ensures read { ReadOne (λ _ _ found. found ≡ Some signature.now) self.old (read_into result message.new) self.new }
+        ensures matches { OnOk result (Matches signature.now message.new.args.items) }
+        ensures fewer { OnOk result (length self.new.incoming.bytes < length self.old.incoming.bytes) }
+        ensures capacity { INLINE_ARGS ≤ message.new.args.capacity }
+    {
+        self.read_into(|_, _| Some(signature), message)
     }
 
     /// Whether the outgoing storage has room for that many bytes more.
@@ -218,7 +264,7 @@ impl<T> BufferedSocket<T> {
     fn grow_for(&mut self, more: usize) -> Result<(), OutOfMemory>
         requires { more ≤ 65535 }
         ensures { MatchResult result (λ _. Grown self.old more self.new)
-            (λ _. (self.new ≡ self.old) × Wants self.old.limit (needed self.old more) self.old.storage) }
+            (λ _. (self.new ≡ self.old) × Wants self.old.limit (needed self.old more) self.old.outgoing_capacity) }
     {
         let size = self.outgoing.size();
         let needed = self.outgoing.len() + more;
@@ -234,10 +280,10 @@ impl<T> BufferedSocket<T> {
     /// Makes room for the most tokens that a receive may give, and for a byte, where the limit allows it. Where there is
     /// no memory, both sides stay as they were.
     fn grow_incoming(&mut self) -> Result<(), OutOfMemory>
-        ensures ok { OnOk result (self.new ≡ with_room self.old (grown_room self.old)) }
+        ensures ok { OnOk result (self.new ≡ with_incoming_capacity self.old (grown_capacity self.old)) }
         ensures err { OnErr result (self.new ≡ self.old) }
-        ensures room { OnOk result (FindsRoom self.old self.new.room) }
-        ensures doubled { FindsRoom self.old (grown_room self.old) }
+        ensures room { OnOk result (FindsRoom self.old self.new.incoming_capacity) }
+        ensures doubled { FindsRoom self.old (grown_capacity self.old) }
     {
         let size = self.incoming.size();
         self.fds_in.reserve(MAX_FDS_OUT)?;
@@ -400,8 +446,8 @@ impl<T: Transport> BufferedSocket<T> {
     /// is `OutOfMemory`, and nothing was received.
     pub fn fill_incoming_buffers(&mut self) -> Result<(), IoFault>
         ensures filled { Filled T.receives self.old result self.new }
-        ensures room { result ≢ Err IoFault.OutOfMemory → FindsRoom self.old self.new.room }
-        ensures doubled { FindsRoom self.old (grown_room self.old) }
+        ensures room { result ≢ Err IoFault.OutOfMemory → FindsRoom self.old self.new.incoming_capacity }
+        ensures doubled { FindsRoom self.old (grown_capacity self.old) }
     {
         let Ok(()) = self.grow_incoming() else {
             return Err(IoFault::OutOfMemory);

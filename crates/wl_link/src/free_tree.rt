@@ -2,7 +2,7 @@
 
 ghost use Rattle.std.specs.Prelude.{◌≡◌, ◌≢◌, ◌+◌, ◌<◌, ◌≤◌, ℕ, Bool, true, false, [], ◌∷◌, ◌++◌, length, Vec, vec_len, OnErr, OnOk, IfOk};
 ghost use Rattle.std.specs.Int.{bit_at};
-ghost use Rattle.wl_link.specs.FreeTree.{word, as_bit, has_room, is_ready, lowest_bit, with_first, words_of, height, reads_of, IsTree, IsSomeTree, HasFlag, HasHeight, IsLeastOf, KeepsFlags, ChangesFlag, AddsFlag, RoomMade};
+ghost use Rattle.wl_link.specs.Inside.FreeTree.{word, as_bit, has_room, is_ready, lowest_bit, with_first, words_of, height, reads_of, IsTree, IsSomeTree, HasFlag, HasHeight, IsLeastOf, KeepsFlags, ChangesFlag, AddsFlag, RoomMade};
 
 use std::alloc::{AllocError, Global};
 
@@ -34,7 +34,11 @@ impl FreeTree {
         ensures reads { reads.new ≡ reads.old + reads_of result (words_of self.now.levels.items) }
         ensures height { HasHeight (words_of self.now.levels.items) }
     {
-        least(self.levels.as_slice(), reads)
+        // Up to 64 places have one word, and no level above is asked.
+        match self.levels.as_slice().split_first() {
+            Some((words, _)) if words.len() == 1 => lowest(words, 0, reads),
+            _ => least(self.levels.as_slice(), reads),
+        }
     }
 
     /// Says of a place whether it is free.

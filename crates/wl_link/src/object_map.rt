@@ -5,7 +5,7 @@ ghost use Rattle.std.specs.Fn.{FnOnceReturnsAtMut};
 ghost use Rattle.std.specs.FinMap as map;
 ghost use Rattle.wl_link.specs.Store.{client_range, server_range, empty_store, first_unused, held, is_free, removed, IsWalk};
 ghost use Rattle.wl_link.specs.ObjectMap.{InsertsAt, InsertsNew, NextNew, InsertionsGive, WordsRead, Lends};
-ghost use Rattle.wl_link.specs.PlaceList.{IsPlaceOf};
+ghost use Rattle.wl_link.specs.Inside.PlaceList.{IsPlaceOf};
 ghost use Rattle.wl_link.specs.declared.object_map.InsertError.TheVariants as insert;
 ghost use Rattle.wl_link.specs.declared.object_map.NewError.TheVariants as new;
 
@@ -61,8 +61,9 @@ pub enum NewError {
 /// ```
 ///
 /// The instructions that `valgrind --tool=callgrind` collects of the built program with 110,000 rounds, less those with
-/// 10,000, are those of 100,000 rounds: 117 a round with 10 objects, 176 with 100 and with 1000, 235 with 10,000 and
-/// with 100,000. By the clock a round took 14 ns with 10 objects and 22 ns with 100,000.
+/// 10,000, are those of 100,000 rounds: 91 a round with 10 objects, 169 with 100 and with 1000, 229 with 10,000 and
+/// with 100,000. By the clock, with much other work on the machine, a round took 12 ns with 10 objects and 38 ns with
+/// 100,000.
 #[derive(Drop)]
 pub struct ObjectMap<Data> {
     clients: Places<Data>,
@@ -78,7 +79,7 @@ impl<Data> Model for ObjectMap<Data> {
 
     ghost coded = { map_code Data.code };
 
-    ghost use Rattle.wl_link.specs.PlaceList.{has_place_room, store_of, Whole};
+    ghost use Rattle.wl_link.specs.Inside.PlaceList.{has_place_room, store_of, Whole};
 
     ghost view = { λ m. record {
       store = store_of m.clients.slots.items m.servers.slots.items;
@@ -178,13 +179,8 @@ impl<Data: Drop> ObjectMap<Data> {
         ensures words_read { WordsRead client_range self.old.store self.new.words_read }
         ensures few_words { self.new.words_read ≤ 6 }
     {
-        match self
-            .clients
-            .insert_new(CLIENT_PLACES, object, &mut self.words_read)
-        {
-            Ok(at) => Ok(at as u32 + 1),
-            Err(error) => Err(error),
-        }
+        self.clients
+            .insert_new(1, CLIENT_PLACES, object, &mut self.words_read)
     }
 
     /// Puts a new object of the server at the least number of the server's range that holds none, and answers that
@@ -196,13 +192,7 @@ impl<Data: Drop> ObjectMap<Data> {
         ensures words_read { WordsRead server_range self.old.store self.new.words_read }
         ensures few_words { self.new.words_read ≤ 4 }
     {
-        match self
-            .servers
-            .insert_new(SERVER_PLACES, object, &mut self.words_read)
-        {
-            Ok(at) => Ok(at as u32 + SERVER_ID_LIMIT),
-            Err(error) => Err(error),
-        }
+        self.servers.insert_new(SERVER_ID_LIMIT, SERVER_PLACES, object, &mut self.words_read)
     }
 
     /// The number that `client_insert_new` would give, or none where each number of its range holds an object. It

@@ -2,7 +2,7 @@
 
 ghost use Rattle.std.specs.Prelude.{◌≡◌, ◌+◌, ◌<◌, ◌≤◌, [], length, true, false, None, Some, Err, OnOk, OnErr, IsSome, option_copied};
 ghost use Rattle.std.specs.Fn.{FnOnceReturnsAtMut};
-ghost use Rattle.wl_link.specs.PlaceList.{place, put_len, has_place_room, Puts, PutsAt, PutsNew, LendsAt, IsFirstFree, ShowsFree, WordsReadIn, ReadsFew, entries_from};
+ghost use Rattle.wl_link.specs.Inside.PlaceList.{place, put_len, has_place_room, Puts, PutsAt, PutsNew, LendsAt, IsFirstFree, ShowsFree, WordsReadIn, ReadsFew, entries_from};
 ghost use Rattle.wl_link.specs.declared.object_map.InsertError.TheVariants as insert;
 ghost use Rattle.wl_link.specs.declared.object_map.NewError.TheVariants as new;
 
@@ -91,11 +91,28 @@ impl<Data: Drop> Places<Data> {
         if at < self.slots.len() {
             self.slots[at] = Some(object);
             self.free.mark(at, false);
-        } else {
-            self.free.reserve()?;
-            self.slots.push(Some(object))?;
-            self.free.push(at);
+            return Ok(());
         }
+        self.append(at, object)
+    }
+
+    /// Adds the place after the last, with the object.
+    ///
+    /// It stands apart, so that a place that was in use before pays for none of it.
+    #[inline(never)]
+    fn append(&mut self, at: usize, object: Object<Data>) -> Result<(), OutOfMemory>
+        requires last { at ≡ length self.old.slots.items }
+        requires fits { length self.old.slots.items + 1 < 4294967296 }
+        requires free { ShowsFree self.old.slots.items self.old.free.levels.items }
+        ensures free { ShowsFree self.new.slots.items self.new.free.levels.items }
+        ensures places { OnOk result (Puts self.old.slots.items at (Some object) self.new.slots.items) }
+        ensures len { OnOk result (length self.new.slots.items ≡ put_len at (length self.old.slots.items)) }
+        ensures err { OnErr result (self.new.slots.items ≡ self.old.slots.items) }
+        ensures full { OnErr result (has_place_room self.old.slots self.old.free.levels ≡ false) }
+    {
+        self.free.reserve()?;
+        self.slots.push(Some(object))?;
+        self.free.push(at);
         Ok(())
     }
 
@@ -118,18 +135,20 @@ impl<Data: Drop> Places<Data> {
         }
     }
 
-    /// Puts a new object at the first place without one, if that is below `end`, and answers the place. How many words
-    /// were read to find it is put into `words_read`.
+    /// Puts a new object at the first place without one, if that is below `end`, and answers its number, where the first
+    /// place has this number. How many words were read to find it is put into `words_read`.
     pub(crate) fn insert_new(
         &mut self,
+        first: u32,
         end: usize,
         object: Object<Data>,
         words_read: &mut u32,
-    ) -> Result<usize, NewError>
+    ) -> Result<u32, NewError>
         requires fits { length self.old.slots.items + 1 < 4294967296 }
+        requires numbers { end + first ≤ 4294967296 }
         requires free { ShowsFree self.old.slots.items self.old.free.levels.items }
         ensures free { ShowsFree self.new.slots.items self.new.free.levels.items }
-        ensures places { PutsNew self.old.slots.items end object result self.new.slots.items }
+        ensures places { PutsNew self.old.slots.items first end object result self.new.slots.items }
         ensures full { result ≡ Err new.OutOfMemory → has_place_room self.old.slots self.old.free.levels ≡ false }
         ensures kept { OnErr result (has_place_room self.old.slots self.old.free.levels ≡ true
             → has_place_room self.new.slots self.new.free.levels ≡ true) }
@@ -141,7 +160,7 @@ impl<Data: Drop> Places<Data> {
             return Err(NewError::IdsExhausted);
         }
         match self.put(at, object) {
-            Ok(()) => Ok(at),
+            Ok(()) => Ok(at as u32 + first),
             Err(OutOfMemory) => Err(NewError::OutOfMemory),
         }
     }

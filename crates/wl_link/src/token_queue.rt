@@ -58,6 +58,9 @@ impl TokenQueue {
     pub fn drop_first(&mut self, most: usize)
         ensures { self.new ≡ drop most self.old }
     {
+        if self.tokens.is_empty() {
+            return;
+        }
         let start = self.start + most.min(self.tokens.len() - self.start);
         if start < self.tokens.len() - start {
             self.start = start;

@@ -1,9 +1,9 @@
 -- What holds of each client of a server over a run, of one and the same history of deeds.
 use Rattle.std.specs.Prelude.{List, [], ◌∷◌, ◌++◌, length}
 use Rattle.wl_wire.specs.Table.{InterfaceRow}
-use Rattle.wl_link.specs.Runs.{Entry as RunEntry, IsWhereItStops, entries}
-use Rattle.wl_server.specs.declared.step.Reply.{Reply}
-use Rattle.wl_server.specs.declared.step.Step.{Step}
+use Rattle.wl_link.specs.Runs.{RunEntry, IsWhereItStops, entries}
+use Rattle.wl_server.specs.declared.runs.step.Reply.{Reply}
+use Rattle.wl_server.specs.declared.runs.step.Step.{Step}
 use Rattle.wl_server.specs.Announced.{EachAnnouncesShown}
 use Rattle.wl_server.specs.Identified.{EachHasOwnIds}
 use Rattle.wl_server.specs.Logged.{EachLogIsSpelled}

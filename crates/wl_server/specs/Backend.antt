@@ -1,8 +1,8 @@
 -- What contracts see of a backend: the server, and whether its last call met a want of memory.
 use Rattle.std.specs.Prelude.{Bool, false}
-use Rattle.wl_link.specs.KeptLaws.{Within}
-use Rattle.wl_server.specs.declared.step.Reply.{Reply}
-use Rattle.wl_server.specs.declared.step.Step.{Step}
+use Rattle.wl_link.specs.Exchange.{IsWithinOffer}
+use Rattle.wl_server.specs.declared.runs.step.Reply.{Reply}
+use Rattle.wl_server.specs.declared.runs.step.Step.{Step}
 use Rattle.wl_server.specs.Accounts.{StaysAccountedFor}
 use Rattle.wl_server.specs.Ids.{ClientParts}
 use Rattle.wl_server.specs.PartStep.{Changed, World}
@@ -17,9 +17,9 @@ pub record BackendState (T U G C : Type 0) : Type 0 where
 -- laws of runs hold of the run with this call: of one history, over a transport that takes no more than it is offered.
 pub record Calls {T U G C : Type 0} (w : World T G C) (before : BackendState T U G C) (call : Step T U G C) (answer : Reply T U) (after : BackendState T U G C) : Type 0 where
   pub step : StepOf w before.server call answer after.refused after.server
-  pub accounted : Within w.sends → StaysAccountedFor w before.server step.0 after.server
+  pub accounted : IsWithinOffer w.sends → StaysAccountedFor w before.server step.0 after.server
 
 -- What a change of a client's transport does: it is a call of its own, and so it is behind it.
 pub record IsChange {T U G C : Type 0} (w : World T G C) (before : ServerState T U G C) (id : ClientParts) (t : T) (after : ServerState T U G C) : Type 0 where
   pub step : Makes w before (Changed id t) false after
-  pub accounted : Within w.sends → StaysAccountedFor w before step.0 after
+  pub accounted : IsWithinOffer w.sends → StaysAccountedFor w before step.0 after

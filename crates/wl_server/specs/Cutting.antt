@@ -6,14 +6,13 @@
 use Rattle.std.specs.Prelude.{◌≡◌, ℕ, Bool, false, List, ◌∷◌, ◌++◌, map, None, Some, Result, Ok}
 use Rattle.wl_wire.specs.declared.error.IoFault.{IoFault}
 use Rattle.wl_link.specs.Exchange.{Queue, Sending, nothing}
-use Rattle.wl_link.specs.Reader.{AllFed, Ends, Given, Gives, Reads, Turn, came_in, sends_in}
-use Rattle.wl_link.specs.Reader.{Part as ReaderPart}
-use Rattle.wl_link.specs.Served.{Answers, GoesOnAs, Served, Told as AsTold}
-use Rattle.wl_server.specs.declared.action.Reading.{Reading}
+use Rattle.wl_link.specs.Reader.{AllFed, Ends, Given, Gives, Reads, Turn, received_in, sends_in, ReaderState}
+use Rattle.wl_link.specs.Served.{Answers, GoesOnAs, Served, AsTold}
+use Rattle.wl_server.specs.declared.reading.action.Reading.{Reading}
 use Rattle.wl_server.specs.declared.error.ActionError.{ActionError}
 use Rattle.wl_server.specs.declared.error.FinishRefused.{FinishRefused}
-use Rattle.wl_server.specs.declared.step.Reply.TheVariants as reply
-use Rattle.wl_server.specs.declared.step.Step.TheVariants as step
+use Rattle.wl_server.specs.declared.runs.step.Reply.TheVariants as reply
+use Rattle.wl_server.specs.declared.runs.step.Step.TheVariants as step
 use Rattle.wl_server.specs.Deeds.{Deed, Handed, Sent, notes_in}
 use Rattle.wl_server.specs.Ids.{ClientParts}
 use Rattle.wl_server.specs.Part.{Part}
@@ -26,18 +25,18 @@ use Rattle.wl_server.specs.Telling.{Core, Finish, OfBind, OfRequest, Told, deeds
 module _ {T U G C : Type 0} (a : Around G C) where
   -- With this behind what waits, these answers to the sends, and the data of these finishes, a client is given this and
   -- comes to this.
-  abbrev pub IsServed : ReaderPart T (Core U C) → Queue → Answers → List (Finish U) → List (Given (Told U)) → ReaderPart Answers (Core U C) → Type 0
+  abbrev pub IsServed : ReaderState T (Core U C) → Queue → Answers → List (Finish U) → List (Given (Told U)) → ReaderState Answers (Core U C) → Type 0
   IsServed p more answers finishes gave end = Served AsTold (server a) p more answers finishes gave end
 
   -- Whatever comes later, and whatever later sends are answered: what is served of the one over what came and then the
   -- rest, with the answers to these sends before the later ones, is what was given, followed by what is served of the other
   -- over the rest.
-  abbrev pub GoesOn : ReaderPart T (Core U C) → Queue → List Sending → List (Finish U) → List (Given (Told U)) → ReaderPart T (Core U C)
+  abbrev pub GoesOn : ReaderState T (Core U C) → Queue → List Sending → List (Finish U) → List (Given (Told U)) → ReaderState T (Core U C)
       → List (Finish U) → Type 0
   GoesOn before came es finishes gave after left = GoesOnAs AsTold (server a) before came es finishes gave after left
 
   -- what is held of a client that a call left so, with these deeds
-  abbrev pub seen_after : Seen T U C → ReaderPart T (Core U C) → List (Deed U) → Seen T U C
+  abbrev pub seen_after : Seen T U C → ReaderState T (Core U C) → List (Deed U) → Seen T U C
   seen_after before end did = record { part = Some (part_of end); made = before.made ++ notes_in did }
 
   -- A reading of a live client with no action open is some turns, with this answer and these deeds. Where each of its
@@ -47,19 +46,19 @@ module _ {T U G C : Type 0} (a : Around G C) where
       → Result Handed ActionError → List (Deed U) → Seen T U C → Type 0
   CutsReading sends receives r before answer did after =
       (p : Part T U C) → before.part ≡ Some p → p.is_killed ≡ false → p.action ≡ None →
-      (turns : List Turn) × (out : Gives (Told U)) × (end : ReaderPart T (Core U C))
+      (turns : List Turn) × (out : Gives (Told U)) × (end : ReaderState T (Core U C))
       × Reads sends (server a) receives r.turns_left (reader_part p) turns out end
       × (answer ≡ answered out.stopped out.gave)
       × (did ≡ deeds_of (exchanges_in turns) out.gave end.core)
       × (after ≡ seen_after before end did)
-      × (AllFed turns → (finishes : List (Finish U)) → GoesOn (reader_part p) (came_in turns) (sends_in turns) finishes out.gave end finishes)
+      × (AllFed turns → (finishes : List (Finish U)) → GoesOn (reader_part p) (received_in turns) (sends_in turns) finishes out.gave end finishes)
 
   -- an accepted finish of a live client, with these deeds, is the next of the finishes
   abbrev pub CutsFinish : {D : Type 0} → (T → Queue → Result ℕ IoFault → T → Type 0) → Finish U → Seen T U C → Result (Unit {0}) (FinishRefused D)
       → List (Deed U) → Seen T U C → Type 0
   CutsFinish sends u before answer did after =
       (p : Part T U C) → before.part ≡ Some p → p.is_killed ≡ false → answer ≡ Ok tt →
-      (es : List Sending) × (gave : List (Given (Told U))) × (end : ReaderPart T (Core U C))
+      (es : List Sending) × (gave : List (Given (Told U))) × (end : ReaderState T (Core U C))
       × Ends sends (server a) (reader_part p) u es gave false end
       × (did ≡ deeds_of (map Sent es) gave end.core)
       × (after ≡ seen_after before end did)
@@ -74,7 +73,7 @@ EachIsServed {T = T} {U = U} {G = G} {C = C} w run after =
     (id : ClientParts) (transport : T) (info : C) (earlier later : List (Entry T U G C)) (e : Entry T U G C) →
     run ≡ earlier ++ e ∷ later → e.call ≡ Asked (step.InsertClient transport info) (reply.InsertClient (Ok id)) →
     (p : Part T U C) → (seen id after).part ≡ Some p → (more : Queue) (finishes : List (Finish U)) →
-    (answers : Answers) × (gave : List (Given (Told U))) × (end : ReaderPart Answers (Core U C))
+    (answers : Answers) × (gave : List (Given (Told U))) × (end : ReaderState Answers (Core U C))
     × IsServed (around w id after.offer) (reader_part p) more answers finishes gave end
 
 -- ---- the calls of a server

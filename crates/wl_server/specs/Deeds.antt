@@ -2,16 +2,16 @@
 --
 -- Each call comes with its deeds, and what is told of a call to others hides them. No program stores them. The log of a
 -- client, what its transport took, what its registries announced and what was noted are read off them.
-use Rattle.std.specs.Prelude.{ℕ, List, [], ◌∷◌, Bool, Option, None, Some, Result}
+use Rattle.std.specs.Prelude.{◌≡◌, ◌⊎◌, ℕ, List, [], ◌∷◌, Bool, Option, None, Some, Result}
 use Rattle.wl_wire.specs.declared.argument.Argument.{Argument}
 use Rattle.wl_wire.specs.declared.argument.Token.{Token}
 use Rattle.wl_wire.specs.declared.error.IoFault.{IoFault}
 use Rattle.wl_link.specs.Exchange.{Queue, Sending}
 use Rattle.wl_link.specs.Identity.{Id}
 use Rattle.wl_link.specs.Puts.{Said}
-use Rattle.wl_server.specs.declared.action.Action.{Action}
-use Rattle.wl_server.specs.declared.action.Action.TheVariants as action
-use Rattle.wl_server.specs.declared.note.Happening.{Happening}
+use Rattle.wl_server.specs.declared.reading.action.Action.{Action}
+use Rattle.wl_server.specs.declared.reading.action.Action.TheVariants as action
+use Rattle.wl_server.specs.declared.notes.Happening.{Happening}
 use Rattle.wl_server.specs.Ids.{GlobalParts, IdParts}
 
 -- an action that is handed out, without where its arguments lie in memory
@@ -80,3 +80,15 @@ module _ {U : Type 0} where
   abbrev pub left_if : Id → Option U → List (Deed U)
   left_if id None = []
   left_if id (Some u) = Left id ∷ []
+
+module _ {U : Type 0} where
+  -- what was received
+  abbrev pub came_in : List (Deed U) → List (Result Queue IoFault)
+  came_in [] = []
+  came_in (Came r ∷ did) = r ∷ came_in did
+  came_in (_ ∷ did) = came_in did
+
+-- one of the list
+abbrev pub IsAmong : {A : Type 0} → List A → A → Type 0
+IsAmong [] x = ⊥
+IsAmong (other ∷ xs) x = (other ≡ x) ⊎ IsAmong xs x

@@ -9,9 +9,9 @@ use Rattle.wl_wire.specs.Table.{InterfaceRow, MessageRow, name_of}
 use Rattle.wl_link.specs.Exchange.{Queue}
 use Rattle.wl_link.specs.Puts.{Said}
 use Rattle.wl_link.specs.Reader.{Verdict}
-use Rattle.wl_server.specs.declared.note.DisconnectReason.TheVariants.{ProtocolError as BrokeProtocol}
-use Rattle.wl_server.specs.declared.request_fault.RequestFault.{RequestFault}
-use Rattle.wl_server.specs.declared.request_fault.RequestFault.TheVariants as wrong
+use Rattle.wl_server.specs.declared.notes.DisconnectReason.TheVariants.{ProtocolError as BrokeProtocol}
+use Rattle.wl_server.specs.declared.reading.response.RequestFault.{RequestFault}
+use Rattle.wl_server.specs.declared.reading.response.RequestFault.TheVariants as wrong
 use Rattle.wl_server.specs.Deeds.{Deed}
 use Rattle.wl_server.specs.Ids.{IdParts}
 use Rattle.wl_server.specs.Part.{Part, named}

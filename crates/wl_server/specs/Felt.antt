@@ -7,7 +7,7 @@ use Rattle.wl_link.specs.declared.object.Object.{Object}
 use Rattle.wl_link.specs.Exchange.{Queue, Sending}
 use Rattle.wl_link.specs.Link.{LinkState, FlushedBy}
 use Rattle.wl_link.specs.Puts.{Said, lacked_memory}
-use Rattle.wl_server.specs.declared.kept.Kept.{Kept}
+use Rattle.wl_server.specs.declared.objects.Kept.{Kept}
 use Rattle.wl_server.specs.Deeds.{Deed, Noted, Sent, left_if}
 use Rattle.wl_server.specs.Globals.{Shown}
 use Rattle.wl_server.specs.Ids.{ClientParts}

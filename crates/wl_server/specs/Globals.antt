@@ -9,7 +9,7 @@ use Rattle.wl_link.specs.Identity.{names}
 use Rattle.wl_link.specs.Store.{Range, Store, empty_store, stored, removed, rewritten, first_unused, IsLeastAbsent, IsFull}
 use Rattle.wl_server.specs.declared.error.GlobalError.{GlobalError}
 use Rattle.wl_server.specs.declared.error.GlobalError.TheVariants as refused
-use Rattle.wl_server.specs.declared.kept.KeptGlobal.{KeptGlobal}
+use Rattle.wl_server.specs.declared.globals.KeptGlobal.{KeptGlobal}
 use Rattle.wl_server.specs.Ids.{ClientParts, GlobalParts}
 use Rattle.wl_server.specs.Part.{last_possible_serial}
 

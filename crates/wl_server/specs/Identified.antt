@@ -6,20 +6,20 @@
 use Rattle.std.specs.Prelude.{◌≡◌, ◌≢◌, ◌⊎◌, ◌↔◌, ℕ, List, [], ◌∷◌, ◌++◌, All, AllPairs, Bool, false, Option, None, Some, is_some, IsSome, Contains, Result, Ok, Err, MatchOption}
 use Rattle.wl_wire.specs.Table.{InterfaceRow}
 use Rattle.wl_link.specs.declared.object.Object.{Object}
-use Rattle.wl_link.specs.Identity.{Birth, Change, HasIdentity, IsBornInStep, IsMadeIn, IsMadeInStep, Objects, RunEnds, StepEnds, births_of, ended_in, ended_over}
+use Rattle.wl_link.specs.Identity.{Birth, Change, HasIdentity, IsBornInStep, IsMadeIn, IsMadeInStep, Objects, RunEnds, StepEnds, births_of, ended_in, ended_over, Found, HandedId, New}
 use Rattle.wl_link.specs.Identity as objects
 use Rattle.wl_link.specs.Link.{LinkState, IsFresh}
-use Rattle.wl_link.specs.Runs.{Entry as RunEntry}
+use Rattle.wl_link.specs.Runs.{RunEntry}
 use Rattle.wl_link.specs.Store.{held}
 use Rattle.wl_server.specs.declared.error.ActionError.{ActionError}
-use Rattle.wl_server.specs.declared.kept.Kept.{Kept}
-use Rattle.wl_server.specs.declared.note.Happening.{Happening}
-use Rattle.wl_server.specs.declared.note.Happening.TheVariants.{Destroyed}
-use Rattle.wl_server.specs.declared.step.Reply.{Reply}
-use Rattle.wl_server.specs.declared.step.Reply.TheVariants as reply
-use Rattle.wl_server.specs.declared.step.Step.{Step}
-use Rattle.wl_server.specs.declared.step.Step.TheVariants as step
-use Rattle.wl_server.specs.BaseMoves.{Found, HandedId, New, action_ids, made_ids}
+use Rattle.wl_server.specs.declared.objects.Kept.{Kept}
+use Rattle.wl_server.specs.declared.notes.Happening.{Happening}
+use Rattle.wl_server.specs.declared.notes.Happening.TheVariants.{Destroyed}
+use Rattle.wl_server.specs.declared.runs.step.Reply.{Reply}
+use Rattle.wl_server.specs.declared.runs.step.Reply.TheVariants as reply
+use Rattle.wl_server.specs.declared.runs.step.Step.{Step}
+use Rattle.wl_server.specs.declared.runs.step.Step.TheVariants as step
+use Rattle.wl_server.specs.HandedIds.{action_ids, made_ids}
 use Rattle.wl_server.specs.Deeds.{Handed, left_in, notes_in, taken_in}
 use Rattle.wl_server.specs.Globals.{Offer, new_offer}
 use Rattle.wl_server.specs.Ids.{ClientParts, IdParts}
@@ -34,12 +34,12 @@ use Rattle.wl_server.specs.Steps.{Entry, offer_after}
 -- ---- the ids of a reply
 
 -- the ids of the action that a reading hands out
-abbrev pub answer_ids : Result Handed ActionError → List HandedId
+abbrev pub answer_ids : Result Handed ActionError → List (HandedId IdParts)
 answer_ids (Ok h) = action_ids h
 answer_ids (Err e) = []
 
 -- the ids of objects that the reply to a call hands out, but for those of notes
-abbrev pub ids_in : {T U G C : Type 0} → Call T U G C → List HandedId
+abbrev pub ids_in : {T U G C : Type 0} → Call T U G C → List (HandedId IdParts)
 ids_in (Asked (step.CreateObject _ _ _ _) (reply.CreateObject r)) = made_ids r
 ids_in (Asked (step.NextAction _) (reply.NextAction r)) = answer_ids (action_content r)
 ids_in (Asked (step.NextActionWithin _ _) (reply.NextActionWithin r _)) = answer_ids (action_content r)
@@ -57,7 +57,7 @@ module _ {U : Type 0} where
   module _ (client : ClientParts) where
     -- The id is of this client, and is made in this call, of an object that it then names; a new one of an object that the
     -- call puts there. Or it is the client's null id, which names none.
-    abbrev pub IsHandedIn : List (Change (Kept U)) → HandedId → Type 0
+    abbrev pub IsHandedIn : List (Change (Kept U)) → HandedId IdParts → Type 0
     IsHandedIn changes (Found id) = (id ≡ null_id client) ⊎ ((id.client ≡ client) × IsMadeInStep changes (id_of id))
     IsHandedIn changes (New id) = (id.client ≡ client) × IsMadeInStep changes (id_of id) × IsBornInStep serial_of changes (id_of id)
 
@@ -105,7 +105,7 @@ module _ {T U G C : Type 0} (w : World T G C) (id : ClientParts) where
   pub record HasOwnIds (offer : Offer G) (begins : Seen T U C) (run : List (Own T U G C)) (ends : Seen T U C) : Type 0 where
     pub changes : List (List (Change (Kept U)))
     pub kept : Objects (Kept U)
-    pub follows : Follows offer begins (objects.begun display_object) run changes ends kept
+    pub follows : Follows offer begins (objects.first_objects display_object) run changes ends kept
     pub are : AreObjectsOf ends kept
     pub identity : HasIdentity serial_of changes kept
     pub names : (o : IdParts) (birth : Birth) → Contains (births_of changes).made (id_of o, birth)

@@ -12,7 +12,7 @@ use Rattle.wl_server.specs.declared.error.CreateError.TheVariants as create
 use Rattle.wl_server.specs.declared.error.DestroyError.{DestroyError}
 use Rattle.wl_server.specs.declared.error.DestroyError.TheVariants as destroy
 use Rattle.wl_server.specs.declared.error.InvalidId.{InvalidId}
-use Rattle.wl_server.specs.declared.kept.Kept.{Kept}
+use Rattle.wl_server.specs.declared.objects.Kept.{Kept}
 use Rattle.wl_server.specs.Deeds.{Deed, left_if}
 use Rattle.wl_server.specs.Ids.{ClientParts, IdParts}
 use Rattle.wl_server.specs.Part.{Part, fresh_object, id_at, id_of, last_possible_serial, named, note_of_end, registries_without, with_user_data}

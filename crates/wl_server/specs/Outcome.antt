@@ -6,35 +6,20 @@
 use Rattle.std.specs.Prelude.{◌≡◌, Bool, true, false, List, [], ◌∷◌, ◌++◌, Ok}
 use Rattle.wl_wire.specs.Table.{InterfaceRow}
 use Rattle.wl_link.specs.Exchange.{Queue}
-use Rattle.wl_link.specs.OneLaws.{IsFunction, IsReceiveFunction}
-use Rattle.wl_server.specs.declared.step.Reply.{Reply}
-use Rattle.wl_server.specs.declared.step.Reply.TheVariants as reply
-use Rattle.wl_server.specs.declared.step.Step.{Step}
-use Rattle.wl_server.specs.declared.step.Step.TheVariants as step
+use Rattle.wl_server.specs.declared.runs.step.Reply.{Reply}
+use Rattle.wl_server.specs.declared.runs.step.Reply.TheVariants as reply
+use Rattle.wl_server.specs.declared.runs.step.Step.{Step}
+use Rattle.wl_server.specs.declared.runs.step.Step.TheVariants as step
 use Rattle.wl_server.specs.Deeds.{Deed}
 use Rattle.wl_server.specs.Events.{SessionMessage, session_content}
 use Rattle.wl_server.specs.Globals.{Offer, new_offer}
 use Rattle.wl_server.specs.Ids.{ClientParts}
-use Rattle.wl_server.specs.Moves.{Move, Moved, taken}
-use Rattle.wl_server.specs.PartStep.{Asked, Call, Changed, PartStep, World, lacks_move, share_of}
+use Rattle.wl_server.specs.Moves.{taken}
+use Rattle.wl_server.specs.PartStep.{Asked, Call, Changed, PartStep, World, share_of}
 use Rattle.wl_server.specs.Reading.{action_content}
 use Rattle.wl_server.specs.Runs.{Alone, Leads, Own, concerns, is_about, mine, offer_over}
 use Rattle.wl_server.specs.Server.{Seen, ServerState, new_server, notes_of, seen}
 use Rattle.wl_server.specs.Steps.{Entry, NumbersGlobal, lacks_growth, offer_after}
-
--- ---- what stands outside a server
-
--- two moves of one kind, neither refused for want of memory, have one answer and leave one value
-abbrev pub IsMoveFunction : {T : Type 0} → (T → Move → Moved → T → Type 0) → Type 0
-IsMoveFunction {T = T} moves =
-    (before : T) (m : Move) (one two : Moved) (after after' : T)
-    → moves before m one after → moves before m two after' → lacks_move one ≡ false → lacks_move two ≡ false → (one ≡ two) × (after ≡ after')
-
--- what a transport answers and becomes follows from its value
-pub record IsDetermined {T G C : Type 0} (w : World T G C) : Type 0 where
-  pub sends : IsFunction w.sends
-  pub receives : IsReceiveFunction w.receives
-  pub moves : IsMoveFunction w.moves
 
 -- ---- replies
 

@@ -7,10 +7,10 @@ use Rattle.wl_link.specs.declared.object.Object.{Object}
 use Rattle.wl_link.specs.Identity.{Id, Objects, names}
 use Rattle.wl_link.specs.Link.{LinkState}
 use Rattle.wl_link.specs.Store.{Store, empty_store, stored}
-use Rattle.wl_server.specs.declared.action.OpenAction.{OpenAction}
-use Rattle.wl_server.specs.declared.kept.Kept.{Kept}
-use Rattle.wl_server.specs.declared.note.Happening.{Happening}
-use Rattle.wl_server.specs.declared.note.Happening.TheVariants.{Destroyed}
+use Rattle.wl_server.specs.declared.reading.action.OpenAction.{OpenAction}
+use Rattle.wl_server.specs.declared.objects.Kept.{Kept}
+use Rattle.wl_server.specs.declared.notes.Happening.{Happening}
+use Rattle.wl_server.specs.declared.notes.Happening.TheVariants.{Destroyed}
 use Rattle.wl_server.specs.Ids.{ClientParts, IdParts}
 
 -- The link to the client, the program's data of it, its objects and the last serial given out, whether it was killed, the

@@ -14,16 +14,16 @@ use Rattle.wl_link.specs.Exchange.{Queue}
 use Rattle.wl_link.specs.Identity.{Id}
 use Rattle.wl_link.specs.Puts.{Said}
 use Rattle.wl_link.specs.Reader.{Given, Gives, Handled, HandedOut, Reader, Reads, Received, Turn, Unread, Verdict, handled_in}
-use Rattle.wl_link.specs.Reader.{Part as ReaderPart}
+use Rattle.wl_link.specs.Reader.{ReaderState}
 use Rattle.wl_link.specs.Store.{held, removed}
-use Rattle.wl_server.specs.declared.action.Action.{Action}
-use Rattle.wl_server.specs.declared.action.OpenAction.{OpenAction}
-use Rattle.wl_server.specs.declared.action.OpenAction.TheVariants as opened
-use Rattle.wl_server.specs.declared.action.Reading.{Reading}
+use Rattle.wl_server.specs.declared.reading.action.Action.{Action}
+use Rattle.wl_server.specs.declared.reading.action.OpenAction.{OpenAction}
+use Rattle.wl_server.specs.declared.reading.action.OpenAction.TheVariants as opened
+use Rattle.wl_server.specs.declared.reading.action.Reading.{Reading}
 use Rattle.wl_server.specs.declared.error.ActionError.{ActionError}
 use Rattle.wl_server.specs.declared.error.ActionError.TheVariants.{Io, ActionOpen}
-use Rattle.wl_server.specs.declared.kept.Kept.{Kept}
-use Rattle.wl_server.specs.declared.kept.KeptGlobal.{KeptGlobal}
+use Rattle.wl_server.specs.declared.objects.Kept.{Kept}
+use Rattle.wl_server.specs.declared.globals.KeptGlobal.{KeptGlobal}
 use Rattle.wl_server.specs.Deeds.{Acted, Came, Deed, Handed, Remembered, Sent, handed}
 use Rattle.wl_server.specs.Deeds as deeds
 use Rattle.wl_server.specs.Errors.{bind_text, fault_text, new_id_text, posts, since_text}
@@ -237,7 +237,7 @@ module _ {T U G C : Type 0} (sends : T → Queue → Result ℕ IoFault → T �
   -- a reading that may receive so often answers so
   abbrev pub ReadsTo : Around G C → Reading → Part T U C → Result Handed ActionError → Reading → Bool → List (Deed U) → Part T U C → Type 0
   ReadsTo a r before answer r' refused did after =
-      (turns : List Turn) × (out : Gives (Told U)) × (end : ReaderPart T (Core U C))
+      (turns : List Turn) × (out : Gives (Told U)) × (end : ReaderState T (Core U C))
       × Reads sends (server a) receives r.turns_left (reader_part before) turns out end
       × (answer ≡ answered out.stopped out.gave) × (r' ≡ read_on r out.left (handled_in turns)) × (refused ≡ out.refused)
       × (did ≡ deeds_of (exchanges_in turns) out.gave end.core) × (after ≡ part_of end)

@@ -16,9 +16,9 @@ use Rattle.wl_wire.specs.Table.{MessageRow}
 use Rattle.wl_link.specs.declared.object.Object.{Object}
 use Rattle.wl_link.specs.Identity.{Objects}
 use Rattle.wl_link.specs.Store.{Store, held, is_free, is_server_number, stored}
-use Rattle.wl_server.specs.declared.kept.Kept.{Kept}
-use Rattle.wl_server.specs.declared.request_fault.RequestFault.{RequestFault}
-use Rattle.wl_server.specs.declared.request_fault.RequestFault.TheVariants as wrong
+use Rattle.wl_server.specs.declared.objects.Kept.{Kept}
+use Rattle.wl_server.specs.declared.reading.response.RequestFault.{RequestFault}
+use Rattle.wl_server.specs.declared.reading.response.RequestFault.TheVariants as wrong
 use Rattle.wl_server.specs.Ids.{ClientParts, IdParts}
 use Rattle.wl_server.specs.Part.{fresh_object, id_at, last_possible_serial, null_id}
 

@@ -9,7 +9,7 @@ use Rattle.std.specs.Prelude.{◌≡◌, List, [], Some, Result, Ok, Err}
 use Rattle.wl_wire.specs.declared.error.IoFault.{IoFault}
 use Rattle.wl_link.specs.Exchange.{Queue}
 use Rattle.wl_link.specs.Link.{FindsRoom, LinkState}
-use Rattle.wl_server.specs.BaseMoves.{IsAmong, came_in}
+use Rattle.wl_server.specs.Deeds.{IsAmong, came_in}
 use Rattle.wl_server.specs.Deeds.{Deed}
 use Rattle.wl_server.specs.Ids.{ClientParts}
 use Rattle.wl_server.specs.Part.{Part}
@@ -26,7 +26,7 @@ module _ {T U : Type 0} where
   -- Where a receive brought no byte, one is free for what the message at the front lacks, unless this is longer than the
   -- incoming storage may become.
   abbrev pub LeavesRoom : List (Deed U) → LinkState T → Type 0
-  LeavesRoom did link = (r : Result Queue IoFault) → IsAmong (came_in did) r → BringsNone r → FindsRoom link link.room
+  LeavesRoom did link = (r : Result Queue IoFault) → IsAmong (came_in did) r → BringsNone r → FindsRoom link link.incoming_capacity
 
 module _ {T U G C : Type 0} (w : World T G C) where
   -- this call leaves it so of each client, in each history that it may have

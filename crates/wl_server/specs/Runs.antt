@@ -2,12 +2,12 @@
 use Rattle.std.specs.Prelude.{◌≡◌, ℕ, ◌+◌, ◌<◌, List, [], ◌∷◌, ◌++◌, Bool, true, false, if◌then◌else◌, None, Some, Ok}
 use Rattle.wl_wire.specs.Table.{InterfaceRow}
 use Rattle.wl_link.specs.Link.{LinkState, IsFresh}
-use Rattle.wl_link.specs.Runs.{Entry as RunEntry, Leads as RunLeads, StopsAt as RunStopsAt}
-use Rattle.wl_server.specs.declared.note.Happening.TheVariants.{Initialized}
-use Rattle.wl_server.specs.declared.step.Reply.{Reply}
-use Rattle.wl_server.specs.declared.step.Reply.TheVariants as reply
-use Rattle.wl_server.specs.declared.step.Step.{Step}
-use Rattle.wl_server.specs.declared.step.Step.TheVariants as step
+use Rattle.wl_link.specs.Runs.{RunEntry, Leads as RunLeads, StopsAt as RunStopsAt}
+use Rattle.wl_server.specs.declared.notes.Happening.TheVariants.{Initialized}
+use Rattle.wl_server.specs.declared.runs.step.Reply.{Reply}
+use Rattle.wl_server.specs.declared.runs.step.Reply.TheVariants as reply
+use Rattle.wl_server.specs.declared.runs.step.Step.{Step}
+use Rattle.wl_server.specs.declared.runs.step.Step.TheVariants as step
 use Rattle.wl_server.specs.Deeds.{Deed}
 use Rattle.wl_server.specs.Globals.{Offer, new_offer}
 use Rattle.wl_server.specs.Ids.{ClientParts, same_client}

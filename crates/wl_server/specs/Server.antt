@@ -3,10 +3,10 @@ use Rattle.std.specs.Prelude.{ℕ, List, [], ◌∷◌, ◌++◌, ◌==◌, if�
 use Rattle.std.specs.List.{flat_map}
 use Rattle.std.specs.Option.{option_map_or}
 use Rattle.wl_wire.specs.Table.{InterfaceRow}
-use Rattle.wl_server.specs.declared.note.Happening.{Happening}
-use Rattle.wl_server.specs.declared.note.Happening.TheVariants as happened
-use Rattle.wl_server.specs.declared.note.Note.{Note}
-use Rattle.wl_server.specs.declared.note.Note.TheVariants.{Initialized, Disconnected, Destroyed}
+use Rattle.wl_server.specs.declared.notes.Happening.{Happening}
+use Rattle.wl_server.specs.declared.notes.Happening.TheVariants as happened
+use Rattle.wl_server.specs.declared.notes.Note.{Note}
+use Rattle.wl_server.specs.declared.notes.Note.TheVariants.{Initialized, Disconnected, Destroyed}
 use Rattle.wl_server.specs.Globals.{Offer, new_offer}
 use Rattle.wl_server.specs.Ids.{ClientParts, same_client}
 use Rattle.wl_server.specs.Part.{Part}

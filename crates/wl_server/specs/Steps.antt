@@ -4,10 +4,10 @@ use Rattle.wl_wire.specs.declared.interface.InterfaceId.{InterfaceId}
 use Rattle.wl_server.specs.declared.error.GlobalError.TheVariants as global
 use Rattle.wl_server.specs.declared.error.InsertClientError.{InsertClientError}
 use Rattle.wl_server.specs.declared.error.InsertClientError.TheVariants as insert
-use Rattle.wl_server.specs.declared.step.Reply.{Reply}
-use Rattle.wl_server.specs.declared.step.Reply.TheVariants as reply
-use Rattle.wl_server.specs.declared.step.Step.{Step}
-use Rattle.wl_server.specs.declared.step.Step.TheVariants as step
+use Rattle.wl_server.specs.declared.runs.step.Reply.{Reply}
+use Rattle.wl_server.specs.declared.runs.step.Reply.TheVariants as reply
+use Rattle.wl_server.specs.declared.runs.step.Step.{Step}
+use Rattle.wl_server.specs.declared.runs.step.Step.TheVariants as step
 use Rattle.wl_server.specs.Deeds.{Deed}
 use Rattle.wl_server.specs.Globals.{Globals, Offer, CreatesGlobal, disabled, freed, with_created, with_globals}
 use Rattle.wl_server.specs.Ids.{ClientParts}
@@ -59,6 +59,10 @@ module _ {T U G C : Type 0} where
   abbrev pub inserted_by : Call T U G C → ℕ
   inserted_by (Asked (step.InsertClient _ _) (reply.InsertClient (Ok id))) = 1
   inserted_by _ = 0
+
+-- they stand by slot
+abbrev pub RiseBySlot : {T : Type 0} → List (ClientParts × T) → Type 0
+RiseBySlot out = AllPairs (λ a b. a.0.slot < b.0.slot) out
 
 -- ---- what all clients share
 

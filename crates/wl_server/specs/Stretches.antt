@@ -4,20 +4,18 @@ use Rattle.wl_wire.specs.declared.error.IoFault.{IoFault}
 use Rattle.wl_wire.specs.declared.error.IoFault.TheVariants as fault
 use Rattle.wl_link.specs.Exchange.{Queue, joined, nothing}
 use Rattle.wl_link.specs.Link.{EachWithin, incoming_limit}
-use Rattle.wl_link.specs.Parts.{EachPart}
-use Rattle.wl_link.specs.Reader.{Given, HandedOut, Lacks}
-use Rattle.wl_link.specs.Reader.{Part as ReaderPart}
-use Rattle.wl_link.specs.Runs.{Entry as RunEntry}
+use Rattle.wl_link.specs.Runs.{EachPart, RunEntry}
+use Rattle.wl_link.specs.Reader.{Given, HandedOut, Lacks, ReaderState}
 use Rattle.wl_link.specs.Script.{Script, ScriptSends}
-use Rattle.wl_link.specs.Served.{Served, part_as}
+use Rattle.wl_link.specs.Served.{Served, state_as}
 use Rattle.wl_link.specs.Stretch.{AllPieces, HasByteFree, LacksTokens, MayCome, arrivals_of, left_over, sending_side}
 use Rattle.wl_server.specs.declared.error.ActionError.{ActionError}
 use Rattle.wl_server.specs.declared.error.ActionError.TheVariants.{ActionOpen, Io}
-use Rattle.wl_server.specs.declared.note.Happening.TheVariants.{Disconnected}
-use Rattle.wl_server.specs.declared.step.Reply.{Reply}
-use Rattle.wl_server.specs.declared.step.Reply.TheVariants as reply
-use Rattle.wl_server.specs.declared.step.Step.{Step}
-use Rattle.wl_server.specs.declared.step.Step.TheVariants as step
+use Rattle.wl_server.specs.declared.notes.Happening.TheVariants.{Disconnected}
+use Rattle.wl_server.specs.declared.runs.step.Reply.{Reply}
+use Rattle.wl_server.specs.declared.runs.step.Reply.TheVariants as reply
+use Rattle.wl_server.specs.declared.runs.step.Step.{Step}
+use Rattle.wl_server.specs.declared.runs.step.Step.TheVariants as step
 use Rattle.wl_server.specs.Deeds.{Acted, Came, Deed, Handed, Noted, Sent}
 use Rattle.wl_server.specs.Ids.{ClientParts, GlobalParts}
 use Rattle.wl_server.specs.Part.{Part}
@@ -151,9 +149,9 @@ module _ {U G C : Type 0} (a : Around G C) where
   -- the client stands.
   pub record IsServed (before : Part Script U C) (run : List (Own Script U G C)) (after : Part Script U C) : Type 0 where
     pub gave : List (Given (Told U))
-    pub end : ReaderPart Script (Core U C)
+    pub end : ReaderState Script (Core U C)
     pub served : Served ScriptSends (server a) (reader_part before) (joined (left_in before) (arrived run)) (sending_side before.link.transport) (finished run) gave
-        (part_as end (left_in after) (sending_side after.link.transport))
+        (state_as end (left_in after) (sending_side after.link.transport))
     pub leads : after ≡ part_of end
     pub deeds : beside_exchanges (history run) ≡ deeds_in gave ++ end_deeds end.core.ended
     pub answers : answered run ≡ answers_in gave
@@ -162,7 +160,7 @@ module _ {U C : Type 0} where
   -- the whole of a client as it is over what waits and what is left over of the arrivals, joined
   abbrev pub SameLeft : Part Script U C → Part Script U C → Type 0
   SameLeft p q =
-      part_as (reader_part p) (left_in p) (sending_side p.link.transport) ≡ part_as (reader_part q) (left_in q) (sending_side q.link.transport)
+      state_as (reader_part p) (left_in p) (sending_side p.link.transport) ≡ state_as (reader_part q) (left_in q) (sending_side q.link.transport)
 
 -- ---- runs of a server
 

@@ -12,14 +12,14 @@ use Rattle.wl_link.specs.Identity.{Id, Objects}
 use Rattle.wl_link.specs.Link.{LinkState}
 use Rattle.wl_link.specs.Puts.{Said}
 use Rattle.wl_link.specs.Reader.{CarriesOut, Given, HandedOut, Queued, Reader, Verdict}
-use Rattle.wl_link.specs.Reader.{Part as ReaderPart}
+use Rattle.wl_link.specs.Reader.{ReaderState}
 use Rattle.wl_link.specs.Store.{Store, is_server_number}
-use Rattle.wl_server.specs.declared.action.OpenAction.{OpenAction}
-use Rattle.wl_server.specs.declared.kept.Kept.{Kept}
-use Rattle.wl_server.specs.declared.note.DisconnectReason.{DisconnectReason}
-use Rattle.wl_server.specs.declared.note.DisconnectReason.TheVariants.{ConnectionClosed}
-use Rattle.wl_server.specs.declared.note.Happening.{Happening}
-use Rattle.wl_server.specs.declared.note.Happening.TheVariants.{Disconnected}
+use Rattle.wl_server.specs.declared.reading.action.OpenAction.{OpenAction}
+use Rattle.wl_server.specs.declared.objects.Kept.{Kept}
+use Rattle.wl_server.specs.declared.notes.DisconnectReason.{DisconnectReason}
+use Rattle.wl_server.specs.declared.notes.DisconnectReason.TheVariants.{ConnectionClosed}
+use Rattle.wl_server.specs.declared.notes.Happening.{Happening}
+use Rattle.wl_server.specs.declared.notes.Happening.TheVariants.{Disconnected}
 use Rattle.wl_server.specs.Deeds.{Deed, Noted, Put, Sent}
 use Rattle.wl_server.specs.Globals.{Shown}
 use Rattle.wl_server.specs.Part.{Part}
@@ -153,10 +153,10 @@ module _ {T U C : Type 0} where
   }
 
   -- a client as a part whose core goes through a call
-  abbrev pub reader_part : Part T U C → ReaderPart T (Core U C)
+  abbrev pub reader_part : Part T U C → ReaderState T (Core U C)
   reader_part p = record { core = core_of p; link = p.link }
 
-  abbrev pub part_of : ReaderPart T (Core U C) → Part T U C
+  abbrev pub part_of : ReaderState T (Core U C) → Part T U C
   part_of p = record {
     link = p.link;
     info = p.core.info;
@@ -172,7 +172,7 @@ module _ {T U C : Type 0} where
   abbrev pub Tells : (T → Queue → Result ℕ IoFault → T → Type 0) → Verdict (Core U C) (Told U) → LinkState T → Bool → List (Deed U)
       → Part T U C → Type 0
   Tells sends v link refused did after =
-      (es : List Sending) × (gave : List (Given (Told U))) × (end : ReaderPart T (Core U C))
+      (es : List Sending) × (gave : List (Given (Told U))) × (end : ReaderState T (Core U C))
       × CarriesOut sends speaker v link es gave refused end × (did ≡ deeds_of (map Sent es) gave end.core) × (after ≡ part_of end)
 
   -- the client is killed, and that is noted with its reason; a killed one stays as it is

@@ -4,10 +4,9 @@ ghost use Rattle.std.specs.Prelude.{◌≡◌, ◌<◌, IsTrue, false, is_some, 
 ghost use Rattle.wl_server.specs.Server.{client_at, new_server};
 
 use crate::client::Client;
-use crate::client_id::ClientId;
-use crate::kept::KeptGlobal;
-use crate::note::Note;
-use crate::note_numbers::NoteNumbers;
+use crate::globals::KeptGlobal;
+use crate::ids::client_id::ClientId;
+use crate::notes::{Note, NoteNumbers};
 use std::alloc::Global;
 use std::marker::Model;
 use wl_link::{DEFAULT_MAX_BUFFER_SIZE, ObjectMap};
@@ -38,7 +37,7 @@ impl<T, U, G, C> Model for Backend<T, U, G, C> {
     ghost use Rattle.std.specs.Prelude.{vec_len};
     ghost use Rattle.wl_link.specs.ObjectMap.{store_code};
     ghost use Rattle.wl_server.specs.Backend.{BackendState};
-    ghost use Rattle.wl_server.specs.Inserting.{HasSlots};
+    ghost use Rattle.wl_server.specs.Inside.Inserting.{HasSlots};
 
     ghost Value = { BackendState T U G C };
 

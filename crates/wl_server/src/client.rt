@@ -1,15 +1,39 @@
 //! What a server keeps of one client.
 //!
-//! A client's methods are what calls do to it, without the look-up of the client: `create`, `destroy`, `send_event`,
-//! `post_error`, `kill`, `next_action`, `finish`, `flush`.
+//! A client's methods are what calls do to it, without the look-up of the client. They stand with the calls: in `objects`,
+//! `events`, `reading`, and here.
 
-use crate::action::OpenAction;
-use crate::kept::Kept;
-use crate::note::Happening;
-use crate::registry::Registry;
+pub mod flush;
+pub mod insert;
+pub mod kill;
+pub mod limits;
+pub mod transport;
+
+use crate::notes::Happening;
+use crate::objects::Kept;
+use crate::reading::action::OpenAction;
 use std::collections::VecDeque;
 use std::marker::Model;
 use wl_link::{BufferedSocket, ObjectMap};
+
+/// A registry that was made for a client: what names in its id.
+#[derive(Drop)]
+pub struct Registry {
+    /// The number.
+    pub number: u32,
+    /// The serial.
+    pub serial: u64,
+}
+
+impl Model for Registry {
+    ghost use Rattle.wl_link.specs.Identity.{Id};
+
+    ghost Value = { Id };
+
+    ghost view = { λ r. record { number = r.number; serial = r.serial } };
+
+    ghost inverse = { λ r. record { number = r.number; serial = r.serial } };
+}
 
 /// A client of a server.
 #[derive(Drop)]

@@ -6,19 +6,17 @@
 ghost use Rattle.std.specs.Prelude.{◌≡◌, ◌≢◌, ◌<◌, ◌∷◌, ℕ, Bool, false, List, Option, Some, Result, Err};
 ghost use Rattle.wl_wire.specs.Table.{InterfaceRow};
 ghost use Rattle.wl_wire.specs.declared.interface.InterfaceId.{InterfaceId};
-ghost use Rattle.wl_link.specs.Exchange.{Queue, Sending, nothing};
-ghost use Rattle.wl_link.specs.OneLaws.{IsFunction, IsReceiveFunction};
-ghost use Rattle.wl_link.specs.Reader.{AllFed, Ends, Given, Gives, Reads, Turn, came_in, sends_in};
-ghost use Rattle.wl_link.specs.Reader.{Part as ReaderPart};
-ghost use Rattle.wl_link.specs.Runs.{Entry as RunEntry};
+ghost use Rattle.wl_link.specs.Exchange.{Queue, Sending, nothing, IsFunction, IsReceiveFunction};
+ghost use Rattle.wl_link.specs.Reader.{AllFed, Ends, Given, Gives, Reads, Turn, received_in, sends_in, ReaderState};
+ghost use Rattle.wl_link.specs.Runs.{RunEntry};
 ghost use Rattle.wl_link.specs.Script.{Script, ScriptReceives, ScriptSends};
 ghost use Rattle.wl_link.specs.Served.{Answers};
 ghost use Rattle.wl_server.specs.declared.error.GlobalError.{GlobalError};
 ghost use Rattle.wl_server.specs.declared.error.GlobalError.TheVariants as global;
 ghost use Rattle.wl_server.specs.declared.error.InsertClientError.{InsertClientError};
 ghost use Rattle.wl_server.specs.declared.error.InsertClientError.TheVariants as insert;
-ghost use Rattle.wl_server.specs.declared.step.Reply.{Reply};
-ghost use Rattle.wl_server.specs.declared.step.Step.{Step};
+ghost use Rattle.wl_server.specs.declared.runs.step.Reply.{Reply};
+ghost use Rattle.wl_server.specs.declared.runs.step.Step.{Step};
 ghost use Rattle.wl_server.specs.Accounts.{AreAccountedFor};
 ghost use Rattle.wl_server.specs.Announced.{EachAnnouncesShown, HaveAnnouncements};
 ghost use Rattle.wl_server.specs.Cutting.{EachIsServed, GoesOn, HistoriesAreCut, IsServed};
@@ -33,13 +31,12 @@ ghost use Rattle.wl_server.specs.PartStep.{Call, around, over, over_scripts, sha
 ghost use Rattle.wl_server.specs.Reading.{Around, reads_on, server};
 ghost use Rattle.wl_server.specs.Runs.{Alone, AreIsolated, IsIsolated, Leads, Own, Performs, history};
 ghost use Rattle.wl_server.specs.Server.{Seen, ServerState, Stored, new_server};
-ghost use Rattle.wl_server.specs.ShareLaws.{RiseBySlot};
-ghost use Rattle.wl_server.specs.Steps.{Entry, InsertsNext, StepOf};
+ghost use Rattle.wl_server.specs.Steps.{RiseBySlot, Entry, InsertsNext, StepOf};
 ghost use Rattle.wl_server.specs.Stretches.{IsServed as IsRunServed, IsStretch, IsStretchWithin, SameLeft, answered, arrived, beside_exchanges, finished};
 ghost use Rattle.wl_server.specs.Telling.{Core, Finish, Told};
 ghost use Rattle.wl_server.specs.WholeOutcome.{AnswersAlike, PerformancesHaveOneOutcome, RunsHaveOneOutcome, SameServer};
 
-use crate::handler::GlobalHandler;
+use crate::globals::handler::GlobalHandler;
 use wl_link::Transport;
 
 /// The isolation law of a server, over every transport.
@@ -178,18 +175,18 @@ pub fn each_client_of_a_script_is_accounted_for<U, G: GlobalHandler<C>, C>()
 /// turns, or of such an end. What is served is determined; and of whatever waits something is served, by some answers to the
 /// sends, where the storage for what is sent holds a byte: so of each client that is stored, over every run of calls.
 pub fn cutting_does_not_matter_to_a_client<T: Transport, U, G, C>()
-    ensures reading { (a : Around G C) (left : ℕ) (before after : ReaderPart T (Core U C)) (turns : List Turn) (out : Gives (Told U)) →
+    ensures reading { (a : Around G C) (left : ℕ) (before after : ReaderState T (Core U C)) (turns : List Turn) (out : Gives (Told U)) →
         Reads T.sends (server a) T.receives left before turns out after → AllFed turns → out.refused ≡ false →
-        (finishes : List (Finish U)) → GoesOn a before (came_in turns) (sends_in turns) finishes out.gave after finishes }
-    ensures finish { (a : Around G C) (before after : ReaderPart T (Core U C)) (u : Finish U) (es : List Sending) (gave : List (Given (Told U))) →
+        (finishes : List (Finish U)) → GoesOn a before (received_in turns) (sends_in turns) finishes out.gave after finishes }
+    ensures finish { (a : Around G C) (before after : ReaderState T (Core U C)) (u : Finish U) (es : List Sending) (gave : List (Given (Told U))) →
         reads_on before.core ≡ false → Ends T.sends (server a) before u es gave false after →
         (finishes : List (Finish U)) → GoesOn a before nothing es (u ∷ finishes) gave after finishes }
     ensures calls { (views : G → ClientParts → C → GlobalParts → Bool) (before after : ServerState T U G C) (call : Call T U G C) →
         HistoriesAreCut (over T.sends T.receives views) before call after }
-    ensures one { (a : Around G C) (before : ReaderPart T (Core U C)) (more : Queue) (answers : Answers) (finishes : List (Finish U))
+    ensures one { (a : Around G C) (before : ReaderState T (Core U C)) (more : Queue) (answers : Answers) (finishes : List (Finish U))
         (gave others : List (Given (Told U))) (x y : _) →
         IsServed a before more answers finishes gave x → IsServed a before more answers finishes others y → (gave ≡ others) × (x ≡ y) }
-    ensures some { (a : Around G C) (before : ReaderPart T (Core U C)) (more : Queue) (finishes : List (Finish U)) → 0 < before.link.storage →
+    ensures some { (a : Around G C) (before : ReaderState T (Core U C)) (more : Queue) (finishes : List (Finish U)) → 0 < before.link.outgoing_capacity →
         (answers : Answers) × (gave : List (Given (Told U))) × (after : _) × IsServed a before more answers finishes gave after }
     ensures each { (views : G → ClientParts → C → GlobalParts → Bool) (table : List InterfaceRow) (run : List (Entry T U G C)) (after : ServerState T U G C) →
         Leads (over T.sends T.receives views) (new_server table) run after → EachIsServed (over T.sends T.receives views) run after }

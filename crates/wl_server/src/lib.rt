@@ -1,78 +1,51 @@
 //! The server's session of the Wayland protocol: clients, their objects by id, globals, requests, events.
 //!
-//! A [`Backend`] is a server. Each of its calls is one step of its definition: `specs/Part` has what is held of one client,
-//! `specs/PartStep` what a call does to it, `specs/Steps` what it does to a server, and `specs/Runs` calls one after another.
-//! The page of this crate, `README.md`, has an example and the order of the refusals.
+//! A [`Backend`] is a server. The page of this crate, `README.md`, has an example and the order of the refusals.
+//!
+//! Each call has the contract `Calls` (`specs/Backend`): the call is one step of its definition. `specs/Part` says what is
+//! held of one client, `specs/PartStep` has a line for each call that says what it does to that, and `specs/Steps` what it
+//! does to a server. The line names the relation of the call:
+//!
+//! | Calls | Code | Relations, in `specs/` |
+//! |---|---|---|
+//! | `insert_client`, `kill_client`, `flush`, the limits, `transport_mut` | `client` | `PartStep`, `Felt`, `Telling` |
+//! | `create_object`, `destroy_object`, `set_object_data` | `objects` | `Objects` |
+//! | `send_event`, `post_error` | `events` | `Events`, `Errors` |
+//! | `next_action`, `next_action_within`, `finish_request`, `finish_bind` | `reading` | `Reading`, `Requests`, `Finish` |
+//! | `create_global`, `disable_global`, `remove_global` | `globals` | `Globals`, `Felt` |
+//! | `cleanup`, `take_notes` | `notes` | `PartStep`, `Felt` |
+//! | look-ups, `with_all_clients`, `with_all_objects_for` | `lookups`, `globals::lookups` | `Lookups` |
+//! | `replay` | `runs` | `Runs` |
+//!
+//! The laws of runs are the contracts of the functions of [`laws`]. Each names its statement: `Runs` (each client is alone),
+//! `Identified` (ids), `Logged` (what was sent), `Announced` (globals), `NotedOnce` (notes), `Cutting` and `Stretches`
+//! (cutting does not matter), `Outcome` and `WholeOutcome` (there is one outcome), `Room` (a reading has room).
 #![tactic(auto)]
 
-mod action;
-mod announce;
-mod arguments;
 mod backend;
-mod cleanup;
 mod client;
-mod client_id;
-mod create;
-mod create_global;
-mod destroy;
-mod display_request;
+mod dispatch;
 mod error;
-mod event_check;
-mod finish;
-mod first_globals;
-mod flush;
-mod gather;
-mod global_id;
+mod events;
 mod globals;
-mod handler;
-mod insert_client;
-mod kept;
-mod kill;
-mod laws;
-mod leaving;
-mod limits;
+mod ids;
+pub mod laws;
 mod lookups;
-mod next_action;
-mod note;
-mod note_numbers;
-mod object_id;
+mod notes;
 mod objects;
-mod other_request;
-mod post_error;
-mod protocol_error;
-mod registry;
-mod registry_request;
-mod remove_global;
-mod replay;
-mod request;
-mod request_fault;
-mod response;
-mod script;
-mod send_event;
-mod step;
-mod surroundings;
-mod take_notes;
-mod telling;
-mod transport_mut;
-mod turn;
-mod visits;
+mod reading;
+mod runs;
 
-pub use action::{Action, Reading};
 pub use backend::Backend;
-pub use client_id::ClientId;
+pub use dispatch::Handler;
 pub use error::{
     ActionError, CreateError, DestroyError, EventError, FinishError, FinishRefused, GlobalError,
     InsertClientError, InvalidId, ScriptError,
 };
-pub use global_id::{GlobalId, GlobalInfo};
-pub use handler::{GlobalHandler, ShownToAll};
-pub use laws::{
-    calls_over_scripts_are_steps, cutting_does_not_matter_to_a_client,
-    cutting_does_not_matter_to_a_run, each_client_has_one_outcome, each_client_is_alone,
-    each_client_of_a_script_is_accounted_for, each_id_names_its_own_object,
-    each_object_that_leaves_is_noted_once, each_run_of_a_server_has_one_outcome,
-    log_is_what_was_sent, registries_announce_what_is_shown,
-};
-pub use note::{DisconnectReason, Note};
-pub use object_id::ObjectId;
-pub use step::{Reply, Step, Stopped};
+pub use globals::handler::{GlobalHandler, ShownToAll};
+pub use ids::client_id::ClientId;
+pub use ids::global_id::{GlobalId, GlobalInfo};
+pub use ids::object_id::ObjectId;
+pub use notes::{DisconnectReason, Note};
+pub use reading::action::{Action, Reading};
+pub use runs::step::{Reply, Step, Stopped};

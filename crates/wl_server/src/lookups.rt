@@ -4,13 +4,14 @@ ghost use Rattle.std.specs.Prelude.{◌≡◌, MatchResult, None, Some, option_c
 ghost use Rattle.wl_server.specs.Lookups.{client_by, client_data_of, object_data_of, object_for_number, object_info_of, transport_of};
 ghost use Rattle.wl_server.specs.Server.{client_at};
 
+pub mod visits;
+
 use crate::backend::Backend;
 use crate::client::Client;
-use crate::client_id::ClientId;
 use crate::error::InvalidId;
-use crate::kept::Kept;
-use crate::object_id::ObjectId;
-use crate::objects::{id_at, named_in};
+use crate::ids::client_id::ClientId;
+use crate::ids::object_id::ObjectId;
+use crate::objects::{Kept, id_at, named_in};
 use wl_link::Object;
 use wl_wire::{InterfaceId, ObjectInfo};
 

@@ -1,4 +1,4 @@
-//! The objects of a client: look-ups among them, and what a program asks and changes of one.
+//! The objects of a client: what is kept of one, look-ups among them, and how one leaves.
 
 ghost use Rattle.std.specs.Prelude.{◌≡◌, ◌<◌, ◌++◌, false, true, Err, IfSome, IsSome, Ok, OnErr, OnOk, MatchOption, is_some, map, not, option_copied};
 ghost use Rattle.std.specs.List.{filter};
@@ -8,21 +8,29 @@ ghost use Rattle.wl_server.specs.Backend.{Calls};
 ghost use Rattle.wl_server.specs.Finish.{data_given};
 ghost use Rattle.wl_server.specs.Part.{named, note_of_end, registries_without, same_id, fresh_object as the_object, id_at as the_id};
 ghost use Rattle.wl_server.specs.PartStep.{over};
-ghost use Rattle.wl_server.specs.declared.step.Reply.TheVariants as reply;
-ghost use Rattle.wl_server.specs.declared.step.Step.TheVariants as step;
+ghost use Rattle.wl_server.specs.declared.runs.step.Reply.TheVariants as reply;
+ghost use Rattle.wl_server.specs.declared.runs.step.Step.TheVariants as step;
 
-use crate::backend::Backend;
-use crate::client_id::ClientId;
-use crate::error::InvalidId;
-use crate::handler::GlobalHandler;
-use crate::kept::Kept;
-use crate::note::Happening;
-use crate::note_numbers::{NoteNumbers, next_number};
-use crate::object_id::ObjectId;
-use crate::registry::Registry;
+pub mod create;
+pub mod data;
+pub mod destroy;
+
+use crate::client::Registry;
+use crate::ids::client_id::ClientId;
+use crate::ids::object_id::ObjectId;
+use crate::notes::{Happening, NoteNumbers, next_number};
 use std::collections::VecDeque;
-use wl_link::{Object, ObjectMap, Transport};
+use wl_link::{Object, ObjectMap};
 use wl_wire::{InterfaceId, OutOfMemory, WL_REGISTRY_INTERFACE};
+
+/// What is kept of an object beside its interface and version.
+#[derive(Drop)]
+pub struct Kept<U> {
+    /// The serial, which no other object of the client has.
+    pub serial: u64,
+    /// The program's data.
+    pub user_data: Option<U>,
+}
 
 /// A new object.
 pub fn fresh_object<U>(
@@ -130,41 +138,5 @@ pub fn take_out_noted<U: Drop>(
             next_number(&mut numbers.waiting),
             Happening::Destroyed(gone, user_data),
         ));
-    }
-}
-
-/// Gives the object that the id names these user data, in place of what it had.
-pub fn give_data<U: Drop>(
-    objects: &mut ObjectMap<Kept<U>>,
-    id: &ObjectId,
-    user_data: U,
-) -> Result<(), InvalidId>
-    ensures answer { MatchOption (named objects.old.store id.now) (result ≡ Err _) (λ _. result ≡ Ok tt) }
-    ensures given { objects.new.store ≡ data_given objects.old.store id.now.number (named objects.old.store id.now) user_data }
-{
-    if named_in(objects, id).is_none() {
-        return Err(InvalidId);
-    }
-    objects.with(id.protocol_id(), |object| {
-        object.value.user_data = Some(user_data);
-    });
-    Ok(())
-}
-
-impl<T: Transport + Drop, U: Drop, G: GlobalHandler<C> + Drop, C: Drop> Backend<T, U, G, C> {
-    /// Gives the object that the id names this user data; what it had is dropped. `InvalidId` where its client is not
-    /// stored, or the id names none. It takes no memory.
-    pub fn set_object_data(&mut self, id: &ObjectId, user_data: U) -> Result<(), InvalidId>
-        ensures { Calls (over T.sends T.receives G.views) self.old (step.SetObjectData id.now user_data) (reply.SetObjectData result) self.new }
-    {
-        self.refused = false;
-        let client = id.client();
-        if !self.is_stored(&client) {
-            return Err(InvalidId);
-        }
-        match &mut self.clients[client.slot() as usize] {
-            Some(stored) => give_data(&mut stored.objects, id, user_data),
-            None => unreachable!(),
-        }
     }
 }

@@ -11,8 +11,8 @@ use Rattle.wl_wire.specs.declared.message.Message.{Message}
 use Rattle.wl_wire.specs.Argument.{WireArgument}
 use Rattle.wl_wire.specs.MapIds.{numbered, with_ids}
 use Rattle.wl_wire.specs.Message.{content, word, pad_len, counted, piece, pieces, token, tokens}
-use Rattle.wl_wire.specs.Buffer.{IsWord, overwritten, counted_len, piece_len, token_count}
-use Rattle.wl_wire.specs.Laws.{length-word}
+use Rattle.wl_wire.specs.Inside.Buffer.{IsWord, overwritten, counted_len, piece_len, token_count}
+use Rattle.wl_wire.proofs.Spelling.RoundTrip.{length-word}
 
 word-zero : word 0 ≡ replicate 4 0
 unfolding word

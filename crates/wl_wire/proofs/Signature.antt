@@ -5,7 +5,7 @@ use Rattle.wl_wire.specs.declared.argument.Argument.{Argument}
 use Rattle.wl_wire.specs.declared.argument.ArgumentType.{ArgumentType}
 use Rattle.wl_wire.specs.declared.argument.ArgumentType.TheVariants.{Int}
 use Rattle.wl_wire.specs.Argument.{kind_of, type_of, Matches}
-use Rattle.wl_wire.specs.MatchingLaws.{kind_of-type_of}
+use Rattle.wl_wire.proofs.Spelling.MatchingLaws.{kind_of-type_of}
 
 module _ {Id Fd : Type 0} (signature : List ArgumentType) (args : List (Argument Id Fd)) where
   -- one more place fits

@@ -7,10 +7,10 @@ use Rattle.wl_wire.specs.declared.error.MessageParseError.{MessageParseError}
 use Rattle.wl_wire.specs.declared.error.MessageParseError.TheVariants as errors
 use Rattle.wl_wire.specs.Argument.{Matches, WireArgument}
 use Rattle.wl_wire.specs.Message.{WireMessage, IsMessage, spelling, tokens}
-use Rattle.wl_wire.specs.Laws.{whole-spelling, drop-spelling, one_message_lem, written_is_read_lem}
+use Rattle.wl_wire.proofs.Spelling.RoundTrip.{whole-spelling, drop-spelling, one_message_lem, written_is_read_lem}
 use Rattle.wl_wire.specs.Parse.{ReadsMessage, IsWhole, RefusesMessage, length_of, payload_of, fd_count}
-use Rattle.wl_wire.specs.Cursor.{RefusesHeader, arguments_at, with_front, RefusesArguments}
-use Rattle.wl_wire.specs.CursorLaws.{arguments_read, reads_tokens}
+use Rattle.wl_wire.specs.Inside.Cursor.{RefusesHeader, arguments_at, with_front, RefusesArguments}
+use Rattle.wl_wire.proofs.Spelling.CursorLaws.{arguments_read, reads_tokens}
 
 -- nothing was read before
 pub with_no_front : (before : List WireArgument) (read : Option (List WireArgument × List Token)) (x : List WireArgument × List Token)

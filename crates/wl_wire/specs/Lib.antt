@@ -1,18 +1,16 @@
+-- What a message is, and how it is written and read.
 pub mod Text
 pub mod Argument
-pub mod Table
 pub mod Message
 pub mod Reading
 pub mod Parse
 pub mod Stream
-pub mod Cursor
-pub mod Buffer
-pub mod CursorLaws
-pub mod Laws
+-- The table of interfaces, and what a message asks for.
+pub mod Table
+pub mod Asked
 pub mod Enum
+-- Descriptors and ids that are mapped.
 pub mod MapFd
 pub mod MapIds
-pub mod MapIdsLaws
-pub mod Asked
-pub mod MatchingLaws
-pub mod FrontLaws
+-- What only the functions inside promise each other.
+pub mod Inside

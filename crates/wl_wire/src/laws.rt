@@ -1,6 +1,6 @@
 //! Laws of the wire format, as the contracts of functions that do nothing.
 //!
-//! A law speaks of the definitions in `specs/` alone. The proofs of the crates above cite its lemma in `specs/Laws`.
+//! A law speaks of the definitions in `specs/` alone. The proofs of the crates above cite its lemma in `proofs/Spelling/RoundTrip`.
 
 ghost use Rattle.std.specs.Prelude.{◌≡◌, ◌++◌, ℕ, List, length, Option};
 ghost use Rattle.wl_wire.specs.declared.argument.ArgumentType.{ArgumentType};

@@ -1,4 +1,17 @@
 //! The Wayland wire format: interfaces, arguments, messages, and their bytes.
+//!
+//! A [`Message`] is written by [`write_to_buffers`] and read by [`parse_message`], under a signature of a [`Protocol`], the
+//! table of interfaces. The page of this crate, `README.md`, has an example.
+//!
+//! | Calls | Code | Definitions, in `specs/` |
+//! |---|---|---|
+//! | `write_to_buffers`, `write_numbered`, `message_size`, `numbered_size` | `write` | `Message`, `MapIds` |
+//! | `parse_message`, `parse_into`, `message_header`, `message_is_there` | `parse` | `Parse`, `Reading` |
+//! | `Protocol`, `check_for_signature`, `same_interface` | `protocol` | `Table`, `Argument`, `Asked` |
+//! | `Message::map_ids`, `Message::map_fd` | `map_ids`, `message` | `MapIds`, `MapFd` |
+//! | `WEnum`, `WaylandEnum` | `enums` | `Enum` |
+//!
+//! What follows from the definitions alone is the contract of the functions of [`laws`].
 #![tactic(auto)]
 
 mod argument;

@@ -10,7 +10,7 @@ ghost use Rattle.wl_wire.specs.Argument.{Matches};
 ghost use Rattle.wl_wire.specs.Message.{WireMessage, IsMessage, content, pad_len, spelling, tokens};
 ghost use Rattle.wl_wire.specs.Parse.{fd_count, IsInline, IsSmall, length_of, sender_of, opcode_of, ReadsMessage, RefusesMessage, IsWhole};
 ghost use Rattle.wl_wire.specs.Text.{HasNoZero};
-ghost use Rattle.wl_wire.specs.Cursor.{IsNumber, text_at, word_at, counted_at, text_of, argument_at, arguments_at, rests, with_front, Gives, RefusesArguments, RefusesHeader};
+ghost use Rattle.wl_wire.specs.Inside.Cursor.{IsNumber, text_at, word_at, counted_at, text_of, argument_at, arguments_at, rests, with_front, Gives, RefusesArguments, RefusesHeader};
 
 use crate::argument::{Argument, ArgumentType, Token};
 use crate::byte_array::ByteArray;
@@ -30,7 +30,7 @@ impl From<AllocError> for MessageParseError {
 }
 
 /// A word, and the bytes after it.
-#[tactic(auto, unfolding(crate::specs::Cursor::word_at))]
+#[tactic(auto, unfolding(crate::specs::Inside::Cursor::word_at))]
 fn read_word(payload: &[u8]) -> Option<(u32, &[u8])>
     ensures { option_map (λ x. (x.0, x.1.now)) result ≡ word_at payload.now }
 {
@@ -53,7 +53,7 @@ pub(crate) fn padding(len: usize) -> usize
 }
 
 /// Counted bytes, and what follows their padding.
-#[tactic(auto, unfolding(crate::specs::Cursor::counted_at))]
+#[tactic(auto, unfolding(crate::specs::Inside::Cursor::counted_at))]
 fn read_counted(payload: &[u8]) -> Option<(&[u8], &[u8])>
     ensures { option_map (λ x. (x.0.now, x.1.now)) result ≡ counted_at payload.now }
 {
@@ -67,7 +67,7 @@ fn read_counted(payload: &[u8]) -> Option<(&[u8], &[u8])>
 }
 
 /// The string that the counted bytes are: not there where they are no string, null where there are none.
-#[tactic(auto, unfolding(crate::specs::Cursor::text_of))]
+#[tactic(auto, unfolding(crate::specs::Inside::Cursor::text_of))]
 fn text_in(bytes: &[u8]) -> Option<Option<&[u8]>>
     ensures text { option_map (option_map (λ x. x.now)) result ≡ text_of bytes.now }
     ensures no_zero { IfSome result (λ text. IfSome text (λ bytes. HasNoZero bytes.now)) }
@@ -91,7 +91,7 @@ fn token_at(fds: &VecDeque<Token>, at: usize) -> Option<Token>
 }
 
 /// The number or object of that type at the front, and the bytes after it.
-#[tactic(auto, unfolding(crate::specs::Cursor::argument_at))]
+#[tactic(auto, unfolding(crate::specs::Inside::Cursor::argument_at))]
 fn read_number(kind: ArgumentType, payload: &[u8]) -> Option<(Argument<u32, Token>, &[u8])>
     requires { IsNumber kind }
     ensures { (fds : List WireToken) → option_map (λ x. (x.0, x.1.now, fds)) result ≡ argument_at kind payload.now fds }
@@ -132,7 +132,7 @@ fn read_array(alloc: Global, payload: &[u8]) -> Result<(ByteArray, &[u8]), Messa
 type Read<'b> = (Argument<u32, Token>, &'b [u8], usize);
 
 /// The argument of that type at the front of the bytes or of the tokens, of which so many were used before.
-#[tactic(auto, unfolding(crate::specs::Cursor::argument_at))]
+#[tactic(auto, unfolding(crate::specs::Inside::Cursor::argument_at))]
 fn read_argument<'b>(
     alloc: Global,
     kind: ArgumentType,
@@ -210,7 +210,7 @@ fn read_arguments(
 }
 
 /// What follows the argument of that type at the front of the bytes or of the tokens.
-#[tactic(auto, unfolding(crate::specs::Cursor::argument_at))]
+#[tactic(auto, unfolding(crate::specs::Inside::Cursor::argument_at))]
 fn skip_argument<'b, 't>(
     kind: ArgumentType,
     payload: &'b [u8],

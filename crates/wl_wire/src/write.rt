@@ -5,7 +5,7 @@ ghost use Rattle.wl_wire.specs.declared.error.MessageWriteError.TheVariants.{Out
 ghost use Rattle.std.specs.List.{AllByRecursion, sum_by};
 ghost use Rattle.wl_wire.specs.Message.{content, IsArgument, IsMessage, counted, pad_len, piece, pieces, size, spelling, token, tokens, word};
 ghost use Rattle.wl_wire.specs.MapIds.{numbered, with_ids};
-ghost use Rattle.wl_wire.specs.Buffer.{IsWord, is_word, overwritten, counted_len, piece_len, token_count};
+ghost use Rattle.wl_wire.specs.Inside.Buffer.{IsWord, is_word, overwritten, counted_len, piece_len, token_count};
 
 use crate::argument::{Argument, Token};
 use crate::error::MessageWriteError;
@@ -109,7 +109,7 @@ fn is_word<Id>(arg: &Argument<Id, Token>) -> bool
 }
 
 /// Writes the bytes at that place.
-#[tactic(auto, unfolding(crate::specs::Buffer::overwritten))]
+#[tactic(auto, unfolding(crate::specs::Inside::Buffer::overwritten))]
 fn put_bytes(payload: &mut [u8], at: usize, bytes: &[u8])
     requires { at + length bytes.now ≤ length payload.old }
     ensures { payload.new ≡ overwritten payload.old at bytes.now }

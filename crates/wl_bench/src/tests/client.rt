@@ -4,6 +4,8 @@
 //! objects and after 2^64 - 1 serials, which no test reaches.
 
 mod acts;
+mod cuts;
+mod drill;
 mod events;
 mod example;
 mod faults;
@@ -13,4 +15,5 @@ mod requests;
 mod steps;
 mod texts;
 mod told;
+mod transports;
 mod values;

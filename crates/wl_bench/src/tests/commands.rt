@@ -4,6 +4,7 @@ mod bad;
 mod broken;
 mod calls;
 mod conversations;
+mod drill;
 
 use crate::commands::run_commands;
 use crate::stop::Stop;
@@ -17,7 +18,7 @@ fn told(output: Vec<u8>, end: Result<(), Stop>) -> Result<String, Fail> {
         Ok(()) => {}
         Err(Stop::BadLine(number)) => writeln!(text, "line {number}: bad command")?,
         Err(Stop::Failed) => writeln!(text, "failed")?,
-        Err(Stop::Usage) => writeln!(text, "usage")?,
+        Err(Stop::Usage | Stop::Differs) => writeln!(text, "usage")?,
     }
     Ok(text)
 }

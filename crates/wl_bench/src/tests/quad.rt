@@ -48,7 +48,8 @@ pub fn quad_table(alloc: Global) -> Result<Protocol, Fail> {
     push_interface(
         alloc,
         &mut interfaces,
-        ("pair", 1),
+        "pair",
+        1,
         &[joining("join")],
         &[joining("joined")],
     )?;

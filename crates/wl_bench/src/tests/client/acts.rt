@@ -5,12 +5,13 @@ ghost use Rattle.std.specs.Prelude.{◌<◌};
 use super::steps::{Call, replay};
 use super::told::*;
 use super::values::{Child, Object, Request, message};
+use crate::tests::cuts::{Cut, Stream};
 use crate::tests::message::padded;
 use crate::tests::quad::quad_table;
 use std::alloc::{AllocError, Global};
 use std::fmt::Write;
 use std::test::Fail;
-use wl_client::Backend;
+use wl_client::{Backend, EventError};
 use wl_link::Memory;
 use wl_wire::{IoFault, Token};
 
@@ -34,6 +35,8 @@ pub enum Act {
     Flush,
     /// Reads the next event.
     Next,
+    /// Reads, and finishes each event, until nothing more is there or a reading fails.
+    Serve,
     /// Finishes the open event, with these data for the object that it made.
     Finish(Option<u32>),
     /// Gives an object these data.
@@ -80,6 +83,8 @@ pub enum Cue {
     ArriveInChunks(&'static [u8], usize),
     /// The same, each byte by itself.
     ArriveBytewise(&'static [u8], usize),
+    /// A stream that is to arrive, cut so.
+    ArriveCut(Stream, Cut),
     /// A fault behind what is to arrive.
     ArriveFault(IoFault),
     /// A fault behind the answers to sends.
@@ -174,6 +179,33 @@ fn finish(client: &mut Client, log: &mut String, data: Option<u32>) -> Result<()
     told(client, written)
 }
 
+/// Reads once, and finishes the event; whether there may be more to read. Of a reading that would block it tells nothing
+/// where something is still to arrive.
+fn serve_once(client: &mut Client, log: &mut String) -> Result<bool, Fail> {
+    let answer = client.next_event();
+    match answer {
+        Err(EventError::WouldBlock) if client.transport().arrivals_left() > 0 => return Ok(true),
+        _ => {}
+    }
+    let written = write_read(log, &answer);
+    told(client, written)?;
+    if answer.is_err() {
+        return Ok(false);
+    }
+    finish(client, log, None)?;
+    Ok(true)
+}
+
+/// Reads, and finishes each event, until nothing more is there or a reading fails.
+fn serve(client: &mut Client, log: &mut String) -> Result<(), Fail> {
+    for _ in 0..1000 {
+        if !serve_once(client, log)? {
+            return Ok(());
+        }
+    }
+    Err(Fail::new("there is more to read"))
+}
+
 /// Gives the object these data.
 fn set_data(client: &mut Client, log: &mut String, object: Object, data: u32) -> Result<(), Fail> {
     let answer = client.set_data(&object.id(), data);
@@ -265,6 +297,30 @@ fn arrive_in_chunks(
     Ok(())
 }
 
+/// Puts the bytes behind what is to arrive, in chunks of that size.
+fn arrive_chunks(alloc: Global, client: &mut Client, bytes: &[u8], size: usize) -> Result<(), Fail>
+    requires { 0 < size }
+{
+    for chunk in bytes.chunks(size) {
+        arrive(alloc, client, chunk)?;
+    }
+    Ok(())
+}
+
+/// Puts the stream behind what is to arrive, cut so.
+fn arrive_cut(alloc: Global, client: &mut Client, stream: Stream, cut: Cut) -> Result<(), Fail> {
+    let bytes = stream.bytes(alloc)?;
+    match cut {
+        Cut::Whole => arrive(alloc, client, bytes.as_slice()),
+        Cut::At(place) => {
+            let (front, back) = bytes.as_slice().split_at(place.min(bytes.len()));
+            arrive(alloc, client, front)?;
+            arrive(alloc, client, back)
+        }
+        Cut::Bytewise => arrive_chunks(alloc, client, bytes.as_slice(), 1),
+    }
+}
+
 /// Puts the fault behind what is to arrive.
 fn arrive_fault(client: &mut Client, fault: IoFault) -> Result<(), Fail> {
     client.transport_mut().arrive_fault(fault)?;
@@ -322,6 +378,7 @@ fn play(alloc: Global, client: &mut Client, cue: Cue) -> Result<(), Fail> {
         Cue::ArriveWith(bytes, descriptor) => arrive_with(alloc, client, bytes, descriptor),
         Cue::ArriveInChunks(bytes, len) => arrive_in_chunks(alloc, client, bytes, len, 4096),
         Cue::ArriveBytewise(bytes, len) => arrive_in_chunks(alloc, client, bytes, len, 1),
+        Cue::ArriveCut(stream, cut) => arrive_cut(alloc, client, stream, cut),
         Cue::ArriveFault(fault) => arrive_fault(client, fault),
         Cue::AcceptFault(fault) => accept_fault(client, fault),
         Cue::TakeSent => take_sent(client),
@@ -338,6 +395,7 @@ fn perform(alloc: Global, client: &mut Client, log: &mut String, act: Act) -> Re
         Act::Bound => bound(alloc, client, log),
         Act::Flush => flush(client, log),
         Act::Next => next(client, log),
+        Act::Serve => serve(client, log),
         Act::Finish(data) => finish(client, log, data),
         Act::SetData(object, data) => set_data(client, log, object, data),
         Act::Destroy(object) => destroy(client, log, object),

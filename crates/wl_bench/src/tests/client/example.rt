@@ -8,7 +8,9 @@ use std::collections::VecDeque;
 use std::test::Fail;
 use wl_client::{Backend, EventError, Note, ObjectId};
 use wl_link::Transport;
-use wl_wire::{Argument, IoFault, Message, Protocol, Token};
+use wl_wire::{
+    Argument, CString, Interface, InterfaceId, IoFault, Message, ObjectInfo, Protocol, Token,
+};
 
 /// Plays back what a server once sent, and keeps what it is sent. It carries no descriptors.
 #[derive(Drop)]
@@ -58,31 +60,31 @@ impl<'a> Transport for Playback<'a> {
     ghost few_tokens = { λ before after room came received. received.1 };
 }
 
-/// `wl_display.sync`, with its new id left out: the session puts the number in.
-fn sync(alloc: Global, display: ObjectId) -> Result<Message<ObjectId, Token>, Fail> {
-    let mut sync = Message {
+/// A client of the example: the data of an object tell the program what it is for.
+type Client<'a> = Backend<Playback<'a>, u32>;
+
+/// A request of the display that makes an object: `sync` or `get_registry`. The new id is left out: the session puts the
+/// number in.
+fn making(alloc: Global, display: ObjectId, opcode: u16) -> Result<Message<ObjectId, Token>, Fail> {
+    let mut request = Message {
         sender_id: display,
-        opcode: 0,
+        opcode,
         args: SmallVec::new(alloc),
     };
-    sync.args.push(Argument::NewId(ObjectId::null()))?;
-    Ok(sync)
+    request.args.push(Argument::NewId(ObjectId::null()))?;
+    Ok(request)
 }
 
-/// Sends a sync: the server answers when it has come to it. The data tell the program what the answer is for.
-fn ask(
-    alloc: Global,
-    client: &mut Backend<Playback<'_>, u32>,
-    data: u32,
-) -> Result<ObjectId, Fail> {
-    let sync = sync(alloc, client.display_id())?;
+/// Sends a sync: the server answers when it has come to it.
+fn ask(alloc: Global, client: &mut Client<'_>, data: u32) -> Result<ObjectId, Fail> {
+    let sync = making(alloc, client.display_id(), 0)?;
     let callback = client.send_request(sync, Some(data), None)?;
     client.flush()?;
     Ok(callback)
 }
 
 /// The object that the next event is for; `None` where no event is there to its end.
-fn next_sender(client: &mut Backend<Playback<'_>, u32>) -> Result<Option<ObjectId>, Fail> {
+fn next_sender(client: &mut Client<'_>) -> Result<Option<ObjectId>, Fail> {
     match client.next_event() {
         Ok(event) => Ok(Some(event.sender_id)),
         Err(EventError::WouldBlock) => Ok(None),
@@ -91,7 +93,7 @@ fn next_sender(client: &mut Backend<Playback<'_>, u32>) -> Result<Option<ObjectI
 }
 
 /// The data of that object, whose event is finished.
-fn answered(client: &mut Backend<Playback<'_>, u32>) -> Result<Option<u32>, Fail> {
+fn answered(client: &mut Client<'_>) -> Result<Option<u32>, Fail> {
     let Some(sender) = next_sender(client)? else {
         return Ok(None);
     };
@@ -101,22 +103,19 @@ fn answered(client: &mut Backend<Playback<'_>, u32>) -> Result<Option<u32>, Fail
 }
 
 /// Whether a sync is all that was sent.
-fn is_asked(client: &Backend<Playback<'_>, u32>) -> bool {
+fn is_asked(client: &Client<'_>) -> bool {
     let sync = [1, 0, 0, 0, 0, 0, 12, 0, 2, 0, 0, 0];
     client.transport().to_server.as_slice() == sync.as_slice()
 }
 
 /// Whether the callback is all that was destroyed since the last look.
-fn is_noted(client: &mut Backend<Playback<'_>, u32>, callback: ObjectId) -> bool {
+fn is_noted(client: &mut Client<'_>, callback: ObjectId) -> bool {
     let notes = client.take_notes();
     notes.as_slice() == [Note::Destroyed(callback)].as_slice()
 }
 
 /// Asks, and reads until nothing more is there: the data of each answer.
-fn answers(
-    alloc: Global,
-    client: &mut Backend<Playback<'_>, u32>,
-) -> Result<[Option<u32>; 2], Fail> {
+fn answers(alloc: Global, client: &mut Client<'_>) -> Result<[Option<u32>; 2], Fail> {
     let callback = ask(alloc, client, 7)?;
     let first = answered(client)?;
     if !is_asked(client) || !is_noted(client, callback) {
@@ -125,14 +124,67 @@ fn answers(
     Ok([first, answered(client)?])
 }
 
+/// The interface `counter`, the first of the program's own.
+const COUNTER: InterfaceId = InterfaceId(4);
+
+/// The table of the example: `counter`, of version 1, which has no messages here.
+fn table(alloc: Global) -> Result<Protocol, Fail> {
+    let mut interfaces = Vec::new(alloc);
+    interfaces.push(Interface {
+        name: String::from_str(alloc, "counter")?,
+        version: 1,
+        requests: Vec::new(alloc),
+        events: Vec::new(alloc),
+    })?;
+    Ok(Protocol::new(alloc, interfaces)?)
+}
+
+/// `wl_registry.bind` of the global of this name as a counter of version 1.
+fn binding(alloc: Global, registry: ObjectId, name: u32) -> Result<Message<ObjectId, Token>, Fail> {
+    let mut bind = Message {
+        sender_id: registry,
+        opcode: 0,
+        args: SmallVec::new(alloc),
+    };
+    bind.args.push(Argument::Uint(name))?;
+    let interface = CString::new(Vec::from_slice(alloc, b"counter")?)?;
+    bind.args.push(Argument::Str(Some(interface)))?;
+    bind.args.push(Argument::Uint(1))?;
+    bind.args.push(Argument::NewId(ObjectId::null()))?;
+    Ok(bind)
+}
+
+/// The name of the global that the next event tells of, which is finished.
+fn announced(client: &mut Client<'_>) -> Result<u32, Fail> {
+    let event = client.next_event()?;
+    let name = match event.args.as_slice() {
+        [Argument::Uint(name), ..] => *name,
+        _ => 0,
+    };
+    client.finish_event(None)?;
+    Ok(name)
+}
+
+/// Asks for the registry, and binds the global that is announced first. The table names the registry's interface, but not
+/// that of a bound object: so the session is told it, with the version.
+fn bind(alloc: Global, client: &mut Client<'_>) -> Result<ObjectId, Fail> {
+    let get_registry = making(alloc, client.display_id(), 1)?;
+    let registry = client.send_request(get_registry, Some(1), None)?;
+    client.flush()?;
+    let name = announced(client)?;
+    let bind = binding(alloc, registry, name)?;
+    let counter = client.send_request(bind, Some(2), Some((COUNTER, 1)))?;
+    client.flush()?;
+    Ok(counter)
+}
+
 /// A client to which this is played back.
-fn connected(alloc: Global, from_server: &[u8]) -> Result<Backend<Playback<'_>, u32>, Fail> {
+fn connected(alloc: Global, from_server: &[u8]) -> Result<Client<'_>, Fail> {
     let playback = Playback {
         from_server,
         to_server: Vec::new(alloc),
     };
-    let table = Protocol::new(alloc, Vec::new(alloc))?;
-    Ok(Backend::connect(alloc, table, playback)?)
+    Ok(Backend::connect(alloc, table(alloc)?, playback)?)
 }
 
 /// The data of the answers that this is, played back to a client.
@@ -141,11 +193,36 @@ fn played_back(alloc: Global, from_server: &[u8]) -> Result<[Option<u32>; 2], Fa
     answers(alloc, &mut client)
 }
 
+/// What is known of the object that a client binds, and how many bytes it sends for it.
+fn bound(alloc: Global, client: &mut Client<'_>) -> Result<(ObjectInfo, usize), Fail> {
+    let counter = bind(alloc, client)?;
+    Ok((client.info(&counter)?, client.transport().to_server.len()))
+}
+
+/// The same, of a client to which this is played back.
+fn bound_by(alloc: Global, from_server: &[u8]) -> Result<(ObjectInfo, usize), Fail> {
+    let mut client = connected(alloc, from_server)?;
+    bound(alloc, &mut client)
+}
+
 #[test]
 fn client_over_a_transport_of_its_own(rt: HostRuntime) -> Result<(), Fail> {
     let recorded = [
         2, 0, 0, 0, 0, 0, 12, 0, 0, 0, 0, 0, 1, 0, 0, 0, 1, 0, 12, 0, 2, 0, 0, 0,
     ];
     assert_eq!(rt; played_back(rt.alloc(), &recorded)?, [Some(7), None]);
+    Ok(())
+}
+
+#[test]
+fn client_that_binds_a_global(rt: HostRuntime) -> Result<(), Fail> {
+    let recorded = [
+        2, 0, 0, 0, 0, 0, 28, 0, 1, 0, 0, 0, 8, 0, 0, 0, 99, 111, 117, 110, 116, 101, 114, 0, 1, 0,
+        0, 0, // `wl_registry.global`: the global 1 is a `counter` of version 1
+    ];
+    let (info, sent) = bound_by(rt.alloc(), &recorded)?;
+    assert_eq!(rt; (info.id, info.interface, info.version), (3, COUNTER, 1));
+    // `get_registry` has 12 bytes, and `bind` 32.
+    assert_eq!(rt; sent, 44);
     Ok(())
 }

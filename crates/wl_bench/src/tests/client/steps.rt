@@ -76,7 +76,7 @@ fn step(alloc: Global, call: Call) -> Result<Step<u32>, Fail> {
 }
 
 /// The steps.
-fn steps(alloc: Global, calls: &[Call]) -> Result<Vec<Step<u32>>, Fail> {
+pub fn steps(alloc: Global, calls: &[Call]) -> Result<Vec<Step<u32>>, Fail> {
     let mut steps = Vec::new(alloc);
     for call in calls {
         steps.push(step(alloc, *call)?)?;

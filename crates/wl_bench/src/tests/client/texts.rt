@@ -77,6 +77,30 @@ fn ids_in_a_set(rt: HostRuntime) -> Result<(), Fail> {
     )
 }
 
+/// Ids are equal where all their parts are: those of another number, serial or interface are others.
+#[test]
+fn ids_that_differ_in_one_part(rt: HostRuntime) {
+    let ids = [
+        ObjectId::from_parts(2, 1, WL_CALLBACK_INTERFACE),
+        ObjectId::from_parts(3, 1, WL_CALLBACK_INTERFACE),
+        ObjectId::from_parts(2, 2, WL_CALLBACK_INTERFACE),
+        ObjectId::from_parts(2, 1, ANONYMOUS_INTERFACE),
+    ];
+    for (i, one) in ids.iter().enumerate() {
+        for (j, other) in ids.iter().enumerate() {
+            assert_eq!(rt; one == other, i == j, "{i} and {j}");
+        }
+    }
+}
+
+/// An id of the number 0 is null, whatever else it holds.
+#[test]
+fn null_ids(rt: HostRuntime) {
+    assert!(rt; ObjectId::null().is_null());
+    assert!(rt; ObjectId::from_parts(0, 5, WL_CALLBACK_INTERFACE).is_null());
+    assert!(rt; !ObjectId::from_parts(1, 0, ANONYMOUS_INTERFACE).is_null());
+}
+
 /// The text.
 fn text(alloc: Global, text: &str) -> Result<Text, Fail> {
     Ok(Text::new(String::from_str(alloc, text)?))

@@ -187,7 +187,7 @@ fn write_dispatched(
 }
 
 /// Writes a reply.
-fn write_reply(log: &mut String, reply: &Reply<u32>) -> Result<(), AllocError> {
+pub fn write_reply(log: &mut String, reply: &Reply<u32>) -> Result<(), AllocError> {
     match reply {
         Reply::SetData(answer) => write_done(log, answer),
         Reply::DestroyObject(answer) => write_destroyed(log, answer),

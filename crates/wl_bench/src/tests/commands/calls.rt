@@ -226,3 +226,36 @@ ok
 ",
     )
 }
+
+/// A send that takes nothing ends a flush well; the bytes are sent by the next.
+#[test]
+fn sends_that_take_nothing(rt: HostRuntime) -> Result<(), Fail> {
+    tells(
+        &rt,
+        printed(
+            rt.alloc(),
+            b"client
+in 0 0100000000000c0002000000 -
+read 0
+accept 0 0
+flush
+accept 0 0,5,0
+flush
+flush
+flush
+",
+        ),
+        "client 0 1
+ok
+fault WouldBlock
+ok
+ok
+ok
+ok
+ok
+out 0 0200000000 -
+ok
+out 0 000c00000000000100000001000c0002000000 -
+",
+    )
+}

@@ -75,3 +75,24 @@ fn event_with_a_descriptor(rt: HostRuntime) -> Result<(), Fail> {
         "done\ndone\n00 00 00 ff 00 00 20 00 01 00 00 ff 01 00 00 ff 03 00 00 00 61 62 00 00 03 00 00 00 01 02 03 00, fd 9\n",
     )
 }
+
+/// A send that answers 0 ends its flush well, and what it was offered of descriptors is gone: the bytes are sent later,
+/// without the descriptor that their message has.
+#[test]
+fn send_that_takes_nothing_loses_descriptors(rt: HostRuntime) -> Result<(), Fail> {
+    let acts = [
+        Act::Quietly(&WITH_BOTH),
+        Act::Do(Call::Send(Event::Joined(FIRST_MADE, SECOND_MADE))),
+        Act::Do(Call::Accept(FIRST, 0)),
+        Act::Do(Call::Flush(FIRST)),
+        Act::Do(Call::TakeSent(FIRST)),
+        Act::Do(Call::Flush(FIRST)),
+        Act::Do(Call::TakeSent(FIRST)),
+        Act::Do(Call::Notes),
+    ];
+    tells(
+        &rt,
+        log_of(rt.alloc(), &acts),
+        "done\ndone\ndone\n00 00 00 ff 00 00 20 00 01 00 00 ff 01 00 00 ff 03 00 00 00 61 62 00 00 03 00 00 00 01 02 03 00\ninitialized 0, 1\n",
+    )
+}

@@ -24,7 +24,13 @@ pub static BIND: [u8; 32] = [
     0, 0, 0,
 ];
 
-/// The same of version 1.
+/// The same with the new id 4.
+pub static BIND_AT_4: [u8; 32] = [
+    2, 0, 0, 0, 0, 0, 32, 0, 1, 0, 0, 0, 5, 0, 0, 0, 113, 117, 97, 100, 0, 0, 0, 0, 3, 0, 0, 0, 4,
+    0, 0, 0,
+];
+
+/// The same of version 1, with the new id 3.
 pub static BIND_VERSION_1: [u8; 32] = [
     2, 0, 0, 0, 0, 0, 32, 0, 1, 0, 0, 0, 5, 0, 0, 0, 113, 117, 97, 100, 0, 0, 0, 0, 1, 0, 0, 0, 3,
     0, 0, 0,
@@ -43,6 +49,9 @@ pub static MAKE: [u8; 12] = [3, 0, 0, 0, 1, 0, 12, 0, 4, 0, 0, 0];
 
 /// `quad.destroy`, by object 3.
 pub static DESTROY: [u8; 8] = [3, 0, 0, 0, 2, 0, 8, 0];
+
+/// `quad.destroy`, by object 4.
+pub static DESTROY_4: [u8; 8] = [4, 0, 0, 0, 2, 0, 8, 0];
 
 /// `quad.link`, by object 3, of no object and no object.
 pub static LINK_OF_NONE: [u8; 16] = [3, 0, 0, 0, 3, 0, 16, 0, 0, 0, 0, 0, 0, 0, 0, 0];

@@ -2,13 +2,14 @@
 
 ghost use Rattle.std.specs.Prelude.{◌≤◌, IfOk, length};
 
+use smallvec::SmallVec;
 use std::alloc::Global;
 use std::collections::VecDeque;
 use std::test::Fail;
 use wl_link::Transport;
-use wl_server::{Action, ActionError, Backend, ClientId, ObjectId, ShownToAll};
+use wl_server::{Action, ActionError, Backend, ClientId, GlobalId, ObjectId, ShownToAll};
 use wl_wire::{
-    Argument, ArgumentType, Interface, InterfaceId, IoFault, MessageDesc, Protocol, Token,
+    Argument, ArgumentType, Interface, InterfaceId, IoFault, Message, MessageDesc, Protocol, Token,
 };
 
 /// Plays back what a client once sent, and keeps what it is sent. It carries no descriptors.
@@ -65,10 +66,10 @@ type Server<'a> = Backend<Playback<'a>, i32, ShownToAll, ()>;
 /// The interface of the example, the first of the program's own.
 const COUNTER: InterfaceId = InterfaceId(4);
 
-/// `counter.add`, of a number.
-fn add(alloc: Global) -> Result<MessageDesc, Fail> {
+/// A message of the example, which has a number.
+fn of_a_number(alloc: Global, name: &str) -> Result<MessageDesc, Fail> {
     Ok(MessageDesc {
-        name: String::from_str(alloc, "add")?,
+        name: String::from_str(alloc, name)?,
         signature: Vec::from_slice(alloc, &[ArgumentType::Int])?,
         since: 1,
         is_destructor: false,
@@ -77,16 +78,21 @@ fn add(alloc: Global) -> Result<MessageDesc, Fail> {
     })
 }
 
-/// The interface `counter`, of version 1: it has one request, `add`.
+/// A list of one such message.
+fn one_of_a_number(alloc: Global, name: &str) -> Result<Vec<MessageDesc>, Fail> {
+    let mut messages = Vec::new(alloc);
+    messages.push(of_a_number(alloc, name)?)?;
+    Ok(messages)
+}
+
+/// The interface `counter`, of version 1: it has one request, `add`, and one event, `changed`.
 fn counter(alloc: Global) -> Result<Interface, Fail> {
-    let mut counter = Interface {
+    Ok(Interface {
         name: String::from_str(alloc, "counter")?,
         version: 1,
-        requests: Vec::new(alloc),
-        events: Vec::new(alloc),
-    };
-    counter.requests.push(add(alloc)?)?;
-    Ok(counter)
+        requests: one_of_a_number(alloc, "add")?,
+        events: one_of_a_number(alloc, "changed")?,
+    })
 }
 
 /// The table of the example.
@@ -96,11 +102,12 @@ fn table(alloc: Global) -> Result<Protocol, Fail> {
     Ok(Protocol::new(alloc, interfaces)?)
 }
 
-/// A server that offers a counter.
-fn offering<'a>(alloc: Global) -> Result<Server<'a>, Fail> {
+/// A server that offers a counter. Its clients may send messages of any length.
+fn offering<'a>(alloc: Global) -> Result<(Server<'a>, GlobalId), Fail> {
     let mut server = Backend::new(alloc, table(alloc)?);
-    server.create_global(COUNTER, 1, ShownToAll)?;
-    Ok(server)
+    server.set_default_max_buffer_size(65536);
+    let global = server.create_global(COUNTER, 1, ShownToAll)?;
+    Ok((server, global))
 }
 
 /// What a request asks to be added.
@@ -111,33 +118,64 @@ fn asked(args: &[Argument<ObjectId, Token>]) -> i32 {
     }
 }
 
-/// Adds to a counter, which ends the request.
-fn add_to(
+/// The event `counter.changed`: the counter is this now.
+fn changed(
+    alloc: Global,
+    counter: &ObjectId,
+    count: i32,
+) -> Result<Message<ObjectId, Token>, Fail> {
+    let mut changed = Message {
+        sender_id: *counter,
+        opcode: 0,
+        args: SmallVec::new(alloc),
+    };
+    changed.args.push(Argument::Int(count))?;
+    Ok(changed)
+}
+
+/// Tells the counter's client what it is now.
+fn tell(
+    alloc: Global,
     server: &mut Server<'_>,
-    client: &ClientId,
+    counter: &ObjectId,
+    count: i32,
+) -> Result<(), Fail> {
+    Ok(server.send_event(changed(alloc, counter, count)?)?)
+}
+
+/// Adds to a counter, tells its client, and ends the request.
+fn add_to(
+    alloc: Global,
+    server: &mut Server<'_>,
     counter: &ObjectId,
     value: i32,
 ) -> Result<(), Fail> {
-    let count = *server.get_object_data(counter)?;
-    server.set_object_data(counter, count.wrapping_add(value))?;
-    Ok(server.finish_request(client, None)?)
+    let count = server.get_object_data(counter)?.wrapping_add(value);
+    server.set_object_data(counter, count)?;
+    tell(alloc, server, counter, count)?;
+    Ok(server.finish_request(&counter.client(), None)?)
 }
 
 /// Does what the action asks for, and ends it: a new counter is 0, and a request adds to its counter.
-fn act(server: &mut Server<'_>, client: &ClientId, action: Action) -> Result<(), Fail> {
+fn act(
+    alloc: Global,
+    server: &mut Server<'_>,
+    client: &ClientId,
+    action: Action,
+) -> Result<(), Fail> {
     match action {
         Action::Bind { .. } => Ok(server.finish_bind(client, 0)?),
         Action::Request { sender, args, .. } => {
-            add_to(server, client, &sender, asked(args.as_slice()))
+            add_to(alloc, server, &sender, asked(args.as_slice()))
         }
     }
 }
 
 /// Does what the client asks for, until nothing more of it is there; a client gets eight turns.
-fn serve(server: &mut Server<'_>, client: &ClientId) -> Result<(), Fail> {
+fn serve(alloc: Global, server: &mut Server<'_>, client: &ClientId) -> Result<(), Fail> {
     for _ in 0..8 {
         match server.next_action(client) {
-            Ok(action) => act(server, client, action)?,
+            Ok(action) => act(alloc, server, client, action)?,
             Err(ActionError::Io(IoFault::WouldBlock)) => return Ok(()),
             Err(error) => Err(error)?,
         }
@@ -164,19 +202,50 @@ fn count(server: &Server<'_>, client: &ClientId) -> Result<i32, Fail> {
     Ok(*server.get_object_data(&counter)?)
 }
 
-/// What a counter at object 3 comes to, and how many bytes its client was sent.
-fn counted(server: &mut Server<'_>, client: &ClientId) -> Result<(i32, usize), Fail> {
-    serve(server, client)?;
+/// Sends what waits for the client. The answer is how many bytes it was sent in all.
+fn sent(server: &mut Server<'_>, client: &ClientId) -> Result<usize, Fail> {
     server.flush(Some(*client))?;
-    let count = count(server, client)?;
-    Ok((count, server.transport(client)?.to_client.len()))
+    Ok(server.transport(client)?.to_client.len())
 }
 
-/// What a counter comes to by these requests, and how many bytes the client was sent.
-fn played_back(alloc: Global, from_client: &[u8]) -> Result<(i32, usize), Fail> {
-    let mut server = offering(alloc)?;
-    let client = inserted(alloc, &mut server, from_client)?;
-    counted(&mut server, &client)
+/// Withdraws the counter: disabled first, it is announced no more, and who was told of it is told that it is gone. A client
+/// that has not heard that yet may still bind it, so it is removed later, when no such bind can come any more.
+fn withdraw(server: &mut Server<'_>, client: &ClientId, counter: &GlobalId) -> Result<usize, Fail> {
+    server.disable_global(counter);
+    let count = sent(server, client)?;
+    server.remove_global(counter);
+    Ok(count)
+}
+
+/// What the counter of a client comes to, how many bytes the client was sent for it, and how many after the counter was
+/// withdrawn.
+fn conversation(
+    alloc: Global,
+    server: &mut Server<'_>,
+    client: &ClientId,
+    counter: &GlobalId,
+) -> Result<(i32, usize, usize), Fail> {
+    serve(alloc, server, client)?;
+    let served = sent(server, client)?;
+    let withdrawn = withdraw(server, client, counter)?;
+    Ok((count(server, client)?, served, withdrawn))
+}
+
+/// The same, of a client of which this is to come.
+fn conversation_with_a_new_client<'a>(
+    alloc: Global,
+    server: &mut Server<'a>,
+    counter: &GlobalId,
+    from_client: &'a [u8],
+) -> Result<(i32, usize, usize), Fail> {
+    let client = inserted(alloc, server, from_client)?;
+    conversation(alloc, server, &client, counter)
+}
+
+/// The same, of the first client of a new server.
+fn played_back(alloc: Global, from_client: &[u8]) -> Result<(i32, usize, usize), Fail> {
+    let (mut server, counter) = offering(alloc)?;
+    conversation_with_a_new_client(alloc, &mut server, &counter, from_client)
 }
 
 #[test]
@@ -188,6 +257,7 @@ fn server_over_a_transport_of_its_own(rt: HostRuntime) -> Result<(), Fail> {
         3, 0, 0, 0, 0, 0, 12, 0, 5, 0, 0, 0, // `add`, of 5
         3, 0, 0, 0, 0, 0, 12, 0, 2, 0, 0, 0, // `add`, of 2
     ];
-    assert_eq!(rt; played_back(rt.alloc(), &recorded)?, (7, 28));
+    // `global` has 28 bytes, each `changed` 12, and `global_remove` 12.
+    assert_eq!(rt; played_back(rt.alloc(), &recorded)?, (7, 52, 64));
     Ok(())
 }

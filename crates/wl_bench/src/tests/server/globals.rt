@@ -6,6 +6,7 @@ use super::steps::Call;
 use super::values::{BOUND, FIRST, Named, SECOND, Who};
 use crate::tests::quad::QUAD;
 use crate::tests::tells;
+use std::alloc::Global;
 use std::test::Fail;
 use wl_wire::{InterfaceId, IoFault};
 
@@ -289,5 +290,57 @@ fn slots_are_used_again(rt: HostRuntime) -> Result<(), Fail> {
         &rt,
         log_of(rt.alloc(), &acts),
         "client 0, 1\nclient 1, 2\nlive: 2\nout: client 0, 1 with 0 sends\nclient 0, 3\nlive: 12\nIo error: would block\nIo error: invalid input\n",
+    )
+}
+
+/// The client that is inserted third.
+const THIRD: Who = Who(2, 3);
+
+/// Puts the acts by which three clients have a registry each, and 4088 bytes wait for each.
+fn push_three(acts: &mut Vec<Act>) -> Result<(), Fail> {
+    for who in [FIRST, SECOND, THIRD] {
+        acts.push(Act::Do(Call::Insert(true)))?;
+        acts.push(Act::Do(Call::Arrive(who, &GET_REGISTRY)))?;
+        acts.push(Act::Do(Call::Next(who)))?;
+    }
+    Ok(acts.push(Act::Globals(146))?)
+}
+
+/// What is told of the 147th global, where the next send to the second of three clients answers this fault.
+fn one_more_global(alloc: Global, fault: IoFault, create: Act) -> Result<String, Fail> {
+    let behind = [
+        Act::Do(Call::AcceptFault(SECOND, fault)),
+        create,
+        Act::Look(Look::Clients),
+        Act::Look(Look::Lengths(FIRST)),
+        Act::Look(Look::Lengths(SECOND)),
+        Act::Look(Look::Lengths(THIRD)),
+        Act::Do(Call::FlushAll),
+        Act::Look(Look::Lengths(FIRST)),
+        Act::Look(Look::Lengths(SECOND)),
+        Act::Look(Look::Lengths(THIRD)),
+        Act::Do(Call::Notes),
+        Act::TakeOut,
+        Act::Do(Call::Global(QUAD, 3)),
+    ];
+    let mut acts = Vec::new(alloc);
+    push_three(&mut acts)?;
+    acts.extend_from_slice(&behind)?;
+    log_of(alloc, acts.as_slice())
+}
+
+/// Of three clients the second cannot be written to, or lacks memory for it: it is closed, and keeps what waits until it is
+/// taken out; the global is created all the same, and the others are told.
+#[test]
+fn one_of_three_clients_is_not_told(rt: HostRuntime) -> Result<(), Fail> {
+    let alloc = rt.alloc();
+    let told =
+        "client 0, 1\nIo error: would block\nclient 1, 2\nIo error: would block\nclient 2, 3\nIo error: would block\nglobal 147, 147\nlive: 13\n4088 bytes\n4088 bytes\ndone\n4088 bytes\n28 bytes\n4088 bytes\n28 bytes\ninitialized 0, 1\ninitialized 1, 2\ninitialized 2, 3\ndisconnected 1, 2: closed\nout 1, 2: 4088\nglobal 148, 148\n";
+    let create = Act::Do(Call::Global(QUAD, 3));
+    tells(&rt, one_more_global(alloc, IoFault::Other(5), create), told)?;
+    tells(
+        &rt,
+        one_more_global(alloc, IoFault::OutOfMemory, Act::GlobalInWant),
+        told,
     )
 }

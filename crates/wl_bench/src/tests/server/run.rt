@@ -1,16 +1,17 @@
 //! The one owner of a server: it makes the calls of a run and looks at what they left.
 
 use super::steps::{Call, Made, arrive, arrive_with, step};
-use super::told::{object, reply};
+use super::told::{action, object, reply};
 use super::values::{Named, Shown, Thing, Who};
+use crate::tests::cuts::{Cut, Stream};
 use crate::tests::message::padded;
 use crate::tests::quad::{QUAD, quad_table};
 use std::alloc::Global;
 use std::fmt::Write;
 use std::test::Fail;
 use wl_link::Memory;
-use wl_server::{Backend, Reply, Step};
-use wl_wire::InterfaceId;
+use wl_server::{Action, ActionError, Backend, ClientId, Reply, Step};
+use wl_wire::{InterfaceId, IoFault};
 
 /// A server of the runs.
 type Server = Backend<Memory, u32, Shown, bool>;
@@ -31,6 +32,14 @@ pub enum Act {
     ArriveZeros(Who, usize),
     /// Puts a bind of the global 1 behind what is to arrive, with a name of 1400 bytes 0xFF.
     ArriveLongBind(Who),
+    /// Puts the stream behind what is to arrive, cut so.
+    ArriveCut(Who, Stream, Cut),
+    /// Reads, and ends each action, until nothing more is there or a reading fails.
+    Serve(Who),
+    /// Creates a global, for which the transport of some client has to lack memory.
+    GlobalInWant,
+    /// Cleans up, and tells how many bytes each send of those took that are taken out.
+    TakeOut,
     /// Creates so many globals.
     Globals(u32),
     /// Makes the calls, and tells nothing of them.
@@ -58,8 +67,16 @@ pub enum Look {
     Arrivals(Who),
     /// How many bytes each send took of a client.
     Lengths(Who),
-    /// The slots of the live clients, counted from 1.
+    /// The slots of the live clients, counted from 1: a digit for each call of the closure.
     Clients,
+    /// The serials of a client's objects, counted from 1: a digit for each call of the closure.
+    Objects(Who),
+    /// The client of an object.
+    Client(Thing),
+    /// The data of a client.
+    ClientData(Who),
+    /// What shows a global.
+    Handler(Named),
 }
 
 /// Makes the steps, for which there is to be memory.
@@ -199,6 +216,114 @@ fn arrive_long_bind(alloc: Global, server: &mut Server, who: Who) -> Result<(), 
     made(server, steps)
 }
 
+/// Puts the bytes behind what is to arrive.
+fn arrive_whole(alloc: Global, server: &mut Server, who: Who, bytes: &[u8]) -> Result<(), Fail> {
+    let mut steps = Vec::new(alloc);
+    steps.push(arrive(alloc, who, bytes)?)?;
+    made(server, steps)
+}
+
+/// Puts the stream behind what is to arrive, cut so.
+fn arrive_cut(
+    alloc: Global,
+    server: &mut Server,
+    who: Who,
+    stream: Stream,
+    cut: Cut,
+) -> Result<(), Fail> {
+    let bytes = stream.bytes(alloc)?;
+    match cut {
+        Cut::Whole => arrive_whole(alloc, server, who, bytes.as_slice()),
+        Cut::At(place) => {
+            let (front, back) = bytes.as_slice().split_at(place.min(bytes.len()));
+            arrive_whole(alloc, server, who, front)?;
+            arrive_whole(alloc, server, who, back)
+        }
+        Cut::Bytewise => {
+            let steps = bytewise(alloc, who, bytes.as_slice())?;
+            made(server, steps)
+        }
+    }
+}
+
+/// Ends the action: what a bind made gets 9, and what a request made gets 5.
+fn end_action(server: &mut Server, who: Who, ended: &Action) -> Result<(), Fail> {
+    match ended {
+        Action::Bind { .. } => Ok(server.finish_bind(&who.id(), 9)?),
+        Action::Request { created, .. } => {
+            Ok(server.finish_request(&who.id(), created.map(|_| 5))?)
+        }
+    }
+}
+
+/// Whether the client's script has something left that is to arrive.
+fn has_arrivals(server: &Server, who: Who) -> bool {
+    match server.transport(&who.id()) {
+        Ok(script) => script.arrivals_left() > 0,
+        Err(_) => false,
+    }
+}
+
+/// Reads once, and ends the action; whether there may be more to read. Of a reading that would block it tells nothing where
+/// something is still to arrive.
+fn serve_once(server: &mut Server, log: &mut String, who: Who) -> Result<bool, Fail> {
+    match server.next_action(&who.id()) {
+        Ok(given) => {
+            action(log, &given)?;
+            end_action(server, who, &given)?;
+            Ok(true)
+        }
+        Err(ActionError::Io(IoFault::WouldBlock)) if has_arrivals(server, who) => Ok(true),
+        Err(error) => {
+            writeln!(log, "{error}")?;
+            Ok(false)
+        }
+    }
+}
+
+/// Reads, and ends each action, until nothing more is there or a reading fails.
+fn serve(server: &mut Server, log: &mut String, who: Who) -> Result<(), Fail> {
+    for _ in 0..1000 {
+        let may_go_on = serve_once(server, log, who)?;
+        if server.memory_refused() {
+            return Err(Fail::new("memory was refused"));
+        }
+        if !may_go_on {
+            return Ok(());
+        }
+    }
+    Err(Fail::new("there is more to read"))
+}
+
+/// Creates a global, for which the transport of some client has to lack memory.
+fn global_in_want(server: &mut Server, log: &mut String) -> Result<(), Fail> {
+    let id = server.create_global(QUAD, 3, Shown)?;
+    writeln!(log, "global {}, {}", id.name(), id.serial())?;
+    if server.memory_refused() {
+        Ok(())
+    } else {
+        Err(Fail::new("the want of memory is not told"))
+    }
+}
+
+/// Tells how many bytes each send took of a client that was taken out.
+fn taken_out(log: &mut String, who: ClientId, script: &Memory) -> Result<(), Fail> {
+    write!(log, "out {}, {}:", who.slot(), who.serial())?;
+    for (bytes, _) in script.sent() {
+        write!(log, " {}", bytes.len())?;
+    }
+    Ok(writeln!(log)?)
+}
+
+/// Cleans up, and tells how many bytes each send of those took that are taken out.
+fn take_out(server: &mut Server, log: &mut String) -> Result<(), Fail> {
+    let out = server.cleanup()?;
+    for (who, script) in out.as_slice() {
+        taken_out(log, *who, script)?;
+    }
+    Ok(())
+}
+
 /// Creates so many globals.
 fn globals(alloc: Global, server: &mut Server, count: u32) -> Result<(), Fail> {
     for _ in 0..count {
@@ -306,6 +431,60 @@ fn clients(server: &Server, log: &mut String) -> Result<(), Fail> {
     Ok(writeln!(log, "live: {slots}")?)
 }
 
+/// Tells the serials of the client's objects, one digit for each, counted from 1.
+fn objects(server: &Server, log: &mut String, who: Who) -> Result<(), Fail> {
+    let mut serials: u64 = 0;
+    let answer = server.with_all_objects_for(&who.id(), |id| {
+        serials = serials
+            .wrapping_mul(10)
+            .wrapping_add(id.serial())
+            .wrapping_add(1)
+    });
+    match answer {
+        Ok(()) => writeln!(log, "objects: {serials}")?,
+        Err(error) => writeln!(log, "{error}, objects: {serials}")?,
+    }
+    Ok(())
+}
+
+/// Tells the client of the object.
+fn client(server: &Server, log: &mut String, of: Thing) -> Result<(), Fail> {
+    match server.get_client(&of.id()) {
+        Ok(id) => writeln!(log, "of client {}, {}", id.slot(), id.serial())?,
+        Err(error) => writeln!(log, "{error}")?,
+    }
+    Ok(())
+}
+
+/// Tells the data of the client.
+fn client_data(server: &Server, log: &mut String, who: Who) -> Result<(), Fail> {
+    match server.get_client_data(&who.id()) {
+        Ok(data) => writeln!(log, "sees globals: {data}")?,
+        Err(error) => writeln!(log, "{error}")?,
+    }
+    Ok(())
+}
+
+/// Tells whether there is something that shows the global.
+fn handler(server: &Server, log: &mut String, of: Named) -> Result<(), Fail> {
+    match server.get_global_handler(&of.id()) {
+        Ok(Shown) => writeln!(log, "shown")?,
+        Err(error) => writeln!(log, "{error}")?,
+    }
+    Ok(())
+}
+
+/// Looks at what is asked by an id alone.
+fn look_up(server: &Server, log: &mut String, at_what: Look) -> Result<(), Fail> {
+    match at_what {
+        Look::Objects(who) => objects(server, log, who),
+        Look::Client(of) => client(server, log, of),
+        Look::ClientData(who) => client_data(server, log, who),
+        Look::Handler(of) => handler(server, log, of),
+        _ => clients(server, log),
+    }
+}
+
 /// Looks at it.
 fn look_at(alloc: Global, server: &Server, log: &mut String, at_what: Look) -> Result<(), Fail> {
     match at_what {
@@ -317,7 +496,7 @@ fn look_at(alloc: Global, server: &Server, log: &mut String, at_what: Look) -> R
         Look::Name(of, who) => name(server, log, of, who),
         Look::Arrivals(who) => arrivals(server, log, who),
         Look::Lengths(who) => lengths(server, log, who),
-        Look::Clients => clients(server, log),
+        _ => look_up(server, log, at_what),
     }
 }
 
@@ -330,6 +509,7 @@ fn prepare(alloc: Global, server: &mut Server, act: Act) -> Result<(), Fail> {
         }
         Act::ArriveZeros(who, len) => arrive_zeros(alloc, server, who, len),
         Act::ArriveLongBind(who) => arrive_long_bind(alloc, server, who),
+        Act::ArriveCut(who, stream, cut) => arrive_cut(alloc, server, who, stream, cut),
         Act::Globals(count) => globals(alloc, server, count),
         Act::Quietly(calls) => quietly(alloc, server, calls),
         _ => Ok(()),
@@ -347,6 +527,9 @@ fn perform_all(
         match *act {
             Act::Do(call) => perform(alloc, server, log, call)?,
             Act::InWant(call) => in_want(alloc, server, log, call)?,
+            Act::Serve(who) => serve(server, log, who)?,
+            Act::GlobalInWant => global_in_want(server, log)?,
+            Act::TakeOut => take_out(server, log)?,
             Act::Look(what) => look_at(alloc, server, log, what)?,
             _ => prepare(alloc, server, *act)?,
         }

@@ -148,7 +148,7 @@ fn bound(log: &mut String, global: GlobalId, id: ObjectId) -> Result<(), Fail> {
 }
 
 /// Tells an action.
-fn action(log: &mut String, action: &Action) -> Result<(), Fail> {
+pub fn action(log: &mut String, action: &Action) -> Result<(), Fail> {
     match action {
         Action::Request {
             sender,

@@ -89,6 +89,11 @@ pub enum Event {
 }
 
 impl Event {
+    /// Its sender.
+    pub fn sender(self) -> Thing {
+        self.header().0
+    }
+
     /// Its sender and its opcode.
     fn header(self) -> (Thing, u16) {
         match self {

@@ -2,6 +2,7 @@
 
 use crate::tests::message::{Arg, message};
 use std::alloc::Global;
+use std::process::Abort;
 use std::test::Fail;
 use wl_wire::{Argument, Message};
 
@@ -72,6 +73,26 @@ fn up_to_four_arguments_are_mapped(rt: HostRuntime) -> Result<(), Fail> {
     ];
     for count in 0..5 {
         assert!(rt; maps(rt.alloc(), &args[..count], &expected[..count])?);
+    }
+    Ok(())
+}
+
+/// Fails where so many descriptors do not become 0, 1 and so on.
+fn all_are_mapped(rt: &(impl Abort + AllocGlobal), count: usize) -> Result<(), Fail> {
+    let args = Vec::from_elem(rt.alloc(), Arg::Fd(7), count)?;
+    let mapped = counted(rt.alloc(), (42, 7), args.as_slice())?;
+    assert_eq!(rt; mapped.args.len(), count);
+    for (arg, number) in mapped.args.as_slice().iter().zip(0u32..) {
+        assert!(rt; *arg == Argument::Fd(number), "{number} of {count}");
+    }
+    Ok(())
+}
+
+/// As many descriptors as a message has, and more than it holds in itself.
+#[test]
+fn up_to_a_hundred_descriptors_are_mapped(rt: HostRuntime) -> Result<(), Fail> {
+    for count in 0..101 {
+        all_are_mapped(&rt, count)?;
     }
     Ok(())
 }

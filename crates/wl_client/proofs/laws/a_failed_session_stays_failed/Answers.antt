@@ -1,4 +1,4 @@
-use Rattle.wl_client.specs.FailedLaws.{stays_failed}
+use Rattle.wl_client.proofs.OverRuns.FailedLaws.{stays_failed}
 use Rattle.wl_client.proofs.laws.a_failed_session_stays_failed.Goals as goal
 
 pub returns : goal.returns

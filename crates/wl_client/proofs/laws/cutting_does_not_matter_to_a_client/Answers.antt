@@ -1,5 +1,5 @@
 use Rattle.std.proofs.Common.{Ok, refl}
-use Rattle.wl_client.specs.ReadingLaws.{finish_cuts, one_served, reading_cuts, some_served}
+use Rattle.wl_client.proofs.OverRuns.ReadingLaws.{finish_cuts, one_served, reading_cuts, some_served}
 use Rattle.wl_client.proofs.laws.cutting_does_not_matter_to_a_client.Goals as goal
 
 pub returns-clause-reading : goal.returns-clause-reading

@@ -1,4 +1,4 @@
-use Rattle.wl_client.specs.StretchLaws.{cut_otherwise, stretch_served, within_stretch}
+use Rattle.wl_client.proofs.OverRuns.StretchLaws.{cut_otherwise, stretch_served, within_stretch}
 use Rattle.wl_client.proofs.laws.cutting_does_not_matter_to_a_run.Goals as goal
 
 pub returns-clause-served : goal.returns-clause-served

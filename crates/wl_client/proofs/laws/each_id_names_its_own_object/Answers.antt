@@ -1,4 +1,4 @@
-use Rattle.wl_client.specs.IdentityLaws.{own_ids}
+use Rattle.wl_client.proofs.OverRuns.IdentityLaws.{own_ids}
 use Rattle.wl_client.proofs.laws.each_id_names_its_own_object.Goals as goal
 
 pub returns : goal.returns

@@ -1,4 +1,4 @@
-use Rattle.wl_client.specs.IdentityLaws.{notes_ended}
+use Rattle.wl_client.proofs.OverRuns.IdentityLaws.{notes_ended}
 use Rattle.wl_client.proofs.laws.each_object_that_ends_is_noted_once.Goals as goal
 
 pub returns : goal.returns

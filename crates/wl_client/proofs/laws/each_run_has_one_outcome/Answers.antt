@@ -1,4 +1,4 @@
-use Rattle.wl_client.specs.OutcomeLaws.{run_one, step_one}
+use Rattle.wl_client.proofs.OverRuns.OutcomeLaws.{run_one, step_one}
 use Rattle.wl_client.proofs.laws.each_run_has_one_outcome.Goals as goal
 
 pub returns-clause-step : goal.returns-clause-step

@@ -1,5 +1,5 @@
 use Rattle.std.proofs.Common.{◌≡◌, ◌+◌, ◌<◌, length, arith, subst, sym, ap, ◌∙◌, None}
-use Rattle.wl_link.specs.FreeTree.{word, is_set, IsTree, FindsLeast, reads_of, words_of, flags_above, lowest_bit, height}
+use Rattle.wl_link.specs.Inside.FreeTree.{word, is_set, IsTree, FindsLeast, reads_of, words_of, flags_above, lowest_bit, height}
 use Rattle.wl_link.proofs.Trees.{least_top, least_under, none_in, within_above, is_zero, reads_top, reads_none, height_of, above_more}
 use Rattle.wl_link.proofs.free_tree.+least.Goals as goal
 

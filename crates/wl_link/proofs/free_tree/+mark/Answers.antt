@@ -1,5 +1,5 @@
 use Rattle.std.proofs.Common.{◌/◌, ◌<◌, length, arith, subst}
-use Rattle.wl_link.specs.FreeTree.{word, is_set, IsTree, words_of, flags_above}
+use Rattle.wl_link.specs.Inside.FreeTree.{word, is_set, IsTree, words_of, flags_above}
 use Rattle.wl_link.proofs.Trees.{marked, mark_over, mark_top, within_above}
 use Rattle.wl_link.proofs.free_tree.+mark.Goals as goal
 

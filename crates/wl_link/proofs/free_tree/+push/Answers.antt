@@ -1,6 +1,6 @@
 use Rattle.std.proofs.Common.{◌≡◌, ◌+◌, ◌<◌, [], ◌∷◌, ◌++◌, length, arith, subst, sym, ap, ◌∙◌, true}
 use Rattle.std.proofs.lemmas.Grind.{get_or_default_zero}
-use Rattle.wl_link.specs.FreeTree.{word, is_set, IsLevel, IsTree, words_of, flags_above, is_ready}
+use Rattle.wl_link.specs.Inside.FreeTree.{word, is_set, IsLevel, IsTree, words_of, flags_above, is_ready}
 use Rattle.wl_link.proofs.Trees.{push_part, more_word, push_one, push_second, push_more, over_more, past_words, ready_some, ready_up}
 use Rattle.wl_link.proofs.free_tree.+push.Goals as goal
 

@@ -1,5 +1,5 @@
 use Rattle.std.proofs.Common.{◌≡◌, ◌++◌, ◌∷◌, [], ◌∙◌, sym, ap, subst, arith, length}
-use Rattle.wl_link.specs.FreeTree.{IsTree, words_of}
+use Rattle.wl_link.specs.Inside.FreeTree.{IsTree, words_of}
 use Rattle.wl_link.proofs.Trees.{with_top, words_of_append, written}
 use Rattle.wl_link.proofs.free_tree.reserve.Goals as goal
 

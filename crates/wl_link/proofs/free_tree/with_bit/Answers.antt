@@ -1,7 +1,7 @@
 use Rattle.std.proofs.Common.{◌∙◌, ap, sym}
 use Rattle.std.specs.Int.{w64}
 use Rattle.std.proofs.lemmas.Nat.Bits.{bit_at_set_same, bit_at_set_other, bit_at_clear_same, bit_at_clear_other}
-use Rattle.wl_link.specs.FreeTree.{as_bit}
+use Rattle.wl_link.specs.Inside.FreeTree.{as_bit}
 use Rattle.wl_link.proofs.free_tree.with_bit.Goals as goal
 
 pub returns-then-is_set-clause-here : goal.returns-then-is_set-clause-here

@@ -1,5 +1,5 @@
 use Rattle.std.proofs.Common.{arith}
-use Rattle.wl_link.specs.Growth.{doubled_again}
+use Rattle.wl_link.proofs.Calls.Growth.{doubled_again}
 use Rattle.wl_link.proofs.limit.grown_size.Goals as goal
 
 pub doublings-preserved : goal.doublings-preserved

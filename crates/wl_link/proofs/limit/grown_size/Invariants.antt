@@ -1,5 +1,5 @@
 use Rattle.std.proofs.Common.{◌-◌, ◌<◌}
-use Rattle.wl_link.specs.Growth.{Doubled}
+use Rattle.wl_link.proofs.Calls.Growth.{Doubled}
 use Rattle.wl_link.proofs.limit.grown_size.Given as goal
 
 abbrev pub invariant-doublings : goal.invariant-doublings

@@ -1,5 +1,5 @@
 use Rattle.std.proofs.Common.{◌∙◌, ap, not}
-use Rattle.wl_server.proofs.AtName.{nothing_disabled, one_disabled, was_found}
+use Rattle.wl_server.proofs.GlobalCalls.AtName.{nothing_disabled, one_disabled, was_found}
 use Rattle.wl_server.proofs.globals.disable.Goals as goal
 
 pub returns-then-is_none : goal.returns-then-is_none

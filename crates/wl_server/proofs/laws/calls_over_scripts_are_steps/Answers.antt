@@ -1,4 +1,4 @@
-use Rattle.wl_server.proofs.OverScripts.{step_over_script}
+use Rattle.wl_server.proofs.CallSteps.OverScripts.{step_over_script}
 use Rattle.wl_server.proofs.laws.calls_over_scripts_are_steps.Goals as goal
 
 pub returns : goal.returns

@@ -1,7 +1,7 @@
-use Rattle.wl_server.specs.MoveLaws.{scripts_determined, transport_determined}
-use Rattle.wl_server.specs.OfferLaws.{offers_one}
-use Rattle.wl_server.specs.OutcomeLaws.{same_step_one}
-use Rattle.wl_server.specs.RunOutcome.{alone_one, client_one}
+use Rattle.wl_server.proofs.OverRuns.Outcome.MoveLaws.{scripts_determined, transport_determined}
+use Rattle.wl_server.proofs.OverRuns.Outcome.OfferLaws.{offers_one}
+use Rattle.wl_server.proofs.OverRuns.Outcome.OutcomeLaws.{same_step_one}
+use Rattle.wl_server.proofs.OverRuns.Outcome.RunOutcome.{alone_one, client_one}
 use Rattle.wl_server.proofs.laws.each_client_has_one_outcome.Goals as goal
 
 pub returns-clause-step : goal.returns-clause-step

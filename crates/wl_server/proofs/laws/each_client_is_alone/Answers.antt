@@ -1,4 +1,4 @@
-use Rattle.wl_server.specs.IsolationLaw.{are_isolated, is_isolated}
+use Rattle.wl_server.proofs.OverRuns.Alone.IsolationLaw.{are_isolated, is_isolated}
 use Rattle.wl_server.proofs.laws.each_client_is_alone.Goals as goal
 
 pub returns-clause-run : goal.returns-clause-run

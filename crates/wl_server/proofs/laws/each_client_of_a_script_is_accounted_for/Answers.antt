@@ -1,5 +1,5 @@
 use Rattle.wl_link.specs.ScriptLaws.{script_within_offer}
-use Rattle.wl_server.specs.AccountLaws.{are_accounted_for}
+use Rattle.wl_server.proofs.OverRuns.Alone.AccountLaws.{are_accounted_for}
 use Rattle.wl_server.proofs.laws.each_client_of_a_script_is_accounted_for.Goals as goal
 
 pub returns : goal.returns

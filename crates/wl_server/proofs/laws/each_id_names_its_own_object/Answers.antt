@@ -1,4 +1,4 @@
-use Rattle.wl_server.specs.IdentityLaws.{each_has_own_ids, have_own_ids}
+use Rattle.wl_server.proofs.OverRuns.Ids.IdentityLaws.{each_has_own_ids, have_own_ids}
 use Rattle.wl_server.proofs.laws.each_id_names_its_own_object.Goals as goal
 
 pub returns-clause-run : goal.returns-clause-run

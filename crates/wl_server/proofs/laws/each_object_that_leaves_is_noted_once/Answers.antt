@@ -1,5 +1,5 @@
-use Rattle.wl_server.specs.NotedLaws.{each_is_noted, have_notes}
-use Rattle.wl_server.specs.NotedSoon.{cleanup_notes_all, finish_notes_at_once}
+use Rattle.wl_server.proofs.OverRuns.Noted.NotedLaws.{each_is_noted, have_notes}
+use Rattle.wl_server.proofs.OverRuns.Noted.NotedSoon.{cleanup_notes_all, finish_notes_at_once}
 use Rattle.wl_server.proofs.laws.each_object_that_leaves_is_noted_once.Goals as goal
 
 pub returns-clause-noted : goal.returns-clause-noted

@@ -1,8 +1,8 @@
-use Rattle.wl_server.specs.LookupLaws.{answers_alike}
-use Rattle.wl_server.specs.MoveLaws.{scripts_determined, transport_determined}
-use Rattle.wl_server.specs.NumberLaws.{creates_global_one, inserts_next_one}
-use Rattle.wl_server.specs.ShareLaws.{shares_one}
-use Rattle.wl_server.specs.WholeRuns.{performance_one, run_one}
+use Rattle.wl_server.proofs.OverRuns.Outcome.LookupLaws.{answers_alike}
+use Rattle.wl_server.proofs.OverRuns.Outcome.MoveLaws.{scripts_determined, transport_determined}
+use Rattle.wl_server.proofs.OverRuns.Outcome.NumberLaws.{creates_global_one, inserts_next_one}
+use Rattle.wl_server.proofs.OverRuns.Outcome.ShareLaws.{shares_one}
+use Rattle.wl_server.proofs.OverRuns.Outcome.WholeRuns.{performance_one, run_one}
 use Rattle.wl_server.proofs.laws.each_run_of_a_server_has_one_outcome.Goals as goal
 
 pub returns-clause-run : goal.returns-clause-run

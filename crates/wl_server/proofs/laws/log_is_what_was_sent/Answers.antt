@@ -1,4 +1,4 @@
-use Rattle.wl_server.specs.LogLaws.{each_log, have_logs}
+use Rattle.wl_server.proofs.OverRuns.Log.LogLaws.{each_log, have_logs}
 use Rattle.wl_link.specs.ScriptLaws.{script_within_offer}
 use Rattle.wl_server.proofs.laws.log_is_what_was_sent.Goals as goal
 

@@ -1,4 +1,4 @@
-use Rattle.wl_server.specs.AnnouncedLaw.{each_announces, have_announcements}
+use Rattle.wl_server.proofs.OverRuns.Announced.AnnouncedLaw.{each_announces, have_announcements}
 use Rattle.wl_server.proofs.laws.registries_announce_what_is_shown.Goals as goal
 
 pub returns-clause-run : goal.returns-clause-run

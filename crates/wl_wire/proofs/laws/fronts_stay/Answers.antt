@@ -1,4 +1,4 @@
-use Rattle.wl_wire.specs.FrontLaws.{message_front, malformed_front}
+use Rattle.wl_wire.proofs.Spelling.FrontLaws.{message_front, malformed_front}
 use Rattle.wl_wire.proofs.laws.fronts_stay.Goals as goal
 
 pub returns-clause-message : goal.returns-clause-message

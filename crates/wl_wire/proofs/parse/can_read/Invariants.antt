@@ -1,5 +1,5 @@
 use Rattle.std.proofs.Common.{◌≡◌, drop, is_some}
-use Rattle.wl_wire.specs.Cursor.{arguments_at}
+use Rattle.wl_wire.specs.Inside.Cursor.{arguments_at}
 use Rattle.wl_wire.proofs.parse.can_read.Given as goal
 
 abbrev pub invariant-loop-kind : goal.invariant-loop-kind

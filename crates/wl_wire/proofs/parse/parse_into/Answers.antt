@@ -1,9 +1,9 @@
 use Rattle.std.proofs.Common.{ap, drop, List, ℕ, ◌∙◌, subst}
 use Rattle.wl_wire.specs.declared.argument.Token.{Token}
 use Rattle.wl_wire.specs.Parse.{payload_of}
-use Rattle.wl_wire.specs.Cursor.{RefusesArguments}
-use Rattle.wl_wire.specs.CursorLaws.{arguments_read}
-use Rattle.wl_wire.specs.Laws.{reads_match}
+use Rattle.wl_wire.specs.Inside.Cursor.{RefusesArguments}
+use Rattle.wl_wire.proofs.Spelling.CursorLaws.{arguments_read}
+use Rattle.wl_wire.proofs.Spelling.RoundTrip.{reads_match}
 use Rattle.wl_wire.proofs.Whole.{header_not_refused, only_memory, reads_back, payload-is, found_whole, left_is, refuses}
 use Rattle.wl_wire.proofs.parse.parse_into.Goals as goal
 

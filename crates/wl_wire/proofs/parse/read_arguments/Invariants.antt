@@ -1,5 +1,5 @@
 use Rattle.std.proofs.Common.{◌≡◌, ◌+◌, ◌-◌, ◌≤◌, length, drop}
-use Rattle.wl_wire.specs.Cursor.{arguments_at, with_front}
+use Rattle.wl_wire.specs.Inside.Cursor.{arguments_at, with_front}
 use Rattle.wl_wire.proofs.parse.read_arguments.Given as goal
 
 abbrev pub invariant-loop-kind : goal.invariant-loop-kind

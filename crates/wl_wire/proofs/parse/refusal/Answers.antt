@@ -1,5 +1,5 @@
 use Rattle.std.proofs.Common.{sym, ◌∙◌, arith}
-use Rattle.wl_wire.specs.CursorLaws.{some_read, none_reads}
+use Rattle.wl_wire.proofs.Spelling.CursorLaws.{some_read, none_reads}
 use Rattle.wl_wire.proofs.parse.refusal.Goals as goal
 
 pub returns-then-can_read-clause-refused : goal.returns-then-can_read-clause-refused

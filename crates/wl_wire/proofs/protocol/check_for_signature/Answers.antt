@@ -3,7 +3,7 @@ use Rattle.std.proofs.lemmas.Bool.{false≢true}
 use Rattle.std.proofs.lemmas.List.{length_push, length-map}
 use Rattle.std.proofs.lemmas.Slice.Zip.{zip_turn, zip_end}
 use Rattle.wl_wire.specs.Argument.{kind_of, type_of, Matches}
-use Rattle.wl_wire.specs.MatchingLaws.{matches_is}
+use Rattle.wl_wire.proofs.Spelling.MatchingLaws.{matches_is}
 use Rattle.wl_wire.proofs.Signature.{fits_more, differs, all_fit}
 use Rattle.wl_wire.proofs.protocol.check_for_signature.Goals as goal
 

@@ -1,5 +1,5 @@
 use Rattle.std.proofs.Common.{sym, ◌∙◌}
-use Rattle.wl_wire.specs.Buffer.{IsWord}
+use Rattle.wl_wire.specs.Inside.Buffer.{IsWord}
 use Rattle.wl_wire.proofs.Pieces.{all-more}
 use Rattle.wl_wire.proofs.write.are_words.Goals as goal
 

@@ -1,6 +1,6 @@
 use Rattle.std.proofs.Common.{◌∙◌, sym, arith}
 use Rattle.std.proofs.lemmas.Bool.{leb-true}
-use Rattle.wl_wire.specs.Buffer.{piece_len, token_count}
+use Rattle.wl_wire.specs.Inside.Buffer.{piece_len, token_count}
 use Rattle.wl_wire.proofs.Pieces.{sum_by-more, token_count-few}
 use Rattle.wl_wire.proofs.write.count_of.Goals as goal
 

@@ -1,6 +1,6 @@
 use Rattle.std.proofs.Common.{◌≡◌, ◌≤◌, ◌+◌, ◌*◌, take}
 use Rattle.std.specs.List.{sum_by}
-use Rattle.wl_wire.specs.Buffer.{piece_len, token_count}
+use Rattle.wl_wire.specs.Inside.Buffer.{piece_len, token_count}
 use Rattle.wl_wire.proofs.write.count_of.Given as goal
 
 abbrev pub invariant-loop-arg : goal.invariant-loop-arg

@@ -1,6 +1,6 @@
 use Rattle.std.proofs.Common.{◌≡◌, ℕ, ◌+◌, ◌<◌, ◌≤◌, length, map, MatchOption, subst, sym}
 use Rattle.std.specs.List.{sum_by}
-use Rattle.wl_wire.specs.Buffer.{piece_len}
+use Rattle.wl_wire.specs.Inside.Buffer.{piece_len}
 use Rattle.wl_wire.specs.MapIds.{with_ids}
 use Rattle.wl_wire.specs.Message.{tokens}
 use Rattle.wl_wire.proofs.Pieces.{length_pieces, length_tokens}

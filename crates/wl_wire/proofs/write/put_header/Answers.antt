@@ -1,5 +1,5 @@
 use Rattle.wl_wire.specs.Message.{word}
-use Rattle.wl_wire.specs.Laws.{length-word}
+use Rattle.wl_wire.proofs.Spelling.RoundTrip.{length-word}
 use Rattle.wl_wire.proofs.Pieces.{overwritten-two}
 use Rattle.wl_wire.proofs.write.put_header.Goals as goal
 

@@ -1,8 +1,8 @@
 use Rattle.std.proofs.Common.{length, map, take, refl, sym, ap, arith, length-append}
-use Rattle.wl_wire.specs.Buffer.{IsWord}
+use Rattle.wl_wire.specs.Inside.Buffer.{IsWord}
 use Rattle.wl_wire.specs.MapIds.{with_ids}
 use Rattle.wl_wire.specs.Message.{IsArgument, piece, pieces}
-use Rattle.wl_wire.specs.Laws.{length-word}
+use Rattle.wl_wire.proofs.Spelling.RoundTrip.{length-word}
 use Rattle.wl_wire.proofs.Pieces.{all-at, all-more, got_with_ids, length-pieces-more, words_len, pieces-more, overwritten-nil, overwritten-more-word}
 use Rattle.wl_wire.proofs.write.put_words.Goals as goal
 

@@ -2,7 +2,7 @@ use Rattle.std.proofs.Common.{◌≡◌, ◌+◌, length, map, take}
 use Rattle.std.specs.List.{AllByRecursion}
 use Rattle.wl_wire.specs.Message.{IsArgument, pieces}
 use Rattle.wl_wire.specs.MapIds.{with_ids}
-use Rattle.wl_wire.specs.Buffer.{overwritten}
+use Rattle.wl_wire.specs.Inside.Buffer.{overwritten}
 use Rattle.wl_wire.proofs.write.put_words.Given as goal
 
 abbrev pub invariant-loop-arg : goal.invariant-loop-arg

@@ -2,7 +2,7 @@ use Rattle.std.proofs.Common.{◌++◌, ◌∙◌, refl, sym, ap, subst}
 use Rattle.std.proofs.lemmas.List.{append-nil}
 use Rattle.std.proofs.lemmas.Result.{on_err_weaker, on_ok_weaker}
 use Rattle.std.specs.List.{AllByRecursion}
-use Rattle.wl_wire.specs.Buffer.{IsWord}
+use Rattle.wl_wire.specs.Inside.Buffer.{IsWord}
 use Rattle.wl_wire.proofs.Pieces.{tokens_of_words}
 use Rattle.wl_wire.proofs.write.write_numbered.Goals as goal
 

@@ -1,6 +1,6 @@
 use Rattle.std.proofs.Common.{◌≡◌, ◌+◌, ◌*◌, ◌++◌, sym, subst, arith}
 use Rattle.std.specs.List.{AllByRecursion}
-use Rattle.wl_wire.specs.Buffer.{IsWord}
+use Rattle.wl_wire.specs.Inside.Buffer.{IsWord}
 use Rattle.wl_wire.specs.MapIds.{numbered}
 use Rattle.wl_wire.specs.Message.{word, pieces, size}
 use Rattle.wl_wire.proofs.Pieces.{length-header, overwritten-header, words_len}

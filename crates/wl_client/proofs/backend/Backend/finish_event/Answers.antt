@@ -1,5 +1,5 @@
 use Rattle.std.proofs.Common.{rules, Ok}
-use Rattle.wl_client.specs.ReadingLaws.{finish_cuts}
+use Rattle.wl_client.proofs.OverRuns.ReadingLaws.{finish_cuts}
 use Rattle.wl_client.proofs.backend.Backend.finish_event.Goals as goal
 
 pub returns-clause-cutting : goal.returns-clause-cutting

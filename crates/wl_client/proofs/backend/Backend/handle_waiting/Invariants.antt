@@ -1,5 +1,5 @@
 use Rattle.std.proofs.Common.{◌≤◌, length}
-use Rattle.wl_client.specs.Turns.{Leads, Live}
+use Rattle.wl_client.specs.Inside.Turns.{Leads, Live}
 use Rattle.wl_client.proofs.backend.Backend.handle_waiting.Given as goal
 
 -- where what is left may lead, the whole may

@@ -1,7 +1,7 @@
 use Rattle.std.proofs.Common.{◌∙◌, sym, false, Ok, Err}
 use Rattle.wl_client.proofs.Readings.{next_reads}
-use Rattle.wl_client.specs.ReadingLaws.{next_event_cuts}
-use Rattle.wl_client.specs.RoomLaws.{next_event_room}
+use Rattle.wl_client.proofs.OverRuns.ReadingLaws.{next_event_cuts}
+use Rattle.wl_client.proofs.OverRuns.RoomLaws.{next_event_room}
 use Rattle.wl_client.specs.Requests.{session_content}
 use Rattle.wl_client.proofs.backend.Backend.next_event.Goals as goal
 

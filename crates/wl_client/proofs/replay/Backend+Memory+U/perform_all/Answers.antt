@@ -1,7 +1,7 @@
 use Rattle.std.proofs.Common.{◌≡◌, [], arith, ap, refl, sym, subst, ◌∙◌}
 use Rattle.std.proofs.lemmas.Bool.{false≢true}
 use Rattle.wl_client.specs.Steps.{StepOf}
-use Rattle.wl_link.specs.RunLaws.{begins, empty_of, ends, more, stops}
+use Rattle.wl_link.proofs.OverRuns.RunLaws.{begins, empty_of, ends, more, stops}
 use Rattle.wl_client.proofs.replay.Backend+Memory+U.perform_all.Goals as goal
 
 pub loop-step-init : goal.loop-step-init

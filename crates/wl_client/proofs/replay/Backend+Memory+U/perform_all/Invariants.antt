@@ -1,6 +1,6 @@
 use Rattle.std.proofs.Common.{◌≡◌, ◌+◌, ◌≤◌, false, length}
 use Rattle.std.specs.Prelude.{vec_len, vec_capacity}
-use Rattle.wl_link.specs.Runs.{MadeSoFar}
+use Rattle.wl_link.proofs.OverRuns.RunLaws.{MadeSoFar}
 use Rattle.wl_client.specs.Steps.{StepOf}
 use Rattle.wl_client.proofs.replay.Backend+Memory+U.perform_all.Given as goal
 

@@ -1,9 +1,9 @@
 use Rattle.std.proofs.Common.{ℕ, ◌++◌, ◌∙◌, ap, subst, sym}
 use Rattle.wl_client.specs.Steps.{StepOf, StopsAt, entries}
-use Rattle.wl_client.specs.IdentityLaws.{notes_ended, own_ids, stopped_accounts}
-use Rattle.wl_client.specs.OutcomeLaws.{run_one}
-use Rattle.wl_client.specs.StretchLaws.{parts_cut}
-use Rattle.wl_link.specs.RunLaws.{joins}
+use Rattle.wl_client.proofs.OverRuns.IdentityLaws.{notes_ended, own_ids, stopped_accounts}
+use Rattle.wl_client.proofs.OverRuns.OutcomeLaws.{run_one}
+use Rattle.wl_client.proofs.OverRuns.StretchLaws.{parts_cut}
+use Rattle.wl_link.proofs.OverRuns.RunLaws.{joins}
 use Rattle.wl_client.proofs.replay.Backend+Memory+U.replay.Goals as goal
 
 pub returns-then-self-clause-stopped : goal.returns-then-self-clause-stopped

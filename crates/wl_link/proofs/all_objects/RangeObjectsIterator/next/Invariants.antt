@@ -1,5 +1,5 @@
 use Rattle.std.proofs.Common.{◌≡◌, ◌+◌, ◌≤◌, length}
-use Rattle.wl_link.specs.PlaceList.{entries_from}
+use Rattle.wl_link.specs.Inside.PlaceList.{entries_from}
 use Rattle.wl_link.proofs.all_objects.RangeObjectsIterator.next.Given as goal
 
 -- only places without an object were passed over

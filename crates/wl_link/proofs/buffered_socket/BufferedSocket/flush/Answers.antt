@@ -2,9 +2,9 @@ use Rattle.std.proofs.Common.{ℕ, Ok, Err, subst, arith}
 use Rattle.std.proofs.lemmas.List.{nil_from_length}
 use Rattle.wl_link.specs.Exchange.{Queue}
 use Rattle.wl_link.specs.Link.{offer_of}
-use Rattle.wl_link.specs.Storage.{beside}
-use Rattle.wl_link.specs.KeptLaws.{flush_keeps, flush_drains}
-use Rattle.wl_link.specs.FlushLaws.{some_bytes, offered, flush_done, flush_fails, flush_stops, flush_goes_on}
+use Rattle.wl_link.specs.Inside.Storage.{beside}
+use Rattle.wl_link.proofs.Calls.KeptLaws.{flush_keeps, flush_drains}
+use Rattle.wl_link.proofs.Calls.FlushLaws.{some_bytes, offered, flush_done, flush_fails, flush_stops, flush_goes_on}
 use Rattle.wl_link.proofs.buffered_socket.BufferedSocket.flush.Goals as goal
 
 pub returns-in-Err-clause-flushed : goal.returns-in-Err-clause-flushed

@@ -1,6 +1,6 @@
 use Rattle.std.proofs.Common.{length}
-use Rattle.wl_link.specs.Storage.{beside}
-use Rattle.wl_link.specs.FlushLaws.{FlushLeads}
+use Rattle.wl_link.specs.Inside.Storage.{beside}
+use Rattle.wl_link.proofs.Calls.FlushLaws.{FlushLeads}
 use Rattle.wl_link.proofs.buffered_socket.BufferedSocket.flush.Given as goal
 
 abbrev pub invariant-loop-self : goal.invariant-loop-self
@@ -9,9 +9,9 @@ invariant-loop-self g l =
     (record {
       transport = l.self-inside.transport;
       incoming = beside l.self-inside.incoming.bytes l.self-inside.fds_in.items;
-      room = l.self-inside.incoming.size;
+      incoming_capacity = l.self-inside.incoming.size;
       outgoing = beside l.self-inside.outgoing.bytes l.self-inside.fds_out;
-      storage = l.self-inside.outgoing.size;
+      outgoing_capacity = l.self-inside.outgoing.size;
       limit = l.self-inside.limit;
     })
 

@@ -1,7 +1,7 @@
 use Rattle.std.proofs.Common.{ℕ, refl, subst}
 use Rattle.wl_wire.specs.MapIds.{numbered}
 use Rattle.wl_link.specs.Link.{Wants, Grown, needed}
-use Rattle.wl_link.specs.WriteLaws.{wrote_ungrown, wrote_placed}
+use Rattle.wl_link.proofs.Calls.WriteLaws.{wrote_ungrown, wrote_placed}
 use Rattle.wl_link.proofs.buffered_socket.BufferedSocket.make_room_and_write.Goals as goal
 
 pub returns-in_default-grow_for-clause-wrote : goal.returns-in_default-grow_for-clause-wrote
@@ -9,7 +9,7 @@ returns-in_default-grow_for-clause-wrote g c =
     let l = c.args.self.now in
     let e = c.in_default-grow_for.ensures in
     wrote_ungrown g.T.Transport.sends l _ (numbered (g.N.Numbering.object_number c.args.numbers.now) (g.N.Numbering.new_number c.args.numbers.now) c.args.message.now) _ c.requires refl e.0
-    (subst (λ (n : ℕ). Wants l.limit (needed l n) l.storage) c.in-Some.ensures e.1)
+    (subst (λ (n : ℕ). Wants l.limit (needed l n) l.outgoing_capacity) c.in-Some.ensures e.1)
 
 pub returns-clause-wrote : goal.returns-clause-wrote
 returns-clause-wrote g c =

@@ -3,7 +3,7 @@ use Rattle.std.proofs.lemmas.Result.{err_from_is_err_and}
 use Rattle.wl_wire.specs.MapIds.{numbered}
 use Rattle.wl_wire.specs.Message.{size}
 use Rattle.wl_link.specs.Link.{has_room}
-use Rattle.wl_link.specs.WriteLaws.{placed_failed, placed_after, placed_full}
+use Rattle.wl_link.proofs.Calls.WriteLaws.{placed_failed, placed_after, placed_full}
 use Rattle.wl_link.proofs.buffered_socket.BufferedSocket.place.Goals as goal
 
 pub returns-then-has_room-clause-placed : goal.returns-then-has_room-clause-placed

@@ -1,19 +1,12 @@
-use Rattle.std.proofs.Common.{Ok, Err, arith}
+use Rattle.std.proofs.Common.{arith}
 use Rattle.wl_link.proofs.Counting.{words_client}
 use Rattle.wl_link.proofs.Keeping.{inserts_new_client}
 use Rattle.wl_link.proofs.object_map.ObjectMap.client_insert_new.Goals as goal
-use Rattle.wl_link.proofs.object_map.ObjectMap.client_insert_new.Goals.{in-Ok, in-Err}
 
 pub returns-clause-inserts : goal.returns-clause-inserts
 returns-clause-inserts g c =
-    elim c.match-insert_new.branch [
-      | in-Ok w ↦
-          rw (← c.self.view_is, w.result-is)
-          (inserts_new_client c.self.inside.clients.slots.items c.self.inside.servers.slots.items c.self.invariant.within _ c.args.object (Ok w.in-Ok.at) w.in-Ok.ensures.places)
-      | in-Err w ↦
-          rw (← c.self.view_is, w.result-is)
-          (inserts_new_client c.self.inside.clients.slots.items c.self.inside.servers.slots.items c.self.invariant.within _ c.args.object (Err w.in-Err.error) w.in-Err.ensures.places)
-    ]
+    rw (← c.self.view_is)
+    (inserts_new_client c.self.inside.clients.slots.items c.self.inside.servers.slots.items c.self.invariant.within _ c.args.object _ c.insert_new.ensures.places)
 
 pub returns-clause-words_read : goal.returns-clause-words_read
 returns-clause-words_read g c = rw (← c.self.view_is) (words_client c.self.inside.clients.slots.items c.self.inside.servers.slots.items c.self.invariant.within _ c.insert_new.ensures.words_read)

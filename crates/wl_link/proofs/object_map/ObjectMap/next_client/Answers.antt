@@ -1,5 +1,5 @@
 use Rattle.std.proofs.Common.{◌+◌, Some, None, ◌∙◌, arith}
-use Rattle.wl_link.specs.PlaceList.{store_of}
+use Rattle.wl_link.specs.Inside.PlaceList.{store_of}
 use Rattle.wl_link.specs.Store.{client_range}
 use Rattle.wl_link.proofs.Counting.{words_client}
 use Rattle.wl_link.proofs.Keeping.{least_client, full_client, free_client, first_is_free, told_is_given}

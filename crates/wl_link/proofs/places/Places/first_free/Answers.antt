@@ -1,6 +1,6 @@
 use Rattle.std.proofs.Common.{◌≡◌, arith, length, Some, None}
-use Rattle.wl_link.specs.FreeTree.{words_of}
-use Rattle.wl_link.specs.PlaceList.{free_flag}
+use Rattle.wl_link.specs.Inside.FreeTree.{words_of}
+use Rattle.wl_link.specs.Inside.PlaceList.{free_flag}
 use Rattle.wl_link.proofs.Trees.{first_is, none_is, height_within, reads_places, few_reads}
 use Rattle.wl_link.proofs.places.Places.first_free.Goals as goal
 

@@ -1,6 +1,6 @@
 use Rattle.std.proofs.Common.{◌<◌, length, not, is_some, sym, subst, arith}
-use Rattle.wl_link.specs.FreeTree.{IsTree, changed, words_of}
-use Rattle.wl_link.specs.PlaceList.{free_flag}
+use Rattle.wl_link.specs.Inside.FreeTree.{IsTree, changed, words_of}
+use Rattle.wl_link.specs.Inside.PlaceList.{free_flag}
 use Rattle.wl_link.proofs.Trees.{marks_set}
 use Rattle.wl_link.proofs.places.Places.remove.Goals as goal
 

@@ -1,11 +1,11 @@
 use Rattle.std.proofs.Common.{◌<◌, ◌≤◌, ◌+◌, true, arith, length, refl, subst}
 use Rattle.std.specs.Vec.{vec_capacity}
-use Rattle.wl_server.specs.Cleanup.{CleansUp}
-use Rattle.wl_server.specs.Gathering.{count_leaving}
-use Rattle.wl_server.specs.Leaving.{collected, given_at}
-use Rattle.wl_server.proofs.CleanedSlots.{slots_cleaned}
-use Rattle.wl_server.proofs.CleaningUp.{cleaned_up, cleanup_starved}
-use Rattle.wl_server.proofs.Taken.{none_taken}
+use Rattle.wl_server.specs.Inside.Cleanup.{CleansUp}
+use Rattle.wl_server.specs.Inside.Gathering.{count_leaving}
+use Rattle.wl_server.specs.Inside.Leaving.{collected, given_at}
+use Rattle.wl_server.proofs.CleanupSteps.CleanedSlots.{slots_cleaned}
+use Rattle.wl_server.proofs.CleanupSteps.CleaningUp.{cleaned_up, cleanup_starved}
+use Rattle.wl_server.proofs.CleanupSteps.Taken.{none_taken}
 use Rattle.wl_server.proofs.backend.Backend.cleanup.Goals as goal
 
 pub clean_up-self-inside-requires-clause-given : goal.clean_up-self-inside-requires-clause-given

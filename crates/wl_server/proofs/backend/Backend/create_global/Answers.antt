@@ -5,18 +5,18 @@ use Rattle.wl_wire.specs.declared.interface.InterfaceId.{InterfaceId}
 use Rattle.wl_link.specs.declared.object.Object.{Object}
 use Rattle.wl_server.specs.declared.error.GlobalError.{GlobalError}
 use Rattle.wl_server.specs.declared.error.GlobalError.TheVariants as refused
-use Rattle.wl_server.specs.declared.kept.KeptGlobal.{KeptGlobal}
+use Rattle.wl_server.specs.declared.globals.KeptGlobal.{KeptGlobal}
 use Rattle.wl_server.specs.Globals.{Globals, Offer, new_global}
 use Rattle.wl_server.specs.Ids.{GlobalParts}
-use Rattle.wl_server.specs.News.{HearsNew}
+use Rattle.wl_server.specs.Inside.News.{HearsNew}
 use Rattle.wl_server.specs.PartStep.{Asked}
-use Rattle.wl_server.specs.Places.{AllFeel}
+use Rattle.wl_server.specs.Inside.Places.{AllFeel}
 use Rattle.wl_server.specs.Server.{Stored}
 use Rattle.wl_server.specs.Steps.{lacks_growth}
-use Rattle.wl_server.specs.declared.step.Reply.TheVariants as reply
-use Rattle.wl_server.specs.declared.step.Step.TheVariants as step
-use Rattle.wl_server.proofs.Feeling.{IsFelt, felt_call, unfelt_call}
-use Rattle.wl_server.proofs.Taken.{slots_felt}
+use Rattle.wl_server.specs.declared.runs.step.Reply.TheVariants as reply
+use Rattle.wl_server.specs.declared.runs.step.Step.TheVariants as step
+use Rattle.wl_server.proofs.CallSteps.Feeling.{IsFelt, felt_call, unfelt_call}
+use Rattle.wl_server.proofs.CleanupSteps.Taken.{slots_felt}
 use Rattle.wl_server.proofs.backend.Backend.create_global.Goals as goal
 use Rattle.wl_server.proofs.backend.Backend.create_global.Goals.{in-OutOfMemory, in_default}
 

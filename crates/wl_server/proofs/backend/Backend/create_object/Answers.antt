@@ -3,16 +3,16 @@ use Rattle.wl_wire.specs.declared.interface.InterfaceId.{InterfaceId}
 use Rattle.wl_wire.specs.Table.{InterfaceRow}
 use Rattle.wl_server.specs.declared.error.CreateError.{CreateError}
 use Rattle.wl_server.specs.declared.error.CreateError.TheVariants as create
-use Rattle.wl_server.specs.Client.{Does}
+use Rattle.wl_server.specs.Inside.Client.{Does}
 use Rattle.wl_server.specs.Ids.{ClientParts, IdParts}
 use Rattle.wl_server.specs.Objects.{Creates}
 use Rattle.wl_server.specs.PartStep.{Asked, lacks_create}
 use Rattle.wl_server.specs.Server.{Stored}
-use Rattle.wl_server.specs.declared.step.Reply.TheVariants as reply
-use Rattle.wl_server.specs.declared.step.Step.TheVariants as step
-use Rattle.wl_server.proofs.Calls.{IsOwn, done_at, not_stored}
-use Rattle.wl_server.proofs.Slots.{Kind, slot_in, slot_not_empty}
-use Rattle.wl_server.proofs.Taken.{slots_set}
+use Rattle.wl_server.specs.declared.runs.step.Reply.TheVariants as reply
+use Rattle.wl_server.specs.declared.runs.step.Step.TheVariants as step
+use Rattle.wl_server.proofs.CallSteps.OneClient.{IsOwn, done_at, not_stored}
+use Rattle.wl_server.proofs.CallSteps.Slots.{Kind, slot_in, slot_not_empty}
+use Rattle.wl_server.proofs.CleanupSteps.Taken.{slots_set}
 use Rattle.wl_server.proofs.backend.Backend.create_object.Goals as goal
 
 abbrev creates : {T U C : Type 0} → List InterfaceRow → InterfaceId → ℕ → U → Result IdParts CreateError → Kind T U C

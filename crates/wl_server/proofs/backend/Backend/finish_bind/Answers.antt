@@ -1,15 +1,15 @@
 use Rattle.std.proofs.Common.{◌≡◌, ◌∙◌, false, Result, Err, refl, sym}
-use Rattle.wl_server.specs.CuttingLaws.{histories_cut}
+use Rattle.wl_server.proofs.OverRuns.Cut.CuttingLaws.{histories_cut}
 use Rattle.wl_server.specs.declared.error.FinishError.TheVariants as finish
 use Rattle.wl_server.specs.declared.error.FinishRefused.{FinishRefused}
 use Rattle.wl_server.specs.Finish.{FinishesBind}
 use Rattle.wl_server.specs.Ids.{ClientParts}
 use Rattle.wl_server.specs.PartStep.{Asked}
-use Rattle.wl_server.specs.declared.step.Reply.TheVariants as reply
-use Rattle.wl_server.specs.declared.step.Step.TheVariants as step
-use Rattle.wl_server.proofs.Calls.{IsOwn, done_at, not_stored}
-use Rattle.wl_server.proofs.Slots.{Kind, slot_in, slot_not_empty}
-use Rattle.wl_server.proofs.Taken.{slots_set}
+use Rattle.wl_server.specs.declared.runs.step.Reply.TheVariants as reply
+use Rattle.wl_server.specs.declared.runs.step.Step.TheVariants as step
+use Rattle.wl_server.proofs.CallSteps.OneClient.{IsOwn, done_at, not_stored}
+use Rattle.wl_server.proofs.CallSteps.Slots.{Kind, slot_in, slot_not_empty}
+use Rattle.wl_server.proofs.CleanupSteps.Taken.{slots_set}
 use Rattle.wl_server.proofs.backend.Backend.finish_bind.Goals as goal
 
 abbrev finishes : {T U C : Type 0} → U → Result (Unit {0}) (FinishRefused U) → Kind T U C

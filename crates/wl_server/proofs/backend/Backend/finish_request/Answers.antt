@@ -1,18 +1,18 @@
 use Rattle.std.proofs.Common.{◌≡◌, ◌∙◌, ℕ, Option, Result, Err, refl, sym}
 use Rattle.wl_wire.specs.declared.error.IoFault.{IoFault}
 use Rattle.wl_link.specs.Exchange.{Queue}
-use Rattle.wl_server.specs.CuttingLaws.{histories_cut}
+use Rattle.wl_server.proofs.OverRuns.Cut.CuttingLaws.{histories_cut}
 use Rattle.wl_server.specs.declared.error.FinishError.TheVariants as finish
 use Rattle.wl_server.specs.declared.error.FinishRefused.{FinishRefused}
 use Rattle.wl_server.specs.Finish.{FinishesRequest}
-use Rattle.wl_server.specs.Finishing.{lacks_finish}
+use Rattle.wl_server.specs.Inside.Finishing.{lacks_finish}
 use Rattle.wl_server.specs.Ids.{ClientParts}
 use Rattle.wl_server.specs.PartStep.{Asked}
-use Rattle.wl_server.specs.declared.step.Reply.TheVariants as reply
-use Rattle.wl_server.specs.declared.step.Step.TheVariants as step
-use Rattle.wl_server.proofs.Calls.{IsOwn, done_at, not_stored}
-use Rattle.wl_server.proofs.Slots.{Kind, slot_in, slot_not_empty}
-use Rattle.wl_server.proofs.Taken.{slots_set}
+use Rattle.wl_server.specs.declared.runs.step.Reply.TheVariants as reply
+use Rattle.wl_server.specs.declared.runs.step.Step.TheVariants as step
+use Rattle.wl_server.proofs.CallSteps.OneClient.{IsOwn, done_at, not_stored}
+use Rattle.wl_server.proofs.CallSteps.Slots.{Kind, slot_in, slot_not_empty}
+use Rattle.wl_server.proofs.CleanupSteps.Taken.{slots_set}
 use Rattle.wl_server.proofs.backend.Backend.finish_request.Goals as goal
 
 abbrev finishes : {T U C : Type 0} → (T → Queue → Result ℕ IoFault → T → Type 0) → Option U → Result (Unit {0}) (FinishRefused (Option U)) → Kind T U C

@@ -1,10 +1,10 @@
 use Rattle.std.proofs.Common.{◌≡◌, ℕ, ◌+◌, ◌<◌, IsSome, inl, inr, arith, ap, subst, sym}
 use Rattle.wl_server.specs.Ids.{ClientParts}
-use Rattle.wl_server.specs.Inserting.{AreTaken}
+use Rattle.wl_server.specs.Inside.Inserting.{AreTaken}
 use Rattle.wl_server.specs.Server.{stored_at}
 use Rattle.wl_server.specs.Steps.{IsLeastFree}
-use Rattle.wl_server.proofs.Inserting.{inserted, insertion_starved, least_within, not_inserted}
-use Rattle.wl_server.proofs.Taken.{taken_put}
+use Rattle.wl_server.proofs.ObjectCalls.Inserting.{inserted, insertion_starved, least_within, not_inserted}
+use Rattle.wl_server.proofs.CleanupSteps.Taken.{taken_put}
 use Rattle.wl_server.proofs.backend.Backend.insert_client.Goals as goal
 
 pub returns-in_default : goal.returns-in_default

@@ -1,15 +1,15 @@
 use Rattle.std.proofs.Common.{◌≡◌, ◌∙◌, false, refl, sym}
-use Rattle.wl_server.specs.declared.note.DisconnectReason.{DisconnectReason}
-use Rattle.wl_server.specs.Client.{Does}
+use Rattle.wl_server.specs.declared.notes.DisconnectReason.{DisconnectReason}
+use Rattle.wl_server.specs.Inside.Client.{Does}
 use Rattle.wl_server.specs.Ids.{ClientParts}
 use Rattle.wl_server.specs.PartStep.{Asked}
 use Rattle.wl_server.specs.Server.{Stored}
 use Rattle.wl_server.specs.Telling.{Kills}
-use Rattle.wl_server.specs.declared.step.Reply.TheVariants as reply
-use Rattle.wl_server.specs.declared.step.Step.TheVariants as step
-use Rattle.wl_server.proofs.Calls.{IsOwn, done_at, not_stored}
-use Rattle.wl_server.proofs.Slots.{Kind, slot_in, slot_not_empty}
-use Rattle.wl_server.proofs.Taken.{slots_set}
+use Rattle.wl_server.specs.declared.runs.step.Reply.TheVariants as reply
+use Rattle.wl_server.specs.declared.runs.step.Step.TheVariants as step
+use Rattle.wl_server.proofs.CallSteps.OneClient.{IsOwn, done_at, not_stored}
+use Rattle.wl_server.proofs.CallSteps.Slots.{Kind, slot_in, slot_not_empty}
+use Rattle.wl_server.proofs.CleanupSteps.Taken.{slots_set}
 use Rattle.wl_server.proofs.backend.Backend.kill_client.Goals as goal
 
 abbrev kills : {T U C : Type 0} → DisconnectReason → Kind T U C

@@ -1,5 +1,5 @@
 use Rattle.std.proofs.Common.{arith}
-use Rattle.wl_server.proofs.Taken.{none_taken}
+use Rattle.wl_server.proofs.CleanupSteps.Taken.{none_taken}
 use Rattle.wl_server.proofs.backend.Backend.new.Goals as goal
 
 pub invariant_of-result : goal.invariant_of-result

@@ -1,5 +1,5 @@
-use Rattle.wl_server.specs.CuttingLaws.{histories_cut}
-use Rattle.wl_server.specs.RoomLaws.{next_has_room}
+use Rattle.wl_server.proofs.OverRuns.Cut.CuttingLaws.{histories_cut}
+use Rattle.wl_server.proofs.OverRuns.Cut.RoomLaws.{next_has_room}
 use Rattle.wl_server.proofs.backend.Backend.next_action.Goals as goal
 
 pub returns-clause-room : goal.returns-clause-room

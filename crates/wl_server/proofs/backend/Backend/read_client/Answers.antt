@@ -1,9 +1,9 @@
 use Rattle.std.proofs.Common.{◌∙◌, Err, refl, sym}
 use Rattle.wl_wire.specs.declared.error.IoFault.TheVariants as fault
 use Rattle.wl_server.specs.declared.error.ActionError.TheVariants.{Io}
-use Rattle.wl_server.proofs.ReadingCalls.{next_done, next_missing, within_done, within_missing}
-use Rattle.wl_server.proofs.Slots.{slot_in, slot_not_empty}
-use Rattle.wl_server.proofs.Taken.{slots_set}
+use Rattle.wl_server.proofs.CallSteps.ReadingCalls.{next_done, next_missing, within_done, within_missing}
+use Rattle.wl_server.proofs.CallSteps.Slots.{slot_in, slot_not_empty}
+use Rattle.wl_server.proofs.CleanupSteps.Taken.{slots_set}
 use Rattle.wl_server.proofs.backend.Backend.read_client.Goals as goal
 
 pub returns-then-not-is_stored-clause-fresh : goal.returns-then-not-is_stored-clause-fresh

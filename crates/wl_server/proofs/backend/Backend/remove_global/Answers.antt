@@ -1,17 +1,17 @@
 use Rattle.std.proofs.Common.{◌≡◌, ◌∙◌, List, Option, ap, length, refl, subst, sym}
 use Rattle.std.specs.Prelude.{vec_len}
 use Rattle.std.proofs.lemmas.List.{with_items_is}
-use Rattle.wl_link.specs.Branches.{at_false, at_true}
+use Rattle.wl_link.proofs.Calls.Branches.{at_false, at_true}
 use Rattle.wl_server.specs.Felt.{Hears, removals}
 use Rattle.wl_server.specs.Globals.{Globals, Offer}
 use Rattle.wl_server.specs.Ids.{GlobalParts}
 use Rattle.wl_server.specs.PartStep.{Asked}
-use Rattle.wl_server.specs.Places.{AllFeel}
+use Rattle.wl_server.specs.Inside.Places.{AllFeel}
 use Rattle.wl_server.specs.Server.{Stored}
-use Rattle.wl_server.specs.declared.step.Reply.TheVariants as reply
-use Rattle.wl_server.specs.declared.step.Step.TheVariants as step
-use Rattle.wl_server.proofs.Feeling.{IsFelt, felt_call, unfelt_call}
-use Rattle.wl_server.proofs.Taken.{slots_felt}
+use Rattle.wl_server.specs.declared.runs.step.Reply.TheVariants as reply
+use Rattle.wl_server.specs.declared.runs.step.Step.TheVariants as step
+use Rattle.wl_server.proofs.CallSteps.Feeling.{IsFelt, felt_call, unfelt_call}
+use Rattle.wl_server.proofs.CleanupSteps.Taken.{slots_felt}
 use Rattle.wl_server.proofs.backend.Backend.remove_global.Goals as goal
 
 felt : {T U G C : Type 0} (id : GlobalParts) → IsFelt {T = T} {U = U} {G = G} {C = C} (Asked (step.RemoveGlobal id) reply.RemoveGlobal)

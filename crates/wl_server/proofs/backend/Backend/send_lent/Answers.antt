@@ -6,14 +6,14 @@ use Rattle.wl_wire.specs.Table.{InterfaceRow}
 use Rattle.wl_link.specs.Exchange.{Queue}
 use Rattle.wl_server.specs.declared.error.EventError.{EventError}
 use Rattle.wl_server.specs.declared.error.EventError.TheVariants as refused
-use Rattle.wl_server.specs.declared.step.Reply.TheVariants as reply
-use Rattle.wl_server.specs.declared.step.Step.TheVariants as step
+use Rattle.wl_server.specs.declared.runs.step.Reply.TheVariants as reply
+use Rattle.wl_server.specs.declared.runs.step.Step.TheVariants as step
 use Rattle.wl_server.specs.Events.{SendsEvent, session_content}
 use Rattle.wl_server.specs.Ids.{IdParts}
 use Rattle.wl_server.specs.PartStep.{Asked}
-use Rattle.wl_server.proofs.Calls.{IsOwn, done_at, not_stored}
-use Rattle.wl_server.proofs.Slots.{Kind, slot_in, slot_not_empty}
-use Rattle.wl_server.proofs.Taken.{slots_set}
+use Rattle.wl_server.proofs.CallSteps.OneClient.{IsOwn, done_at, not_stored}
+use Rattle.wl_server.proofs.CallSteps.Slots.{Kind, slot_in, slot_not_empty}
+use Rattle.wl_server.proofs.CleanupSteps.Taken.{slots_set}
 use Rattle.wl_server.proofs.backend.Backend.send_lent.Goals as goal
 
 abbrev sends_event : {T U C : Type 0} → (T → Queue → Result ℕ IoFault → T → Type 0) → List InterfaceRow → Message IdParts Token → Result (Unit {0}) EventError → Kind T U C

@@ -1,8 +1,8 @@
 use Rattle.std.proofs.Common.{ℕ, refl}
 use Rattle.wl_server.specs.PartStep.{Asked}
-use Rattle.wl_server.specs.declared.step.Reply.TheVariants as reply
-use Rattle.wl_server.specs.declared.step.Step.TheVariants as step
-use Rattle.wl_server.proofs.Feeling.{IsFelt, unfelt_call}
+use Rattle.wl_server.specs.declared.runs.step.Reply.TheVariants as reply
+use Rattle.wl_server.specs.declared.runs.step.Step.TheVariants as step
+use Rattle.wl_server.proofs.CallSteps.Feeling.{IsFelt, unfelt_call}
 use Rattle.wl_server.proofs.backend.Backend.set_default_max_buffer_size.Goals as goal
 
 felt : {T U G C : Type 0} (limit : ℕ) → IsFelt {T = T} {U = U} {G = G} {C = C} (Asked (step.SetDefaultMaxBufferSize limit) reply.SetDefaultMaxBufferSize)

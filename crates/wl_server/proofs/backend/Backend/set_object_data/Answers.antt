@@ -2,20 +2,20 @@ use Rattle.std.proofs.Common.{◌≡◌, ◌∙◌, false, Option, None, Some, R
 use Rattle.wl_link.specs.declared.object.Object.{Object}
 use Rattle.wl_link.specs.Store.{Store}
 use Rattle.wl_server.specs.declared.error.InvalidId.{InvalidId}
-use Rattle.wl_server.specs.declared.kept.Kept.{Kept}
-use Rattle.wl_server.specs.Client.{Does}
+use Rattle.wl_server.specs.declared.objects.Kept.{Kept}
+use Rattle.wl_server.specs.Inside.Client.{Does}
 use Rattle.wl_server.specs.Finish.{data_given}
 use Rattle.wl_server.specs.Ids.{IdParts}
 use Rattle.wl_server.specs.Objects.{DataSet}
 use Rattle.wl_server.specs.Part.{Part, named}
 use Rattle.wl_server.specs.PartStep.{Asked, Quietly}
 use Rattle.wl_server.specs.Server.{Stored}
-use Rattle.wl_server.specs.declared.step.Reply.TheVariants as reply
-use Rattle.wl_server.specs.declared.step.Step.TheVariants as step
-use Rattle.wl_server.proofs.Calls.{IsOwn, done_at, not_stored}
-use Rattle.wl_server.proofs.Doing.{does_quietly}
-use Rattle.wl_server.proofs.Slots.{Kind, slot_in, slot_not_empty, stored_by}
-use Rattle.wl_server.proofs.Taken.{slots_set}
+use Rattle.wl_server.specs.declared.runs.step.Reply.TheVariants as reply
+use Rattle.wl_server.specs.declared.runs.step.Step.TheVariants as step
+use Rattle.wl_server.proofs.CallSteps.OneClient.{IsOwn, done_at, not_stored}
+use Rattle.wl_server.proofs.CallSteps.Doing.{does_quietly}
+use Rattle.wl_server.proofs.CallSteps.Slots.{Kind, slot_in, slot_not_empty, stored_by}
+use Rattle.wl_server.proofs.CleanupSteps.Taken.{slots_set}
 use Rattle.wl_server.proofs.backend.Backend.set_object_data.Goals as goal
 
 abbrev sets : {T U C : Type 0} → IdParts → U → Result (Unit {0}) InvalidId → Kind T U C

@@ -1,7 +1,7 @@
 use Rattle.std.proofs.Common.{◌∙◌, Vec, ap, arith}
-use Rattle.wl_server.proofs.GatheredSlots.{slots_kept}
-use Rattle.wl_server.proofs.TakingNotes.{notes_starved, notes_taken}
-use Rattle.wl_server.proofs.Taken.{taken_kept}
+use Rattle.wl_server.proofs.CleanupSteps.GatheredSlots.{slots_kept}
+use Rattle.wl_server.proofs.CleanupSteps.TakingNotes.{notes_starved, notes_taken}
+use Rattle.wl_server.proofs.CleanupSteps.Taken.{taken_kept}
 use Rattle.wl_server.proofs.backend.Backend.take_notes.Goals as goal
 
 pub returns-in-Ok : goal.returns-in-Ok

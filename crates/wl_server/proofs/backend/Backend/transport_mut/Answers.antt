@@ -3,15 +3,15 @@ use Rattle.std.proofs.Math.Path.{fun_ext}
 use Rattle.std.specs.Prelude.{slice_index_or, slice_set}
 use Rattle.std.proofs.lemmas.Bool.{false≢true}
 use Rattle.std.specs.Option.{option_map_or}
-use Rattle.wl_server.specs.AccountLaws.{is_change}
+use Rattle.wl_server.proofs.OverRuns.Alone.AccountLaws.{is_change}
 use Rattle.wl_server.specs.Backend.{BackendState, IsChange}
 use Rattle.wl_server.specs.Ids.{ClientParts}
 use Rattle.wl_server.specs.Lending.{over_transport, server_over, state_over}
 use Rattle.wl_server.specs.PartStep.{World}
 use Rattle.wl_server.specs.Server.{ServerState, Stored, client_at, stored_at}
-use Rattle.wl_server.proofs.Changing.{changed}
-use Rattle.wl_server.proofs.Slots.{client_present, slot_has, slot_holds, slot_in, slot_not_empty}
-use Rattle.wl_server.proofs.Taken.{slots_mapped}
+use Rattle.wl_server.proofs.CallSteps.Changing.{changed}
+use Rattle.wl_server.proofs.CallSteps.Slots.{client_present, slot_has, slot_holds, slot_in, slot_not_empty}
+use Rattle.wl_server.proofs.CleanupSteps.Taken.{slots_mapped}
 use Rattle.wl_server.proofs.backend.Backend.transport_mut.Goals as goal
 
 none_through : {A B C : Type 0} (f : B → C) (g : A → B) (o : Option A) → is_some o ≡ false → option_map f (option_map g o) ≡ None

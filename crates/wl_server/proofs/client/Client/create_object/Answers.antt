@@ -1,5 +1,5 @@
 use Rattle.std.proofs.Common.{◌∙◌, ap, not, rules}
-use Rattle.wl_server.proofs.Creation.{unknown_interface, lacks_serial, created, exhausted, no_memory, row_found}
+use Rattle.wl_server.proofs.ObjectCalls.Creation.{unknown_interface, lacks_serial, created, exhausted, no_memory, row_found}
 use Rattle.wl_server.proofs.client.Client.create_object.Goals as goal
 
 pub returns-then-is_none : goal.returns-then-is_none

@@ -1,6 +1,6 @@
 use Rattle.std.proofs.Common.{◌≡◌, ◌∙◌, None, Option, option_copied, Bor, map, sym, ap}
 use Rattle.wl_server.specs.Objects.{destroyable}
-use Rattle.wl_server.proofs.Destroying.{refused, starved, untold, destroyed}
+use Rattle.wl_server.proofs.ObjectCalls.Destroying.{refused, starved, untold, destroyed}
 use Rattle.wl_server.proofs.client.Client.destroy_object.Goals as goal
 
 copied_none : {X : Type 0} (found : Option (Bor X)) (o : Option X) → option_copied found ≡ o → found ≡ None → o ≡ None

@@ -1,9 +1,9 @@
 use Rattle.std.proofs.Common.{◌≡◌, MatchResult, false, refl, subst, true}
-use Rattle.wl_server.specs.declared.note.DisconnectReason.TheVariants.{ConnectionClosed}
-use Rattle.wl_server.specs.Client.{Does}
+use Rattle.wl_server.specs.declared.notes.DisconnectReason.TheVariants.{ConnectionClosed}
+use Rattle.wl_server.specs.Inside.Client.{Does}
 use Rattle.wl_server.specs.Server.{Stored}
 use Rattle.wl_server.specs.Telling.{Kills}
-use Rattle.wl_server.proofs.Finishing.{ends_done, ends_starved, request_ends, request_refused}
+use Rattle.wl_server.proofs.Readings.Finishing.{ends_done, ends_starved, request_ends, request_refused}
 use Rattle.wl_server.proofs.client.Client.end_request.Goals as goal
 
 pub returns-in-Some : goal.returns-in-Some

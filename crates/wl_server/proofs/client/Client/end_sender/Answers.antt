@@ -1,5 +1,5 @@
 use Rattle.std.proofs.Common.{ap, map}
-use Rattle.wl_server.proofs.Finishing.{ends_taken}
+use Rattle.wl_server.proofs.Readings.Finishing.{ends_taken}
 use Rattle.wl_server.proofs.client.Client.end_sender.Goals as goal
 
 pub returns : goal.returns

@@ -1,6 +1,6 @@
-use Rattle.wl_server.specs.Responses.{code_of, text_of}
-use Rattle.wl_server.specs.Turns.{around_of}
-use Rattle.wl_server.proofs.Handling.{broke, broke_starved}
+use Rattle.wl_server.specs.Inside.Responses.{code_of, text_of}
+use Rattle.wl_server.specs.Inside.Turns.{around_of}
+use Rattle.wl_server.proofs.Readings.Handling.{broke, broke_starved}
 use Rattle.wl_server.proofs.client.Client.ends_by.Goals as goal
 
 pub returns : goal.returns

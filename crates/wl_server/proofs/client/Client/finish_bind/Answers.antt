@@ -1,5 +1,5 @@
 use Rattle.std.proofs.Common.{◌∙◌, Some, ap}
-use Rattle.wl_server.proofs.Opened.{a_bind, no_bind, not_a_bind}
+use Rattle.wl_server.proofs.Readings.Opened.{a_bind, no_bind, not_a_bind}
 use Rattle.wl_server.proofs.client.Client.finish_bind.Goals as goal
 
 pub returns-in_default : goal.returns-in_default

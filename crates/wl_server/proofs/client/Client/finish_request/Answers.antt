@@ -1,6 +1,6 @@
 use Rattle.std.proofs.Common.{◌∙◌, Some, ap}
-use Rattle.wl_server.specs.declared.action.OpenAction.TheVariants as opened
-use Rattle.wl_server.proofs.Opened.{a_request, no_request, not_a_request}
+use Rattle.wl_server.specs.declared.reading.action.OpenAction.TheVariants as opened
+use Rattle.wl_server.proofs.Readings.Opened.{a_request, no_request, not_a_request}
 use Rattle.wl_server.proofs.client.Client.finish_request.Goals as goal
 
 pub returns-in_default : goal.returns-in_default

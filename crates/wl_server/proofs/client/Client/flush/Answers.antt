@@ -1,6 +1,6 @@
 use Rattle.std.proofs.Common.{map, refl, append-nil}
 use Rattle.wl_server.specs.Deeds.{Sent}
-use Rattle.wl_server.proofs.Notes.{notes_of_sends}
+use Rattle.wl_server.proofs.Readings.Notes.{notes_of_sends}
 use Rattle.wl_server.proofs.client.Client.flush.Goals as goal
 
 pub returns : goal.returns

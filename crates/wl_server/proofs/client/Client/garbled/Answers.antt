@@ -1,4 +1,4 @@
-use Rattle.wl_server.proofs.Handling.{garbled_handled}
+use Rattle.wl_server.proofs.Readings.Handling.{garbled_handled}
 use Rattle.wl_server.proofs.client.Client.garbled.Goals as goal
 
 pub returns : goal.returns

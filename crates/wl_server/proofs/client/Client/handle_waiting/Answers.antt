@@ -1,6 +1,6 @@
 use Rattle.std.proofs.Common.{◌≤◌, ◌∙◌, rules, refl}
-use Rattle.wl_server.specs.Turns.{around_of}
-use Rattle.wl_server.proofs.Turning.{goes_ends, goes_goes, goes_none}
+use Rattle.wl_server.specs.Inside.Turns.{around_of}
+use Rattle.wl_server.proofs.Readings.Turning.{goes_ends, goes_goes, goes_none}
 use Rattle.wl_server.proofs.client.Client.handle_waiting.Goals as goal
 
 pub loop-found-init : goal.loop-found-init

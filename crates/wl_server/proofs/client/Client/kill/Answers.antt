@@ -1,6 +1,6 @@
 use Rattle.std.proofs.Common.{◌≡◌, ◌∙◌, List, refl, sym, ap, append-nil, [], map}
 use Rattle.std.proofs.lemmas.List.{map-append}
-use Rattle.wl_server.specs.declared.note.Happening.{Happening}
+use Rattle.wl_server.specs.declared.notes.Happening.{Happening}
 use Rattle.wl_server.specs.Part.{Part}
 use Rattle.wl_server.specs.Server.{Stored}
 use Rattle.wl_server.proofs.client.Client.kill.Goals as goal

@@ -1,6 +1,6 @@
 use Rattle.std.proofs.Common.{◌∙◌, Ok, Err, refl, sym}
-use Rattle.wl_server.specs.Turns.{around_of, found_with}
-use Rattle.wl_server.proofs.Turning.{killed_done, live_is, open_done, reading_done}
+use Rattle.wl_server.specs.Inside.Turns.{around_of, found_with}
+use Rattle.wl_server.proofs.Readings.Turning.{killed_done, live_is, open_done, reading_done}
 use Rattle.wl_server.proofs.client.Client.next_action.Goals as goal
 
 pub returns-then-is_some : goal.returns-then-is_some

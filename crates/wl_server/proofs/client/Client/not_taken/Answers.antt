@@ -1,5 +1,5 @@
-use Rattle.wl_server.specs.Turns.{around_of}
-use Rattle.wl_server.proofs.Turning.{does_ask, front_asks, is_malformed, turn_unread}
+use Rattle.wl_server.specs.Inside.Turns.{around_of}
+use Rattle.wl_server.proofs.Readings.Turning.{does_ask, front_asks, is_malformed, turn_unread}
 use Rattle.wl_server.proofs.client.Client.not_taken.Goals as goal
 
 pub returns-in-Malformed : goal.returns-in-Malformed

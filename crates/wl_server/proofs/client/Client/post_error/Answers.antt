@@ -4,14 +4,14 @@ use Rattle.std.proofs.lemmas.Bool.{false≢true, ne_eqb}
 use Rattle.wl_wire.specs.declared.error.IoFault.{IoFault}
 use Rattle.wl_wire.specs.Table.{InterfaceRow}
 use Rattle.wl_link.specs.Exchange.{Queue}
-use Rattle.wl_server.specs.Carried.{IsCarried}
-use Rattle.wl_server.specs.Client.{Does}
+use Rattle.wl_server.specs.Inside.Carried.{IsCarried}
+use Rattle.wl_server.specs.Inside.Client.{Does}
 use Rattle.wl_server.specs.Errors.{PostsError, posts}
 use Rattle.wl_server.specs.Ids.{IdParts}
 use Rattle.wl_server.specs.Server.{Stored}
 use Rattle.wl_server.specs.Telling.{core_of}
-use Rattle.wl_server.proofs.Doing.{does_quietly}
-use Rattle.wl_server.proofs.Notes.{tells_carried}
+use Rattle.wl_server.proofs.CallSteps.Doing.{does_quietly}
+use Rattle.wl_server.proofs.Readings.Notes.{tells_carried}
 use Rattle.wl_server.proofs.client.Client.post_error.Goals as goal
 
 -- a test of null is the test of the number

@@ -1,5 +1,5 @@
 use Rattle.std.proofs.Common.{◌≡◌, true, false}
-use Rattle.wl_server.proofs.Posting.{posted_dead, posted_live, posted_starved}
+use Rattle.wl_server.proofs.ObjectCalls.Posting.{posted_dead, posted_live, posted_starved}
 use Rattle.wl_server.proofs.client.Client.posts.Goals as goal
 
 pub returns-then-self : goal.returns-then-self

@@ -1,4 +1,4 @@
-use Rattle.wl_server.proofs.Posting.{is_some_copied, puts_error, puts_no_error}
+use Rattle.wl_server.proofs.ObjectCalls.Posting.{is_some_copied, puts_error, puts_no_error}
 use Rattle.wl_server.proofs.client.Client.put_posted.Goals as goal
 
 pub returns-then-is_none-clause-put : goal.returns-then-is_none-clause-put

@@ -1,5 +1,5 @@
 use Rattle.std.proofs.Common.{◌≤◌}
-use Rattle.wl_server.specs.Turns.{Goes, around_of}
+use Rattle.wl_server.specs.Inside.Turns.{Goes, around_of}
 use Rattle.wl_server.proofs.client.Client.read.Given as goal
 
 -- the reading came so far, and goes on

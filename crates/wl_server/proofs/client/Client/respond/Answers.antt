@@ -1,7 +1,7 @@
 use Rattle.std.proofs.Common.{[], ◌∷◌}
 use Rattle.wl_server.specs.Part.{id_of}
 use Rattle.wl_server.specs.Telling.{deletions, done_message}
-use Rattle.wl_server.proofs.Handling.{handed_out, none_quiet, replied}
+use Rattle.wl_server.proofs.Readings.Handling.{handed_out, none_quiet, replied}
 use Rattle.wl_server.proofs.client.Client.respond.Goals as goal
 
 pub returns-in-Syncs : goal.returns-in-Syncs

@@ -1,7 +1,7 @@
 use Rattle.std.proofs.Common.{◌≡◌, Ok, Err, subst}
 use Rattle.wl_server.specs.Events.{event_check, session_content}
 use Rattle.wl_server.specs.Ids.{ClientParts}
-use Rattle.wl_server.proofs.SendingEvents.{to_killed, was_granted, was_refused}
+use Rattle.wl_server.proofs.ObjectCalls.SendingEvents.{to_killed, was_granted, was_refused}
 use Rattle.wl_server.proofs.client.Client.send_event.Goals as goal
 
 pub returns-then-self : goal.returns-then-self

@@ -3,9 +3,9 @@ use Rattle.std.proofs.lemmas.Bool.{false≢true}
 use Rattle.std.specs.Prelude.{is_err, OnErr, ◌++◌}
 use Rattle.wl_link.specs.Link.{Wrote}
 use Rattle.wl_wire.specs.Message.{WireMessage}
-use Rattle.wl_server.specs.Ending.{notes_ending, registries_ending}
+use Rattle.wl_server.specs.Inside.Ending.{notes_ending, registries_ending}
 use Rattle.wl_server.specs.Events.{AsksForMemory, session_content}
-use Rattle.wl_server.proofs.SendingEvents.{event_numbered, no_room, not_written, of_sender, sent}
+use Rattle.wl_server.proofs.ObjectCalls.SendingEvents.{event_numbered, no_room, not_written, of_sender, sent}
 use Rattle.wl_server.proofs.client.Client.send_granted.Goals as goal
 
 on_err : {A E P : Type 0} (r : Result A E) → is_err r ≡ true → OnErr r P → P

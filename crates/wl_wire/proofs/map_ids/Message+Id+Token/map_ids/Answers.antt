@@ -1,5 +1,5 @@
 use Rattle.std.proofs.Common.{refl}
-use Rattle.wl_wire.specs.MapIdsLaws.{maps_ids_lem}
+use Rattle.wl_wire.proofs.Spelling.MapIdsLaws.{maps_ids_lem}
 use Rattle.wl_wire.proofs.map_ids.Message+Id+Token.map_ids.Goals as goal
 
 pub returns-clause-numbered : goal.returns-clause-numbered

@@ -1,0 +1,17 @@
+-- What a command about no one client does.
+use Rattle.std.proofs.Common.{ℕ, List}
+use Rattle.wl_bench.specs.declared.command.Command.{Command}
+use Rattle.wl_bench.specs.declared.command.Command.TheVariants.{Insert, Client, Create, Disable, Remove, Flush, Cleanup, Notes}
+use Rattle.wl_bench.specs.Answers.{Line}
+use Rattle.wl_bench.specs.Bench.{BenchState, Does, DoesForAll, IsShared}
+
+pub does_shared : (before : BenchState) (n : ℕ) (command : Command) (out : List Line) (after : BenchState) → IsShared command
+    → DoesForAll before command out after → Does before n command out after
+does_shared before n Insert out after is h = h
+does_shared before n (Client slot command) out after is h = absurd is
+does_shared before n (Create name version) out after is h = h
+does_shared before n (Disable name) out after is h = h
+does_shared before n (Remove name) out after is h = h
+does_shared before n Flush out after is h = h
+does_shared before n Cleanup out after is h = h
+does_shared before n Notes out after is h = h

@@ -1,0 +1,9 @@
+use Rattle.std.proofs.Common.{rules}
+use Rattle.wl_bench.specs.Bench.{IsShared}
+use Rattle.wl_bench.proofs.Sharing.{does_shared}
+use Rattle.wl_bench.proofs.bench.Bench.carry_out.Goals as goal
+
+pub returns-in_ok-lines-in_default : goal.returns-in_ok-lines-in_default
+returns-in_ok-lines-in_default c =
+    let shared : IsShared c.args.command = search rules in
+    record { done = does_shared _ c.args.number c.args.command _ _ shared c.in_ok-lines-in_default.ensures.done; failed = tt }

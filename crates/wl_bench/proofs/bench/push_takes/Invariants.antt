@@ -1,0 +1,8 @@
+use Rattle.std.proofs.Common.{◌≡◌, ◌++◌, take, drop, map}
+use Rattle.std.specs.List.{flat_map}
+use Rattle.std.specs.String.{string_bytes}
+use Rattle.wl_bench.specs.Bench.{take_step}
+use Rattle.wl_bench.proofs.bench.push_takes.Given as goal
+
+abbrev pub invariant-loop-client : goal.invariant-loop-client
+invariant-loop-client l = l.steps.items ≡ l.fn.steps.items ++ map take_step (take l.client-index l.clients)

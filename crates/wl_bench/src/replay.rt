@@ -1,0 +1,168 @@
+//! Recordings: their commands are carried out again, and what is printed now is compared with what was printed then.
+
+ghost use Rattle.std.specs.Prelude.{IfOk};
+ghost use Rattle.std.specs.Io.KnownBytes.{Appends};
+ghost use Rattle.wl_bench.specs.Record.{fed, verdict_text};
+
+use crate::bench::Bench;
+use crate::command::{Command, parse_line};
+use crate::commands::without_line_feed;
+use crate::stop::Stop;
+use crate::words::number;
+use std::alloc::{AllocError, Global};
+use std::io::{BufRead, Write};
+
+/// What a replay comes to.
+#[derive(Clone, Copy, Debug, PartialEq, Eq)]
+pub enum Replayed {
+    /// The recording is the record of its own commands, which are so many.
+    Same(u64),
+    /// This line, counted from 1, is the first in which it differs from that record. It is one past the last line where
+    /// output is missing at the end.
+    Differs(u64),
+}
+
+/// A comparison that has come to some line.
+#[derive(Drop)]
+struct Comparison {
+    bench: Bench,
+    /// The number of the last command, or 0.
+    last: u32,
+    /// How many commands were carried out.
+    count: u64,
+    /// What the last command printed, and how many of these lines were found in the recording.
+    lines: Vec<String>,
+    found: usize,
+}
+
+/// The parts of a line before and behind its first space.
+fn cut(line: &[u8]) -> Option<(&[u8], &[u8])> {
+    let place = line.iter().position(|byte| *byte == b' ')?;
+    Some((&line[..place], &line[place + 1..]))
+}
+
+/// The number that the bytes are, as text.
+fn number_of(bytes: &[u8]) -> Option<u32> {
+    number(str::from_utf8(bytes).ok()?)
+}
+
+/// The number and the command of a line of a recording, if it has both.
+fn numbered_command(alloc: Global, line: &[u8]) -> Result<Option<(u32, Command)>, AllocError> {
+    let Some((word, text)) = cut(line) else {
+        return Ok(None);
+    };
+    let Some(number) = number_of(word) else {
+        return Ok(None);
+    };
+    match parse_line(alloc, text)? {
+        Some(command) => Ok(Some((number, command))),
+        None => Ok(None),
+    }
+}
+
+/// Whether the line of a recording is this line of output.
+fn is_quoted(line: &[u8], output: &str) -> bool {
+    match line {
+        [b'>', b' ', rest @ ..] => rest == output.as_bytes(),
+        _ => false,
+    }
+}
+
+impl Comparison {
+    /// A comparison that has come to no line.
+    fn new(alloc: Global) -> Result<Self, Stop> {
+        Ok(Comparison {
+            bench: Bench::new(alloc)?,
+            last: 0,
+            count: 0,
+            lines: Vec::new(alloc),
+            found: 0,
+        })
+    }
+
+    /// Carries out the command of a line, in whose place no output is due. It answers whether there was one.
+    fn command(&mut self, alloc: Global, line: &[u8]) -> Result<bool, Stop> {
+        let Some((number, command)) = numbered_command(alloc, line)? else {
+            return Ok(false);
+        };
+        if number <= self.last {
+            return Ok(false);
+        }
+        let Some(lines) = self.bench.carry_out(alloc, command, u64::from(number))? else {
+            return Ok(false);
+        };
+        let Some(count) = self.count.checked_add(1) else {
+            return Err(Stop::Failed);
+        };
+        self.last = number;
+        self.count = count;
+        self.lines = lines;
+        self.found = 0;
+        Ok(true)
+    }
+
+    /// Looks at a line of this place. It answers whether the recording is the same so far.
+    fn line(&mut self, alloc: Global, line: &[u8], place: u64) -> Result<bool, Stop> {
+        if let Some(output) = self.lines.get(self.found) {
+            let is_same = is_quoted(line, output.as_str());
+            self.found += 1;
+            return Ok(is_same);
+        }
+        if line.starts_with(b"> ") {
+            return Ok(false);
+        }
+        if self.command(alloc, line)? {
+            Ok(true)
+        } else {
+            Err(Stop::BadLine(place))
+        }
+    }
+
+    /// What the replay comes to at the end of the recording, the place behind its last line.
+    fn end(&self, place: u64) -> Replayed {
+        if self.found < self.lines.len() {
+            Replayed::Differs(place)
+        } else {
+            Replayed::Same(self.count)
+        }
+    }
+}
+
+/// Looks at the lines of a recording up to the end, or to the first that differs or is bad.
+fn replay_lines<R: BufRead>(alloc: Global, reader: &mut R) -> Result<Replayed, Stop> {
+    let mut comparison = Comparison::new(alloc)?;
+    let mut line = Vec::new(alloc);
+    for place in 1..u64::MAX {
+        line.clear();
+        if reader.read_until(b'\n', &mut line)? == 0 {
+            return Ok(comparison.end(place));
+        }
+        if !comparison.line(alloc, without_line_feed(line.as_slice()), place)? {
+            return Ok(Replayed::Differs(place));
+        }
+    }
+    Err(Stop::Failed)
+}
+
+/// Replays the recording that is read, over a new server, writes what it comes to as a line, and answers it.
+///
+/// A line that begins with `> ` is output. Any other is a number from 1, without leading zeros and greater than the one
+/// before, a space, and a command, which is carried out under that number. The lines are looked at in order. The first in
+/// which the recording differs from the record of its own commands is answered with `Differs`, and the first that is no
+/// command, or names a slot at which no client was inserted, is `BadLine`; where output is due in its place, it is a
+/// difference. `Failed` where memory was refused, or the reader or the writer failed.
+pub fn replay<R: BufRead, W: Write>(
+    alloc: Global,
+    reader: &mut R,
+    writer: &mut W,
+) -> Result<Replayed, Stop>
+    ensures told { IfOk result (λ verdict. Appends (W.contents writer.old) (W.contents writer.new) (fed (verdict_text verdict))) }
+{
+    let replayed = replay_lines(alloc, reader)?;
+    match replayed {
+        Replayed::Same(count) => writeln!(writer, "same {count}")?,
+        Replayed::Differs(place) => writeln!(writer, "differs at line {place}")?,
+    }
+    writer.flush()?;
+    Ok(replayed)
+}

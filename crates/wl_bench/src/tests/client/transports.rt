@@ -1,0 +1,263 @@
+//! Each receive and each send of a client's transport fails in turn.
+
+use super::steps::{Call, steps};
+use super::told::write_reply;
+use super::values::Request;
+use crate::tests::quad::quad_table;
+use crate::tests::tells;
+use std::alloc::Global;
+use std::process::Abort;
+use std::test::Fail;
+use wl_client::{Backend, Reply};
+use wl_link::Memory;
+use wl_wire::{IoFault, Token};
+
+/// A client whose objects have numbers as their data.
+type Client = Backend<Memory, u32>;
+
+/// A run: a `quad` is bound, the server makes another, and a sync is answered.
+static RUN: [Call; 14] = [
+    Call::Send(Request::GetRegistry),
+    Call::Send(Request::Bind),
+    Call::Flush,
+    Call::Arrive(&[3, 0, 0, 0, 1, 0, 12, 0, 0, 0, 0, 255]),
+    Call::Next,
+    Call::Finish(Some(7)),
+    Call::Send(Request::Sync),
+    Call::Flush,
+    Call::Arrive(&[
+        4, 0, 0, 0, 0, 0, 12, 0, 0, 0, 0, 0, 1, 0, 0, 0, 1, 0, 12, 0, 4, 0, 0, 0,
+    ]),
+    Call::Next,
+    Call::Finish(None),
+    Call::Next,
+    Call::Notes,
+    Call::TakeSent,
+];
+
+/// What the run tells where nothing fails, and behind it the session's error.
+const TOLD: &str = "sent: 2, 1
+sent: 3, 2
+flushed
+done
+event 1 of 3: new 4278190080, 3
+finished
+sent: 4, 4
+flushed
+done
+event 0 of 4: 0
+finished
+would block
+notes: 4, 4
+0100000001000c000200000002000000000020000100000005000000717561640000000003000000030000000100000000000c0004000000
+no error
+";
+
+/// What a reading, or a flush, tells that would block.
+const WOULD_BLOCK: &str = "would block\n";
+
+/// What it tells of a session that failed.
+const FAILED: &str = "the session failed\n";
+
+/// Writes all that was sent, as one.
+fn write_joined(log: &mut String, sends: &[(Vec<u8>, Vec<Token>)]) -> Result<(), Fail> {
+    for (bytes, _) in sends {
+        for byte in bytes.as_slice() {
+            write!(log, "{byte:02x}")?;
+        }
+    }
+    Ok(writeln!(log)?)
+}
+
+/// What the reply tells: of sends all bytes as one.
+fn text_of(alloc: Global, told: &Reply<u32>) -> Result<String, Fail> {
+    let mut log = String::new(alloc);
+    match told {
+        Reply::TakeSent(sends) => write_joined(&mut log, sends.as_slice())?,
+        _ => write_reply(&mut log, told)?,
+    }
+    Ok(log)
+}
+
+/// Makes the call; what its reply tells, or none where memory was refused.
+fn answer(alloc: Global, client: &mut Client, call: Call) -> Result<Option<String>, Fail> {
+    let made = steps(alloc, &[call])?;
+    match client.replay(made) {
+        Ok(replies) => match replies.first() {
+            Some(told) => Ok(Some(text_of(alloc, told)?)),
+            None => Err(Fail::new("there is a reply")),
+        },
+        Err(_) => Ok(None),
+    }
+}
+
+/// Whether the call is made again: it would block, and there is more to be done.
+fn is_repeated(client: &Client, call: Call, told: &str) -> bool {
+    match call {
+        Call::Next => told == WOULD_BLOCK && client.transport().arrivals_left() > 0,
+        Call::Flush => told == WOULD_BLOCK,
+        _ => false,
+    }
+}
+
+/// Makes the call, again where it would block or lacks memory.
+fn made(alloc: Global, client: &mut Client, call: Call) -> Result<String, Fail> {
+    for _ in 0..4 {
+        if let Some(told) = answer(alloc, client, call)? {
+            if !is_repeated(client, call, told.as_str()) {
+                return Ok(told);
+            }
+        }
+    }
+    Err(Fail::new("the call is made again and again"))
+}
+
+/// What the session's error is.
+fn last_error(alloc: Global, client: &Client) -> Result<String, Fail> {
+    let mut log = String::new(alloc);
+    match client.last_error() {
+        Some(error) => writeln!(log, "{error}")?,
+        None => writeln!(log, "no error")?,
+    }
+    Ok(log)
+}
+
+/// Makes the calls, and tells what each tells but those that script a fault, and then the session's error.
+fn make_all(
+    alloc: Global,
+    client: &mut Client,
+    texts: &mut Vec<String>,
+    calls: &[Call],
+) -> Result<(), Fail> {
+    for call in calls {
+        let told = made(alloc, client, *call)?;
+        match call {
+            Call::ArriveFault(_) | Call::Accept(_) | Call::AcceptFault(_) => {}
+            _ => texts.push(told)?,
+        }
+    }
+    Ok(texts.push(last_error(alloc, client)?)?)
+}
+
+/// What the calls tell, of a new client.
+fn played(alloc: Global, calls: &[Call]) -> Result<Vec<String>, Fail> {
+    let mut client = Backend::connect(alloc, quad_table(alloc)?, Memory::new(alloc))?;
+    let mut texts = Vec::new(alloc);
+    make_all(alloc, &mut client, &mut texts, calls)?;
+    Ok(texts)
+}
+
+/// Whether a receive may take what comes at this call: something arrives, or it is read.
+fn is_receive(call: Call) -> bool {
+    matches!(call, Call::Arrive(_) | Call::Next)
+}
+
+/// The run, in which the receive at that call answers the fault.
+fn with_receive(alloc: Global, at: usize, fault: IoFault) -> Result<Vec<Call>, Fail> {
+    let (front, back) = RUN.split_at(at.min(RUN.len()));
+    let mut calls = Vec::from_slice(alloc, front)?;
+    calls.push(Call::ArriveFault(fault))?;
+    calls.extend_from_slice(back)?;
+    Ok(calls)
+}
+
+/// The run, in which that send answers the fault, counted from 0.
+fn with_send(alloc: Global, number: usize, fault: IoFault) -> Result<Vec<Call>, Fail> {
+    let mut calls = Vec::new(alloc);
+    for _ in 0..number {
+        calls.push(Call::Accept(usize::MAX))?;
+    }
+    calls.push(Call::AcceptFault(fault))?;
+    calls.extend_from_slice(&RUN)?;
+    Ok(calls)
+}
+
+/// All that was told, as one.
+fn whole(alloc: Global, texts: &[String]) -> Result<String, Fail> {
+    let mut whole = String::new(alloc);
+    for text in texts {
+        whole.push_str(text.as_str())?;
+    }
+    Ok(whole)
+}
+
+/// Fails where the run, in which something failed that is made up for, does not tell what it tells where nothing fails.
+fn is_made_up_for(rt: &(impl Abort + AllocGlobal), calls: &[Call]) -> Result<(), Fail> {
+    let texts = played(rt.alloc(), calls)?;
+    tells(rt, whole(rt.alloc(), texts.as_slice()), TOLD)
+}
+
+/// Nothing fails; and each receive, and each send, would block or lacks memory: the run comes to what it came to without.
+#[test]
+fn transport_that_would_block_or_lacks_memory(rt: HostRuntime) -> Result<(), Fail> {
+    let alloc = rt.alloc();
+    is_made_up_for(&rt, &RUN)?;
+    for fault in [IoFault::WouldBlock, IoFault::OutOfMemory] {
+        for (at, call) in RUN.iter().enumerate() {
+            if is_receive(*call) {
+                is_made_up_for(&rt, with_receive(alloc, at, fault)?.as_slice())?;
+            }
+        }
+        for number in 0..3 {
+            is_made_up_for(&rt, with_send(alloc, number, fault)?.as_slice())?;
+        }
+    }
+    Ok(())
+}
+
+/// Fails where what is told before the first call that fails differs from what is told where nothing fails, where that
+/// call neither reads nor flushes, or where one that does answers anything but a failure behind it; whether one fails.
+fn fails_for_good(rt: &impl Abort, clean: &[String], texts: &[String]) -> bool {
+    let mut has_failed = false;
+    for (call, (was, is)) in RUN.iter().zip(clean.iter().zip(texts)) {
+        let is_asked = matches!(call, Call::Next | Call::Flush);
+        if has_failed {
+            assert!(rt; !is_asked || is.as_str() == FAILED);
+        } else if is.as_str() != was.as_str() {
+            assert!(rt; is_asked);
+            assert_eq!(rt; is.as_str(), FAILED);
+            has_failed = true;
+        }
+    }
+    has_failed
+}
+
+/// Fails where the fault does not become the session's error, or is not answered from then on; whether it is met.
+fn is_stored(
+    rt: &(impl Abort + AllocGlobal),
+    clean: &[String],
+    calls: &[Call],
+) -> Result<bool, Fail> {
+    let texts = played(rt.alloc(), calls)?;
+    let has_failed = fails_for_good(rt, clean, texts.as_slice());
+    let error = if has_failed {
+        "Io error: os error 5\n"
+    } else {
+        "no error\n"
+    };
+    assert!(rt; texts.last().is_some_and(|told| told.as_str() == error));
+    Ok(has_failed)
+}
+
+/// Each receive, and each of the two sends, fails: it is stored, and answered from then on. The last receive of the five is
+/// that of the last reading, which finds nothing else.
+#[test]
+fn transport_that_fails(rt: HostRuntime) -> Result<(), Fail> {
+    let alloc = rt.alloc();
+    let clean = played(alloc, &RUN)?;
+    for (at, call) in RUN.iter().enumerate() {
+        if is_receive(*call) {
+            let calls = with_receive(alloc, at, IoFault::Other(5))?;
+            assert!(rt;
+                is_stored(&rt, clean.as_slice(), calls.as_slice())?,
+                "receive at {at}"
+            );
+        }
+    }
+    for number in 0..3 {
+        let calls = with_send(alloc, number, IoFault::Other(5))?;
+        let is_met = is_stored(&rt, clean.as_slice(), calls.as_slice())?;
+        assert_eq!(rt; is_met, number < 2, "send {number}");
+    }
+    Ok(())
+}

@@ -1,0 +1,50 @@
+//! The tests of `wl-bench record` and `wl-bench replay`.
+
+mod clients;
+mod conversations;
+mod differences;
+
+use crate::commands::record;
+use crate::replay::replay;
+use crate::stop::Stop;
+use crate::tests::tells;
+use std::alloc::Global;
+use std::process::Abort;
+use std::test::Fail;
+
+/// The output, and behind it how the run ended where that was not at the end of the input.
+fn told(output: Vec<u8>, stop: Option<Stop>) -> Result<String, Fail> {
+    let mut text = String::from_utf8(output)?;
+    match stop {
+        None => {}
+        Some(Stop::BadLine(number)) => writeln!(text, "line {number}: bad command")?,
+        Some(_) => writeln!(text, "failed")?,
+    }
+    Ok(text)
+}
+
+/// The record of these lines.
+fn recorded(alloc: Global, lines: &[u8]) -> Result<String, Fail> {
+    let mut reader = lines;
+    let mut output = Vec::new(alloc);
+    let end = record(alloc, &mut reader, &mut output);
+    told(output, end.err())
+}
+
+/// What a recording comes to.
+fn replayed(alloc: Global, recording: &[u8]) -> Result<String, Fail> {
+    let mut reader = recording;
+    let mut output = Vec::new(alloc);
+    let end = replay(alloc, &mut reader, &mut output);
+    told(output, end.err())
+}
+
+/// Fails where this is not the record of the lines.
+fn records(rt: &(impl Abort + AllocGlobal), lines: &[u8], recording: &str) -> Result<(), Fail> {
+    tells(rt, recorded(rt.alloc(), lines), recording)
+}
+
+/// Fails where the recording does not come to this.
+fn replays(rt: &(impl Abort + AllocGlobal), recording: &[u8], verdict: &str) -> Result<(), Fail> {
+    tells(rt, replayed(rt.alloc(), recording), verdict)
+}

@@ -1,0 +1,480 @@
+//! The runs for which each want of memory comes in turn.
+
+use super::arrivals::{
+    BIND, BIND_NULL, BIND_VERSION_1, DESTROY, GET_REGISTRY, GIVE, MAKE, SYNC, SYNC_AT_5,
+};
+use super::drill::{Entry, Run, drill};
+use super::steps::Call;
+use super::values::{BOUND, Event, FIRST, Named, SECOND, Thing, Who};
+use crate::tests::cuts::Stream;
+use crate::tests::quad::QUAD;
+use std::alloc::Global;
+use std::process::Abort;
+use std::test::Fail;
+use wl_wire::IoFault;
+
+/// The first object that the server makes for the first client.
+const MADE: Thing = Thing(FIRST, 0xFF00_0000, 1, QUAD);
+
+/// The second.
+const SECOND_MADE: Thing = Thing(FIRST, 0xFF00_0001, 2, QUAD);
+
+/// The client that is inserted third.
+const THIRD: Who = Who(2, 3);
+
+/// A bind of the global 1 with a name of 1400 bytes.
+const LONG_BIND: Stream = Stream {
+    front: &[2, 0, 0, 0, 0, 0, 0x94, 5, 1, 0, 0, 0, 0x79, 5, 0, 0],
+    filled: 1400,
+    back: &[0, 0, 0, 0, 3, 0, 0, 0, 3, 0, 0, 0],
+};
+
+/// A registry is told.
+fn registry(rt: &(impl Abort + AllocGlobal)) -> Result<(), Fail> {
+    let entries = [
+        Entry::Do(Call::Insert(true), "client 0, 1\n"),
+        Entry::Do(Call::Global(QUAD, 3), "global 1, 1\n"),
+        Entry::Do(Call::Arrive(FIRST, &GET_REGISTRY), ""),
+        Entry::Do(Call::Next(FIRST), "Io error: would block\n"),
+        Entry::Do(Call::FlushAll, "done\n"),
+        Entry::Do(
+            Call::TakeSent(FIRST),
+            "02 00 00 00 00 00 1c 00 01 00 00 00 05 00 00 00 71 75 61 64 00 00 00 00 03 00 00 00\n",
+        ),
+        Entry::Do(Call::Disable(Named(1, 1)), ""),
+        Entry::Do(Call::FlushAll, "done\n"),
+        Entry::Do(
+            Call::TakeSent(FIRST),
+            "02 00 00 00 01 00 0c 00 01 00 00 00\n",
+        ),
+        Entry::Do(Call::Disable(Named(1, 1)), ""),
+        Entry::Do(Call::FlushAll, "done\n"),
+        Entry::Do(Call::TakeSent(FIRST), ""),
+        Entry::Do(Call::Remove(Named(1, 1)), ""),
+        Entry::Do(Call::Global(QUAD, 3), "global 1, 2\n"),
+        Entry::Do(Call::FlushAll, "done\n"),
+        Entry::Do(
+            Call::TakeSent(FIRST),
+            "02 00 00 00 00 00 1c 00 01 00 00 00 05 00 00 00 71 75 61 64 00 00 00 00 03 00 00 00\n",
+        ),
+        Entry::Do(Call::Notes, "initialized 0, 1\n"),
+    ];
+    let run = Run {
+        name: "a registry is told",
+        entries: &entries,
+        dies: None,
+        error_bytes: 0,
+    };
+    drill(rt, &run)
+}
+
+/// An object is bound.
+fn bound_object(rt: &(impl Abort + AllocGlobal)) -> Result<(), Fail> {
+    let entries = [
+        Entry::Do(Call::Insert(true), "client 0, 1\n"),
+        Entry::Do(Call::Global(QUAD, 3), "global 1, 1\n"),
+        Entry::Do(Call::Arrive(FIRST, &GET_REGISTRY), ""),
+        Entry::Do(Call::Arrive(FIRST, &BIND), ""),
+        Entry::Do(Call::Next(FIRST), "global 1, 1 bound as 3, 2, 4 of 0\n"),
+        Entry::Do(Call::FinishBind(FIRST, 9), "finished\n"),
+        Entry::Do(Call::Arrive(FIRST, &MAKE), ""),
+        Entry::Do(
+            Call::Next(FIRST),
+            "request 1 to 3, 2, 4 of 0: new 4, 3, 4 of 0, which makes 4, 3, 4 of 0\n",
+        ),
+        Entry::Do(Call::Finish(FIRST, Some(5)), "finished\n"),
+        Entry::Do(Call::ArriveWith(FIRST, &GIVE, 7), ""),
+        Entry::Do(
+            Call::Next(FIRST),
+            "request 4 to 3, 2, 4 of 0: no string: 1 bytes: fd 7\n",
+        ),
+        Entry::Do(Call::Finish(FIRST, None), "finished\n"),
+        Entry::Do(Call::Arrive(FIRST, &DESTROY), ""),
+        Entry::Do(
+            Call::Next(FIRST),
+            "request 2 to 3, 2, 4 of 0, which ends it\n",
+        ),
+        Entry::Do(Call::Finish(FIRST, None), "finished\n"),
+        Entry::Do(Call::Flush(FIRST), "done\n"),
+        Entry::Do(
+            Call::TakeSent(FIRST),
+            "02 00 00 00 00 00 1c 00 01 00 00 00 05 00 00 00 71 75 61 64 00 00 00 00 03 00 00 00 01 00 00 00 01 00 0c 00 03 00 00 00\n",
+        ),
+        Entry::Do(
+            Call::Notes,
+            "initialized 0, 1\ndestroyed 3, 2, 4 of 0 with 9\n",
+        ),
+    ];
+    let run = Run {
+        name: "an object is bound",
+        entries: &entries,
+        dies: None,
+        error_bytes: 0,
+    };
+    drill(rt, &run)
+}
+
+/// A sync is answered.
+fn sync(rt: &(impl Abort + AllocGlobal)) -> Result<(), Fail> {
+    let entries = [
+        Entry::Do(Call::Insert(true), "client 0, 1\n"),
+        Entry::Do(Call::Arrive(FIRST, &SYNC), ""),
+        Entry::Do(Call::Next(FIRST), "Io error: would block\n"),
+        Entry::Do(Call::Flush(FIRST), "done\n"),
+        Entry::Do(
+            Call::TakeSent(FIRST),
+            "02 00 00 00 00 00 0c 00 00 00 00 00 01 00 00 00 01 00 0c 00 02 00 00 00\n",
+        ),
+        Entry::Do(Call::Notes, "initialized 0, 1\n"),
+    ];
+    let run = Run {
+        name: "a sync is answered",
+        entries: &entries,
+        dies: None,
+        error_bytes: 0,
+    };
+    drill(rt, &run)
+}
+
+/// A new id that is not the next.
+fn wrong_new_id(rt: &(impl Abort + AllocGlobal)) -> Result<(), Fail> {
+    let entries = [
+        Entry::Do(Call::Insert(true), "client 0, 1\n"),
+        Entry::Do(Call::Arrive(FIRST, &SYNC_AT_5), ""),
+        Entry::Do(Call::Next(FIRST), "Io error: broken pipe\n"),
+        Entry::Do(
+            Call::TakeSent(FIRST),
+            "01 00 00 00 00 00 28 00 01 00 00 00 00 00 00 00 13 00 00 00 49 6e 76 61 6c 69 64 20 6e 65 77 5f 69 64 3a 20 35 2e 00 00\n",
+        ),
+        Entry::Do(
+            Call::Notes,
+            "initialized 0, 1\ndisconnected 0, 1: error 0 on wl_display 1: Invalid new_id: 5.\n",
+        ),
+        Entry::Do(Call::Next(FIRST), "Io error: broken pipe\n"),
+    ];
+    let run = Run {
+        name: "a new id that is not the next",
+        entries: &entries,
+        dies: Some(2),
+        error_bytes: 40,
+    };
+    drill(rt, &run)
+}
+
+/// A bind without a name.
+fn bind_without_a_name(rt: &(impl Abort + AllocGlobal)) -> Result<(), Fail> {
+    let entries = [
+        Entry::Do(Call::Insert(true), "client 0, 1\n"),
+        Entry::Do(Call::Global(QUAD, 3), "global 1, 1\n"),
+        Entry::Do(Call::Arrive(FIRST, &GET_REGISTRY), ""),
+        Entry::Do(Call::Next(FIRST), "Io error: would block\n"),
+        Entry::Do(Call::FlushAll, "done\n"),
+        Entry::Do(
+            Call::TakeSent(FIRST),
+            "02 00 00 00 00 00 1c 00 01 00 00 00 05 00 00 00 71 75 61 64 00 00 00 00 03 00 00 00\n",
+        ),
+        Entry::Do(Call::Arrive(FIRST, &BIND_NULL), ""),
+        Entry::Do(Call::Next(FIRST), "Io error: broken pipe\n"),
+        Entry::Do(
+            Call::TakeSent(FIRST),
+            "01 00 00 00 00 00 40 00 01 00 00 00 00 00 00 00 2c 00 00 00 49 6e 76 61 6c 69 64 20 62 69 6e 64 69 6e 67 20 6f 66 20 20 76 65 72 73 69 6f 6e 20 31 20 66 6f 72 20 67 6c 6f 62 61 6c 20 31 2e 00\n",
+        ),
+        Entry::Do(
+            Call::Notes,
+            "initialized 0, 1\ndisconnected 0, 1: error 0 on wl_display 1: Invalid binding of  version 1 for global 1.\n",
+        ),
+    ];
+    let run = Run {
+        name: "a bind without a name",
+        entries: &entries,
+        dies: Some(7),
+        error_bytes: 64,
+    };
+    drill(rt, &run)
+}
+
+/// A bind with a long name.
+fn bind_with_a_long_name(rt: &(impl Abort + AllocGlobal)) -> Result<(), Fail> {
+    let entries = [
+        Entry::Do(Call::Insert(true), "client 0, 1\n"),
+        Entry::Do(Call::Global(QUAD, 3), "global 1, 1\n"),
+        Entry::Do(Call::Disable(Named(1, 1)), ""),
+        Entry::Do(Call::Arrive(FIRST, &GET_REGISTRY), ""),
+        Entry::Arrive(LONG_BIND),
+        Entry::Do(Call::Next(FIRST), "Io error: broken pipe\n"),
+        Entry::Do(Call::TakeSent(FIRST), ""),
+        Entry::Do(Call::Notes, "initialized 0, 1\ndisconnected 0, 1: closed\n"),
+    ];
+    let run = Run {
+        name: "a bind with a long name",
+        entries: &entries,
+        dies: Some(5),
+        error_bytes: 0,
+    };
+    drill(rt, &run)
+}
+
+/// A request of a later version.
+fn later_version(rt: &(impl Abort + AllocGlobal)) -> Result<(), Fail> {
+    let entries = [
+        Entry::Do(Call::Insert(true), "client 0, 1\n"),
+        Entry::Do(Call::Global(QUAD, 3), "global 1, 1\n"),
+        Entry::Do(Call::Arrive(FIRST, &GET_REGISTRY), ""),
+        Entry::Do(Call::Arrive(FIRST, &BIND_VERSION_1), ""),
+        Entry::Do(Call::Next(FIRST), "global 1, 1 bound as 3, 2, 4 of 0\n"),
+        Entry::Do(Call::FinishBind(FIRST, 9), "finished\n"),
+        Entry::Do(Call::Flush(FIRST), "done\n"),
+        Entry::Do(
+            Call::TakeSent(FIRST),
+            "02 00 00 00 00 00 1c 00 01 00 00 00 05 00 00 00 71 75 61 64 00 00 00 00 03 00 00 00\n",
+        ),
+        Entry::Do(Call::Arrive(FIRST, &MAKE), ""),
+        Entry::Do(Call::Next(FIRST), "Io error: broken pipe\n"),
+        Entry::Do(
+            Call::TakeSent(FIRST),
+            "01 00 00 00 00 00 44 00 01 00 00 00 01 00 00 00 2e 00 00 00 69 6e 76 61 6c 69 64 20 6d 65 74 68 6f 64 20 31 20 28 73 69 6e 63 65 20 31 20 3c 20 32 29 2c 20 6f 62 6a 65 63 74 20 71 75 61 64 23 33 00 00 00\n",
+        ),
+        Entry::Do(
+            Call::Notes,
+            "initialized 0, 1\ndisconnected 0, 1: error 1 on wl_display 1: invalid method 1 (since 1 < 2), object quad#3\n",
+        ),
+    ];
+    let run = Run {
+        name: "a request of a later version",
+        entries: &entries,
+        dies: Some(9),
+        error_bytes: 68,
+    };
+    drill(rt, &run)
+}
+
+/// An error is posted.
+fn posted_error(rt: &(impl Abort + AllocGlobal)) -> Result<(), Fail> {
+    let entries = [
+        Entry::Do(Call::Insert(true), "client 0, 1\n"),
+        Entry::Do(
+            Call::Create(FIRST, QUAD, 3, 9),
+            "created 4278190080, 1, 4 of 0\n",
+        ),
+        Entry::Do(Call::PostError(MADE, 7, "no"), ""),
+        Entry::Do(
+            Call::TakeSent(FIRST),
+            "01 00 00 00 00 00 18 00 00 00 00 ff 07 00 00 00 03 00 00 00 6e 6f 00 00\n",
+        ),
+        Entry::Do(
+            Call::Notes,
+            "initialized 0, 1\ndisconnected 0, 1: error 7 on quad 4278190080: no\n",
+        ),
+    ];
+    let run = Run {
+        name: "an error is posted",
+        entries: &entries,
+        dies: Some(2),
+        error_bytes: 24,
+    };
+    drill(rt, &run)
+}
+
+/// Objects are created.
+fn created_objects(rt: &(impl Abort + AllocGlobal)) -> Result<(), Fail> {
+    let entries = [
+        Entry::Do(Call::Insert(true), "client 0, 1\n"),
+        Entry::Do(
+            Call::Create(FIRST, QUAD, 3, 9),
+            "created 4278190080, 1, 4 of 0\n",
+        ),
+        Entry::Do(
+            Call::Create(FIRST, QUAD, 3, 8),
+            "created 4278190081, 2, 4 of 0\n",
+        ),
+        Entry::Do(Call::Send(Event::Moved(MADE, 7)), "done\n"),
+        Entry::Do(Call::Send(Event::Made(MADE, SECOND_MADE)), "done\n"),
+        Entry::Do(Call::Flush(FIRST), "done\n"),
+        Entry::Do(
+            Call::TakeSent(FIRST),
+            "00 00 00 ff 00 00 0c 00 07 00 00 00 00 00 00 ff 01 00 0c 00 01 00 00 ff\n",
+        ),
+        Entry::Do(Call::Send(Event::Bare(MADE, 2)), "done\n"),
+        Entry::Do(Call::Destroy(SECOND_MADE), "done\n"),
+        Entry::Do(Call::Flush(FIRST), "done\n"),
+        Entry::Do(Call::TakeSent(FIRST), "00 00 00 ff 02 00 08 00\n"),
+        Entry::Do(Call::Cleanup, "out:\n"),
+        Entry::Do(
+            Call::Notes,
+            "initialized 0, 1\ndestroyed 4278190080, 1, 4 of 0 with 9\ndestroyed 4278190081, 2, 4 of 0 with 8\n",
+        ),
+    ];
+    let run = Run {
+        name: "objects are created",
+        entries: &entries,
+        dies: None,
+        error_bytes: 0,
+    };
+    drill(rt, &run)
+}
+
+/// The program destroys a sender.
+fn destroyed_sender(rt: &(impl Abort + AllocGlobal)) -> Result<(), Fail> {
+    let entries = [
+        Entry::Do(Call::Insert(true), "client 0, 1\n"),
+        Entry::Do(Call::Global(QUAD, 3), "global 1, 1\n"),
+        Entry::Do(Call::Arrive(FIRST, &GET_REGISTRY), ""),
+        Entry::Do(Call::Arrive(FIRST, &BIND), ""),
+        Entry::Do(Call::Next(FIRST), "global 1, 1 bound as 3, 2, 4 of 0\n"),
+        Entry::Do(Call::FinishBind(FIRST, 9), "finished\n"),
+        Entry::Do(Call::Flush(FIRST), "done\n"),
+        Entry::Do(
+            Call::TakeSent(FIRST),
+            "02 00 00 00 00 00 1c 00 01 00 00 00 05 00 00 00 71 75 61 64 00 00 00 00 03 00 00 00\n",
+        ),
+        Entry::Do(Call::Arrive(FIRST, &DESTROY), ""),
+        Entry::Do(
+            Call::Next(FIRST),
+            "request 2 to 3, 2, 4 of 0, which ends it\n",
+        ),
+        Entry::Do(Call::Destroy(BOUND), "done\n"),
+        Entry::Do(Call::Finish(FIRST, None), "finished\n"),
+        Entry::Do(Call::Flush(FIRST), "done\n"),
+        Entry::Do(
+            Call::TakeSent(FIRST),
+            "01 00 00 00 01 00 0c 00 03 00 00 00\n",
+        ),
+        Entry::Do(Call::Notes, "initialized 0, 1\n"),
+        Entry::Do(Call::Cleanup, "out:\n"),
+        Entry::Do(Call::Notes, "destroyed 3, 2, 4 of 0 with 9\n"),
+    ];
+    let run = Run {
+        name: "the program destroys a sender",
+        entries: &entries,
+        dies: None,
+        error_bytes: 0,
+    };
+    drill(rt, &run)
+}
+
+/// A slot is used again.
+fn slots(rt: &(impl Abort + AllocGlobal)) -> Result<(), Fail> {
+    let entries = [
+        Entry::Do(Call::Insert(true), "client 0, 1\n"),
+        Entry::Do(Call::Insert(true), "client 1, 2\n"),
+        Entry::Do(
+            Call::Create(FIRST, QUAD, 3, 9),
+            "created 4278190080, 1, 4 of 0\n",
+        ),
+        Entry::Do(Call::Kill(FIRST), ""),
+        Entry::Do(Call::Cleanup, "out: client 0, 1 with 0 sends\n"),
+        Entry::Do(
+            Call::Notes,
+            "initialized 0, 1\ninitialized 1, 2\ndisconnected 0, 1: closed\ndestroyed 4278190080, 1, 4 of 0 with 9\n",
+        ),
+        Entry::Do(Call::Insert(true), "client 0, 3\n"),
+    ];
+    let run = Run {
+        name: "a slot is used again",
+        entries: &entries,
+        dies: Some(3),
+        error_bytes: 0,
+    };
+    drill(rt, &run)
+}
+
+#[test]
+fn drill_of_registries_and_binds(rt: HostRuntime) -> Result<(), Fail> {
+    registry(&rt)?;
+    bound_object(&rt)?;
+    sync(&rt)
+}
+
+#[test]
+fn drill_of_errors(rt: HostRuntime) -> Result<(), Fail> {
+    wrong_new_id(&rt)?;
+    bind_without_a_name(&rt)?;
+    bind_with_a_long_name(&rt)?;
+    later_version(&rt)?;
+    posted_error(&rt)
+}
+
+#[test]
+fn drill_of_objects_and_clients(rt: HostRuntime) -> Result<(), Fail> {
+    created_objects(&rt)?;
+    destroyed_sender(&rt)?;
+    slots(&rt)
+}
+
+/// Puts the steps by which a client makes a registry.
+fn push_registry(entries: &mut Vec<Entry>, who: Who) -> Result<(), Fail> {
+    entries.push(Entry::Do(Call::Arrive(who, &GET_REGISTRY), ""))?;
+    Ok(entries.push(Entry::Do(Call::Next(who), "Io error: would block\n"))?)
+}
+
+/// Puts the steps by which three clients have a registry each, and 146 globals are created.
+fn push_three(entries: &mut Vec<Entry>) -> Result<(), Fail> {
+    entries.push(Entry::Do(Call::Insert(true), "client 0, 1\n"))?;
+    entries.push(Entry::Do(Call::Insert(true), "client 1, 2\n"))?;
+    entries.push(Entry::Do(Call::Insert(true), "client 2, 3\n"))?;
+    for who in [FIRST, SECOND, THIRD] {
+        push_registry(entries, who)?;
+    }
+    for name in 1..147 {
+        entries.push(Entry::Global(name))?;
+    }
+    Ok(())
+}
+
+/// The steps up to those, and these.
+fn three_and(alloc: Global, back: &[Entry]) -> Result<Vec<Entry>, Fail> {
+    let mut entries = Vec::new(alloc);
+    push_three(&mut entries)?;
+    entries.extend_from_slice(back)?;
+    Ok(entries)
+}
+
+/// Of three clients for each of which 4088 bytes wait, all are told of one more global.
+#[test]
+fn drill_of_147_globals(rt: HostRuntime) -> Result<(), Fail> {
+    let back = [
+        Entry::Global(147),
+        Entry::Do(Call::FlushAll, "done\n"),
+        Entry::Sent(FIRST, &[4088, 28]),
+        Entry::Sent(SECOND, &[4088, 28]),
+        Entry::Sent(THIRD, &[4088, 28]),
+        Entry::Global(148),
+        Entry::Do(
+            Call::Notes,
+            "initialized 0, 1\ninitialized 1, 2\ninitialized 2, 3\n",
+        ),
+    ];
+    let entries = three_and(rt.alloc(), &back)?;
+    let run = Run {
+        name: "147 globals",
+        entries: entries.as_slice(),
+        dies: None,
+        error_bytes: 0,
+    };
+    drill(&rt, &run)
+}
+
+/// The same, where the first of them cannot be written to.
+#[test]
+fn drill_of_a_client_that_cannot_be_told(rt: HostRuntime) -> Result<(), Fail> {
+    let back = [
+        Entry::Do(Call::AcceptFault(FIRST, IoFault::Pipe), ""),
+        Entry::Global(147),
+        Entry::Do(Call::FlushAll, "done\n"),
+        Entry::Sent(SECOND, &[4088, 28]),
+        Entry::Sent(THIRD, &[4088, 28]),
+        Entry::Global(148),
+        Entry::Do(
+            Call::Notes,
+            "initialized 0, 1\ninitialized 1, 2\ninitialized 2, 3\ndisconnected 0, 1: closed\n",
+        ),
+    ];
+    let entries = three_and(rt.alloc(), &back)?;
+    let run = Run {
+        name: "147 globals, of which one client is not told",
+        entries: entries.as_slice(),
+        dies: Some(156),
+        error_bytes: 0,
+    };
+    drill(&rt, &run)
+}

@@ -1,0 +1,8 @@
+-- What holds over runs of calls.
+pub mod ChangeLaws
+pub mod IdentityLaws
+pub mod FailedLaws
+pub mod ReadingLaws
+pub mod RoomLaws
+pub mod OutcomeLaws
+pub mod StretchLaws

@@ -1,0 +1,306 @@
+-- What follows for a client from the laws of a reader: that its reading has one outcome, and that it does not matter to
+-- it how bytes and tokens are cut.
+use Rattle.std.proofs.Common.{◌≡◌, ℕ, Bool, true, false, cond, List, [], ◌∷◌, ◌++◌, Option, None, Some, IsSome, is_none, is_some, is_ok, Result, Ok, Err, ◌&&◌, map, MatchResult, refl, sym, ap, ap₂, subst, ◌∙◌, true≢false}
+use mathlib.Core.Logic.{inl, inr}
+use Rattle.std.proofs.lemmas.Option.{same_Some}
+use Rattle.wl_wire.specs.declared.error.IoFault.{IoFault}
+use Rattle.wl_wire.specs.declared.error.IoFault.TheVariants as fault
+use Rattle.wl_wire.specs.Message.{WireMessage}
+use Rattle.wl_link.specs.Exchange.{Queue, Sending, IsFunction, IsReceiveFunction}
+use Rattle.wl_link.specs.Link.{LinkState, counted_answer, count_of}
+use Rattle.wl_link.proofs.Calls.Branches.{both_option}
+use Rattle.wl_link.specs.Puts.{FlushesOut, PutsOut, Said, lacked_memory}
+use Rattle.wl_link.specs.Reader.{AllFed, CarriesOut, Ends, Given, Gives, HandedOut, Handled, ReaderState, Reads, Received, Turn, Unread, Verdict, received_in, came_to as comes_to, put_and_gave, sends_in, stops, with_link}
+use Rattle.wl_link.proofs.Readings.ReaderLaws.{reads_one}
+use Rattle.wl_link.specs.Respect.{Keeps, RespectsReading}
+use Rattle.wl_link.proofs.Readings.RespectLaws.{reads_respect}
+use Rattle.wl_link.specs.Served.{GoesOnAs, state_as}
+use Rattle.wl_link.proofs.Readings.ServedLaws.{served_one}
+use Rattle.wl_link.specs.Total.{AlwaysGoesOn}
+use Rattle.wl_link.proofs.Readings.TotalLaws.{always_served, carried_at_once}
+use Rattle.wl_link.proofs.Readings.CuttingLaws.{finish_law, reading_law}
+use Rattle.wl_client.specs.declared.error.EventError.{EventError}
+use Rattle.wl_client.specs.declared.error.EventError.TheVariants as no_event
+use Rattle.wl_client.specs.declared.error.FinishError.{FinishError}
+use Rattle.wl_client.specs.declared.error.FinishRefused.{FinishRefused}
+use Rattle.wl_client.specs.declared.error.WaylandError.{WaylandError}
+use Rattle.wl_client.specs.declared.protocol_error.EventFault.TheVariants as wrong
+use Rattle.wl_client.specs.declared.event.OpenEvent.{OpenEvent}
+use Rattle.wl_client.specs.Cutting.{CutsFinish, CutsReading, GoesOn, IsServed, no_sends}
+use Rattle.wl_client.specs.Events.{error_of}
+use Rattle.wl_client.specs.Handling.{Handling, Swallows, HandsOut, Breaks, handed, handling}
+use Rattle.wl_client.specs.Finish.{Closes, Finishes, closed, refusal}
+use Rattle.wl_client.specs.Reading.{NextEvent, answered, came_to, client, faulted, finish, finished, handed_by, objects_in, reader_state_of, receives_allowed, starved_to, verdict}
+use Rattle.wl_client.specs.Requests.{SessionMessage}
+use Rattle.wl_client.specs.Session.{Core, SessionState, core_of, with_core}
+use Rattle.wl_link.specs.Identity.{Objects}
+use Rattle.wl_client.specs.declared.objects.Kept.{Kept}
+
+abbrev session_of : {T U : Type 0} → ReaderState T (Core U) → SessionState T U
+session_of p = record {
+  table = p.core.table;
+  link = p.link;
+  store = p.core.store;
+  last_serial = p.core.last_serial;
+  error = p.core.error;
+  open_event = p.core.open_event;
+  notes = p.core.notes;
+}
+
+-- the objects after the handling of a message
+abbrev pub objects_after : {U : Type 0} → Handling U → Objects (Kept U)
+objects_after (Swallows objects) = objects
+objects_after (HandsOut m event objects) = objects
+objects_after (Breaks e objects) = objects
+
+-- ---- one look at what two outcomes share
+
+-- the answers and the values of two outcomes are the same
+pub record SameEnd {A T U : Type 0} (a b : A) (x y : SessionState T U) : Type 0 where
+  pub answer : a ≡ b
+  pub after : x ≡ y
+
+pub same_end : {A T U : Type 0} {a b c : A} {x y z : SessionState T U} → a ≡ c → b ≡ c → x ≡ z → y ≡ z → SameEnd a b x y
+same_end is is' same same' = record { answer = is ∙ sym is'; after = same ∙ sym same' }
+
+pub has_none : {A : Type 0} (o : Option A) → IsSome o → o ≡ None → ⊥
+has_none o some none = true≢false (sym some ∙ ap is_some none)
+
+-- ---- a reading
+
+none_sent : {S : Type 0} → IsFunction (no_sends {S = S})
+none_sent before offer one two after after' sent sent' ok ok' = absurd sent
+
+module _ {T U : Type 0} (sends : T → Queue → Result ℕ IoFault → T → Type 0) (receives : T → ℕ → Result Queue IoFault → T → Type 0) where
+  pub next_event_one : IsFunction sends → IsReceiveFunction receives → (a b : Result SessionMessage EventError) (x y s : SessionState T U)
+      → NextEvent sends receives s a false x → NextEvent sends receives s b false y → SameEnd a b x y
+  next_event_one sent function a b x y s h g =
+      elim (both_option s.error h g) [
+        | inr (e, some, (is, unasked, same), (is', unasked', same')) ↦ same_end is is' same same'
+        | inl (none, p, q) ↦
+            elim (both_option s.open_event p q) [
+              | inr (event, some, (is, unasked, same), (is', unasked', same')) ↦ same_end is is' same same'
+              | inl (unopened, (turns, out, reads, is, gave, calm), (turns', out', reads', is', gave', calm')) ↦
+                  let one = reads_one sends sent receives function client receives_allowed (reader_state_of s) (reader_state_of x) (reader_state_of y) turns turns' out out' (sym calm) (sym calm') reads reads' in
+                  record { answer = is ∙ ap (λ (o : Gives SessionMessage). answered o.stopped o.gave) one.out ∙ sym is'; after = ap session_of one.after }
+            ]
+      ]
+
+  -- a stored error is answered, and nothing is changed
+  pub read_fails : (s : SessionState T U) (answer : Result SessionMessage EventError) (refused : Bool) (after : SessionState T U)
+      → IsSome s.error → NextEvent sends receives s answer refused after → (answer ≡ Err no_event.Failed) × (after ≡ s)
+  read_fails s answer refused after failed h =
+      elim (both_option s.error h h) [
+        | inl (none, others, again) ↦ absurd (has_none s.error failed none)
+        | inr (e, some, (is, unasked, same), again) ↦ (is, same)
+      ]
+
+  silent : (v : Verdict (Core U) SessionMessage) (before : LinkState T) (es : List Sending) (gave : List (Given SessionMessage)) (refused : Bool) (after : ReaderState T (Core U))
+      → v.puts ≡ [] → v.flushes ≡ false → CarriesOut sends client v before es gave refused after → es ≡ []
+  silent v before es gave refused after none off (inr (asks, was, nothing', is, same)) = nothing'
+  silent v before es gave refused after none off (inl (first, others, put, wrote, mid, lacked, puts, flushes, split, end, is, was)) =
+      let puts' = subst (λ ms. PutsOut sends before ms first put wrote mid) none puts in
+      let flushes' = subst (λ b. FlushesOut sends b mid others lacked after.link) off flushes in
+      split ∙ ap₂ (λ (x y : List Sending). x ++ y) puts'.0 flushes'.0
+
+  -- a client sends nothing while it reads
+  sends_nothing : (left : ℕ) (p after : ReaderState T (Core U)) (turns : List Turn) (out : Gives SessionMessage) → Reads sends client receives left p turns out after → sends_in turns ≡ []
+  sends_nothing left p after [] out (same, ends) = refl
+  sends_nothing left p after (Received r ∷ turns) out (on, lacks, (n, is, (link, filled, finds, h))) =
+      go (counted_answer (count_of r)) h (λ more. sends_nothing n (with_link p link) after turns out more)
+    where
+      go : (c : Result (Unit {0}) IoFault)
+          → MatchResult c (λ _. Reads sends client receives n (with_link p link) turns out after)
+          (λ f. (turns ≡ []) × (out ≡ stops (Some f) (lacked_memory (Err f)) n) × (after ≡ record { core = client.faulted p.core f; link = link }))
+          → (Reads sends client receives n (with_link p link) turns out after → sends_in turns ≡ []) → sends_in turns ≡ []
+      go (Ok u) more goes = goes more
+      go (Err f) (none, ends, same) goes = ap sends_in none
+  sends_nothing left p after (Handled es ∷ turns) out (on, (v, link, first, lacked, mid, rest, (m, read, is), carried, split, more)) =
+      ap₂ (λ (x y : List Sending). x ++ y)
+      (silent v link es first lacked mid (ap (λ (w : Verdict (Core U) SessionMessage). w.puts) is) (ap (λ (w : Verdict (Core U) SessionMessage). w.flushes) is) carried)
+      (sends_nothing left mid after turns rest more)
+  sends_nothing left p after (Unread es ∷ turns) out (on, (v, link, first, lacked, mid, rest, (read, same, is), carried, split, more)) =
+      ap₂ (λ (x y : List Sending). x ++ y)
+      (silent v link es first lacked mid (ap (λ (w : Verdict (Core U) SessionMessage). w.puts) is) (ap (λ (w : Verdict (Core U) SessionMessage). w.flushes) is) carried)
+      (sends_nothing left mid after turns rest more)
+
+  -- a reading that was fed goes on as what came does
+  pub reading_cuts : (left : ℕ) (p after : ReaderState T (Core U)) (turns : List Turn) (out : Gives SessionMessage) → Reads sends client receives left p turns out after
+      → AllFed turns → out.refused ≡ false → (finishes : List (Option U)) → GoesOn p (received_in turns) finishes out.gave after finishes
+  reading_cuts left p after turns out reads fed ample finishes =
+      subst (λ es. GoesOnAs (no_sends {S = Unit {0}}) client p (received_in turns) es finishes out.gave after finishes)
+      (sends_nothing left p after turns out reads)
+      (reading_law sends receives no_sends client none_sent (λ c. refl) left p after turns out reads fed ample finishes)
+
+  pub next_event_cuts : (s : SessionState T U) (answer : Result SessionMessage EventError) (refused : Bool) (after : SessionState T U)
+      → NextEvent sends receives s answer refused after → CutsReading sends receives s answer refused after
+  next_event_cuts s answer refused after h live unopened ample =
+      elim (both_option s.error h h) [
+        | inr (e, some, p, q) ↦ absurd (true≢false (ap is_none (sym live ∙ some)))
+        | inl (none, p, q) ↦
+            elim (both_option s.open_event p q) [
+              | inr (event, some, p', q') ↦ absurd (true≢false (ap is_none (sym unopened ∙ some)))
+              | inl (shut, (turns, out, reads, is, gave, calm), again) ↦ (
+                turns,
+                out,
+                reads,
+                is,
+                λ fed finishes. subst (λ (g : List (Given SessionMessage)). GoesOn (reader_state_of s) (received_in turns) finishes g (reader_state_of after) finishes) gave
+                    (reading_cuts receives_allowed (reader_state_of s) (reader_state_of after) turns out reads fed (sym calm ∙ ample) finishes),
+              )
+            ]
+      ]
+
+-- ---- what a reading respects
+
+abbrev is_nil : List Said → Bool
+is_nil [] = true
+is_nil (m ∷ ms) = false
+
+none_some : {A : Type 0} (x : A) → None ≡ Some x → ⊥
+none_some x same = true≢false (ap is_none same)
+
+none_put : (put others : List Said) → [] ≡ put ++ others → put ≡ []
+none_put [] others same = refl
+none_put (m ∷ put) others same = absurd (true≢false (ap is_nil same))
+
+module _ {U : Type 0} (R : Core U → List (Given SessionMessage) → Core U → Type 0) where
+  -- a relation of cores and of what was handed out between them: of the cores only the objects and the notes count
+  pub record SeesObjects : Type 0 where
+    pub joins : (c d e : Core U) (g h : List (Given SessionMessage)) → R c g d → R d h e → R c (g ++ h) e
+    pub handles : (c : Core U) (m : WireMessage) (d : Core U) → objects_in d ≡ objects_after (handling c.table (objects_in c) m) → d.notes ≡ c.notes
+        → R c (map HandedOut (handed (handling c.table (objects_in c) m))) d
+    pub fails : (c d : Core U) → objects_in d ≡ objects_in c → d.notes ≡ c.notes → R c [] d
+
+  -- a message leads to this core, or for want of memory to that
+  pub keeps : (c : Core U) (h : Handling U) → R c (map HandedOut (handed h)) (came_to c h) → R c (map HandedOut (handed h)) (starved_to c h) → Keeps client R c (verdict c h)
+  keeps c h came starved = record {
+    carried = λ put others wrote is written.
+        subst (λ (w : Result (Unit {0}) IoFault). R c (put_and_gave put (handed h)) (comes_to client (verdict c h) w)) (sym (written refl))
+        (subst (λ (ms : List Said). R c (put_and_gave ms (handed h)) (came_to c h)) (sym (none_put put others is)) came);
+    starved = λ asks. starved;
+  }
+
+  module _ (sees : SeesObjects) where
+    faults : (c : Core U) (f : IoFault) → R c [] (faulted c f)
+    faults c fault.WouldBlock = sees.fails c _ refl refl
+    faults c fault.OutOfMemory = sees.fails c _ refl refl
+    faults c f = sees.fails c _ refl refl
+
+    -- with or without memory, the objects are as the message says
+    sees_handling : (c : Core U) (h : Handling U) → ((d : Core U) → objects_in d ≡ objects_after h → d.notes ≡ c.notes → R c (map HandedOut (handed h)) d) → Keeps client R c (verdict c h)
+    sees_handling c (Swallows o) so = keeps c (Swallows o) (so _ refl refl) (so _ refl refl)
+    sees_handling c (HandsOut m event o) so = keeps c (HandsOut m event o) (so _ refl refl) (so _ refl refl)
+    sees_handling c (Breaks e o) so = keeps c (Breaks e o) (so _ refl refl) (so _ refl refl)
+
+    respects : RespectsReading client R
+    respects = record {
+      same = λ c. sees.fails c c refl refl;
+      joins = sees.joins;
+      handles = λ c m on. sees_handling c (handling c.table (objects_in c) m) (sees.handles c m);
+      malformed = λ c on. sees_handling c (Breaks (error_of c.table wrong.Malformed) (objects_in c)) (sees.fails c);
+      faulted = λ c f on. faults c f;
+    }
+
+    -- it holds over a reading; other answers change nothing
+    pub next_event_respects : {T : Type 0} (sends : T → Queue → Result ℕ IoFault → T → Type 0) (receives : T → ℕ → Result Queue IoFault → T → Type 0) (s : SessionState T U)
+        (answer : Result SessionMessage EventError) (refused : Bool) (after : SessionState T U) → NextEvent sends receives s answer refused after
+        → R (core_of s) (handed_by answer) (core_of after)
+    next_event_respects sends receives s answer refused after h =
+        elim (both_option s.error h h) [
+          | inr (e, some, (is, unasked, same), again) ↦ stays no_event.Failed is same
+          | inl (none, p, q) ↦
+              elim (both_option s.open_event p q) [
+                | inr (event, some, (is, unasked, same), again) ↦ stays no_event.EventOpen is same
+                | inl (unopened, (turns, out, reads, is, gave, calm), again) ↦
+                    subst (λ (g : List (Given SessionMessage)). R (core_of s) g (core_of after)) gave
+                    (reads_respect sends receives client R respects receives_allowed (reader_state_of s) (reader_state_of after) turns out reads)
+              ]
+        ]
+      where
+        stays : (e : EventError) → answer ≡ Err e → after ≡ s → R (core_of s) (handed_by answer) (core_of after)
+        stays e is same =
+            subst (λ (a : Result SessionMessage EventError). R (core_of s) (handed_by a) (core_of after)) (sym is)
+            (sees.fails (core_of s) (core_of after) (ap (λ (x : SessionState _ U). objects_in (core_of x)) same) (ap (λ (x : SessionState _ U). x.notes) same))
+
+-- ---- a finish
+
+refused_not : {U : Type 0} (e : FinishRefused U) → ◌≡◌ {A = Result (Unit {0}) (FinishRefused U)} (Ok tt) (Err e) → ⊥
+refused_not e same = true≢false (ap is_ok same)
+
+module _ {T U : Type 0} where
+  -- an accepted finish closes the event
+  abbrev pub Shuts : SessionState T U → Option U → SessionState T U → Type 0
+  Shuts s u after = (event : OpenEvent) × (s.open_event ≡ Some event) × (refusal event.created u ≡ None) × (after ≡ with_core s (closed (core_of s) event u))
+
+  closes_as : (s after : SessionState T U) (event : OpenEvent) (u : Option U) → Closes s event u (Ok tt) after → after ≡ with_core s (closed (core_of s) event u)
+  closes_as s after event u (inl (is, same)) = same
+  closes_as s after event u (inr (notes, (is, same))) = absurd (refused_not _ is)
+
+  pub finish_as : (s after : SessionState T U) (u : Option U) → Finishes s u (Ok tt) after → Shuts s u after
+  finish_as s after u h =
+      elim (both_option s.open_event h h) [
+        | inl (none, (is, same), again) ↦ absurd (refused_not _ is)
+        | inr (event, some, g, again) ↦
+            elim (both_option (refusal event.created u) g g) [
+              | inl (fits, end, again) ↦ (event, some, fits, closes_as s after event u end)
+              | inr (e, why, (is, same), again) ↦ absurd (refused_not _ is)
+            ]
+      ]
+
+  -- so it is what the reader comes to where it takes these data
+  pub finish_ends : (sends : T → Queue → Result ℕ IoFault → T → Type 0) (s after : SessionState T U) (u : Option U) → s.error ≡ None → Finishes s u (Ok tt) after
+      → (client.reads_on (core_of s) ≡ false) × Ends sends client (reader_state_of s) u [] [] false (reader_state_of after)
+  finish_ends sends s after u live h =
+      let (event, some, fits, same) = finish_as s after u h in
+      let is = ap reader_state_of same in
+      let v : Verdict (Core U) SessionMessage = finished (core_of s) event u in
+      let takes : finish (core_of s) s.error s.open_event u ≡ Some v
+      = ap₂ (λ (e : Option WaylandError) (o : Option OpenEvent). finish (core_of s) e o u) live some
+      ∙ ap (λ (r : Option FinishError). let o : Option (Verdict (Core U) SessionMessage) = cond (is_none r) (Some v) None in o) fits in (
+        ap₂ (λ (e : Option WaylandError) (o : Option OpenEvent). is_none e && is_none o) live some,
+        (v, takes, inl ([], [], [], Ok tt, s.link, false, (refl, refl, refl, refl), (refl, ap (λ (p : ReaderState T (Core U)). p.link) is, refl), refl, ap (λ (p : ReaderState T (Core U)). p.core) is, refl, refl)),
+      )
+
+  -- an accepted finish of a live session is the next of the finishes
+  pub finish_cuts : (s : SessionState T U) (u : Option U) (answer : Result (Unit {0}) (FinishRefused U)) (after : SessionState T U) → Finishes s u answer after → CutsFinish s u answer after
+  finish_cuts s u answer after h live accepted finishes =
+      let ended = finish_ends no_sends s after u live (subst (λ (a : Result (Unit {0}) (FinishRefused U)). Finishes s u a after) accepted h) in
+      finish_law no_sends no_receives no_sends client none_sent (reader_state_of s) (reader_state_of after) u [] [] ended.0 ended.1 finishes
+    where
+      no_receives : T → ℕ → Result Queue IoFault → T → Type 0
+      no_receives before room received after = ⊥
+
+-- ---- something is served of whatever waits, and it is determined
+
+module _ {U : Type 0} where
+  shut_verdict : (c : Core U) (error : Option WaylandError) (event : Option OpenEvent) (u : Option U) (v : Verdict (Core U) SessionMessage) → finish c error event u ≡ Some v
+      → (v.puts ≡ []) × (v.flushes ≡ false)
+  shut_verdict c (Some e) event u v is = absurd (none_some v is)
+  shut_verdict c None None u v is = absurd (none_some v is)
+  shut_verdict c None (Some event) u v is = go (is_none (refusal event.created u)) is
+    where
+      go : (b : Bool) → cond b (Some (finished c event u)) None ≡ Some v → (v.puts ≡ []) × (v.flushes ≡ false)
+      go true same =
+          let w : finished c event u ≡ v = same_Some (finished c event u) v same in
+          (ap (λ (x : Verdict (Core U) SessionMessage). x.puts) (sym w), ap (λ (x : Verdict (Core U) SessionMessage). x.flushes) (sym w))
+      go false same = absurd (none_some v same)
+
+  goes_on : {S : Type 0} (sends : S → Queue → Result ℕ IoFault → S → Type 0) → AlwaysGoesOn sends (client {U = U})
+  goes_on sends = record {
+    handles = λ c m link. carried_at_once sends client (client.handles c m) link refl refl;
+    malformed = λ c link. carried_at_once sends client (client.malformed c) link refl refl;
+    over = λ c link. (refl, λ u. refl);
+    takes = λ c u v link is. (
+        let shut = shut_verdict c c.error c.open_event u v is in
+        carried_at_once sends client v link shut.0 shut.1
+        );
+  }
+
+  pub one_served : {T : Type 0} (p : ReaderState T (Core U)) (more : Queue) (finishes : List (Option U)) (events others : List (Given SessionMessage)) (x y : ReaderState (Unit {0}) (Core U))
+      → IsServed p more finishes events x → IsServed p more finishes others y → (events ≡ others) × (x ≡ y)
+  one_served p more finishes events others x y = served_one no_sends none_sent client (state_as p more tt) x y finishes events others
+
+  pub some_served : {T : Type 0} (p : ReaderState T (Core U)) (more : Queue) (finishes : List (Option U))
+      → (events : List (Given SessionMessage)) × (after : ReaderState (Unit {0}) (Core U)) × IsServed p more finishes events after
+  some_served p more finishes = always_served no_sends client (goes_on no_sends) (state_as p more tt) finishes

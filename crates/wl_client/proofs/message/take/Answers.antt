@@ -1,0 +1,18 @@
+use Rattle.std.proofs.Common.{arith, ap, length, subst}
+use Rattle.wl_wire.specs.Message.{content}
+use Rattle.wl_wire.specs.Parse.{IsThere}
+use Rattle.wl_link.proofs.Calls.TakenLaws.{as_many, read_there}
+use Rattle.wl_client.proofs.message.take.Goals as goal
+
+-- what was read was there whole
+pub returns-clause-room : goal.returns-clause-room
+returns-clause-room g c =
+    let many = as_many _ _ (content c.read_with_signature.new.message) _ c.in_ok-read_with_signature.ensures.read in
+    let there = read_there _ _ (content c.read_with_signature.new.message) _ c.in_ok-read_with_signature.ensures.read in
+    let room = c.in-Ok.ensures.room (subst (λ s. IsThere c.args.socket.now.incoming.bytes s c.args.socket.now.incoming.tokens) c.as_slice-signature.ensures.value there) in
+    omega (arith, many, room, ap length c.make_room.ensures.empty, ap length c.as_slice-signature.ensures.value)
+
+pub returns-clause-can_make : goal.returns-clause-can_make
+returns-clause-can_make g c =
+    let there = read_there _ _ (content c.read_with_signature.new.message) _ c.in_ok-read_with_signature.ensures.read in
+    c.in-Ok.ensures.can_make (subst (λ s. IsThere c.args.socket.now.incoming.bytes s c.args.socket.now.incoming.tokens) c.as_slice-signature.ensures.value there)

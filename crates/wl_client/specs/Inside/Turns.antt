@@ -1,0 +1,179 @@
+-- What the functions of a reading say to each other.
+use Rattle.std.specs.Prelude.{◌≡◌, ◌⊎◌, ◌||◌, ◌≤◌, ℕ, length, List, [], Bool, true, false, Option, None, Some, Result, Ok, Err}
+use Rattle.std.specs.Borrow.{Bor}
+use Rattle.wl_wire.specs.declared.argument.Token.{Token}
+use Rattle.wl_wire.specs.declared.error.IoFault.{IoFault}
+use Rattle.wl_wire.specs.declared.error.IoFault.TheVariants as fault
+use Rattle.wl_wire.specs.declared.error.MessageParseError.{MessageParseError}
+use Rattle.wl_wire.specs.declared.error.MessageParseError.TheVariants as parse
+use Rattle.wl_wire.specs.declared.interface.MessageDesc.{MessageDesc}
+use Rattle.wl_wire.specs.declared.message.Message.{Message}
+use Rattle.wl_wire.specs.Message.{WireMessage}
+use Rattle.wl_wire.specs.Parse.{IsThere, opcode_of, sender_of}
+use Rattle.wl_wire.specs.Table.{InterfaceRow, MessageRow, message_row}
+use Rattle.wl_link.specs.declared.object.Object.{Object}
+use Rattle.wl_link.specs.Exchange.{Queue}
+use Rattle.wl_link.specs.Identity.{Objects}
+use Rattle.wl_link.specs.Link.{LinkState, ReadOne}
+use Rattle.wl_link.specs.Puts.{lacked_memory}
+use Rattle.wl_link.specs.Inside.ReaderLoops.{EndsSo, LeadsOn, ReceivedTo as PartReceived}
+use Rattle.wl_link.specs.Store.{Store, held}
+use Rattle.wl_client.specs.declared.display.DisplayMessage.{DisplayMessage}
+use Rattle.wl_client.specs.declared.display.DisplayMessage.TheVariants as told
+use Rattle.wl_client.specs.declared.error.EventError.{EventError}
+use Rattle.wl_client.specs.declared.error.EventError.TheVariants as no_event
+use Rattle.wl_client.specs.declared.error.WaylandError.TheVariants.{Io, Protocol}
+use Rattle.wl_client.specs.declared.protocol_error.EventFault.TheVariants as wrong
+use Rattle.wl_client.specs.declared.objects.Kept.{Kept}
+use Rattle.wl_client.specs.declared.protocol_error.EventFault.{EventFault}
+use Rattle.wl_client.specs.declared.event.OpenEvent.{OpenEvent}
+use Rattle.wl_client.specs.declared.message.NoEvent.{NoEvent}
+use Rattle.wl_client.specs.declared.message.TurnEnd.{TurnEnd}
+use Rattle.wl_client.specs.declared.message.TurnEnd.TheVariants as came
+use Rattle.wl_client.specs.ObjectId.{IdParts}
+use Rattle.wl_client.specs.Events.{Outcome, Whole, Wrong, DisplayEvent, Fails, Deletes, Unreadable, error_of}
+use Rattle.wl_client.specs.Handling.{Handling, Swallows, HandsOut, Breaks, front_row, handling, row_in, signature_in}
+use Rattle.wl_client.specs.Reading.{Lacks, ReadsAs, answered, by_fault, client, handed_by, reader_state_of, row_asks, with_error, with_link}
+use Rattle.wl_client.specs.Requests.{SessionMessage, session_content}
+use Rattle.wl_client.specs.Session.{SessionState, id_at, objects_of, with_objects}
+
+-- what an event of the display tells, which the code keeps by reference
+abbrev pub told_by : DisplayMessage → DisplayEvent
+told_by (told.Fails code number text) = Fails code number text.now
+told_by (told.Deletes number) = Deletes number
+told_by told.Unreadable = Unreadable
+
+-- this is the sender and the opcode of the header that waits
+abbrev pub IsHeader : {T : Type 0} → LinkState T → ℕ × ℕ → Type 0
+IsHeader link header =
+    (8 ≤ length link.incoming.bytes) × (header.0 ≡ sender_of link.incoming.bytes) × (header.1 ≡ opcode_of link.incoming.bytes)
+
+module _ {U : Type 0} where
+  -- what an event came to whose arguments were gone through: it is open from then on, or not handed out, or has a fault
+  abbrev pub HandledAs : WireMessage → Object (Kept U) → MessageRow → Outcome U → Result (Option OpenEvent) EventFault → SessionMessage → Objects (Kept U) → Type 0
+  HandledAs m receiver row (Whole c args) (Ok None) event after =
+      (receiver.value.client_destroyed ≡ true) × (after ≡ c.objects)
+  HandledAs m receiver row (Whole c args) (Ok (Some opened)) event after =
+      (receiver.value.client_destroyed ≡ false)
+      × (event ≡ record { sender = id_at m.sender receiver; opcode = m.opcode; args = args })
+      × (opened ≡ record { sender = id_at m.sender receiver; is_destructor = row.is_destructor; created = c.created })
+      × (after ≡ c.objects)
+  HandledAs m receiver row (Wrong w objects) (Err w') event after = (w' ≡ w) × (after ≡ objects)
+  HandledAs m receiver row _ _ event after = ⊥
+
+  -- what the read of the message at the front answers under the session's signatures
+  abbrev pub ReadsIn : {T : Type 0} → List InterfaceRow → Store (Kept U) → LinkState T → Result WireMessage MessageParseError → LinkState T → Type 0
+  ReadsIn table store before answer after = ReadOne (λ sender opcode found. found ≡ signature_in table store sender opcode) before answer after
+
+  -- the message at the front, which is there whole, asks for memory before it is read
+  abbrev pub EventAsks : List InterfaceRow → Store (Kept U) → Queue → Type 0
+  EventAsks table store incoming =
+      (row : MessageRow) × (front_row table store incoming.bytes ≡ Some row) × (row_asks (Some row) ≡ true) × IsThere incoming.bytes row.signature incoming.tokens
+
+  -- the message at the front was taken, with what the table says of it; or it was not, and the link is as before
+  abbrev pub TookWith : {T : Type 0} → List InterfaceRow → Store (Kept U) → LinkState T
+      → Result (Bor MessageDesc) MessageParseError → WireMessage → LinkState T → Type 0
+  TookWith table store before (Ok desc) m after =
+      ReadsIn table store before (Ok m) after
+      × (row_in table (held store m.sender) m.opcode ≡ Some (message_row desc.now))
+  TookWith table store before (Err e) m after =
+      (after ≡ before)
+      × (ReadsIn table store before (Err e) before
+      ⊎ ((e ≡ parse.OutOfMemory) × EventAsks table store before.incoming))
+
+-- what a turn came to, with the event that it hands out
+pub data Turned : Type 0 where
+  GaveEvent : Message IdParts Token → Turned
+  WentOn : Turned
+  LacksMore : Turned
+  Ended : NoEvent → Turned
+
+abbrev pub turned : TurnEnd → Message IdParts Token → Turned
+turned came.Event event = GaveEvent event
+turned came.GoesOn event = WentOn
+turned came.Lacks event = LacksMore
+turned (came.Ends e) event = Ended e
+
+-- how a reading ended, with the event that it hands out
+abbrev pub with_event : Result (Unit {0}) NoEvent → Message IdParts Token → Result (Message IdParts Token) NoEvent
+with_event (Ok _) event = Ok event
+with_event (Err e) event = Err e
+
+-- the answer of a reading, and whether memory was refused in it
+abbrev pub event_answer : Result (Message IdParts Token) NoEvent → Result SessionMessage EventError
+event_answer (Ok m) = Ok (session_content m)
+event_answer (Err end) = Err end.error
+
+abbrev pub event_refused : Result (Message IdParts Token) NoEvent → Bool
+event_refused (Ok m) = false
+event_refused (Err end) = end.refused
+
+module _ {T U : Type 0} where
+  -- what a message came to was carried out
+  abbrev pub HandledTo : SessionState T U → Handling U → Turned → SessionState T U → Type 0
+  HandledTo before (Swallows o) WentOn after = after ≡ with_objects before o
+  HandledTo before (HandsOut m event o) (GaveEvent e) after =
+      (session_content e ≡ m) × (after ≡ record (with_objects before o) { open_event = Some event })
+  HandledTo before (Breaks e o) (Ended end) after =
+      (end.error ≡ no_event.Failed)
+      × (((end.refused ≡ false) × (after ≡ with_error (with_objects before o) (Protocol e)))
+      ⊎ ((end.refused ≡ true) × (after ≡ with_error (with_objects before o) (Io fault.OutOfMemory))))
+  HandledTo before _ _ after = ⊥
+
+  -- an event of an object was carried out whose arguments were gone through
+  abbrev pub CarriedOut : SessionState T U → Result (Option OpenEvent) EventFault → TurnEnd → SessionState T U → Type 0
+  CarriedOut before (Ok None) end after = (end ≡ came.GoesOn) × (after ≡ before)
+  CarriedOut before (Ok (Some opened)) end after = (end ≡ came.Event) × (after ≡ record before { open_event = Some opened })
+  CarriedOut before (Err w) end after =
+      (e : NoEvent) × (end ≡ came.Ends e) × HandledTo before (Breaks (error_of before.table w) (objects_of before)) (Ended e) after
+
+  abbrev pub malformed : SessionState T U → Handling U
+  malformed s = Breaks (error_of s.table wrong.Malformed) (objects_of s)
+
+  -- no message was taken, for this reason
+  abbrev pub NotTaken : SessionState T U → MessageParseError → Type 0
+  NotTaken s e = ReadsAs s (Err e) s.link ⊎ ((e ≡ parse.OutOfMemory) × EventAsks s.table s.store s.link.incoming)
+
+  -- no message was taken, and that comes to this
+  abbrev pub NotTakenTo : SessionState T U → Turned → SessionState T U → Type 0
+  NotTakenTo before LacksMore after = Lacks before × (after ≡ before)
+  NotTakenTo before (Ended end) after =
+      (ReadsAs before (Err parse.Malformed) before.link × HandledTo before (malformed before) (Ended end) after)
+      ⊎ ((end ≡ record { error = no_event.OutOfMemory; refused = true }) × NotTaken before parse.OutOfMemory × (after ≡ before))
+  NotTakenTo before _ after = ⊥
+
+  -- a turn of a reading
+  abbrev pub Turns : SessionState T U → Turned → SessionState T U → Type 0
+  Turns before to after =
+      NotTakenTo before to after
+      ⊎ ((m : WireMessage) × (link : LinkState T) × ReadsAs before (Ok m) link
+      × HandledTo (with_link before link) (handling before.table (objects_of before) m) to after)
+
+  abbrev pub Live : SessionState T U → Type 0
+  Live s = (s.error ≡ None) × (s.open_event ≡ None)
+
+  module _ (sends : T → Queue → Result ℕ IoFault → T → Type 0) (receives : T → ℕ → Result Queue IoFault → T → Type 0) where
+    -- a reading ends so, however many receives are left
+    pub record EndsAs (before : SessionState T U) (answer : Result (Message IdParts Token) NoEvent) (after : SessionState T U) : Type 0 where
+      pub lacked : Bool
+      pub stopped : Option IoFault
+      pub short : Bool
+      pub ends : EndsSo sends receives client (reader_state_of before) (handed_by (event_answer answer)) lacked stopped short (reader_state_of after)
+      pub answer_is : event_answer answer ≡ answered stopped (handed_by (event_answer answer))
+      pub refused_is : event_refused answer ≡ lacked || short
+
+    -- where what is left of a reading may lead, the whole may
+    abbrev pub Leads : SessionState T U → SessionState T U → Type 0
+    Leads before now = LeadsOn sends receives client (reader_state_of before) [] false (reader_state_of now)
+
+    -- all that waits whole was handled, and that comes to this
+    abbrev pub Waited : SessionState T U → Option (Result (Message IdParts Token) NoEvent) → SessionState T U → Type 0
+    Waited before None after = Live after × Lacks after × Leads before after
+    Waited before (Some r) after = EndsAs before r after
+
+    -- a receive was made, or there was no memory for it
+    abbrev pub ReceivedTo : SessionState T U → Option NoEvent → SessionState T U → Type 0
+    ReceivedTo before None after = PartReceived sends receives client (reader_state_of before) None (reader_state_of after) × Live after
+    ReceivedTo before (Some end) after =
+        (f : IoFault) × PartReceived sends receives client (reader_state_of before) (Some f) (reader_state_of after)
+        × (end ≡ record { error = by_fault f; refused = lacked_memory (Err f) })

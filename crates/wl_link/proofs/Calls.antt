@@ -1,0 +1,14 @@
+-- What one call of a link does.
+pub mod FlushLaws
+pub mod WriteLaws
+pub mod ReadLaws
+pub mod TakenLaws
+pub mod KeptLaws
+pub mod OneLaws
+pub mod NumberLaws
+pub mod Branches
+pub mod QueueLaws
+pub mod LaterLaws
+pub mod FoundLaws
+pub mod Growth
+pub mod OneScript

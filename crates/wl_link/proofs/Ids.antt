@@ -1,0 +1,5 @@
+-- Objects by their numbers, and what an id names.
+pub mod StoreLaws
+pub mod IdentityLaw
+pub mod EndsLaw
+pub mod HandedIds

@@ -1,0 +1,2 @@
+-- Runs of calls.
+pub mod RunLaws

@@ -1,9 +1,0 @@
-use Rattle.wl_link.specs.Served.{Told}
-use Rattle.wl_link.specs.ServedLaws.{served_one, told_function}
-use Rattle.wl_link.proofs.reader_laws.what_is_served_has_one_outcome.Goals as goal
-
-pub returns-clause-transport : goal.returns-clause-transport
-returns-clause-transport g c = λ function reader before x y finishes a b. served_one g.S.Transport.sends function reader before x y finishes a b
-
-pub returns-clause-told : goal.returns-clause-told
-returns-clause-told g c = λ reader before x y finishes a b. served_one Told told_function reader before x y finishes a b

@@ -1,0 +1,46 @@
+-- What each verdict of a reader respects.
+use Rattle.std.proofs.Common.{◌≡◌, true, List, [], ◌++◌, Some, Result, Ok}
+use Rattle.std.specs.Prelude.{map}
+use Rattle.wl_wire.specs.declared.error.IoFault.{IoFault}
+use Rattle.wl_wire.specs.Message.{WireMessage}
+use Rattle.wl_link.specs.Puts.{Said}
+use Rattle.wl_link.specs.Reader.{Given, HandedOut, Reader, Verdict, came_to, put_and_gave}
+
+-- a relation of cores and of what was given between them that a verdict respects, in each of its ends; where nothing is put,
+-- no write fails
+pub record Keeps {Core Event Finish : Type 0} (reader : Reader Core Event Finish) (R : Core → List (Given Event) → Core → Type 0) (c : Core) (v : Verdict Core Event) : Type 0 where
+  pub carried : (put others : List Said) (wrote : Result (Unit {0}) IoFault) → v.puts ≡ put ++ others → (v.puts ≡ [] → wrote ≡ Ok tt)
+      → R c (put_and_gave put (v.events (came_to reader v wrote))) (came_to reader v wrote)
+  pub starved : v.asks ≡ true → R c (map HandedOut (v.events v.starved)) v.starved
+
+-- such as that what is handed out was made between them, or that objects move by changes: as far as a reading goes, which
+-- makes no turn where the core reads on no more
+pub record RespectsReading {Core Event Finish : Type 0} (reader : Reader Core Event Finish) (R : Core → List (Given Event) → Core → Type 0) : Type 0 where
+  pub same : (c : Core) → R c [] c
+  pub joins : (c d e : Core) (g h : List (Given Event)) → R c g d → R d h e → R c (g ++ h) e
+  pub handles : (c : Core) (m : WireMessage) → reader.reads_on c ≡ true → Keeps reader R c (reader.handles c m)
+  pub malformed : (c : Core) → reader.reads_on c ≡ true → Keeps reader R c (reader.malformed c)
+  pub faulted : (c : Core) (f : IoFault) → reader.reads_on c ≡ true → R c [] (reader.faulted c f)
+
+-- and the end of what is open
+pub record Respects {Core Event Finish : Type 0} (reader : Reader Core Event Finish) (R : Core → List (Given Event) → Core → Type 0) : Type 0 where
+  pub reading : RespectsReading reader R
+  pub takes : (c : Core) (u : Finish) (v : Verdict Core Event) → reader.takes c u ≡ Some v → Keeps reader R c v
+
+-- ---- relations of cores alone
+
+-- a relation of cores that a verdict respects, in each of its ends
+pub record KeepsCore {Core Event : Type 0} (R : Core → Core → Type 0) (c : Core) (v : Verdict Core Event) : Type 0 where
+  pub core : R c v.core
+  pub last : (d : Core) → R d (v.last d)
+  pub starved : R c v.starved
+
+-- such as that nothing is noted twice, or that the killed stay killed
+pub record RespectsCores {Core Event Finish : Type 0} (reader : Reader Core Event Finish) (R : Core → Core → Type 0) : Type 0 where
+  pub same : (c : Core) → R c c
+  pub joins : (c d e : Core) → R c d → R d e → R c e
+  pub handles : (c : Core) (m : WireMessage) → KeepsCore R c (reader.handles c m)
+  pub malformed : (c : Core) → KeepsCore R c (reader.malformed c)
+  pub takes : (c : Core) (u : Finish) (v : Verdict Core Event) → reader.takes c u ≡ Some v → KeepsCore R c v
+  pub broken : (c : Core) (f : IoFault) → R c (reader.broken c f)
+  pub faulted : (c : Core) (f : IoFault) → R c (reader.faulted c f)

@@ -1,0 +1,183 @@
+-- What all slots give, by the client that it is about.
+use Rattle.std.proofs.Common.{◌≡◌, ℕ, zero, suc, ◌+◌, ◌<◌, ◌≤◌, Bool, true, false, List, [], ◌∷◌, ◌++◌, length, get_or, map, Option, None, Some, refl, ap, subst, ◌∙◌, arith, append-nil}
+use Rattle.std.specs.FinMap.{entries}
+use Rattle.std.specs.Option.{option_map, option_map_or}
+use Rattle.std.specs.Prelude.{AllPairs, ◌==◌, if◌then◌else◌, slice_get}
+use Rattle.std.proofs.lemmas.Bool.{eqb-true, ne_eqb}
+use Rattle.std.proofs.lemmas.Option.{slice_get-map}
+use Rattle.wl_server.specs.Ids.{ClientParts, same_client}
+use Rattle.wl_server.specs.Inside.Leaving.{all_staying, collected, ends_at, ends_in, ends_of, given_at, given_in, id_in, staying}
+use Rattle.wl_server.specs.PartStep.{share_of}
+use Rattle.wl_server.specs.Server.{Stored, client_at, if_serial, note_of, notes_of}
+use Rattle.wl_server.proofs.CleanupSteps.Gathering.{notes_append, notes_other, notes_same}
+use Rattle.wl_server.proofs.CallSteps.Slots.{same_parts, same_self, same_serials, same_slots}
+
+-- ---- shares
+
+share_append : {T : Type 0} (id : ClientParts) (a b : List (ClientParts × T)) → share_of id (a ++ b) ≡ share_of id a ++ share_of id b
+share_append id [] b = refl
+share_append id (e ∷ a) b = at (same_client e.0 id) (share_append id a b)
+  where
+    at : (c : Bool) → share_of id (a ++ b) ≡ share_of id a ++ share_of id b
+        → (if c then (e.1 ∷ share_of id (a ++ b)) else share_of id (a ++ b)) ≡ (if c then (e.1 ∷ share_of id a) else share_of id a) ++ share_of id b
+    at true more = ap (λ l. e.1 ∷ l) more
+    at false more = more
+
+module _ {T U C : Type 0} where
+  -- ---- of what all slots give, a part that only one slot has
+
+  module _ {A B : Type 0} (part : List A → List B) (give : ℕ → Option (Stored T U C) → List A) (slot : ℕ) (none : part [] ≡ []) (both : (a b : List A) → part (a ++ b) ≡ part a ++ part b)
+      (other : (n : ℕ) (x : Option (Stored T U C)) → (n == slot) ≡ false → part (give n x) ≡ []) where
+    collected_past : (n : ℕ) (clients : List (Option (Stored T U C))) → slot < n → part (collected give n clients) ≡ []
+    collected_past n [] past = none
+    collected_past n (x ∷ clients) past =
+        both (give n x) (collected give (n + 1) clients)
+        ∙ (ap (λ (l : List B). l ++ part (collected give (n + 1) clients)) (other n x (ne_eqb n slot (λ e. omega (arith, past, e))))
+        ∙ collected_past (n + 1) clients (omega (arith, past)))
+
+    pub collected_at : (n k : ℕ) (clients : List (Option (Stored T U C))) → slot ≡ n + k
+        → part (collected give n clients) ≡ option_map_or (λ x. part (give slot x)) (slice_get clients k) []
+    collected_at n k [] at = none
+    collected_at n zero (x ∷ clients) at =
+        let here : n ≡ slot = omega (arith, at) in
+        both (give n x) (collected give (n + 1) clients)
+        ∙ (ap (λ (l : List B). part (give n x) ++ l) (collected_past (n + 1) clients (omega (arith, at)))
+        ∙ (append-nil (part (give n x)) ∙ ap (λ (m : ℕ). part (give m x)) here))
+    collected_at n (suc k) (x ∷ clients) at =
+        both (give n x) (collected give (n + 1) clients)
+        ∙ (ap (λ (l : List B). l ++ part (collected give (n + 1) clients)) (other n x (ne_eqb n slot (λ e. omega (arith, at, e))))
+        ∙ collected_at (n + 1) k clients (omega (arith, at)))
+
+  -- ---- notes
+
+  other_ends : (id : ClientParts) (n : ℕ) (x : Option (Stored T U C)) → (n == id.slot) ≡ false → notes_of id (ends_at n x) ≡ []
+  other_ends id n None other = refl
+  other_ends id n (Some s) other = at s.part.is_killed
+    where
+      at : (b : Bool) → notes_of id (if b then map (note_of (id_in n s)) (ends_of (id_in n s) (entries s.part.store.objects)) else []) ≡ []
+      at true = notes_other (id_in n s) id (ends_of (id_in n s) (entries s.part.store.objects)) (same_slots (id_in n s) id other)
+      at false = refl
+
+  own_ends : (id : ClientParts) (x : Option (Stored T U C)) → notes_of id (ends_at id.slot x) ≡ ends_in id (if_serial id.serial x)
+  own_ends id None = refl
+  own_ends id (Some s) = at (s.serial == id.serial) s.part.is_killed refl refl
+    where
+      at : (same killed : Bool) → (s.serial == id.serial) ≡ same → s.part.is_killed ≡ killed
+          → notes_of id (if killed then map (note_of (id_in id.slot s)) (ends_of (id_in id.slot s) (entries s.part.store.objects)) else []) ≡ ends_in id (if same then Some s else None)
+      at true true same killed =
+          let are : id_in id.slot s ≡ id = same_parts (id_in id.slot s) id refl (eqb-true s.serial id.serial same) in
+          notes_same (id_in id.slot s) id (ends_of (id_in id.slot s) (entries s.part.store.objects)) (subst (λ (i : ClientParts). same_client (id_in id.slot s) i ≡ true) are (same_self (id_in id.slot s)))
+          ∙ (ap (λ (i : ClientParts). ends_of i (entries s.part.store.objects)) are ∙ rw killed refl)
+      at true false same live = rw live refl
+      at false true other killed = notes_other (id_in id.slot s) id (ends_of (id_in id.slot s) (entries s.part.store.objects)) (same_serials (id_in id.slot s) id refl other)
+      at false false other live = refl
+
+  pub ends_for : (id : ClientParts) (clients : List (Option (Stored T U C))) → notes_of id (collected ends_at 0 clients) ≡ ends_in id (client_at id clients)
+  ends_for id clients =
+      collected_at (notes_of id) ends_at id.slot refl (notes_append id) (other_ends id) 0 id.slot clients (omega arith) ∙ at (slice_get clients id.slot)
+    where
+      at : (o : Option (Option (Stored T U C))) → option_map_or (λ x. notes_of id (ends_at id.slot x)) o [] ≡ ends_in id (if_serial id.serial (option_map_or (λ s. s) o None))
+      at None = refl
+      at (Some x) = own_ends id x
+
+  -- ---- transports
+
+  other_given : (id : ClientParts) (n : ℕ) (x : Option (Stored T U C)) → (n == id.slot) ≡ false → share_of id (given_at n x) ≡ []
+  other_given id n None other = refl
+  other_given id n (Some s) other = at s.part.is_killed
+    where
+      at : (b : Bool) → share_of id (if b then ((id_in n s, s.part.link.transport) ∷ []) else []) ≡ []
+      at true = rw (same_slots (id_in n s) id other) refl
+      at false = refl
+
+  own_given : (id : ClientParts) (x : Option (Stored T U C)) → share_of id (given_at id.slot x) ≡ given_in (if_serial id.serial x)
+  own_given id None = refl
+  own_given id (Some s) = at (s.serial == id.serial) s.part.is_killed refl refl
+    where
+      at : (same killed : Bool) → (s.serial == id.serial) ≡ same → s.part.is_killed ≡ killed
+          → share_of id (if killed then ((id_in id.slot s, s.part.link.transport) ∷ []) else []) ≡ given_in (if same then Some s else None)
+      at true true same killed =
+          let are : id_in id.slot s ≡ id = same_parts (id_in id.slot s) id refl (eqb-true s.serial id.serial same) in
+          let known : same_client (id_in id.slot s) id ≡ true = subst (λ (i : ClientParts). same_client (id_in id.slot s) i ≡ true) are (same_self (id_in id.slot s)) in
+          ap (λ (b : Bool). if b then (s.part.link.transport ∷ []) else []) known ∙ rw killed refl
+      at true false same live = rw live refl
+      at false true other killed =
+          ap (λ (b : Bool). if b then (s.part.link.transport ∷ []) else []) (same_serials (id_in id.slot s) id refl other)
+      at false false other live = refl
+
+  pub given_for : (id : ClientParts) (clients : List (Option (Stored T U C))) → share_of id (collected given_at 0 clients) ≡ given_in (client_at id clients)
+  given_for id clients =
+      collected_at (share_of id) given_at id.slot refl (share_append id) (other_given id) 0 id.slot clients (omega arith) ∙ at (slice_get clients id.slot)
+    where
+      at : (o : Option (Option (Stored T U C))) → option_map_or (λ x. share_of id (given_at id.slot x)) o [] ≡ given_in (if_serial id.serial (option_map_or (λ s. s) o None))
+      at None = refl
+      at (Some x) = own_given id x
+
+  -- ---- who stays
+
+  staying_if : (serial : ℕ) (x : Option (Stored T U C)) → if_serial serial (staying x) ≡ staying (if_serial serial x)
+  staying_if serial None = refl
+  staying_if serial (Some s) = at (s.serial == serial) s.part.is_killed refl refl
+    where
+      at : (same killed : Bool) → (s.serial == serial) ≡ same → s.part.is_killed ≡ killed
+          → if_serial serial (if killed then None else Some s) ≡ staying (if same then Some s else None)
+      at true true same killed = rw killed refl
+      at true false same live = rw (same, live) refl
+      at false true other killed = refl
+      at false false other live = rw other refl
+
+  pub staying_for : (id : ClientParts) (clients : List (Option (Stored T U C))) → client_at id (all_staying clients) ≡ staying (client_at id clients)
+  staying_for id clients =
+      ap (λ (o : Option (Option (Stored T U C))). if_serial id.serial (option_map_or (λ s. s) o None)) (slice_get-map staying clients id.slot) ∙ at (slice_get clients id.slot)
+    where
+      at : (o : Option (Option (Stored T U C))) → if_serial id.serial (option_map_or (λ s. s) (option_map staying o) None) ≡ staying (if_serial id.serial (option_map_or (λ s. s) o None))
+      at None = refl
+      at (Some x) = staying_if id.serial x
+
+-- ---- the order
+
+module _ {T : Type 0} where
+  abbrev AreFrom : ℕ → List (ClientParts × T) → Type 0
+  AreFrom n out = (j : ℕ) (d : ClientParts × T) → j < length out → n ≤ (get_or out j d).0.slot
+
+  abbrev pub Rises : List (ClientParts × T) → Type 0
+  Rises out = AllPairs (λ a b. a.0.slot < b.0.slot) out
+
+  from_more : (n : ℕ) (first rest : List (ClientParts × T)) → AreFrom n first → AreFrom n rest → AreFrom n (first ++ rest)
+  from_more n [] rest a b j d below = b j d below
+  from_more n (e ∷ first) rest a b zero d below = a 0 d (omega arith)
+  from_more n (e ∷ first) rest a b (suc j) d below = from_more n first rest (λ i d lt. a (suc i) d (omega (arith, lt))) b j d (omega (arith, below))
+
+  one_from : (n : ℕ) (i : ClientParts) (t : T) (b : Bool) → n ≡ i.slot → AreFrom n (if b then ((i, t) ∷ []) else [])
+  one_from n i t true is zero d below = omega (arith, is)
+  one_from n i t true is (suc j) d below = absurd (omega (arith, below))
+  one_from n i t false is j d below = absurd (omega (arith, below))
+
+  one_rises : (n : ℕ) (i : ClientParts) (t : T) (c : Bool) (rest : List (ClientParts × T)) → n ≡ i.slot → AreFrom (n + 1) rest → Rises rest
+      → Rises ((if c then ((i, t) ∷ []) else []) ++ rest)
+  one_rises n i t true rest is from rises zero zero d less below = absurd (omega (arith, less))
+  one_rises n i t true rest is from rises zero (suc j) d less below = let later = from j d (omega (arith, below)) in omega (arith, later, is)
+  one_rises n i t true rest is from rises (suc k) zero d less below = absurd (omega (arith, less))
+  one_rises n i t true rest is from rises (suc k) (suc j) d less below = rises k j d (omega (arith, less)) (omega (arith, below))
+  one_rises n i t false rest is from rises k j d less below = rises k j d less below
+
+module _ {T U C : Type 0} where
+  given_from : (n : ℕ) (x : Option (Stored T U C)) → AreFrom n (given_at n x)
+  given_from n None j d below = absurd (omega (arith, below))
+  given_from n (Some s) j d below = one_from n (id_in n s) s.part.link.transport s.part.is_killed refl j d below
+
+  collected_from : (m n : ℕ) (clients : List (Option (Stored T U C))) → m ≤ n → AreFrom m (collected given_at n clients)
+  collected_from m n [] le j d below = absurd (omega (arith, below))
+  collected_from m n (x ∷ clients) le j d below =
+      from_more m (given_at n x) (collected given_at (n + 1) clients) (λ i e lt. let from = given_from n x i e lt in omega (arith, from, le))
+      (collected_from m (n + 1) clients (omega (arith, le))) j d below
+
+  rises_more : (n : ℕ) (x : Option (Stored T U C)) (rest : List (ClientParts × T)) → AreFrom (n + 1) rest → Rises rest → Rises (given_at n x ++ rest)
+  rises_more n None rest from rises = rises
+  rises_more n (Some s) rest from rises = one_rises n (id_in n s) s.part.link.transport s.part.is_killed rest refl from rises
+
+  -- the clients that leave stand by slot
+  pub given_rises : (n : ℕ) (clients : List (Option (Stored T U C))) → Rises (collected given_at n clients)
+  given_rises n [] i j d less below = absurd (omega (arith, below))
+  given_rises n (x ∷ clients) i j d less below =
+      rises_more n x (collected given_at (n + 1) clients) (collected_from (n + 1) (n + 1) clients (omega arith)) (given_rises (n + 1) clients) i j d less below

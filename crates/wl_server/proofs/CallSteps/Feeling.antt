@@ -1,0 +1,244 @@
+-- A step that each client feels by itself, one slot after another.
+use Rattle.std.proofs.Common.{◌≡◌, ◌≢◌, ◌∙◌, ℕ, ◌+◌, ◌<◌, ◌≤◌, Bool, true, false, ◌||◌, List, [], length, Option, None, Some, is_some, refl, sym, ap, subst, arith, true≢false}
+use mathlib.Core.Logic.{inl, inr}
+use Rattle.std.specs.Option.{option_map_or}
+use Rattle.std.specs.Prelude.{◌⊎◌, ◌==◌, if◌then◌else◌, nat_lt, slice_get, slice_set}
+use Rattle.std.proofs.lemmas.Bool.{eqb-true, false≢true, ltb-false, ltb-true}
+use Rattle.std.proofs.lemmas.List.{length-set}
+use Rattle.std.proofs.lemmas.Option.{slice_get_past}
+use Rattle.wl_server.specs.declared.notes.Happening.{Happening}
+use Rattle.wl_server.specs.declared.runs.step.Reply.{Reply}
+use Rattle.wl_server.specs.declared.runs.step.Step.{Step}
+use Rattle.wl_server.proofs.OverRuns.Alone.AccountLaws.{calls}
+use Rattle.wl_server.specs.Backend.{Calls}
+use Rattle.wl_server.specs.Inside.Client.{Does}
+use Rattle.wl_server.specs.Deeds.{Deed}
+use Rattle.wl_server.specs.Globals.{Offer}
+use Rattle.wl_server.specs.Ids.{ClientParts}
+use Rattle.wl_server.specs.PartStep.{Asked, Call, Feels, PartStep, World}
+use Rattle.wl_server.specs.Inside.Places.{AllFeel, FeltAt, PlaceFeels}
+use Rattle.wl_server.specs.Server.{Seen, ServerState, Stored, client_at, if_serial, seen_as, notes_of}
+use Rattle.wl_server.specs.Steps.{AsksForRoom, NumbersClient, NumbersGlobal, RisesBySlot, inserted_by, lacks_growth, offer_after}
+use Rattle.wl_server.proofs.CallSteps.Slots.{Kind, client_present, get_set_other, get_set_same, on_part, other_of, same_parts, slot_within}
+
+module _ {T U C : Type 0} (R : Kind T U C) where
+  -- ---- the loop over the slots
+
+  -- the client of a slot felt it by its id
+  pub place_felt : (slot serial : ℕ) (id : ClientParts) (s s' : Stored T U C) (place : Option (Stored T U C)) (lacked : Bool) → place ≡ Some s
+      → id ≡ record { slot = slot; serial = serial } → serial ≡ s.serial → Does s (λ p did q. R id p lacked did q) s' → PlaceFeels R slot place lacked (Some s')
+  place_felt slot serial id s s' place lacked is known same does =
+      let named : id ≡ record { slot = slot; serial = s.serial } = known ∙ ap (λ (n : ℕ). let i : ClientParts = record { slot = slot; serial = n } in i) same in
+      rw is (s', subst (λ (i : ClientParts). Does s (λ p did q. R i p lacked did q) s') named does, refl)
+
+  pub none_felt : (start : List (Option (Stored T U C))) → AllFeel R false 0 start start
+  none_felt start = record {
+    lacks = λ k. false;
+    len = refl;
+    felt = λ k below. absurd (omega (arith, below));
+    rest = λ k above. refl;
+    told = λ k below lacks. lacks;
+    blame = λ refused. absurd (false≢true refused);
+  }
+
+  -- the client of the next slot feels it
+  pub one_more_felt : (refused lacked : Bool) (slot : ℕ) (start now : List (Option (Stored T U C))) (place place' : Option (Stored T U C))
+      → AllFeel R refused slot start now → slice_get now slot ≡ Some place → PlaceFeels R slot place lacked place'
+      → AllFeel R (refused || lacked) (slot + 1) start (slice_set now slot place')
+  one_more_felt refused lacked slot start now place place' all here feels = record {
+    lacks = now_lacks;
+    len = length-set now slot place' ∙ all.len;
+    felt = λ k below. at k (k == slot) refl below;
+    rest = λ k above. get_set_other now slot k place' (differ k above) ∙ all.rest k (omega (arith, above));
+    told = λ k below is. tells k (k == slot) refl below is;
+    blame = λ is. blames refused lacked refl refl is;
+  }
+    where
+      now_lacks : ℕ → Bool
+      now_lacks k = if k == slot then lacked else all.lacks k
+
+      differ : (k : ℕ) → slot + 1 ≤ k → slot ≢ k
+      differ k above e = absurd (omega (arith, e, above))
+
+      less : (k : ℕ) → (k == slot) ≡ false → k < slot + 1 → k < slot
+      less k is below = let other : k ≢ slot = other_of k slot is in omega (arith, below, other)
+
+      at : (k : ℕ) (b : Bool) → (k == slot) ≡ b → k < slot + 1
+          → FeltAt R k (slice_get start k) (if b then lacked else all.lacks k) (slice_get (slice_set now slot place') k)
+      at k true is below =
+          subst (λ (m : ℕ). FeltAt R m (slice_get start m) lacked (slice_get (slice_set now slot place') m)) (sym (eqb-true k slot is))
+          (subst (λ (x : Option (Option (Stored T U C))). FeltAt R slot x lacked (slice_get (slice_set now slot place') slot))
+          (sym here ∙ all.rest slot (omega arith)) (place', feels, get_set_same now slot place place' here))
+      at k false is below =
+          subst (λ (x : Option (Option (Stored T U C))). FeltAt R k (slice_get start k) (all.lacks k) x)
+          (sym (get_set_other now slot k place' (λ e. other_of k slot is (sym e)))) (all.felt k (less k is below))
+
+      either : (r : Bool) → lacked ≡ true → (r || lacked) ≡ true
+      either true h = refl
+      either false h = h
+
+      tells : (k : ℕ) (b : Bool) → (k == slot) ≡ b → k < slot + 1 → (if b then lacked else all.lacks k) ≡ true → (refused || lacked) ≡ true
+      tells k true is below h = either refused h
+      tells k false is below h = rw (all.told k (less k is below) h) refl
+
+      here_lacks : (b : Bool) → (slot == slot) ≡ b → lacked ≡ true → (if b then lacked else all.lacks slot) ≡ true
+      here_lacks true is h = h
+      here_lacks false is h = absurd (other_of slot slot is refl)
+
+      there_lacks : (k : ℕ) (b : Bool) → (k == slot) ≡ b → k < slot → all.lacks k ≡ true → (if b then lacked else all.lacks k) ≡ true
+      there_lacks k true is below h = let same : k ≡ slot = eqb-true k slot is in absurd (omega (arith, same, below))
+      there_lacks k false is below h = h
+
+      blames : (r l : Bool) → refused ≡ r → lacked ≡ l → (r || l) ≡ true → (k : ℕ) × (k < slot + 1) × (now_lacks k ≡ true)
+      blames true l was is h =
+          let (k, below, lacks) = all.blame was in
+          (k, omega (arith, below), there_lacks k (k == slot) refl below lacks)
+      blames false true was is h = (slot, omega arith, here_lacks (slot == slot) refl is)
+      blames false false was is h = absurd (false≢true h)
+
+  -- ---- what is felt by each id
+
+  abbrev pub client_in : ℕ → Option (Option (Stored T U C)) → Option (Stored T U C)
+  client_in serial x = if_serial serial (option_map_or (λ s. s) x None)
+
+  -- memory was refused to a client that is stored
+  abbrev pub lacks_in : Option (Stored T U C) → Bool → Bool
+  lacks_in None lacked = false
+  lacks_in (Some s) lacked = lacked
+
+  abbrev pub FeltBy : ClientParts → List (Happening U) → Bool → Option (Option (Stored T U C)) → Option (Option (Stored T U C)) → Type 0
+  FeltBy id gathered lacked before after =
+      (did : List (Deed U))
+      × Feels (seen_as gathered (client_in id.serial before)) (λ p q. R id p (lacks_in (client_in id.serial before) lacked) did q)
+      (lacks_in (client_in id.serial before) lacked) did (seen_as gathered (client_in id.serial after))
+
+  abbrev FeltIf : ClientParts → List (Happening U) → Bool → Stored T U C → Stored T U C → Bool → Bool → Type 0
+  FeltIf id gathered lacked s s' b b' =
+      (did : List (Deed U))
+      × Feels (seen_as gathered (if b then Some s else None)) (λ p q. R id p (lacks_in (if b then Some s else None) lacked) did q)
+      (lacks_in (if b then Some s else None) lacked) did (seen_as gathered (if b' then Some s' else None))
+
+  felt_by : (id : ClientParts) (gathered : List (Happening U)) (lacked : Bool) (before after : Option (Option (Stored T U C)))
+      → FeltAt R id.slot before lacked after → FeltBy id gathered lacked before after
+  felt_by id gathered lacked None after (none, is) = subst (λ (x : Option (Option (Stored T U C))). FeltBy id gathered lacked None x) (sym is) ([], (tt, (refl, refl, refl)))
+  felt_by id gathered lacked (Some None) after (place', (none, gone), is) =
+      subst (λ (x : Option (Option (Stored T U C))). FeltBy id gathered lacked (Some None) x) (sym (is ∙ ap Some gone)) ([], (tt, (refl, refl, refl)))
+  felt_by id gathered lacked (Some (Some s)) after (place', (s', (did, q, feels, made), now), is) =
+      subst (λ (x : Option (Option (Stored T U C))). FeltBy id gathered lacked (Some (Some s)) x) (sym (is ∙ ap Some now)) (at (s.serial == id.serial) refl)
+    where
+      serial' : s'.serial ≡ s.serial
+      serial' = ap (λ (x : Stored T U C). x.serial) made
+
+      at : (b : Bool) → (s.serial == id.serial) ≡ b → FeltIf id gathered lacked s s' b (s'.serial == id.serial)
+      at true same =
+          let here : R id s.part lacked did q =
+          subst (λ (i : ClientParts). R i s.part lacked did q) (same_parts (record { slot = id.slot; serial = s.serial }) id refl (eqb-true s.serial id.serial same)) feels in
+          let as_now : (s'.serial == id.serial) ≡ true = rw serial' same in
+          subst (λ (b : Bool). FeltIf id gathered lacked s s' true b) (sym as_now) (did, on_part gathered s s' (λ p d r. R id p lacked d r) (Unit {0}) lacked did q here made)
+      at false other =
+          let as_now : (s'.serial == id.serial) ≡ false = rw serial' other in
+          subst (λ (b : Bool). FeltIf id gathered lacked s s' false b) (sym as_now) ([], (tt, (refl, refl, refl)))
+
+  module _ (refused : Bool) (start now : List (Option (Stored T U C))) (all : AllFeel R refused (length start) start now) where
+    -- whether memory was refused to the client of an id
+    abbrev pub lacks_of : ClientParts → Bool
+    lacks_of id = lacks_in (client_at id start) (all.lacks id.slot)
+
+    pub each_felt : (gathered : List (Happening U)) (id : ClientParts) → FeltBy id gathered (all.lacks id.slot) (slice_get start id.slot) (slice_get now id.slot)
+    each_felt gathered id = at (nat_lt id.slot (length start)) refl
+      where
+        at : (b : Bool) → nat_lt id.slot (length start) ≡ b → FeltBy id gathered (all.lacks id.slot) (slice_get start id.slot) (slice_get now id.slot)
+        at true below = felt_by id gathered (all.lacks id.slot) _ _ (all.felt id.slot (ltb-true id.slot (length start) below))
+        at false past =
+            let far : length start ≤ id.slot = ltb-false id.slot (length start) past in
+            let none = slice_get_past start id.slot far in
+            subst (λ (x : Option (Option (Stored T U C))). FeltBy id gathered (all.lacks id.slot) (slice_get start id.slot) x) (sym (all.rest id.slot far))
+            (subst (λ (x : Option (Option (Stored T U C))). FeltBy id gathered (all.lacks id.slot) x x) (sym none) ([], (tt, (refl, refl, refl))))
+
+    pub some_lacks : refused ≡ true → (id : ClientParts) × (lacks_of id ≡ true)
+    some_lacks is =
+        let (k, below, lacks) = all.blame is in
+        at k (slice_get start k) refl lacks (all.felt k below)
+      where
+        at : (k : ℕ) (x : Option (Option (Stored T U C))) → slice_get start k ≡ x → all.lacks k ≡ true → FeltAt R k x (all.lacks k) (slice_get now k)
+            → (id : ClientParts) × (lacks_of id ≡ true)
+        at k None here lacks (not, is) = absurd (true≢false (sym lacks ∙ not))
+        at k (Some None) here lacks (place', (not, gone), is) = absurd (true≢false (sym lacks ∙ not))
+        at k (Some (Some s)) here lacks felt =
+            let id : ClientParts = record { slot = k; serial = s.serial } in
+            (id, subst (λ (o : Option (Stored T U C)). lacks_in o (all.lacks k) ≡ true) (sym (client_present id start s here refl)) lacks)
+
+    pub one_lacks : (id : ClientParts) → lacks_of id ≡ true → refused ≡ true
+    one_lacks id lacks =
+        let (some, is) = stored (client_at id start) (all.lacks id.slot) lacks in
+        all.told id.slot (slot_within start id some) is
+      where
+        stored : (o : Option (Stored T U C)) (l : Bool) → lacks_in o l ≡ true → (is_some o ≡ true) × (l ≡ true)
+        stored None l h = absurd (false≢true h)
+        stored (Some s) l h = (refl, h)
+
+-- A call that each client feels by itself, or none: no client is inserted, and no memory is wanted but for those that are
+-- stored.
+pub record IsFelt {T U G C : Type 0} (call : Call T U G C) : Type 0 where
+  pub last : inserted_by call ≡ 0
+  pub client : (before : ServerState T U G C) → NumbersClient before call
+  pub order : RisesBySlot call
+  pub room : (before : ServerState T U G C) → AsksForRoom before call
+
+module _ {T U G C : Type 0} (w : World T G C) (before : ServerState T U G C) (s : Step T U G C) (answer : Reply T U) (felt : IsFelt (Asked s answer)) where
+  last : (n : ℕ) → n ≡ 0 → before.last_client ≡ before.last_client + n
+  last n zero = omega (arith, zero)
+
+  -- all clients felt it
+  pub felt_call : {was : Bool} (R : Kind T U C) (refused : Bool) (offer : Offer G) (clients : List (Option (Stored T U C)))
+      → offer ≡ offer_after before.offer (Asked s answer) → NumbersGlobal before.offer (Asked s answer) → lacks_growth (Asked s answer) ≡ false
+      → ((id : ClientParts) (lacked : Bool) (did : List (Deed U)) (b a : Seen T U C) → Feels b (λ p q. R id p lacked did q) lacked did a
+      → PartStep w id before.offer s answer b lacked did a)
+      → AllFeel R refused (length before.clients) before.clients clients
+      → Calls w (record { server = before; refused = was }) s answer (record { server = record before { offer = offer; clients = clients }; refused = refused })
+  felt_call R refused offer clients becomes numbers growth to all = calls _ _ _ _ _ (
+    record { call = Asked s answer; refused = refused; lacks = λ id. lacks_of R refused before.clients clients all id; did = λ id. (by id).0 },
+    refl,
+    refl,
+    record {
+      offer = becomes;
+      last = last _ felt.last;
+      client = felt.client before;
+      global = numbers;
+      order = felt.order;
+      room = felt.room before;
+      refused = (λ is. inr (some_lacks R refused before.clients clients all is), λ h. was_refused h);
+      each = λ id. to id _ _ _ _ (by id).1;
+    },
+  )
+    where
+      by : (id : ClientParts) → FeltBy R id (notes_of id before.notes) (all.lacks id.slot) (slice_get before.clients id.slot) (slice_get clients id.slot)
+      by id = each_felt R refused before.clients clients all (notes_of id before.notes) id
+
+      was_refused : (lacks_growth (Asked s answer) ≡ true) ⊎ ((id : ClientParts) × (lacks_of R refused before.clients clients all id ≡ true)) → refused ≡ true
+      was_refused (inl grown) = absurd (false≢true (sym growth ∙ grown))
+      was_refused (inr (id, lacks)) = one_lacks R refused before.clients clients all id lacks
+
+  -- no client made anything of it
+  pub unfelt_call : {was : Bool} (refused : Bool) (offer : Offer G) → offer ≡ offer_after before.offer (Asked s answer) → NumbersGlobal before.offer (Asked s answer)
+      → lacks_growth (Asked s answer) ≡ refused → ((id : ClientParts) (b : Seen T U C) → PartStep w id before.offer s answer b false [] b)
+      → Calls w (record { server = before; refused = was }) s answer (record { server = record before { offer = offer }; refused = refused })
+  unfelt_call refused offer becomes numbers growth to = calls _ _ _ _ _ (
+    record { call = Asked s answer; refused = refused; lacks = λ id. false; did = λ id. [] },
+    refl,
+    refl,
+    record {
+      offer = becomes;
+      last = last _ felt.last;
+      client = felt.client before;
+      global = numbers;
+      order = felt.order;
+      room = felt.room before;
+      refused = (λ is. inl (growth ∙ is), λ h. was_refused h);
+      each = λ id. to id _;
+    },
+  )
+    where
+      was_refused : (lacks_growth (Asked s answer) ≡ true) ⊎ ((id : ClientParts) × (false ≡ true)) → refused ≡ true
+      was_refused (inl grown) = sym growth ∙ grown
+      was_refused (inr (id, lacks)) = absurd (false≢true lacks)

@@ -1,0 +1,124 @@
+-- A call that is about one client, as a step of the server.
+use Rattle.std.proofs.Common.{◌≡◌, ℕ, ◌+◌, Bool, true, false, List, [], Option, None, Some, is_some, refl, sym, subst, ◌∙◌, arith, true≢false}
+use mathlib.Core.Logic.{inl, inr}
+use Rattle.std.specs.Prelude.{◌⊎◌, slice_get, slice_index_or, slice_set}
+use Rattle.std.proofs.lemmas.Bool.{false≢true}
+use Rattle.wl_wire.specs.Table.{InterfaceRow}
+use Rattle.wl_link.specs.Store.{Store}
+use Rattle.wl_server.specs.declared.globals.KeptGlobal.{KeptGlobal}
+use Rattle.wl_server.specs.declared.notes.Note.{Note}
+use Rattle.wl_server.specs.declared.runs.step.Reply.{Reply}
+use Rattle.wl_server.specs.declared.runs.step.Step.{Step}
+use Rattle.wl_server.proofs.OverRuns.Alone.AccountLaws.{calls}
+use Rattle.wl_server.specs.Backend.{Calls}
+use Rattle.wl_server.specs.Inside.Client.{Does}
+use Rattle.wl_server.specs.Deeds.{Deed}
+use Rattle.wl_server.specs.Globals.{Offer}
+use Rattle.wl_server.specs.Ids.{ClientParts, same_client}
+use Rattle.wl_server.specs.PartStep.{Asked, Call, OfClient, PartStep, World}
+use Rattle.wl_server.specs.Server.{Seen, ServerState, Stored, client_at}
+use Rattle.wl_server.specs.Steps.{AsksForRoom, NumbersClient, NumbersGlobal, RisesBySlot, StepOf, inserted_by, lacks_growth, offer_after}
+use Rattle.wl_server.proofs.CallSteps.Slots.{Kind, did_at, each_missing, each_set, lacks_at, same_self, slot_has}
+
+-- a call that is about one client: nothing changes that all share, and no memory is wanted but for that client
+pub record IsOwn {T U G C : Type 0} (call : Call T U G C) : Type 0 where
+  pub offer : (offer : Offer G) → offer_after offer call ≡ offer
+  pub last : inserted_by call ≡ 0
+  pub client : (before : ServerState T U G C) → NumbersClient before call
+  pub global : (offer : Offer G) → NumbersGlobal offer call
+  pub order : RisesBySlot call
+  pub room : (before : ServerState T U G C) → AsksForRoom before call
+  pub growth : lacks_growth call ≡ false
+
+-- a server of these values
+abbrev pub held_by : {T U G C : Type 0} → List InterfaceRow → Store (KeptGlobal G) → ℕ → ℕ → ℕ → List (Option (Stored T U C)) → List (Note U) → ServerState T U G C
+held_by table globals last_global default_limit last_client clients notes = record {
+  offer = record { table = table; globals = record { store = globals; last_serial = last_global }; default_limit = default_limit };
+  last_client = last_client;
+  clients = clients;
+  notes = notes;
+}
+
+module _ {T U G C : Type 0} (w : World T G C) (before : ServerState T U G C) (s : Step T U G C) (answer : Reply T U) (own : IsOwn (Asked s answer)) (target : ClientParts)
+    (R : Kind T U C) (missing : Type 0)
+    (to : (id : ClientParts) (lacked : Bool) (did : List (Deed U)) (b a : Seen T U C) → OfClient (same_client target id) b (λ p q. R id p lacked did q) missing lacked did a
+    → PartStep w id before.offer s answer b lacked did a) where
+  abbrev with_clients : List (Option (Stored T U C)) → ServerState T U G C
+  with_clients clients = record before { clients = clients }
+
+  -- it was done to the client of that slot
+  own_call : (c c' : Stored T U C) (lacked : Bool) → slice_get before.clients target.slot ≡ Some (Some c) → c.serial ≡ target.serial
+      → Does c (λ p did q. R target p lacked did q) c'
+      → StepOf w before s answer lacked (with_clients (slice_set before.clients target.slot (Some c')))
+  own_call c c' lacked here known (did, q, does, is) = (
+    record { call = Asked s answer; refused = lacked; lacks = λ id. lacks_at (same_client target id) lacked; did = λ id. did_at (same_client target id) did },
+    refl,
+    refl,
+    record {
+      offer = sym (own.offer before.offer);
+      last = last _ own.last;
+      client = own.client before;
+      global = own.global before.offer;
+      order = own.order;
+      room = own.room before;
+      refused = (is_refused, λ h. was_refused h);
+      each = λ id. to id _ _ _ _ (each_set before.clients before.notes target c c' R missing lacked did q here known does is id);
+    },
+  )
+    where
+      last : (n : ℕ) → n ≡ 0 → before.last_client ≡ before.last_client + n
+      last n zero = omega (arith, zero)
+
+      is_refused : lacked ≡ true → (lacks_growth (Asked s answer) ≡ true) ⊎ ((id : ClientParts) × (lacks_at (same_client target id) lacked ≡ true))
+      is_refused is = inr (target, rw (same_self target) is)
+
+      was_refused : (lacks_growth (Asked s answer) ≡ true) ⊎ ((id : ClientParts) × (lacks_at (same_client target id) lacked ≡ true)) → lacked ≡ true
+      was_refused (inl growth) = absurd (false≢true (sym own.growth ∙ growth))
+      was_refused (inr (id, lacks)) = at (same_client target id) lacks
+        where
+          at : (b : Bool) → lacks_at b lacked ≡ true → lacked ≡ true
+          at true is = is
+          at false is = absurd (false≢true is)
+
+  -- the same of a slot that was looked up
+  pub done_at : {was : Bool} (n : ℕ) (x : Option (Stored T U C)) (c c' : Stored T U C) (lacked : Bool) → is_some (client_at target before.clients) ≡ true → n ≡ target.slot
+      → x ≡ slice_index_or before.clients n x → x ≡ Some c → Does c (λ p did q. R target p lacked did q) c'
+      → Calls w (record { server = before; refused = was }) s answer (record { server = with_clients (slice_set before.clients n (Some c')); refused = lacked })
+  done_at n x c c' lacked some at value is does =
+      let has = slot_has before.clients target n x c some at value is in
+      calls _ _ _ _ _
+      (subst (λ (i : ℕ). StepOf w before s answer lacked (with_clients (slice_set before.clients i (Some c')))) (sym at)
+      (own_call c c' lacked has.0 has.1 does))
+
+  -- there is no such client
+  no_such_client : client_at target before.clients ≡ None → missing → StepOf w before s answer false before
+  no_such_client none is = (
+    record { call = Asked s answer; refused = false; lacks = λ id. false; did = λ id. [] },
+    refl,
+    refl,
+    record {
+      offer = sym (own.offer before.offer);
+      last = last _ own.last;
+      client = own.client before;
+      global = own.global before.offer;
+      order = own.order;
+      room = own.room before;
+      refused = (λ h. absurd (false≢true h), λ h. was_refused h);
+      each = λ id. to id _ _ _ _ (each_missing before.clients before.notes target R missing none is id);
+    },
+  )
+    where
+      last : (n : ℕ) → n ≡ 0 → before.last_client ≡ before.last_client + n
+      last n zero = omega (arith, zero)
+
+      was_refused : (lacks_growth (Asked s answer) ≡ true) ⊎ ((id : ClientParts) × (false ≡ true)) → false ≡ true
+      was_refused (inl growth) = absurd (false≢true (sym own.growth ∙ growth))
+      was_refused (inr (id, lacks)) = lacks
+
+  pub not_stored : {was : Bool} → is_some (client_at target before.clients) ≡ false → missing
+      → Calls w (record { server = before; refused = was }) s answer (record { server = before; refused = false })
+  not_stored none is = calls _ _ _ _ _ (no_such_client (nothing (client_at target before.clients) none) is)
+    where
+      nothing : (o : Option (Stored T U C)) → is_some o ≡ false → o ≡ None
+      nothing None h = refl
+      nothing (Some x) h = absurd (true≢false h)

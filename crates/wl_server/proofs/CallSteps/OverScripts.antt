@@ -1,0 +1,104 @@
+-- A call over a transport whose sends and receives are those of a script, as one over the transport by script.
+use Rattle.std.proofs.Common.{◌≡◌, Bool, true, false, List, [], ◌++◌, Option, None, Some, Err}
+use Rattle.std.specs.Prelude.{MatchOption}
+use Rattle.wl_link.specs.Script.{Script, ScriptReceives, ScriptSends}
+use Rattle.wl_server.specs.declared.error.ScriptError.TheVariants as script
+use Rattle.wl_server.specs.declared.runs.step.Reply.{Reply}
+use Rattle.wl_server.specs.declared.runs.step.Step.{Step}
+use Rattle.wl_server.specs.declared.runs.step.Step.TheVariants as step
+use Rattle.wl_server.proofs.OverRuns.Alone.AccountLaws.{calls}
+use Rattle.wl_server.specs.Backend.{BackendState, Calls}
+use Rattle.wl_server.specs.Deeds.{Deed, notes_in}
+use Rattle.wl_server.specs.Globals.{Offer}
+use Rattle.wl_server.specs.Ids.{ClientParts, GlobalParts, same_client}
+use Rattle.wl_server.specs.Moves.{Accept, AcceptFault, Arrive, ArriveFault, Move, Moved, TakeSent}
+use Rattle.wl_server.specs.Part.{Part}
+use Rattle.wl_server.specs.PartStep.{Asked, Call, Changed, MovedFor, OfClient, PartCall, PartStep, Unfelt, WithTransport, World, lacks_move, over, over_scripts}
+use Rattle.wl_server.specs.Server.{Seen, ServerState}
+use Rattle.wl_server.specs.Steps.{StepOf}
+
+module _ {U G C : Type 0} (w : World Script G C) where
+  abbrev Moves : Moved → Move → Bool → List (Deed U) → Part Script U C → Part Script U C → Type 0
+  Moves answer m lacked did p q = (lacked ≡ lacks_move answer) × (did ≡ []) × WithTransport (λ t t'. w.moves t m answer t') p q
+
+  abbrev OnMoved : Option (Part Script U C) → Moved → Move → Seen Script U C → Bool → List (Deed U) → Seen Script U C → Type 0
+  OnMoved o answer m before lacked did after =
+      MatchOption o ((answer ≡ Err script.InvalidId) × Unfelt before lacked did after)
+      (λ p. (q : Part Script U C) × Moves answer m lacked did p q × (after ≡ record { part = Some q; made = before.made ++ notes_in did }))
+
+  abbrev OfMoved : Bool → Moved → Move → Seen Script U C → Bool → List (Deed U) → Seen Script U C → Type 0
+  OfMoved b answer m before lacked did after =
+      OfClient b before (λ p q. Moves answer m lacked did p q) (answer ≡ Err script.InvalidId) lacked did after
+
+abbrev pub by_script : {G C : Type 0} → (G → ClientParts → C → GlobalParts → Bool) → World Script G C
+by_script views = over ScriptSends ScriptReceives views
+
+module _ {U G C : Type 0} (views : G → ClientParts → C → GlobalParts → Bool) where
+  module _ (id : ClientParts) (offer : Offer G) where
+    -- no other transport makes the moves of a script: but those that name nobody are alike
+    moved : (target : ClientParts) (m : Move) (answer : Moved) (before : Seen Script U C) (lacked : Bool) (did : List (Deed U)) (after : Seen Script U C)
+        → MovedFor (by_script views) id offer target m answer before lacked did after → MovedFor (over_scripts views) id offer target m answer before lacked did after
+    moved target m answer before lacked did after h = about (same_client target id) before h
+      where
+        about : (b : Bool) (before : Seen Script U C) → OfMoved (by_script views) b answer m before lacked did after → OfMoved (over_scripts views) b answer m before lacked did after
+        about false before h = h
+        about true before h = on before.part h
+          where
+            on : (o : Option (Part Script U C)) → OnMoved (by_script views) o answer m before lacked did after → OnMoved (over_scripts views) o answer m before lacked did after
+            on None h = h
+            on (Some p) (q, (is, none, (t, impossible, becomes)), same) = absurd impossible
+
+    part_step : (s : Step Script U G C) (answer : Reply Script U) (before : Seen Script U C) (lacked : Bool) (did : List (Deed U)) (after : Seen Script U C)
+        → PartStep (by_script views) id offer s answer before lacked did after → PartStep (over_scripts views) id offer s answer before lacked did after
+    part_step (step.InsertClient transport info) answer before lacked did after h = h
+    part_step (step.SetObjectData o u) answer before lacked did after h = h
+    part_step (step.CreateObject target i version u) answer before lacked did after h = h
+    part_step (step.DestroyObject o) answer before lacked did after h = h
+    part_step (step.SendEvent m) answer before lacked did after h = h
+    part_step (step.PostError o code text) answer before lacked did after h = h
+    part_step (step.KillClient target reason) answer before lacked did after h = h
+    part_step (step.CreateGlobal i version handler) answer before lacked did after h = h
+    part_step (step.DisableGlobal g) answer before lacked did after h = h
+    part_step (step.RemoveGlobal g) answer before lacked did after h = h
+    part_step (step.Flush None) answer before lacked did after h = h
+    part_step (step.Flush (Some target)) answer before lacked did after h = h
+    part_step (step.SetDefaultMaxBufferSize limit) answer before lacked did after h = h
+    part_step (step.SetClientMaxBufferSize target limit) answer before lacked did after h = h
+    part_step (step.NextAction target) answer before lacked did after h = h
+    part_step (step.NextActionWithin target reading) answer before lacked did after h = h
+    part_step (step.FinishRequest target u) answer before lacked did after h = h
+    part_step (step.FinishBind target u) answer before lacked did after h = h
+    part_step step.Cleanup answer before lacked did after h = h
+    part_step step.TakeNotes answer before lacked did after h = h
+    part_step (step.Arrive target bytes tokens) answer before lacked did after (r, is, h) = (r, is, moved target (Arrive (record { bytes = bytes.items; tokens = tokens.items })) _ before lacked did after h)
+    part_step (step.ArriveFault target f) answer before lacked did after (r, is, h) = (r, is, moved target (ArriveFault f) _ before lacked did after h)
+    part_step (step.Accept target n) answer before lacked did after (r, is, h) = (r, is, moved target (Accept n) _ before lacked did after h)
+    part_step (step.AcceptFault target f) answer before lacked did after (r, is, h) = (r, is, moved target (AcceptFault f) _ before lacked did after h)
+    part_step (step.TakeSent target) answer before lacked did after (r, is, h) = (r, is, moved target TakeSent _ before lacked did after h)
+
+    part_call : (call : Call Script U G C) (before : Seen Script U C) (lacked : Bool) (did : List (Deed U)) (after : Seen Script U C)
+        → PartCall (by_script views) id offer call before lacked did after → PartCall (over_scripts views) id offer call before lacked did after
+    part_call (Asked s answer) before lacked did after h = part_step s answer before lacked did after h
+    part_call (Changed target t) before lacked did after h = h
+
+  pub step_over_script : (before : ServerState Script U G C) (s : Step Script U G C) (answer : Reply Script U) (refused : Bool) (after : ServerState Script U G C)
+      → StepOf (by_script views) before s answer refused after → StepOf (over_scripts views) before s answer refused after
+  step_over_script before s answer refused after (e, call, is, one) = (
+    e,
+    call,
+    is,
+    record {
+      offer = one.offer;
+      last = one.last;
+      client = one.client;
+      global = one.global;
+      order = one.order;
+      room = one.room;
+      refused = one.refused;
+      each = λ id. part_call id before.offer e.call _ _ _ _ (one.each id);
+    },
+  )
+
+  pub over_script : (before : BackendState Script U G C) (s : Step Script U G C) (answer : Reply Script U) (after : BackendState Script U G C)
+      → Calls (by_script views) before s answer after → Calls (over_scripts views) before s answer after
+  over_script before s answer after call = calls _ _ _ _ _ (step_over_script before.server s answer after.refused after.server call.step)

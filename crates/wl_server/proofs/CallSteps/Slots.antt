@@ -1,0 +1,228 @@
+-- What is held of each client id after one slot was written.
+use Rattle.std.proofs.Common.{◌≡◌, ◌≢◌, ℕ, suc, zero, Bool, true, false, ◌<◌, List, [], ◌∷◌, ◌++◌, length, Option, None, Some, is_some, refl, sym, ap, subst, ◌∙◌, append_assoc, arith, true≢false}
+use Rattle.std.specs.Option.{option_map_or}
+use Rattle.std.specs.Prelude.{if◌then◌else◌, ◌==◌, slice_get, slice_index_or, slice_set, Vec, vec_len}
+use Rattle.std.proofs.lemmas.Bool.{eqb-true, eq-eqb, false≢true}
+use Rattle.std.proofs.lemmas.Option.{slice_get_read, slice_get_within}
+use Rattle.wl_server.specs.declared.notes.Happening.{Happening}
+use Rattle.wl_server.specs.declared.notes.Note.{Note}
+use Rattle.wl_server.specs.Deeds.{Deed, notes_in}
+use Rattle.wl_server.specs.Ids.{ClientParts, same_client}
+use Rattle.wl_server.specs.Part.{Part}
+use Rattle.wl_server.specs.PartStep.{OfClient, OnPart}
+use Rattle.wl_server.specs.Server.{Seen, Stored, client_at, if_serial, notes_of, seen_as}
+
+-- ---- lists
+
+pub get_set_same : {A : Type 0} (xs : List A) (i : ℕ) (x y : A) → slice_get xs i ≡ Some x → slice_get (slice_set xs i y) i ≡ Some y
+get_set_same [] i x y is = absurd (false≢true (ap is_some is))
+get_set_same (z ∷ xs) zero x y is = refl
+get_set_same (z ∷ xs) (suc i) x y is = get_set_same xs i x y is
+
+pub get_set_other : {A : Type 0} (xs : List A) (i j : ℕ) (y : A) → i ≢ j → slice_get (slice_set xs i y) j ≡ slice_get xs j
+get_set_other [] i j y differ = refl
+get_set_other (z ∷ xs) zero zero y differ = absurd (differ refl)
+get_set_other (z ∷ xs) zero (suc j) y differ = refl
+get_set_other (z ∷ xs) (suc i) zero y differ = refl
+get_set_other (z ∷ xs) (suc i) (suc j) y differ = get_set_other xs i j y (λ e. differ (ap suc e))
+
+-- the slot of a stored client is an index
+pub slot_in : {A Z : Type 0} (clients : Vec A Z) (n slot : ℕ) → n ≡ slot → slot < length clients.items → n < vec_len clients
+slot_in clients n slot is below = let len : clients.len ≡ length clients.items = clients.ok.0 in omega (arith, is, below, len)
+
+-- ---- ids
+
+pub other_of : (i j : ℕ) → (i == j) ≡ false → i ≢ j
+other_of i j differ e = true≢false (sym (eq-eqb i j e) ∙ differ)
+
+-- two ids have the same slot and serial, or differ
+pub data Same (a b : ClientParts) : Type 0 where
+  Are : (slot : a.slot ≡ b.slot) (serial : a.serial ≡ b.serial) → Same a b
+  Slots : (slot : (a.slot == b.slot) ≡ false) → Same a b
+  Serials : (slot : a.slot ≡ b.slot) (serial : (a.serial == b.serial) ≡ false) → Same a b
+
+pub compare : (a b : ClientParts) → Same a b
+compare a b = at (a.slot == b.slot) (a.serial == b.serial) refl refl
+  where
+    at : (s t : Bool) → (a.slot == b.slot) ≡ s → (a.serial == b.serial) ≡ t → Same a b
+    at true true slot serial = Are (eqb-true a.slot b.slot slot) (eqb-true a.serial b.serial serial)
+    at true false slot serial = Serials (eqb-true a.slot b.slot slot) serial
+    at false t slot serial = Slots slot
+
+pub same_parts : (a b : ClientParts) → a.slot ≡ b.slot → a.serial ≡ b.serial → a ≡ b
+same_parts a b slot serial =
+    ap (λ (n : ℕ). let c : ClientParts = record { slot = n; serial = a.serial } in c) slot
+    ∙ ap (λ (n : ℕ). let c : ClientParts = record { slot = b.slot; serial = n } in c) serial
+
+pub same_self : (a : ClientParts) → same_client a a ≡ true
+same_self a = rw (eq-eqb a.slot a.slot refl) (eq-eqb a.serial a.serial refl)
+
+pub same_slots : (a b : ClientParts) → (a.slot == b.slot) ≡ false → same_client a b ≡ false
+same_slots a b slot = rw slot refl
+
+pub same_serials : (a b : ClientParts) → a.slot ≡ b.slot → (a.serial == b.serial) ≡ false → same_client a b ≡ false
+same_serials a b slot serial = rw (eq-eqb a.slot b.slot slot) serial
+
+-- ---- one client's share of what was done to one of them
+
+abbrev pub lacks_at : Bool → Bool → Bool
+lacks_at about lacked = if about then lacked else false
+
+abbrev pub did_at : {U : Type 0} → Bool → List (Deed U) → List (Deed U)
+did_at about did = if about then did else []
+
+-- what a call does to the part of a client, by its id
+abbrev pub Kind : (T U C : Type 0) → Type 1
+Kind T U C = ClientParts → Part T U C → Bool → List (Deed U) → Part T U C → Type 0
+
+module _ {T U C : Type 0} where
+  -- ---- look-ups
+
+  pub client_absent : (id : ClientParts) (xs : List (Option (Stored T U C))) (s : Stored T U C)
+      → slice_get xs id.slot ≡ Some (Some s) → (s.serial == id.serial) ≡ false → client_at id xs ≡ None
+  client_absent id xs s is differ = rw is (rw differ refl)
+
+  pub client_present : (id : ClientParts) (xs : List (Option (Stored T U C))) (s : Stored T U C)
+      → slice_get xs id.slot ≡ Some (Some s) → s.serial ≡ id.serial → client_at id xs ≡ Some s
+  client_present id xs s is same = rw is (rw (eq-eqb s.serial id.serial same) refl)
+
+  pub client_past : (id : ClientParts) (xs : List (Option (Stored T U C))) → slice_get xs id.slot ≡ None → client_at id xs ≡ None
+  client_past id xs is = rw is refl
+
+  pub client_empty : (id : ClientParts) (xs : List (Option (Stored T U C))) → slice_get xs id.slot ≡ Some None → client_at id xs ≡ None
+  client_empty id xs is = rw is refl
+
+  -- ---- the slot of a stored client
+
+  pub slot_within : (clients : List (Option (Stored T U C))) (id : ClientParts) → is_some (client_at id clients) ≡ true → id.slot < length clients
+  slot_within clients id some = at (slice_get clients id.slot) refl
+    where
+      at : (x : Option (Option (Stored T U C))) → slice_get clients id.slot ≡ x → id.slot < length clients
+      at None none = absurd (false≢true (sym (ap is_some (client_past id clients none)) ∙ some))
+      at (Some x) here = slice_get_within clients id.slot x here
+
+  -- an id that was read is the id
+  pub stored_by : (clients : List (Option (Stored T U C))) (read id : ClientParts) (b : Bool) → read ≡ id → b ≡ is_some (client_at read clients)
+      → is_some (client_at id clients) ≡ b
+  stored_by clients read id b same is = subst (λ (i : ClientParts). is_some (client_at i clients) ≡ b) same (sym is)
+
+  pub slot_holds : (clients : List (Option (Stored T U C))) (id : ClientParts) (x : Option (Stored T U C)) → is_some (client_at id clients) ≡ true
+      → x ≡ slice_index_or clients id.slot x → slice_get clients id.slot ≡ Some x
+  slot_holds clients id x some value = slice_get_read clients (length clients) id.slot x refl (slot_within clients id some) value
+
+  serial_is : (clients : List (Option (Stored T U C))) (id : ClientParts) (s : Stored T U C) → is_some (client_at id clients) ≡ true
+      → slice_get clients id.slot ≡ Some (Some s) → s.serial ≡ id.serial
+  serial_is clients id s some here = at (s.serial == id.serial) refl
+    where
+      at : (b : Bool) → (s.serial == id.serial) ≡ b → s.serial ≡ id.serial
+      at true is = eqb-true s.serial id.serial is
+      at false is = absurd (false≢true (sym (ap is_some (client_absent id clients s here is)) ∙ some))
+
+  -- a stored client is at its slot
+  pub slot_not_empty : (clients : List (Option (Stored T U C))) (id : ClientParts) (n : ℕ) (x : Option (Stored T U C)) → is_some (client_at id clients) ≡ true
+      → n ≡ id.slot → x ≡ slice_index_or clients n x → x ≢ None
+  slot_not_empty clients id n x some at value none =
+      let here = slot_holds clients id x some (subst (λ (i : ℕ). x ≡ slice_index_or clients i x) at value) in
+      false≢true (sym (ap is_some (client_empty id clients (here ∙ ap Some none))) ∙ some)
+
+  pub slot_has : (clients : List (Option (Stored T U C))) (id : ClientParts) (n : ℕ) (x : Option (Stored T U C)) (s : Stored T U C) → is_some (client_at id clients) ≡ true
+      → n ≡ id.slot → x ≡ slice_index_or clients n x → x ≡ Some s → (slice_get clients id.slot ≡ Some (Some s)) × (s.serial ≡ id.serial)
+  slot_has clients id n x s some at value is =
+      let here = slot_holds clients id x some (subst (λ (i : ℕ). x ≡ slice_index_or clients i x) at value) ∙ ap Some is in
+      (here, serial_is clients id s some here)
+
+  -- ---- a step of one client
+
+  as_other : (b : Bool) (id : ClientParts) (before after : Seen T U C) (R : Kind T U C) (missing : Type 0) (lacked : Bool) (did : List (Deed U))
+      → b ≡ false → after ≡ before
+      → OfClient b before (λ p q. R id p (lacks_at b lacked) (did_at b did) q) missing (lacks_at b lacked) (did_at b did) after
+  as_other true id before after R missing lacked did other same = absurd (true≢false other)
+  as_other false id before after R missing lacked did other same = (refl, refl, same)
+
+  as_meant : (b : Bool) (id : ClientParts) (before after : Seen T U C) (R : Kind T U C) (missing : Type 0) (lacked : Bool) (did : List (Deed U))
+      → b ≡ true → OnPart before (λ p q. R id p lacked did q) missing lacked did after
+      → OfClient b before (λ p q. R id p (lacks_at b lacked) (did_at b did) q) missing (lacks_at b lacked) (did_at b did) after
+  as_meant true id before after R missing lacked did meant on = on
+  as_meant false id before after R missing lacked did meant on = absurd (false≢true meant)
+
+  pub on_part : (gathered : List (Happening U)) (s s' : Stored T U C) (R : Part T U C → List (Deed U) → Part T U C → Type 0) (missing : Type 0) (lacked : Bool)
+      (did : List (Deed U)) (q : Part T U C) → R s.part did q → s' ≡ record { serial = s.serial; part = q; made = s.made ++ notes_in did }
+      → OnPart (seen_as gathered (Some s)) (λ p q. R p did q) missing lacked did (seen_as gathered (Some s'))
+  on_part gathered s s' R missing lacked did q does is = (
+    q,
+    does,
+    ap (λ (x : Stored T U C). seen_as gathered (Some x)) is
+        ∙ ap (λ (notes : List (Happening U)). let x : Seen T U C = record { part = Some q; made = notes } in x) (sym (append_assoc gathered s.made (notes_in did))),
+  )
+
+  -- what is held of an id
+  abbrev pub held_of : List (Note U) → List (Option (Stored T U C)) → ClientParts → Seen T U C
+  held_of notes clients id = seen_as (notes_of id notes) (client_at id clients)
+
+  -- of each id, that this was done to one of them
+  abbrev pub DoneFor : ClientParts → Kind T U C → Type 0 → Bool → List (Deed U) → ClientParts → Seen T U C → Seen T U C → Type 0
+  DoneFor target R missing lacked did id before after =
+      OfClient (same_client target id) before (λ p q. R id p (lacks_at (same_client target id) lacked) (did_at (same_client target id) did) q) missing
+      (lacks_at (same_client target id) lacked) (did_at (same_client target id) did) after
+
+  -- one client's slot was written by a step of its own: so it is a step of that client, and of no other
+  pub each_set : (clients : List (Option (Stored T U C))) (notes : List (Note U)) (target : ClientParts) (s s' : Stored T U C)
+      (R : Kind T U C) (missing : Type 0) (lacked : Bool) (did : List (Deed U)) (q : Part T U C)
+      → slice_get clients target.slot ≡ Some (Some s) → s.serial ≡ target.serial → R target s.part lacked did q
+      → s' ≡ record { serial = s.serial; part = q; made = s.made ++ notes_in did } → (id : ClientParts)
+      → DoneFor target R missing lacked did id (held_of notes clients id) (held_of notes (slice_set clients target.slot (Some s')) id)
+  each_set clients notes target s s' R missing lacked did q here known does is id =
+      elim (compare target id) [
+        | Are slot serial ↦ subst (λ (i : ClientParts). DoneFor target R missing lacked did i (held_of notes clients i) (held_of notes (slice_set clients target.slot (Some s')) i))
+            (same_parts target id slot serial) meant
+        | Slots slot ↦ as_other (same_client target id) id _ _ R missing lacked did (same_slots target id slot)
+            (ap (λ (x : Option (Option (Stored T U C))). seen_as (notes_of id notes) (if_serial id.serial (option_map_or (λ s. s) x None)))
+            (get_set_other clients target.slot id.slot _ (other_of target.slot id.slot slot)))
+        | Serials slot differ ↦ as_other (same_client target id) id _ _ R missing lacked did (same_serials target id slot differ)
+            (ap (seen_as (notes_of id notes))
+            (client_absent id _ s' (at_slot _ s' slot after) (rw (serial' ∙ known) differ) ∙ sym (client_absent id _ s (at_slot _ s slot here) (rw known differ))))
+      ]
+    where
+      after : slice_get (slice_set clients target.slot (Some s')) target.slot ≡ Some (Some s')
+      after = get_set_same clients target.slot (Some s) (Some s') here
+
+      at_slot : (xs : List (Option (Stored T U C))) (x : Stored T U C) → target.slot ≡ id.slot → slice_get xs target.slot ≡ Some (Some x)
+          → slice_get xs id.slot ≡ Some (Some x)
+      at_slot xs x slot is = subst (λ (n : ℕ). slice_get xs n ≡ Some (Some x)) slot is
+
+      serial' : s'.serial ≡ s.serial
+      serial' = ap (λ (x : Stored T U C). x.serial) is
+
+      meant : DoneFor target R missing lacked did target (held_of notes clients target) (held_of notes (slice_set clients target.slot (Some s')) target)
+      meant = as_meant (same_client target target) target _ _ R missing lacked did (same_self target)
+          (subst (λ (x : Option (Stored T U C)). OnPart (seen_as (notes_of target notes) x) (λ p q. R target p lacked did q) missing lacked did
+          (held_of notes (slice_set clients target.slot (Some s')) target)) (sym (client_present target clients s here known))
+          (subst (λ (x : Option (Stored T U C)). OnPart (seen_as (notes_of target notes) (Some s)) (λ p q. R target p lacked did q) missing lacked did
+          (seen_as (notes_of target notes) x)) (sym (client_present target _ s' after (serial' ∙ known)))
+          (on_part (notes_of target notes) s s' (λ p d r. R target p lacked d r) missing lacked did q does is)))
+
+  abbrev Missing : ClientParts → Kind T U C → Type 0 → ClientParts → Bool → Seen T U C → Type 0
+  Missing target R missing id b held = OfClient b held (λ p q. R id p false [] q) missing false [] held
+
+  -- no client of that id is stored: so no client makes anything of it
+  pub each_missing : (clients : List (Option (Stored T U C))) (notes : List (Note U)) (target : ClientParts) (R : Kind T U C) (missing : Type 0)
+      → client_at target clients ≡ None → missing → (id : ClientParts) → Missing target R missing id (same_client target id) (held_of notes clients id)
+  each_missing clients notes target R missing none is id =
+      elim (compare target id) [
+        | Are slot serial ↦ subst (λ (i : ClientParts). Missing target R missing i (same_client target i) (held_of notes clients i)) (same_parts target id slot serial) meant
+        | Slots slot ↦ other (same_client target id) (same_slots target id slot)
+        | Serials slot differ ↦ other (same_client target id) (same_serials target id slot differ)
+      ]
+    where
+      there : (b : Bool) (held : Seen T U C) → b ≡ true → OnPart held (λ p q. R target p false [] q) missing false [] held → Missing target R missing target b held
+      there true held same on = on
+      there false held same on = absurd (false≢true same)
+
+      meant : Missing target R missing target (same_client target target) (held_of notes clients target)
+      meant = there (same_client target target) (held_of notes clients target) (same_self target)
+          (subst (λ (x : Option (Stored T U C)). OnPart (seen_as (notes_of target notes) x) (λ p q. R target p false [] q) missing false []
+          (seen_as (notes_of target notes) x)) (sym none) (is, (refl, refl, refl)))
+
+      other : (b : Bool) → b ≡ false → Missing target R missing id b (held_of notes clients id)
+      other true differ = absurd (true≢false differ)
+      other false differ = (refl, refl, refl)

@@ -1,0 +1,106 @@
+-- What a cleanup, and what the list of notes, asks for memory for.
+use Rattle.std.proofs.Common.{◌≡◌, ◌≢◌, ℕ, zero, suc, ◌+◌, ◌<◌, ◌≤◌, ◌^◌, Bool, true, false, List, [], ◌∷◌, ◌++◌, length, min, Option, None, Some, Result, Ok, Err, OnErr, refl, sym, ap, ◌∙◌, arith, append-nil}
+use mathlib.Core.Logic.{inl, inr}
+use Rattle.std.specs.Prelude.{◌⊎◌}
+use Rattle.std.proofs.lemmas.List.{nil_from_length}
+use Rattle.wl_server.specs.declared.notes.Happening.{Happening}
+use Rattle.wl_server.specs.Inside.Gathering.{AllLeft, count_leaving, leaving}
+use Rattle.wl_server.specs.Inside.Leaving.{collected, ends_at, given_at, id_in}
+use Rattle.wl_server.specs.Server.{Stored}
+use Rattle.wl_server.specs.Steps.{SomeClient}
+use Rattle.wl_server.proofs.CleanupSteps.Gathering.{count_at}
+
+pub on_err : {A E P : Type 0} (r : Result A E) → P → OnErr r P
+on_err (Ok x) p = tt
+on_err (Err e) p = p
+
+pub positive : (n m : ℕ) → n ≢ 0 → n ≤ m → 0 < m
+positive zero m some more = absurd (some refl)
+positive (suc n) m some more = omega (arith, more)
+
+-- what is none in all is none
+pub none_of : (n m : ℕ) → n ≡ 0 → (n < 0xFFFFFFFFFFFFFFFF → m ≤ n) → m ≤ 0
+none_of n m none all = let few : n < 0xFFFFFFFFFFFFFFFF = omega (arith, none) in let fits = all few in omega (arith, none, fits)
+
+-- room for what was counted is room for what there is
+pub room_of : (len n m cap : ℕ) → (n < 0xFFFFFFFFFFFFFFFF → m ≤ n) → len + n ≤ cap → cap < 2 ^ 63 → len + m ≤ cap
+room_of len n m cap all room small = let few : n < 0xFFFFFFFFFFFFFFFF = omega (arith, room, small) in let fits = all few in omega (arith, room, fits)
+
+-- there is room for nothing
+pub room_of_none : (len cap n m : ℕ) → n ≤ 0 → m ≤ 0 → len ≤ cap → len + n + m ≤ cap
+room_of_none len cap n m none none' within = omega (arith, none, none', within)
+
+pub at_most : (n cap : ℕ) → n ≤ 0 → n ≤ cap
+at_most n cap none = omega (arith, none)
+
+-- two counts of which the sum is none, or is not
+pub none_both : (n m count : ℕ) → count ≡ min (n + m) 0xFFFFFFFFFFFFFFFF → count ≡ 0 → (n ≡ 0) × (m ≡ 0)
+none_both n m count is none = (omega (arith, is, none), omega (arith, is, none))
+
+pub some_of : (n m count some more : ℕ) → count ≡ min (n + m) 0xFFFFFFFFFFFFFFFF → count ≢ 0 → n ≤ some → m ≤ more → 0 < some + more
+some_of n m zero some more is not within within' = absurd (not refl)
+some_of n m (suc count) some more is not within within' = omega (arith, is, within, within')
+
+module _ {T U C : Type 0} where
+  -- ---- what nobody asks for
+
+  pub none_leaving : (waits : Bool) (clients : List (Option (Stored T U C))) → count_leaving waits clients ≤ 0 → AllLeft waits clients
+  none_leaving waits clients none slot x here =
+      let one = count_at waits clients slot x here in nil_from_length (leaving waits x) (omega (arith, one, none))
+
+  pub none_ends : (n : ℕ) (clients : List (Option (Stored T U C))) → length (collected given_at n clients) ≤ 0 → length (collected ends_at n clients) ≤ 0
+  none_ends n [] none = none
+  none_ends n (None ∷ clients) none = none_ends (n + 1) clients none
+  none_ends n (Some s ∷ clients) none = at s.part.is_killed refl (none_ends (n + 1) clients)
+    where
+      at : (b : Bool) → s.part.is_killed ≡ b → (length (collected given_at (n + 1) clients) ≤ 0 → length (collected ends_at (n + 1) clients) ≤ 0)
+          → length (collected ends_at n (Some s ∷ clients)) ≤ 0
+      at true killed rest = absurd (some_killed (id_in n s, s.part.link.transport) (collected given_at (n + 1) clients) (rw killed at none))
+        where
+          some_killed : {A : Type 0} (x : A) (l : List A) → length (x ∷ l) ≤ 0 → ⊥
+          some_killed x l few = omega (arith, few)
+      at false live rest = rw live (rest (rw live at none))
+
+  -- ---- who asks
+
+  later : {R : Stored T U C → Type 0} (x : Option (Stored T U C)) (clients : List (Option (Stored T U C))) → SomeClient clients R → SomeClient (x ∷ clients) R
+  later x clients (slot, s, here, is) = (suc slot, s, here, is)
+
+  one_leaves : (waits : Bool) (clients : List (Option (Stored T U C))) → 0 < count_leaving waits clients → SomeClient clients (λ s. leaving waits (Some s) ≢ [])
+  one_leaves waits [] more = absurd (omega (arith, more))
+  one_leaves waits (None ∷ clients) more = later None clients (one_leaves waits clients (omega (arith, more)))
+  one_leaves waits (Some s ∷ clients) more = at (leaving waits (Some s)) refl (one_leaves waits clients)
+    where
+      at : (told : List (Happening U)) → leaving waits (Some s) ≡ told → (0 < count_leaving waits clients → SomeClient clients (λ s. leaving waits (Some s) ≢ []))
+          → SomeClient (Some s ∷ clients) (λ s. leaving waits (Some s) ≢ [])
+      at [] none rest =
+          let long : length (leaving waits (Some s)) ≡ 0 = ap length none in
+          later (Some s) clients (rest (omega (arith, more, long)))
+      at (h ∷ told) is rest = (0, s, refl, λ none. some_none (sym is ∙ none))
+        where
+          some_none : h ∷ told ≡ [] → ⊥
+          some_none e = cc
+
+  one_is_killed : (n : ℕ) (clients : List (Option (Stored T U C))) → 0 < length (collected given_at n clients) → SomeClient clients (λ s. s.part.is_killed ≡ true)
+  one_is_killed n [] more = absurd (omega (arith, more))
+  one_is_killed n (None ∷ clients) more = later None clients (one_is_killed (n + 1) clients more)
+  one_is_killed n (Some s ∷ clients) more = at s.part.is_killed refl (one_is_killed (n + 1) clients)
+    where
+      at : (b : Bool) → s.part.is_killed ≡ b → (0 < length (collected given_at (n + 1) clients) → SomeClient clients (λ s. s.part.is_killed ≡ true))
+          → SomeClient (Some s ∷ clients) (λ s. s.part.is_killed ≡ true)
+      at true killed rest = (0, s, refl, killed)
+      at false live rest = later (Some s) clients (rest (rw live at more))
+
+  pub notes_ask : (clients : List (Option (Stored T U C))) → 0 < count_leaving false clients → SomeClient clients (λ s. s.made ≢ [])
+  notes_ask clients some =
+      let (slot, s, here, is) = one_leaves false clients some in (slot, s, here, λ none. is (append-nil s.made ∙ none))
+
+  pub cleanup_asks : (clients : List (Option (Stored T U C))) → 0 < count_leaving true clients + length (collected given_at 0 clients)
+      → SomeClient clients (λ s. (s.made ++ s.part.waiting ≢ []) ⊎ (s.part.is_killed ≡ true))
+  cleanup_asks clients some = at (count_leaving true clients) refl
+    where
+      at : (n : ℕ) → count_leaving true clients ≡ n → SomeClient clients (λ s. (s.made ++ s.part.waiting ≢ []) ⊎ (s.part.is_killed ≡ true))
+      at zero none =
+          let (slot, s, here, killed) = one_is_killed 0 clients (omega (arith, some, none)) in (slot, s, here, inr killed)
+      at (suc n) more =
+          let (slot, s, here, is) = one_leaves true clients (omega (arith, more)) in (slot, s, here, inl is)

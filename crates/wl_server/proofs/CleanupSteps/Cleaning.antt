@@ -1,0 +1,180 @@
+-- A cleanup, as a step of the server.
+use Rattle.std.proofs.Common.{◌≡◌, ℕ, Bool, true, false, List, [], ◌∷◌, ◌++◌, map, Option, None, Some, Result, Ok, Vec, refl, sym, ap, subst, ◌∙◌, append_assoc, append-nil}
+use Rattle.std.specs.FinMap.{entries}
+use Rattle.std.specs.Global.{Global}
+use Rattle.std.specs.Option.{option_map}
+use Rattle.std.specs.Prelude.{MatchBool, if◌then◌else◌}
+use Rattle.std.proofs.lemmas.Option.{same_Some, none-some}
+use Rattle.wl_wire.specs.declared.error.IoFault.{IoFault}
+use Rattle.wl_link.specs.declared.object.Object.{Object}
+use Rattle.wl_link.specs.Link.{LinkState}
+use Rattle.wl_server.specs.declared.objects.Kept.{Kept}
+use Rattle.wl_server.specs.declared.notes.Happening.{Happening}
+use Rattle.wl_server.specs.Deeds.{Deed, Noted, left_if, notes_in}
+use Rattle.wl_server.specs.Felt.{FlushedTo, objects_leave}
+use Rattle.wl_server.specs.Inside.Gathering.{emptied, leaving}
+use Rattle.wl_server.specs.Globals.{Offer}
+use Rattle.wl_server.specs.Ids.{ClientParts}
+use Rattle.wl_server.specs.Inside.Leaving.{FlushesKilled, ends_in, ends_of, given_in, staying}
+use Rattle.wl_server.specs.Part.{Part, id_at, id_of, note_of_end, with_link}
+use Rattle.wl_server.specs.PartStep.{CleanedAs, Feels, World, share_of}
+use Rattle.wl_server.specs.Server.{Seen, Stored, seen_as}
+use Rattle.wl_server.proofs.Readings.Notes.{notes_append, notes_of_sends}
+use Rattle.wl_server.proofs.CleanupSteps.Outgoing.{if_false, if_true}
+
+-- ---- notes among deeds
+
+module _ {U : Type 0} where
+  noted_notes : (told : List (Happening U)) → notes_in (map Noted told) ≡ told
+  noted_notes [] = refl
+  noted_notes (h ∷ told) = ap (λ (l : List (Happening U)). h ∷ l) (noted_notes told)
+
+  left_notes : (id : _) (given : Option U) (did : List (Deed U)) → notes_in (left_if id given ++ did) ≡ notes_in did
+  left_notes id None did = refl
+  left_notes id (Some u) did = refl
+
+  leave_notes : (client : ClientParts) (objects : List (ℕ × Object (Kept U))) → notes_in (objects_leave client objects) ≡ ends_of client objects
+  leave_notes client [] = refl
+  leave_notes client (e ∷ objects) =
+      notes_append (map Noted (note_of_end client e.0 e.1)) (left_if (id_of (id_at client e.0 e.1)) e.1.value.user_data ++ objects_leave client objects)
+      ∙ (ap (λ (l : List (Happening U)). l ++ notes_in (left_if (id_of (id_at client e.0 e.1)) e.1.value.user_data ++ objects_leave client objects)) (noted_notes (note_of_end client e.0 e.1))
+      ∙ ap (λ (l : List (Happening U)). note_of_end client e.0 e.1 ++ l)
+      (left_notes (id_of (id_at client e.0 e.1)) e.1.value.user_data (objects_leave client objects) ∙ leave_notes client objects))
+
+  killed_notes : (n m w e s d n2 n3 : List (Happening U)) → n2 ≡ n ++ (m ++ w) → n3 ≡ n2 ++ e → s ≡ [] → d ≡ w ++ (e ++ s) → n3 ++ [] ≡ (n ++ m) ++ d
+  killed_notes n m w e s d n2 n3 is is' none all =
+      append-nil n3 ∙ (is' ∙ (ap (λ (l : List (Happening U)). l ++ e) is
+      ∙ (append_assoc n (m ++ w) e ∙ (ap (λ (l : List (Happening U)). n ++ l) (append_assoc m w e)
+      ∙ (sym (append_assoc n m (w ++ e)) ∙ ap (λ (l : List (Happening U)). (n ++ m) ++ l) (sym (all ∙ ap (λ (l : List (Happening U)). w ++ (e ++ l)) none ∙ ap (λ (l : List (Happening U)). w ++ l) (append-nil e))))))))
+
+module _ {T U G C : Type 0} (w : World T G C) (id : ClientParts) (offer : Offer G) (out : Vec (ClientParts × T) Global) where
+  -- ---- one client
+
+  abbrev pub CleanedBy : Option (Stored T U C) → List (Happening U) → Bool → Option (Stored T U C) → List (Happening U) → Type 0
+  CleanedBy before n lacked after n' = (did : List (Deed U)) × CleanedAs w id offer (Ok out) (seen_as n before) lacked did (seen_as n' after)
+
+  killed_cleaned : (s : Stored T U C) (link : LinkState T) (answer : Result (Unit {0}) IoFault) (lacked : Bool) (sent : List (Deed U)) (n n2 n3 : List (Happening U)) → s.part.is_killed ≡ true
+      → FlushedTo w.sends s.part answer lacked sent (with_link s.part link) → notes_in sent ≡ [] → n2 ≡ n ++ (s.made ++ s.part.waiting)
+      → n3 ≡ n2 ++ ends_of id (entries s.part.store.objects) → share_of id out.items ≡ link.transport ∷ [] → CleanedBy (Some s) n lacked None n3
+  killed_cleaned s link answer lacked sent n n2 n3 killed flushed quiet gathered noted given =
+      let did : List (Deed U) = map Noted s.part.waiting ++ (objects_leave id (entries s.part.store.objects) ++ sent) in
+      let told : notes_in did ≡ s.part.waiting ++ (ends_of id (entries s.part.store.objects) ++ notes_in sent) =
+      notes_append (map Noted s.part.waiting) (objects_leave id (entries s.part.store.objects) ++ sent)
+      ∙ (ap (λ (l : List (Happening U)). l ++ notes_in (objects_leave id (entries s.part.store.objects) ++ sent)) (noted_notes s.part.waiting)
+      ∙ ap (λ (l : List (Happening U)). s.part.waiting ++ l)
+      (notes_append (objects_leave id (entries s.part.store.objects)) sent ∙ ap (λ (l : List (Happening U)). l ++ notes_in sent) (leave_notes id (entries s.part.store.objects))))
+      in (
+        did,
+        (
+          None,
+          if_true s.part.is_killed _ _ killed (sent, answer, with_link s.part link, flushed, refl, given, refl),
+          ap (λ (m : List (Happening U)). let x : Seen T U C = record { part = None; made = m } in x)
+              (killed_notes n s.made s.part.waiting (ends_of id (entries s.part.store.objects)) (notes_in sent) (notes_in did) n2 n3 gathered noted quiet told),
+        ),
+      )
+
+  live_cleaned : (s s' : Stored T U C) (n n2 n3 : List (Happening U)) → s.part.is_killed ≡ false → s'.part ≡ record s.part { waiting = [] } → s'.made ≡ []
+      → n2 ≡ n ++ (s.made ++ s.part.waiting) → n3 ≡ n2 ++ [] → share_of id out.items ≡ [] → CleanedBy (Some s) n false (Some s') n3
+  live_cleaned s s' n n2 n3 live part made gathered noted given =
+      let told : n3 ++ s'.made ≡ (n ++ s.made) ++ notes_in (map Noted s.part.waiting) =
+      ap (λ (m : List (Happening U)). n3 ++ m) made ∙ (append-nil n3 ∙ (noted ∙ (append-nil n2 ∙ (gathered
+      ∙ (sym (append_assoc n s.made s.part.waiting) ∙ ap (λ (l : List (Happening U)). (n ++ s.made) ++ l) (sym (noted_notes s.part.waiting)))))))
+      in (
+        map Noted s.part.waiting,
+        (
+          Some (record s.part { waiting = [] }),
+          if_false s.part.is_killed _ _ live (refl, refl, given, refl),
+          ap (λ (p : Part T U C). let x : Seen T U C = record { part = Some p; made = n3 ++ s'.made } in x) part
+              ∙ ap (λ (m : List (Happening U)). let x : Seen T U C = record { part = Some (record s.part { waiting = [] }); made = m } in x) told,
+        ),
+      )
+
+  left_is : (x : Option (Stored T U C)) → leaving true x ≡ [] → x ≡ option_map (emptied true) x
+  left_is None none = refl
+  left_is (Some s) none = both s.made s.part.waiting none
+      (λ made waiting. ap (λ (m : List (Happening U)). let x : Stored T U C = record { serial = s.serial; part = s.part; made = m } in Some x) made
+      ∙ ap (λ (m : List (Happening U)). let x : Stored T U C = record { serial = s.serial; part = record s.part { waiting = m }; made = [] } in Some x) waiting)
+    where
+      both : {P : Type 0} (a b : List (Happening U)) → a ++ b ≡ [] → (a ≡ [] → b ≡ [] → P) → P
+      both [] b none goes = goes refl none
+      both (h ∷ a) b none goes = absurd (cons_nil none)
+        where
+          cons_nil : h ∷ (a ++ b) ≡ [] → ⊥
+          cons_nil e = cc
+
+  cleaned_from : (s s1 : Stored T U C) (lacked : Bool) (sent : List (Deed U)) (n n2 n3 : List (Happening U)) → FlushesKilled w.sends s.part lacked sent s1.part → s1.made ≡ s.made ++ notes_in sent
+      → n2 ++ [] ≡ n ++ (s1.made ++ s1.part.waiting) → n3 ≡ n2 ++ ends_in id (Some (emptied true s1)) → share_of id out.items ≡ given_in (Some (emptied true s1))
+      → CleanedBy (Some s) n lacked (staying (Some (emptied true s1))) n3
+  cleaned_from s s1 lacked sent n n2 n3 flushes made gathered noted given = at s.part.is_killed refl flushes
+    where
+      made_so : notes_in sent ≡ [] → s1.made ≡ s.made
+      made_so quiet = made ∙ (ap (λ (l : List (Happening U)). s.made ++ l) quiet ∙ append-nil s.made)
+
+      gathered_so : notes_in sent ≡ [] → s1.part.waiting ≡ s.part.waiting → n2 ≡ n ++ (s.made ++ s.part.waiting)
+      gathered_so quiet waits = sym (append-nil n2) ∙ (gathered ∙ (ap (λ (m : List (Happening U)). n ++ (m ++ s1.part.waiting)) (made_so quiet)
+          ∙ ap (λ (l : List (Happening U)). n ++ (s.made ++ l)) waits))
+
+      at : (b : Bool) → s.part.is_killed ≡ b
+          → MatchBool b ((answer : Result (Unit {0}) IoFault) × FlushedTo w.sends s.part answer lacked sent s1.part) ((lacked ≡ false) × (sent ≡ []) × (s1.part ≡ s.part))
+          → CleanedBy (Some s) n lacked (staying (Some (emptied true s1))) n3
+      at true killed (answer, (es, link, by, lack, sends, is)) =
+          let killed1 : s1.part.is_killed ≡ true = ap (λ (p : Part T U C). p.is_killed) is ∙ killed in
+          let quiet : notes_in sent ≡ [] = ap notes_in sends ∙ notes_of_sends es in
+          subst (λ (b : Bool). CleanedBy (Some s) n lacked (if b then None else Some (emptied true s1)) n3) (sym killed1)
+          (killed_cleaned s link answer lacked sent n n2 n3 killed (es, link, by, lack, sends, refl) quiet (gathered_so quiet (ap (λ (p : Part T U C). p.waiting) is))
+          (noted ∙ (ap (λ (b : Bool). n2 ++ (if b then ends_of id (entries s1.part.store.objects) else [])) killed1 ∙ ap (λ (p : Part T U C). n2 ++ ends_of id (entries p.store.objects)) is))
+          (given ∙ (ap (λ (b : Bool). if b then (s1.part.link.transport ∷ []) else []) killed1 ∙ ap (λ (p : Part T U C). p.link.transport ∷ []) is)))
+      at false live (not, none, same) =
+          let live1 : s1.part.is_killed ≡ false = ap (λ (p : Part T U C). p.is_killed) same ∙ live in
+          let quiet : notes_in sent ≡ [] = ap notes_in none in
+          subst (λ (l : Bool). CleanedBy (Some s) n l (staying (Some (emptied true s1))) n3) (sym not)
+          (subst (λ (b : Bool). CleanedBy (Some s) n false (if b then None else Some (emptied true s1)) n3) (sym live1)
+          (live_cleaned s (emptied true s1) n n2 n3 live (ap (λ (p : Part T U C). record p { waiting = [] }) same) refl (gathered_so quiet (ap (λ (p : Part T U C). p.waiting) same))
+          (noted ∙ ap (λ (b : Bool). n2 ++ (if b then ends_of id (entries s1.part.store.objects) else [])) live1)
+          (given ∙ ap (λ (b : Bool). if b then (s1.part.link.transport ∷ []) else []) live1)))
+
+  none_is : (x : Option (Stored T U C)) → option_map (λ s. s.part) x ≡ None → x ≡ None
+  none_is None is = refl
+  none_is (Some s) is = absurd (none-some s.part (sym is))
+
+  -- it felt the flush, its notes were gathered, and it left if it was killed
+  pub cleaned_one : (x0 x1 x2 : Option (Stored T U C)) (lacked : Bool) (sent : List (Deed U)) (n n2 n3 : List (Happening U))
+      → Feels (seen_as [] x0) (λ p q. FlushesKilled w.sends p lacked sent q) lacked sent (seen_as [] x1)
+      → option_map (emptied true) x2 ≡ option_map (emptied true) x1 → leaving true x2 ≡ [] → n2 ++ leaving true x2 ≡ n ++ leaving true x1
+      → n3 ≡ n2 ++ ends_in id x2 → share_of id out.items ≡ given_in x2 → CleanedBy x0 n lacked (staying x2) n3
+  cleaned_one x0 x1 x2 lacked sent n n2 n3 felt same none told noted given =
+      subst (λ (x : Option (Stored T U C)). CleanedBy x0 n lacked (staying x) n3) (sym is) (at x0 x1 felt told1 noted1 given1)
+    where
+      is : x2 ≡ option_map (emptied true) x1
+      is = left_is x2 none ∙ same
+
+      told1 : n2 ++ [] ≡ n ++ leaving true x1
+      told1 = ap (λ (l : List (Happening U)). n2 ++ l) (sym none) ∙ told
+
+      noted1 : n3 ≡ n2 ++ ends_in id (option_map (emptied true) x1)
+      noted1 = noted ∙ ap (λ (x : Option (Stored T U C)). n2 ++ ends_in id x) is
+
+      given1 : share_of id out.items ≡ given_in (option_map (emptied true) x1)
+      given1 = given ∙ ap given_in is
+
+      at : (x0 x1 : Option (Stored T U C)) → Feels (seen_as [] x0) (λ p q. FlushesKilled w.sends p lacked sent q) lacked sent (seen_as [] x1)
+          → n2 ++ [] ≡ n ++ leaving true x1 → n3 ≡ n2 ++ ends_in id (option_map (emptied true) x1) → share_of id out.items ≡ given_in (option_map (emptied true) x1)
+          → CleanedBy x0 n lacked (staying (option_map (emptied true) x1)) n3
+      at None None (u, (not, nothing, same)) told noted given = (
+        [],
+        (
+          given,
+          (
+            not,
+            refl,
+            ap (λ (m : List (Happening U)). let x : Seen T U C = record { part = None; made = m ++ [] } in x)
+                (noted ∙ (append-nil n2 ∙ (sym (append-nil n2) ∙ (told ∙ append-nil n)))),
+          ),
+        ),
+      )
+      at None (Some s1) (u, (not, nothing, same)) told noted given = absurd (none-some s1.part (sym (ap (λ (x : Seen T U C). x.part) same)))
+      at (Some s) None (q, flushes, now) told noted given = absurd (none-some q (ap (λ (x : Seen T U C). x.part) now))
+      at (Some s) (Some s1) (q, flushes, now) told noted given =
+          cleaned_from s s1 lacked sent n n2 n3
+          (subst (λ (p : Part T U C). FlushesKilled w.sends s.part lacked sent p) (sym (same_Some s1.part q (ap (λ (x : Seen T U C). x.part) now))) flushes)
+          (ap (λ (x : Seen T U C). x.made) now) told noted given

@@ -1,0 +1,93 @@
+-- A cleanup of all clients, as a step of the server.
+use Rattle.std.proofs.Common.{◌≡◌, ◌+◌, ◌<◌, length, Bool, true, false, List, [], ◌++◌, Option, Ok, Err, Vec, refl, sym, ap, subst, ◌∙◌, arith}
+use mathlib.Core.Logic.{inl, inr}
+use Rattle.std.specs.Global.{Global}
+use Rattle.std.specs.Prelude.{◌⊎◌}
+use Rattle.std.proofs.lemmas.Bool.{false≢true}
+use Rattle.wl_wire.specs.declared.error.OutOfMemory.{OutOfMemory}
+use Rattle.wl_server.specs.declared.notes.Happening.{Happening}
+use Rattle.wl_server.specs.declared.notes.Note.{Note}
+use Rattle.wl_server.specs.declared.runs.step.Reply.TheVariants as reply
+use Rattle.wl_server.specs.declared.runs.step.Step.TheVariants as step
+use Rattle.wl_server.proofs.OverRuns.Alone.AccountLaws.{calls}
+use Rattle.wl_server.specs.Backend.{Calls}
+use Rattle.wl_server.specs.Inside.Cleanup.{CleansUp}
+use Rattle.wl_server.specs.Inside.Gathering.{count_leaving}
+use Rattle.wl_server.specs.Ids.{ClientParts}
+use Rattle.wl_server.specs.Inside.Leaving.{FlushesKilled, collected, given_at}
+use Rattle.wl_server.specs.PartStep.{Asked, World, share_of}
+use Rattle.wl_server.specs.Server.{ServerState, Stored, client_at, notes_of}
+use Rattle.wl_server.specs.Steps.{StepOf}
+use Rattle.wl_server.proofs.CleanupSteps.Asking.{cleanup_asks}
+use Rattle.wl_server.proofs.CleanupSteps.Cleaning.{CleanedBy, cleaned_one}
+use Rattle.wl_server.proofs.CallSteps.Collecting.{Rises, ends_for, given_for, given_rises, staying_for}
+use Rattle.wl_server.proofs.CallSteps.Feeling.{each_felt, lacks_of, one_lacks, some_lacks}
+use Rattle.wl_server.proofs.CleanupSteps.Gathering.{notes_append}
+use Rattle.wl_server.proofs.CallSteps.Slots.{Kind}
+use Rattle.wl_server.proofs.CleanupSteps.TakingNotes.{none_left, same_left}
+
+module _ {T U G C : Type 0} (w : World T G C) (before : ServerState T U G C) where
+  abbrev flush : Kind T U C
+  flush id p lacked did q = FlushesKilled w.sends p lacked did q
+
+  pub cleaned_up : {was : Bool} (refused : Bool) (clients' : List (Option (Stored T U C))) (notes' : List (Note U)) (out : Vec (ClientParts × T) Global) (given : List (ClientParts × T)) → out.items ≡ given
+      → CleansUp w.sends before.clients before.notes refused clients' notes' given
+      → Calls w (record { server = before; refused = was }) step.Cleanup (reply.Cleanup (Ok out)) (record { server = record before { clients = clients'; notes = notes' }; refused = refused })
+  cleaned_up refused clients' notes' out given are by = calls _ _ _ _ _ (
+    record { call = Asked step.Cleanup (reply.Cleanup (Ok out)); refused = refused; lacks = λ id. lacked id; did = λ id. (one id).0 },
+    refl,
+    refl,
+    record {
+      offer = refl;
+      last = omega arith;
+      client = tt;
+      global = tt;
+      order = subst Rises (sym (are ∙ by.gave)) (given_rises 0 by.left);
+      room = tt;
+      refused = (λ is. inr (some_lacks flush refused before.clients by.flushed by.flushes is), λ h. was_refused h);
+      each = λ id. (Ok out, refl, (one id).1);
+    },
+  )
+    where
+      lacked : ClientParts → Bool
+      lacked id = lacks_of flush refused before.clients by.flushed by.flushes id
+
+      one : (id : ClientParts) → CleanedBy w id before.offer out (client_at id before.clients) (notes_of id before.notes) (lacked id) (client_at id clients') (notes_of id notes')
+      one id =
+          let (sent, felt) = each_felt flush refused before.clients by.flushed by.flushes [] id in
+          subst (λ (x : Option (Stored T U C)). CleanedBy w id before.offer out (client_at id before.clients) (notes_of id before.notes) (lacked id) x (notes_of id notes'))
+          (sym (ap (client_at id) by.stay ∙ staying_for id by.left))
+          (cleaned_one w id before.offer out (client_at id before.clients) (client_at id by.flushed) (client_at id by.left) (lacked id) sent
+          (notes_of id before.notes) (notes_of id by.told) (notes_of id notes') felt
+          (same_left true by.flushed before.notes by.left by.told by.gathers id) (none_left true by.left by.all id) (by.gathers.told id)
+          (ap (notes_of id) by.noted ∙ (notes_append id by.told _ ∙ ap (λ (l : List (Happening U)). notes_of id by.told ++ l) (ends_for id by.left)))
+          (ap (share_of id) (are ∙ by.gave) ∙ given_for id by.left))
+
+      was_refused : (false ≡ true) ⊎ ((id : ClientParts) × (lacked id ≡ true)) → refused ≡ true
+      was_refused (inl grown) = absurd (false≢true grown)
+      was_refused (inr (id, lacks)) = one_lacks flush refused before.clients by.flushed by.flushes id lacks
+
+  -- there is no memory for it
+  not_cleaned : (e : OutOfMemory) → 0 < count_leaving true before.clients + length (collected given_at 0 before.clients)
+      → StepOf w before step.Cleanup (reply.Cleanup (Err e)) true before
+  not_cleaned e some = (
+    record { call = Asked step.Cleanup (reply.Cleanup (Err e)); refused = true; lacks = λ id. false; did = λ id. [] },
+    refl,
+    refl,
+    record {
+      offer = refl;
+      last = omega arith;
+      client = tt;
+      global = tt;
+      order = tt;
+      room = cleanup_asks before.clients some;
+      refused = (λ h. inl refl, λ h. refl);
+      each = λ id. (Err e, refl, (refl, refl, refl));
+    },
+  )
+
+  pub cleanup_starved : {was : Bool} (e : OutOfMemory) (notes' : List (Note U)) → notes' ≡ before.notes
+      → 0 < count_leaving true before.clients + length (collected given_at 0 before.clients)
+      → Calls w (record { server = before; refused = was }) step.Cleanup (reply.Cleanup (Err e)) (record { server = record before { notes = notes' }; refused = true })
+  cleanup_starved e notes' same some =
+      calls _ _ _ _ _ (subst (λ (ns : List (Note U)). StepOf w before step.Cleanup (reply.Cleanup (Err e)) true (record before { notes = ns })) (sym same) (not_cleaned e some))

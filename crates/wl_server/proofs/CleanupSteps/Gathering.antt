@@ -1,0 +1,234 @@
+-- Gathering notes changes nothing of what is seen of any client.
+use Rattle.std.proofs.Common.{◌≡◌, ◌≢◌, ℕ, zero, suc, ◌+◌, ◌<◌, ◌≤◌, Bool, true, false, List, [], ◌∷◌, ◌++◌, length, map, drop, Option, None, Some, is_some, refl, sym, ap, subst, ◌∙◌, append_assoc, append-nil, arith}
+use Rattle.std.specs.Option.{option_map, option_map_or}
+use Rattle.std.specs.Prelude.{◌==◌, slice_get, slice_set}
+use Rattle.std.proofs.lemmas.Bool.{eqb-true, false≢true}
+use Rattle.std.proofs.lemmas.Grind.{flat_map-append}
+use Rattle.std.proofs.lemmas.List.{length-append, length-map, map-append}
+use Rattle.std.proofs.lemmas.Option.{same_Some, none-some}
+use Rattle.wl_server.specs.declared.notes.Happening.{Happening}
+use Rattle.wl_server.specs.declared.notes.Happening.TheVariants as happened
+use Rattle.wl_server.specs.declared.notes.Note.{Note}
+use Rattle.wl_server.specs.Inside.Gathering.{Gathers, MovesNotes, count_leaving, emptied, leaving, notes_from}
+use Rattle.wl_server.specs.Ids.{ClientParts, same_client}
+use Rattle.wl_server.specs.Server.{Stored, client_at, if_serial, note_of, notes_of, told_of}
+use Rattle.wl_server.proofs.CallSteps.Slots.{Are, Serials, Slots, client_absent, client_present, compare, get_set_other, get_set_same, other_of, same_parts, same_self, same_serials, same_slots}
+
+-- ---- notes of one client
+
+module _ {U : Type 0} where
+  told_same : (target id : ClientParts) (h : Happening U) → same_client target id ≡ true → told_of id (note_of target h) ≡ h ∷ []
+  told_same target id happened.Initialized same = rw same refl
+  told_same target id (happened.Disconnected reason) same = rw same refl
+  told_same target id (happened.Destroyed object u) same = rw same refl
+
+  told_other : (target id : ClientParts) (h : Happening U) → same_client target id ≡ false → told_of id (note_of target h) ≡ []
+  told_other target id happened.Initialized other = rw other refl
+  told_other target id (happened.Disconnected reason) other = rw other refl
+  told_other target id (happened.Destroyed object u) other = rw other refl
+
+  pub notes_append : (id : ClientParts) (a b : List (Note U)) → notes_of id (a ++ b) ≡ notes_of id a ++ notes_of id b
+  notes_append id a b = flat_map-append (told_of id) a b
+
+  pub notes_same : (target id : ClientParts) (told : List (Happening U)) → same_client target id ≡ true → notes_of id (map (note_of target) told) ≡ told
+  notes_same target id [] same = refl
+  notes_same target id (h ∷ told) same =
+      ap (λ (l : List (Happening U)). l ++ notes_of id (map (note_of target) told)) (told_same target id h same)
+      ∙ ap (λ (l : List (Happening U)). h ∷ l) (notes_same target id told same)
+
+  pub notes_other : (target id : ClientParts) (told : List (Happening U)) → same_client target id ≡ false → notes_of id (map (note_of target) told) ≡ []
+  notes_other target id [] other = refl
+  notes_other target id (h ∷ told) other =
+      ap (λ (l : List (Happening U)). l ++ notes_of id (map (note_of target) told)) (told_other target id h other) ∙ notes_other target id told other
+
+-- ---- lists
+
+pub map_set : {A B : Type 0} (f : A → B) (xs : List A) (k : ℕ) (x y : A) → slice_get xs k ≡ Some x → f y ≡ f x → map f (slice_set xs k y) ≡ map f xs
+map_set f [] k x y here same = refl
+map_set f (z ∷ xs) zero x y here same = ap (λ b. b ∷ map f xs) (same ∙ ap f (sym (same_Some z x here)))
+map_set f (z ∷ xs) (suc k) x y here same = ap (λ l. f z ∷ l) (map_set f xs k x y here same)
+
+set_itself : {A : Type 0} (xs : List A) (k : ℕ) (x : A) → slice_get xs k ≡ Some x → slice_set xs k x ≡ xs
+set_itself [] k x here = refl
+set_itself (z ∷ xs) zero x here = ap (λ y. y ∷ xs) (sym (same_Some z x here))
+set_itself (z ∷ xs) (suc k) x here = ap (λ l. z ∷ l) (set_itself xs k x here)
+
+module _ {T U C : Type 0} (waits : Bool) where
+  count_set : (clients : List (Option (Stored T U C))) (k : ℕ) (x y : Option (Stored T U C)) → slice_get clients k ≡ Some x
+      → count_leaving waits (slice_set clients k y) + length (leaving waits x) ≡ count_leaving waits clients + length (leaving waits y)
+  count_set [] k x y here = absurd (false≢true (ap is_some here))
+  count_set (z ∷ clients) zero x y here =
+      let same : length (leaving waits z) ≡ length (leaving waits x) = ap (λ (o : Option (Stored T U C)). length (leaving waits o)) (same_Some z x here) in omega (arith, same)
+  count_set (z ∷ clients) (suc k) x y here = let more = count_set clients k x y here in omega (arith, more)
+
+  -- ---- one client's notes
+
+  pub gathers_none : (clients : List (Option (Stored T U C))) (notes : List (Note U)) → Gathers waits clients notes clients notes
+  gathers_none clients notes = record { rest = refl; told = λ id. refl; count = refl }
+
+  pub gathers_more : (clients : List (Option (Stored T U C))) (notes : List (Note U)) (clients' : List (Option (Stored T U C))) (notes' : List (Note U))
+      (clients'' : List (Option (Stored T U C))) (notes'' : List (Note U)) → Gathers waits clients notes clients' notes' → Gathers waits clients' notes' clients'' notes''
+      → Gathers waits clients notes clients'' notes''
+  gathers_more clients notes clients' notes' clients'' notes'' first more = record {
+    rest = more.rest ∙ first.rest;
+    told = λ id. more.told id ∙ first.told id;
+    count = more.count ∙ first.count;
+  }
+
+  -- ---- notes that are moved one after another
+
+  from_none : (slot : ℕ) (x : Option (Stored T U C)) → notes_from waits slot x [] ≡ []
+  from_none slot None = refl
+  from_none slot (Some s) = refl
+
+  from_more : (slot : ℕ) (x x' : Option (Stored T U C)) (a b : List (Happening U)) → option_map (emptied waits) x' ≡ option_map (emptied waits) x
+      → notes_from waits slot x (a ++ b) ≡ notes_from waits slot x a ++ notes_from waits slot x' b
+  from_more slot None None a b same = refl
+  from_more slot None (Some s') a b same = absurd (none-some (emptied waits s') (sym same))
+  from_more slot (Some s) None a b same = absurd (none-some (emptied waits s) same)
+  from_more slot (Some s) (Some s') a b same =
+      let serial : s'.serial ≡ s.serial = ap (λ (e : Stored T U C). e.serial) (same_Some (emptied waits s') (emptied waits s) same) in
+      map-append (note_of (record { slot = slot; serial = s.serial })) a b
+      ∙ ap (λ (n : ℕ). map (note_of (record { slot = slot; serial = s.serial })) a ++ map (note_of (record { slot = slot; serial = n })) b) (sym serial)
+
+  pub moves_none : (slot : ℕ) (x : Option (Stored T U C)) (notes : List (Note U)) → MovesNotes waits slot x notes x notes
+  moves_none slot x notes = ([], refl, refl, sym (ap (λ (l : List (Note U)). notes ++ l) (from_none slot x) ∙ append-nil notes))
+
+  pub moves_more : (slot : ℕ) (x : Option (Stored T U C)) (notes : List (Note U)) (x' : Option (Stored T U C)) (notes' : List (Note U)) (x'' : Option (Stored T U C))
+      (notes'' : List (Note U)) → MovesNotes waits slot x notes x' notes' → MovesNotes waits slot x' notes' x'' notes'' → MovesNotes waits slot x notes x'' notes''
+  moves_more slot x notes x' notes' x'' notes'' (a, left, rest, is) (b, left', rest', is') = (
+    a ++ b,
+    left ∙ (ap (λ (l : List (Happening U)). a ++ l) left' ∙ sym (append_assoc a b (leaving waits x''))),
+    rest' ∙ rest,
+    is' ∙ (ap (λ (l : List (Note U)). l ++ notes_from waits slot x' b) is
+        ∙ (append_assoc notes (notes_from waits slot x a) (notes_from waits slot x' b)
+        ∙ ap (λ (l : List (Note U)). notes ++ l) (sym (from_more slot x x' a b rest)))),
+  )
+
+  -- ---- counts
+
+  pub count_at : (clients : List (Option (Stored T U C))) (k : ℕ) (x : Option (Stored T U C)) → slice_get clients k ≡ Some x
+      → length (leaving waits x) ≤ count_leaving waits clients
+  count_at [] k x here = absurd (false≢true (ap is_some here))
+  count_at (z ∷ clients) zero x here =
+      let same : length (leaving waits z) ≡ length (leaving waits x) = ap (λ (o : Option (Stored T U C)). length (leaving waits o)) (same_Some z x here) in omega (arith, same)
+  count_at (z ∷ clients) (suc k) x here = let more = count_at clients k x here in omega (arith, more)
+
+  drop_more : (clients : List (Option (Stored T U C))) (k : ℕ) (x : Option (Stored T U C)) → slice_get clients k ≡ Some x
+      → count_leaving waits (drop k clients) ≡ length (leaving waits x) + count_leaving waits (drop (suc k) clients)
+  drop_more [] k x here = absurd (false≢true (ap is_some here))
+  drop_more (z ∷ clients) zero x here = ap (λ (o : Option (Stored T U C)). length (leaving waits o) + count_leaving waits clients) (same_Some z x here)
+  drop_more (z ∷ clients) (suc k) x here = drop_more clients k x here
+
+  pub count_drop : (clients : List (Option (Stored T U C))) (k : ℕ) (x : Option (Stored T U C)) → slice_get clients k ≡ Some x
+      → count_leaving waits (drop k clients) ≡ length (leaving waits x) + count_leaving waits (drop (k + 1) clients)
+  count_drop clients k x here =
+      let next : suc k ≡ k + 1 = omega arith in
+      subst (λ (n : ℕ). count_leaving waits (drop k clients) ≡ length (leaving waits x) + count_leaving waits (drop n clients)) next (drop_more clients k x here)
+
+  pub gathers_length : (clients : List (Option (Stored T U C))) (notes : List (Note U)) (clients' : List (Option (Stored T U C))) (notes' : List (Note U))
+      → Gathers waits clients notes clients' notes' → length clients' ≡ length clients
+  gathers_length clients notes clients' notes' by =
+      sym (length-map clients' (option_map (emptied waits))) ∙ (ap length by.rest ∙ length-map clients (option_map (emptied waits)))
+
+  -- there is room for the notes of each client
+  pub room_at : (clients : List (Option (Stored T U C))) (notes : List (Note U)) (clients' : List (Option (Stored T U C))) (notes' : List (Note U)) (n n' room room' k : ℕ)
+      (x : Option (Stored T U C)) → Gathers waits clients notes clients' notes' → n ≡ length notes → n' ≡ length notes' → n + count_leaving waits clients ≤ room
+      → room' ≡ room → slice_get clients' k ≡ Some x → n' + length (leaving waits x) ≤ room'
+  room_at clients notes clients' notes' n n' room room' k x by is is' fits same here =
+      let one = count_at clients' k x here in
+      let count = by.count in
+      omega (arith, one, count, is, is', fits, same)
+
+  -- ---- places that were left
+
+  pub left_more : (clients : List (Option (Stored T U C))) (slot : ℕ) (z x : Option (Stored T U C)) → slice_get clients slot ≡ Some z
+      → ((k : ℕ) (y : Option (Stored T U C)) → k < slot → slice_get clients k ≡ Some y → leaving waits y ≡ []) → leaving waits x ≡ []
+      → (k : ℕ) (y : Option (Stored T U C)) → k < slot + 1 → slice_get (slice_set clients slot x) k ≡ Some y → leaving waits y ≡ []
+  left_more clients slot z x was below here k y under get = at (k == slot) refl
+    where
+      at : (b : Bool) → (k == slot) ≡ b → leaving waits y ≡ []
+      at true is =
+          let same : x ≡ y = same_Some x y (sym (get_set_same clients slot z x was) ∙ (ap (slice_get (slice_set clients slot x)) (sym (eqb-true k slot is)) ∙ get)) in
+          ap (leaving waits) (sym same) ∙ here
+      at false is =
+          let differ : k ≢ slot = other_of k slot is in
+          below k y (omega (arith, under, differ)) (sym (get_set_other clients slot k x (λ e. differ (sym e))) ∙ get)
+
+  from_length : (slot : ℕ) (x : Option (Stored T U C)) (told behind : List (Happening U)) → leaving waits x ≡ told ++ behind
+      → length (notes_from waits slot x told) ≡ length told
+  from_length slot None [] behind left = refl
+  from_length slot None (h ∷ told) behind left = absurd (nil_cons left)
+    where
+      nil_cons : [] ≡ h ∷ (told ++ behind) → ⊥
+      nil_cons e = cc
+  from_length slot (Some s) told behind left = length-map told (note_of (record { slot = slot; serial = s.serial }))
+
+  -- what is told of an id
+  abbrev ToldOf : List (Option (Stored T U C)) → List (Note U) → List (Option (Stored T U C)) → List (Note U) → ClientParts → Type 0
+  ToldOf clients notes clients' notes' id =
+      notes_of id notes' ++ leaving waits (client_at id clients') ≡ notes_of id notes ++ leaving waits (client_at id clients)
+
+  told_if : (clients clients' : List (Option (Stored T U C))) (notes notes' : List (Note U)) (target : ClientParts) (told : List (Happening U)) (id : ClientParts)
+      → same_client target id ≡ false → notes' ≡ notes ++ map (note_of target) told → client_at id clients' ≡ client_at id clients → ToldOf clients notes clients' notes' id
+  told_if clients clients' notes notes' target told id other is same =
+      ap (λ (o : Option (Stored T U C)). notes_of id notes' ++ leaving waits o) same
+      ∙ ap (λ (l : List (Happening U)). l ++ leaving waits (client_at id clients))
+      (ap (notes_of id) is ∙ (notes_append id notes (map (note_of target) told)
+      ∙ (ap (λ (l : List (Happening U)). notes_of id notes ++ l) (notes_other target id told other) ∙ append-nil (notes_of id notes))))
+
+  told_at : (clients : List (Option (Stored T U C))) (notes notes' : List (Note U)) (slot : ℕ) (x x' : Option (Stored T U C)) → slice_get clients slot ≡ Some x
+      → MovesNotes waits slot x notes x' notes' → (id : ClientParts) → ToldOf clients notes (slice_set clients slot x') notes' id
+  told_at clients notes notes' slot None None here (told, left, rest, is) id =
+      ap (λ (xs : List (Option (Stored T U C))). notes_of id notes' ++ leaving waits (client_at id xs)) (set_itself clients slot None here)
+      ∙ ap (λ (ns : List (Note U)). notes_of id ns ++ leaving waits (client_at id clients)) (is ∙ append-nil notes)
+  told_at clients notes notes' slot None (Some s') here (told, left, rest, is) id = absurd (none-some (emptied waits s') (sym rest))
+  told_at clients notes notes' slot (Some s) None here (told, left, rest, is) id = absurd (none-some (emptied waits s) rest)
+  told_at clients notes notes' slot (Some s) (Some s') here (told, left, rest, is) id =
+      elim (compare target id) [
+        | Are at same ↦
+            ap (λ (o : Option (Stored T U C)). notes_of id notes' ++ leaving waits o) (client_present id clients' s' (after at) (serial' ∙ same))
+            ∙ (ap (λ (l : List (Happening U)). l ++ leaving waits (Some s'))
+            (ap (notes_of id) is ∙ (notes_append id notes (map (note_of target) told)
+            ∙ ap (λ (l : List (Happening U)). notes_of id notes ++ l) (notes_same target id told (is_same at same))))
+            ∙ (append_assoc (notes_of id notes) told (leaving waits (Some s'))
+            ∙ (ap (λ (l : List (Happening U)). notes_of id notes ++ l) (sym left)
+            ∙ ap (λ (o : Option (Stored T U C)). notes_of id notes ++ leaving waits o) (sym (client_present id clients s (before at) same)))))
+        | Slots at ↦ told_if clients clients' notes notes' target told id (same_slots target id at) is
+            (ap (λ (o : Option (Option (Stored T U C))). if_serial id.serial (option_map_or (λ s. s) o None)) (get_set_other clients slot id.slot (Some s') (other_of slot id.slot at)))
+        | Serials at differ ↦ told_if clients clients' notes notes' target told id (same_serials target id at differ) is
+            (client_absent id clients' s' (after at) (rw serial' differ) ∙ sym (client_absent id clients s (before at) differ))
+      ]
+    where
+      target : ClientParts
+      target = record { slot = slot; serial = s.serial }
+
+      clients' : List (Option (Stored T U C))
+      clients' = slice_set clients slot (Some s')
+
+      serial' : s'.serial ≡ s.serial
+      serial' = ap (λ (e : Stored T U C). e.serial) (same_Some (emptied waits s') (emptied waits s) rest)
+
+      before : slot ≡ id.slot → slice_get clients id.slot ≡ Some (Some s)
+      before at = subst (λ (n : ℕ). slice_get clients n ≡ Some (Some s)) at here
+
+      after : slot ≡ id.slot → slice_get clients' id.slot ≡ Some (Some s')
+      after at = subst (λ (n : ℕ). slice_get clients' n ≡ Some (Some s')) at (get_set_same clients slot (Some s) (Some s') here)
+
+      is_same : slot ≡ id.slot → s.serial ≡ id.serial → same_client target id ≡ true
+      is_same at same = subst (λ (i : ClientParts). same_client target i ≡ true) (same_parts target id at same) (same_self target)
+
+  -- some notes of the client of one slot were moved
+  pub gathers_at : (clients : List (Option (Stored T U C))) (notes notes' : List (Note U)) (slot : ℕ) (x x' : Option (Stored T U C)) → slice_get clients slot ≡ Some x
+      → MovesNotes waits slot x notes x' notes' → Gathers waits clients notes (slice_set clients slot x') notes'
+  gathers_at clients notes notes' slot x x' here (told, left, rest, is) =
+      let fewer : length (leaving waits x) ≡ length told + length (leaving waits x') = ap length left ∙ length-append told (leaving waits x') in
+      let more : length notes' ≡ length notes + length told =
+      ap length is ∙ (length-append notes (notes_from waits slot x told) ∙ ap (λ (n : ℕ). length notes + n) (from_length slot x told (leaving waits x') left))
+      in
+      let set = count_set clients slot x x' here in
+      record {
+        rest = map_set (option_map (emptied waits)) clients slot x x' here rest;
+        told = told_at clients notes notes' slot x x' here (told, left, rest, is);
+        count = omega (arith, fewer, more, set);
+      }

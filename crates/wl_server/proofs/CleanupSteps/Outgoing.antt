@@ -1,0 +1,228 @@
+-- Killed clients leave, slot by slot.
+use Rattle.std.proofs.Common.{◌≡◌, ◌≢◌, ℕ, zero, suc, ◌+◌, ◌<◌, ◌≤◌, Bool, true, false, List, [], ◌∷◌, ◌++◌, length, map, min, drop, Option, None, Some, is_some, Result, refl, sym, ap, subst, ◌∙◌, arith, append_assoc, append-nil}
+use mathlib.Core.Bool.{beq}
+use Rattle.std.specs.FinMap.{entries}
+use Rattle.std.specs.Prelude.{MatchBool, ◌==◌, if◌then◌else◌, slice_get, slice_set}
+use Rattle.std.proofs.lemmas.Bool.{eqb-true, false≢true}
+use Rattle.std.proofs.lemmas.List.{drop_all, length-append, length-map}
+use Rattle.std.proofs.lemmas.Option.{same_Some, none-some, slice_get_within}
+use Rattle.wl_wire.specs.declared.error.IoFault.{IoFault}
+use Rattle.wl_link.specs.declared.object.Object.{Object}
+use Rattle.wl_link.specs.Exchange.{Queue}
+use Rattle.wl_link.specs.Puts.{lacked_memory}
+use Rattle.wl_server.specs.declared.objects.Kept.{Kept}
+use Rattle.wl_server.specs.declared.notes.Happening.{Happening}
+use Rattle.wl_server.specs.declared.notes.Note.{Note}
+use Rattle.wl_server.specs.Inside.Client.{Does}
+use Rattle.wl_server.specs.Felt.{FlushedTo}
+use Rattle.wl_server.specs.Ids.{ClientParts}
+use Rattle.wl_server.specs.Inside.Leaving.{Flushes, FlushesKilled, all_staying, collected, ending, ends_at, ends_of, given_at, id_in, staying}
+use Rattle.wl_server.specs.Part.{end_note, id_at}
+use Rattle.wl_server.specs.Server.{Stored, note_of}
+use Rattle.wl_server.proofs.Readings.Flushing.{killed_stays, live_flushed}
+use Rattle.wl_server.proofs.CleanupSteps.Gathering.{map_set}
+use Rattle.wl_server.proofs.CallSteps.Slots.{get_set_other, get_set_same, other_of}
+
+map_itself : {A : Type 0} (f : A → A) (xs : List A) → ((k : ℕ) (x : A) → slice_get xs k ≡ Some x → f x ≡ x) → map f xs ≡ xs
+map_itself f [] all = refl
+map_itself f (x ∷ xs) all = ap (λ y. y ∷ map f xs) (all 0 x refl) ∙ ap (λ l. x ∷ l) (map_itself f xs (λ k y here. all (suc k) y here))
+
+pub if_true : (b : Bool) (A B : Type 0) → b ≡ true → A → MatchBool b A B
+if_true true A B is a = a
+if_true false A B is a = absurd (false≢true is)
+
+pub if_false : (b : Bool) (A B : Type 0) → b ≡ false → B → MatchBool b A B
+if_false true A B is a = absurd (false≢true (sym is))
+if_false false A B is a = a
+
+not_true : (b : Bool) → (b ≡ true → ⊥) → b ≡ false
+not_true true other = absurd (other refl)
+not_true false other = refl
+
+not_false : (b : Bool) → (b ≡ false → ⊥) → b ≡ true
+not_false true other = refl
+not_false false other = absurd (other refl)
+
+pub same_killed : (a b : Bool) → beq a b ≡ true → a ≡ b
+same_killed true true is = refl
+same_killed true false is = absurd (false≢true is)
+same_killed false true is = absurd (false≢true is)
+same_killed false false is = refl
+
+pub other_killed : (a b : Bool) → beq a b ≡ false → a ≡ b → ⊥
+other_killed true true other is = false≢true (sym other)
+other_killed true false other is = false≢true (sym is)
+other_killed false true other is = false≢true is
+other_killed false false other is = false≢true (sym other)
+
+module _ {U : Type 0} where
+  pub ending_length : (client : ClientParts) (objects : List (ℕ × Object (Kept U))) → length (ends_of client objects) ≡ length (ending objects)
+  ending_length client [] = refl
+  ending_length client (e ∷ objects) = at e.1.value.user_data refl (ending_length client objects)
+    where
+      at : (given : Option U) → e.1.value.user_data ≡ given → length (ends_of client objects) ≡ length (ending objects)
+          → length (end_note (id_at client e.0 e.1) given ++ ends_of client objects) ≡ length (if is_some given then e ∷ ending objects else ending objects)
+      at None is more = more
+      at (Some u) is more = ap (λ (n : ℕ). suc n) more
+
+module _ {T U C : Type 0} where
+  -- ---- what waits for a killed client
+
+  pub flushes_killed : (sends : T → Queue → Result ℕ IoFault → T → Type 0) (s s' : Stored T U C) (answer : Result (Unit {0}) IoFault) (lacked : Bool) → s.part.is_killed ≡ true
+      → lacked ≡ lacked_memory answer → Does s (λ p did q. FlushedTo sends p answer (lacked_memory answer) did q) s' → Does s (λ p did q. FlushesKilled sends p lacked did q) s'
+  flushes_killed sends s s' answer lacked killed is (did, q, flushed, so) =
+      (did, q, if_true s.part.is_killed _ _ killed (answer, subst (λ (l : Bool). FlushedTo sends s.part answer l did q) (sym is) flushed), so)
+
+  pub not_killed : (sends : T → Queue → Result ℕ IoFault → T → Type 0) (s : Stored T U C) → s.part.is_killed ≡ false → Does s (λ p did q. FlushesKilled sends p false did q) s
+  not_killed sends s live = (
+    [],
+    s.part,
+    if_false s.part.is_killed _ _ live (refl, refl, refl),
+    ap (λ (m : List (Happening U)). let x : Stored T U C = record { serial = s.serial; part = s.part; made = m } in x) (sym (append-nil s.made)),
+  )
+
+  pub flushes_where : (sends : T → Queue → Result ℕ IoFault → T → Type 0) (killed : Bool) (s s' : Stored T U C) (answer : Result (Unit {0}) IoFault) (lacked : Bool)
+      → s.part.is_killed ≡ killed → lacked ≡ lacked_memory answer → Does s (λ p did q. FlushedTo sends p answer (lacked_memory answer) did q) s'
+      → Does s (λ p did q. Flushes sends killed p lacked did q) s'
+  flushes_where sends true s s' answer lacked is refused flushed = flushes_killed sends s s' answer lacked is refused flushed
+  flushes_where sends false s s' answer lacked is refused flushed = live_flushed sends s s' answer lacked is refused flushed
+
+  pub not_flushed : (sends : T → Queue → Result ℕ IoFault → T → Type 0) (killed : Bool) (s : Stored T U C) → (s.part.is_killed ≡ killed → ⊥)
+      → Does s (λ p did q. Flushes sends killed p false did q) s
+  not_flushed sends true s other = not_killed sends s (not_true s.part.is_killed other)
+  not_flushed sends false s other = killed_stays sends s (not_false s.part.is_killed other)
+
+  -- ---- what is noted of one client
+
+  pub ends_length : (slot : ℕ) (o : Option (Stored T U C)) (s : Stored T U C) → o ≡ Some s → s.part.is_killed ≡ true
+      → length (ends_at slot o) ≡ length (ending (entries s.part.store.objects))
+  ends_length slot o s is killed =
+      ap (λ (x : Option (Stored T U C)). length (ends_at slot x)) is
+      ∙ rw killed (length-map (ends_of (id_in slot s) (entries s.part.store.objects)) (note_of (id_in slot s)) ∙ ending_length (id_in slot s) (entries s.part.store.objects))
+
+  pub ends_killed : (slot : ℕ) (o : Option (Stored T U C)) (s : Stored T U C) → o ≡ Some s → s.part.is_killed ≡ true
+      → ends_at slot o ≡ map (note_of (id_in slot s)) (ends_of (id_in slot s) (entries s.part.store.objects))
+  ends_killed slot o s is killed = ap (ends_at slot) is ∙ rw killed refl
+
+  -- ---- slot by slot
+
+  staying_stays : (x : Option (Stored T U C)) → staying (staying x) ≡ staying x
+  staying_stays None = refl
+  staying_stays (Some s) = at s.part.is_killed refl
+    where
+      at : (b : Bool) → s.part.is_killed ≡ b → staying (if b then None else Some s) ≡ (if b then None else Some s)
+      at true is = refl
+      at false is = rw is refl
+
+  collected_rest : {A : Type 0} (give : ℕ → Option (Stored T U C) → List A) (n k : ℕ) (clients : List (Option (Stored T U C))) (x : Option (Stored T U C)) → slice_get clients k ≡ Some x
+      → collected give n (drop k clients) ≡ give n x ++ collected give (n + 1) (drop (suc k) clients)
+  collected_rest give n k [] x here = absurd (none-some x here)
+  collected_rest give n zero (z ∷ clients) x here = ap (λ (y : Option (Stored T U C)). give n y ++ collected give (n + 1) clients) (same_Some z x here)
+  collected_rest give n (suc k) (z ∷ clients) x here = collected_rest give n k clients x here
+
+  pub collected_drop : {A : Type 0} (give : ℕ → Option (Stored T U C) → List A) (n k : ℕ) (clients : List (Option (Stored T U C))) (x : Option (Stored T U C)) → slice_get clients k ≡ Some x
+      → collected give n (drop k clients) ≡ give n x ++ collected give (n + 1) (drop (k + 1) clients)
+  collected_drop give n k clients x here =
+      let next : suc k ≡ k + 1 = omega arith in
+      subst (λ (m : ℕ). collected give n (drop k clients) ≡ give n x ++ collected give (n + 1) (drop m clients)) next (collected_rest give n k clients x here)
+
+  part_length : {A : Type 0} (give : ℕ → Option (Stored T U C) → List A) (n slot k : ℕ) (clients : List (Option (Stored T U C))) (x : Option (Stored T U C)) → slot ≡ n + k
+      → slice_get clients k ≡ Some x → length (give slot x) ≤ length (collected give n clients)
+  part_length give n slot k [] x at here = absurd (none-some x here)
+  part_length give n slot zero (z ∷ clients) x at here =
+      let same : length (give slot x) ≡ length (give n z) = ap (λ (y : Option (Stored T U C)). length (give slot y)) (sym (same_Some z x here)) ∙ ap (λ (m : ℕ). length (give m z)) (omega (arith, at)) in
+      let all = length-append (give n z) (collected give (n + 1) clients) in
+      omega (arith, same, all)
+  part_length give n slot (suc k) (z ∷ clients) x at here =
+      let more = part_length give (n + 1) slot k clients x (omega (arith, at)) here in
+      let all = length-append (give n z) (collected give (n + 1) clients) in
+      omega (arith, more, all)
+
+  -- the killed ones of the slots below this one have left, and the others are as they were
+  pub record Leave (slot : ℕ) (start now : List (Option (Stored T U C))) (notes notes' : List (Note U)) (given given' : List (ClientParts × T)) : Type 0 where
+    pub same : all_staying now ≡ all_staying start
+    pub rest : (k : ℕ) → slot ≤ k → slice_get now k ≡ slice_get start k
+    pub left : (k : ℕ) (x : Option (Stored T U C)) → k < slot → slice_get now k ≡ Some x → staying x ≡ x
+    pub noted : notes' ++ collected ends_at slot (drop slot start) ≡ notes ++ collected ends_at 0 start
+    pub gave : given' ++ collected given_at slot (drop slot start) ≡ given ++ collected given_at 0 start
+
+  pub leave_begins : (start : List (Option (Stored T U C))) (notes : List (Note U)) (given : List (ClientParts × T)) → Leave 0 start start notes notes given given
+  leave_begins start notes given = record { same = refl; rest = λ k above. refl; left = λ k x below. absurd (omega (arith, below)); noted = refl; gave = refl }
+
+  pub leave_one : (slot : ℕ) (start now : List (Option (Stored T U C))) (notes notes' notes'' : List (Note U)) (given given' given'' : List (ClientParts × T)) (x x' : Option (Stored T U C))
+      → Leave slot start now notes notes' given given' → slice_get now slot ≡ Some x → x' ≡ staying x → notes'' ≡ notes' ++ ends_at slot x → given'' ≡ given' ++ given_at slot x
+      → Leave (slot + 1) start (slice_set now slot x') notes notes'' given given''
+  leave_one slot start now notes notes' notes'' given given' given'' x x' before here stays noted gave = record {
+    same = map_set staying now slot x x' here (ap staying stays ∙ staying_stays x) ∙ before.same;
+    rest = λ k above. get_set_other now slot k x' (λ e. absurd (omega (arith, above, e))) ∙ before.rest k (omega (arith, above));
+    left = λ k y below get. at k y (k == slot) refl below get;
+    noted = ap (λ (l : List (Note U)). l ++ collected ends_at (slot + 1) (drop (slot + 1) start)) noted
+        ∙ (append_assoc notes' (ends_at slot x) (collected ends_at (slot + 1) (drop (slot + 1) start))
+        ∙ (ap (λ (l : List (Note U)). notes' ++ l) (sym (collected_drop ends_at slot slot start x there)) ∙ before.noted));
+    gave = ap (λ (l : List (ClientParts × T)). l ++ collected given_at (slot + 1) (drop (slot + 1) start)) gave
+        ∙ (append_assoc given' (given_at slot x) (collected given_at (slot + 1) (drop (slot + 1) start))
+        ∙ (ap (λ (l : List (ClientParts × T)). given' ++ l) (sym (collected_drop given_at slot slot start x there)) ∙ before.gave));
+  }
+    where
+      there : slice_get start slot ≡ Some x
+      there = sym (before.rest slot (omega arith)) ∙ here
+
+      at : (k : ℕ) (y : Option (Stored T U C)) (b : Bool) → (k == slot) ≡ b → k < slot + 1 → slice_get (slice_set now slot x') k ≡ Some y → staying y ≡ y
+      at k y true is below get =
+          let same : x' ≡ y = same_Some x' y (sym (get_set_same now slot x x' here) ∙ (ap (slice_get (slice_set now slot x')) (sym (eqb-true k slot is)) ∙ get)) in
+          subst (λ (z : Option (Stored T U C)). staying z ≡ z) (sym stays ∙ same) (staying_stays x)
+      at k y false is below get =
+          let differ : k ≢ slot = other_of k slot is in
+          before.left k y (omega (arith, below, differ)) (sym (get_set_other now slot k x' (λ e. differ (sym e))) ∙ get)
+
+  -- there is room for what the next one leaves
+  pub leave_room : {A : Type 0} (give : ℕ → Option (Stored T U C) → List A) (slot : ℕ) (start : List (Option (Stored T U C))) (has has' : List A) (x : Option (Stored T U C)) (n n' room room' : ℕ)
+      → has' ++ collected give slot (drop slot start) ≡ has ++ collected give 0 start → slice_get start slot ≡ Some x → n ≡ length has → n' ≡ length has'
+      → n + length (collected give 0 start) ≤ room → room' ≡ room → n' + length (give slot x) ≤ room'
+  leave_room give slot start has has' x n n' room room' are here is is' fits same =
+      let whole : length has' + length (collected give slot (drop slot start)) ≡ length has + length (collected give 0 start) =
+      sym (length-append has' (collected give slot (drop slot start))) ∙ (ap length are ∙ length-append has (collected give 0 start))
+      in
+      let part : length (collected give slot (drop slot start)) ≡ length (give slot x) + length (collected give (slot + 1) (drop (slot + 1) start)) =
+      ap length (collected_drop give slot slot start x here) ∙ length-append (give slot x) (collected give (slot + 1) (drop (slot + 1) start))
+      in
+      omega (arith, whole, part, is, is', fits, same)
+
+  pub number_room : (slot : ℕ) (start : List (Option (Stored T U C))) (x : Option (Stored T U C)) (room room' : ℕ) → slice_get start slot ≡ Some x
+      → length (collected ends_at 0 start) ≤ room → room' ≡ room → length (ends_at slot x) ≤ room'
+  number_room slot start x room room' here fits same = let one = part_length ends_at 0 slot slot start x (omega arith) here in omega (arith, one, fits, same)
+
+  pub leave_ends : (slot : ℕ) (start now : List (Option (Stored T U C))) (notes notes' : List (Note U)) (given given' : List (ClientParts × T)) → Leave slot start now notes notes' given given'
+      → length start ≤ slot → length now ≡ length start
+      → (now ≡ all_staying start) × (notes' ≡ notes ++ collected ends_at 0 start) × (given' ≡ given ++ collected given_at 0 start)
+  leave_ends slot start now notes notes' given given' before past len = (
+    sym (map_itself staying now (λ k x here. before.left k x (let within = slice_get_within now k x here in omega (arith, within, past, len)) here)) ∙ before.same,
+    sym (append-nil notes') ∙ (ap (λ (l : List (Option (Stored T U C))). notes' ++ collected ends_at slot l) (sym (drop_all slot start past)) ∙ before.noted),
+    sym (append-nil given') ∙ (ap (λ (l : List (Option (Stored T U C))). given' ++ collected given_at slot l) (sym (drop_all slot start past)) ∙ before.gave),
+  )
+
+  -- ---- how many they are
+
+  pub counted_more : {A : Type 0} (give : ℕ → Option (Stored T U C) → List A) (clients : List (Option (Stored T U C))) (slot : ℕ) (x : Option (Stored T U C)) (count one count' : ℕ)
+      → slice_get clients slot ≡ Some x → (count < 0xFFFFFFFFFFFFFFFF → length (collected give 0 clients) ≤ count + length (collected give slot (drop slot clients)))
+      → (one < 0xFFFFFFFFFFFFFFFF → length (give slot x) ≤ one) → count' ≡ min (count + one) 0xFFFFFFFFFFFFFFFF
+      → count' < 0xFFFFFFFFFFFFFFFF → length (collected give 0 clients) ≤ count' + length (collected give (slot + 1) (drop (slot + 1) clients))
+  counted_more give clients slot x count one count' here before some is below =
+      let fits : count < 0xFFFFFFFFFFFFFFFF = omega (arith, is, below) in
+      let fits' : one < 0xFFFFFFFFFFFFFFFF = omega (arith, is, below) in
+      let all = before fits in
+      let this = some fits' in
+      let part : length (collected give slot (drop slot clients)) ≡ length (give slot x) + length (collected give (slot + 1) (drop (slot + 1) clients)) =
+      ap length (collected_drop give slot slot clients x here) ∙ length-append (give slot x) (collected give (slot + 1) (drop (slot + 1) clients))
+      in
+      omega (arith, is, below, all, this, part)
+
+  pub counted_fewer : {A : Type 0} (give : ℕ → Option (Stored T U C) → List A) (clients : List (Option (Stored T U C))) (slot : ℕ) (x : Option (Stored T U C)) (count one count' : ℕ)
+      → slice_get clients slot ≡ Some x → count + length (collected give slot (drop slot clients)) ≤ length (collected give 0 clients)
+      → one ≤ length (give slot x) → count' ≡ min (count + one) 0xFFFFFFFFFFFFFFFF
+      → count' + length (collected give (slot + 1) (drop (slot + 1) clients)) ≤ length (collected give 0 clients)
+  counted_fewer give clients slot x count one count' here before some is =
+      let part : length (collected give slot (drop slot clients)) ≡ length (give slot x) + length (collected give (slot + 1) (drop (slot + 1) clients)) =
+      ap length (collected_drop give slot slot clients x here) ∙ length-append (give slot x) (collected give (slot + 1) (drop (slot + 1) clients))
+      in
+      omega (arith, is, before, some, part)

@@ -1,0 +1,117 @@
+-- The room that a cleanup made is enough, also once the killed clients were flushed and all notes gathered.
+use Rattle.std.proofs.Common.{◌≡◌, ℕ, suc, ◌+◌, Bool, true, false, List, [], ◌∷◌, ◌++◌, length, Option, None, Some, is_some, Result, refl, sym, ap, subst, ◌∙◌, arith, append-nil}
+use Rattle.std.specs.Option.{option_map}
+use Rattle.std.specs.Prelude.{MatchBool, if◌then◌else◌, slice_get}
+use Rattle.std.proofs.lemmas.Bool.{false≢true}
+use Rattle.std.proofs.lemmas.List.{length-append}
+use Rattle.std.proofs.lemmas.Option.{same_Some, slice_get_within}
+use Rattle.wl_wire.specs.declared.error.IoFault.{IoFault}
+use Rattle.wl_link.specs.Exchange.{Queue}
+use Rattle.wl_server.specs.declared.notes.Happening.{Happening}
+use Rattle.wl_server.specs.declared.notes.Note.{Note}
+use Rattle.wl_server.specs.Deeds.{Deed, notes_in}
+use Rattle.wl_server.specs.Felt.{FlushedTo}
+use Rattle.wl_server.specs.Inside.Gathering.{Gathers, all_emptied, count_leaving, emptied, leaving}
+use Rattle.wl_server.specs.Ids.{ClientParts}
+use Rattle.wl_server.specs.Inside.Leaving.{FlushesKilled, collected, ends_at, given_at}
+use Rattle.wl_server.specs.Part.{Part, with_link}
+use Rattle.wl_server.specs.Inside.Places.{AllFeel, FeltAt, PlaceFeels}
+use Rattle.wl_server.specs.Server.{Stored}
+use Rattle.wl_server.proofs.Readings.Notes.{notes_of_sends}
+
+given_length : {T : Type 0} (i : ClientParts) (t t' : T) (b : Bool)
+    → length {A = ClientParts × T} (if b then ((i, t') ∷ []) else []) ≡ length {A = ClientParts × T} (if b then ((i, t) ∷ []) else [])
+given_length i t t' true = refl
+given_length i t t' false = refl
+
+module _ {T U C : Type 0} where
+  -- two places at which a cleanup finds as much
+  abbrev pub SamePlace : ℕ → Option (Stored T U C) → Option (Stored T U C) → Type 0
+  SamePlace slot x y =
+      (length (leaving true y) ≡ length (leaving true x)) × (length (ends_at slot y) ≡ length (ends_at slot x)) × (length (given_at slot y) ≡ length (given_at slot x))
+
+  abbrev pub SameCounts : ℕ → List (Option (Stored T U C)) → List (Option (Stored T U C)) → Type 0
+  SameCounts n xs ys =
+      (count_leaving true ys ≡ count_leaving true xs) × (length (collected ends_at n ys) ≡ length (collected ends_at n xs))
+      × (length (collected given_at n ys) ≡ length (collected given_at n xs))
+
+  same_counts : (n : ℕ) (xs ys : List (Option (Stored T U C))) → length ys ≡ length xs
+      → ((slot k : ℕ) (x y : Option (Stored T U C)) → slot ≡ n + k → slice_get xs k ≡ Some x → slice_get ys k ≡ Some y → SamePlace slot x y) → SameCounts n xs ys
+  same_counts n [] [] len all = (refl, refl, refl)
+  same_counts n [] (y ∷ ys) len all = absurd (omega (arith, len))
+  same_counts n (x ∷ xs) [] len all = absurd (omega (arith, len))
+  same_counts n (x ∷ xs) (y ∷ ys) len all =
+      let here = all n 0 x y (omega arith) refl refl in
+      let more = same_counts (n + 1) xs ys (omega (arith, len)) (λ slot k a b at is is'. all slot (suc k) a b (omega (arith, at)) is is') in (
+        omega (arith, here.0, more.0),
+        (length-append (ends_at n y) (collected ends_at (n + 1) ys) ∙ omega (arith, here.1, more.1, length-append (ends_at n x) (collected ends_at (n + 1) xs))),
+        (length-append (given_at n y) (collected given_at (n + 1) ys) ∙ omega (arith, here.2, more.2, length-append (given_at n x) (collected given_at (n + 1) xs))),
+      )
+
+  -- ---- a flush
+
+  same_flushed : (sends : T → Queue → Result ℕ IoFault → T → Type 0) (slot : ℕ) (s : Stored T U C) (q : Part T U C) (lacked : Bool) (did : List (Deed U))
+      → FlushesKilled sends s.part lacked did q → SamePlace slot (Some s) (Some (record { serial = s.serial; part = q; made = s.made ++ notes_in did }))
+  same_flushed sends slot s q lacked did flushes = at s.part.is_killed flushes
+    where
+      as_new : (notes_in did ≡ []) → q ≡ with_link s.part q.link → SamePlace slot (Some s) (Some (record { serial = s.serial; part = q; made = s.made ++ notes_in did }))
+      as_new quiet is =
+          subst (λ (p : Part T U C). SamePlace slot (Some s) (Some (record { serial = s.serial; part = p; made = s.made ++ notes_in did }))) (sym is) (
+            ap (λ (l : List (Happening U)). length ((s.made ++ l) ++ s.part.waiting)) quiet ∙ ap (λ (l : List (Happening U)). length (l ++ s.part.waiting)) (append-nil s.made),
+            refl,
+            given_length (record { slot = slot; serial = s.serial }) s.part.link.transport q.link.transport s.part.is_killed,
+          )
+
+      at : (b : Bool) → MatchBool b ((answer : Result (Unit {0}) IoFault) × FlushedTo sends s.part answer lacked did q) ((lacked ≡ false) × (did ≡ []) × (q ≡ s.part))
+          → SamePlace slot (Some s) (Some (record { serial = s.serial; part = q; made = s.made ++ notes_in did }))
+      at true (answer, (es, link, by, lack, sent, is)) =
+          as_new (ap notes_in sent ∙ notes_of_sends es) (is ∙ ap (λ (l : _). with_link s.part l) (sym (ap (λ (p : Part T U C). p.link) is)))
+      at false (not, none, same) = as_new (ap notes_in none) (same ∙ ap (λ (l : _). with_link s.part l) (sym (ap (λ (p : Part T U C). p.link) same)))
+
+  same_place : (sends : T → Queue → Result ℕ IoFault → T → Type 0) (slot : ℕ) (x y : Option (Stored T U C)) (lacked : Bool)
+      → PlaceFeels (λ id p lacked did q. FlushesKilled sends p lacked did q) slot x lacked y → SamePlace slot x y
+  same_place sends slot None y lacked (not, is) = subst (λ (o : Option (Stored T U C)). SamePlace slot None o) (sym is) (refl, refl, refl)
+  same_place sends slot (Some s) y lacked (s', (did, q, flushes, made), is) =
+      subst (λ (o : Option (Stored T U C)). SamePlace slot (Some s) o) (sym (is ∙ ap Some made)) (same_flushed sends slot s q lacked did flushes)
+
+  pub flushed_counts : (sends : T → Queue → Result ℕ IoFault → T → Type 0) (refused : Bool) (start now : List (Option (Stored T U C)))
+      → AllFeel (λ id p lacked did q. FlushesKilled sends p lacked did q) refused (length start) start now → SameCounts 0 start now
+  flushed_counts sends refused start now all = same_counts 0 start now all.len (λ slot k x y at is is'. place slot k x y at is is')
+    where
+      felt : (k : ℕ) (x y : Option (Stored T U C)) (o o' : Option (Option (Stored T U C))) → o ≡ Some x → o' ≡ Some y
+          → FeltAt (λ id p lacked did q. FlushesKilled sends p lacked did q) k o (all.lacks k) o' → SamePlace k x y
+      felt k x y None o' is is' by = absurd (false≢true (ap is_some is))
+      felt k x y (Some a) o' is is' (b, feels, to) =
+          subst (λ (z : Option (Stored T U C)). SamePlace k z y) (same_Some a x is)
+          (subst (λ (z : Option (Stored T U C)). SamePlace k a z) (same_Some b y (sym to ∙ is')) (same_place sends k a b (all.lacks k) feels))
+
+      place : (slot k : ℕ) (x y : Option (Stored T U C)) → slot ≡ 0 + k → slice_get start k ≡ Some x → slice_get now k ≡ Some y → SamePlace slot x y
+      place slot k x y at is is' =
+          let same : slot ≡ k = omega (arith, at) in
+          subst (λ (n : ℕ). SamePlace n x y) (sym same) (felt k x y (slice_get start k) (slice_get now k) is is' (all.felt k (slice_get_within start k x is)))
+
+  -- ---- gathered notes
+
+  ends_emptied : (slot : ℕ) (x : Option (Stored T U C)) → ends_at slot (option_map (emptied true) x) ≡ ends_at slot x
+  ends_emptied slot None = refl
+  ends_emptied slot (Some s) = refl
+
+  given_emptied : (slot : ℕ) (x : Option (Stored T U C)) → given_at slot (option_map (emptied true) x) ≡ given_at slot x
+  given_emptied slot None = refl
+  given_emptied slot (Some s) = refl
+
+  collected_emptied : {A : Type 0} (give : ℕ → Option (Stored T U C) → List A) → ((slot : ℕ) (x : Option (Stored T U C)) → give slot (option_map (emptied true) x) ≡ give slot x)
+      → (n : ℕ) (clients : List (Option (Stored T U C))) → collected give n (all_emptied true clients) ≡ collected give n clients
+  collected_emptied give same n [] = refl
+  collected_emptied give same n (x ∷ clients) =
+      ap (λ l. l ++ collected give (n + 1) (all_emptied true clients)) (same n x) ∙ ap (λ l. give n x ++ l) (collected_emptied give same (n + 1) clients)
+
+  pub gathered_ends : (clients : List (Option (Stored T U C))) (notes : List (Note U)) (clients' : List (Option (Stored T U C))) (notes' : List (Note U))
+      → Gathers true clients notes clients' notes' → collected ends_at 0 clients' ≡ collected ends_at 0 clients
+  gathered_ends clients notes clients' notes' by =
+      sym (collected_emptied ends_at ends_emptied 0 clients') ∙ (ap (collected ends_at 0) by.rest ∙ collected_emptied ends_at ends_emptied 0 clients)
+
+  pub gathered_given : (clients : List (Option (Stored T U C))) (notes : List (Note U)) (clients' : List (Option (Stored T U C))) (notes' : List (Note U))
+      → Gathers true clients notes clients' notes' → collected given_at 0 clients' ≡ collected given_at 0 clients
+  gathered_given clients notes clients' notes' by =
+      sym (collected_emptied given_at given_emptied 0 clients') ∙ (ap (collected given_at 0) by.rest ∙ collected_emptied given_at given_emptied 0 clients)

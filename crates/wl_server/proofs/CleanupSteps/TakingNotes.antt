@@ -1,0 +1,159 @@
+-- The notes that were gathered are handed out, as a step of the server.
+use Rattle.std.proofs.Common.{◌≡◌, ◌≢◌, ℕ, ◌<◌, Bool, true, false, List, [], ◌++◌, map, Option, None, Some, Ok, Err, Vec, refl, sym, ap, subst, ◌∙◌, append-nil, arith}
+use mathlib.Core.Logic.{inl, inr}
+use Rattle.std.specs.Global.{Global}
+use Rattle.std.specs.Option.{option_map, option_map_or}
+use Rattle.std.specs.Prelude.{◌⊎◌, if◌then◌else◌, ◌==◌, slice_get}
+use Rattle.std.proofs.lemmas.Bool.{false≢true}
+use Rattle.std.proofs.lemmas.Option.{slice_get-map}
+use Rattle.wl_wire.specs.declared.error.OutOfMemory.{OutOfMemory}
+use Rattle.wl_server.specs.declared.notes.Happening.{Happening}
+use Rattle.wl_server.specs.declared.notes.Note.{Note}
+use Rattle.wl_server.specs.declared.runs.step.Reply.TheVariants as reply
+use Rattle.wl_server.specs.declared.runs.step.Step.TheVariants as step
+use Rattle.wl_server.proofs.OverRuns.Alone.AccountLaws.{calls}
+use Rattle.wl_server.specs.Backend.{Calls}
+use Rattle.wl_server.specs.Deeds.{NoteTaken}
+use Rattle.wl_server.specs.Inside.Gathering.{AllLeft, Gathers, all_emptied, count_leaving, emptied, leaving}
+use Rattle.wl_server.specs.Globals.{Offer}
+use Rattle.wl_server.specs.Ids.{ClientParts}
+use Rattle.wl_server.specs.Part.{Part}
+use Rattle.wl_server.specs.PartStep.{Asked, NotesTaken, World}
+use Rattle.wl_server.specs.Server.{Seen, ServerState, Stored, client_at, if_serial, notes_of, seen_as}
+use Rattle.wl_server.specs.Steps.{SomeClient, StepOf}
+use Rattle.wl_server.proofs.CleanupSteps.Asking.{notes_ask}
+
+module _ {T U C : Type 0} where
+  -- ---- what is left of each client
+
+  emptied_if : (waits : Bool) (serial : ℕ) (x : Option (Stored T U C)) → if_serial serial (option_map (emptied waits) x) ≡ option_map (emptied waits) (if_serial serial x)
+  emptied_if waits serial None = refl
+  emptied_if waits serial (Some s) = at (s.serial == serial)
+    where
+      at : (b : Bool) → (if b then Some (emptied waits s) else None) ≡ option_map (emptied waits) (if b then Some s else None)
+      at true = refl
+      at false = refl
+
+  emptied_at : (waits : Bool) (serial : ℕ) (x : Option (Option (Stored T U C)))
+      → if_serial serial (option_map_or (λ s. s) (option_map (option_map (emptied waits)) x) None) ≡ option_map (emptied waits) (if_serial serial (option_map_or (λ s. s) x None))
+  emptied_at waits serial None = refl
+  emptied_at waits serial (Some x) = emptied_if waits serial x
+
+  pub client_emptied : (waits : Bool) (clients : List (Option (Stored T U C))) (id : ClientParts) → client_at id (all_emptied waits clients) ≡ option_map (emptied waits) (client_at id clients)
+  client_emptied waits clients id =
+      ap (λ (x : Option (Option (Stored T U C))). if_serial id.serial (option_map_or (λ s. s) x None)) (slice_get-map (option_map (emptied waits)) clients id.slot)
+      ∙ emptied_at waits id.serial (slice_get clients id.slot)
+
+  -- of each id the same client is left
+  pub same_left : (waits : Bool) (clients : List (Option (Stored T U C))) (notes : List (Note U)) (clients' : List (Option (Stored T U C))) (notes' : List (Note U))
+      → Gathers waits clients notes clients' notes' → (id : ClientParts) → option_map (emptied waits) (client_at id clients') ≡ option_map (emptied waits) (client_at id clients)
+  same_left waits clients notes clients' notes' by id = sym (client_emptied waits clients' id) ∙ (ap (client_at id) by.rest ∙ client_emptied waits clients id)
+
+  pub none_left : (waits : Bool) (clients : List (Option (Stored T U C))) → AllLeft waits clients → (id : ClientParts) → leaving waits (client_at id clients) ≡ []
+  none_left waits clients all id = at (slice_get clients id.slot) refl
+    where
+      if_there : (b : Bool) (s : Stored T U C) → leaving waits (Some s) ≡ [] → leaving waits (if b then Some s else None) ≡ []
+      if_there true s none = none
+      if_there false s none = refl
+
+      at : (x : Option (Option (Stored T U C))) → slice_get clients id.slot ≡ x → leaving waits (if_serial id.serial (option_map_or (λ s. s) x None)) ≡ []
+      at None here = refl
+      at (Some None) here = refl
+      at (Some (Some s)) here = if_there (s.serial == id.serial) s (all id.slot (Some s) here)
+
+  -- ---- the notes that were made
+
+  made_of : (x : Option (Stored T U C)) → leaving false x ≡ option_map_or (λ s. s.made) x []
+  made_of None = refl
+  made_of (Some s) = append-nil s.made
+
+  part_of_left : (x : Option (Stored T U C)) → option_map (λ s. s.part) (option_map (emptied false) x) ≡ option_map (λ s. s.part) x
+  part_of_left None = refl
+  part_of_left (Some s) = refl
+
+  -- what is held of the id, once all notes are gathered and taken
+  each_taken : {G : Type 0} (w : World T G C) (offer : Offer G) (clients : List (Option (Stored T U C))) (notes : List (Note U)) (clients' : List (Option (Stored T U C))) (out : Vec (Note U) Global)
+      → Gathers false clients notes clients' out.items → AllLeft false clients' → (id : ClientParts)
+      → NotesTaken w id offer (Ok out) (seen_as (notes_of id notes) (client_at id clients)) false (map NoteTaken (notes_of id notes ++ option_map_or (λ s. s.made) (client_at id clients) []))
+      (seen_as [] (client_at id clients'))
+  each_taken w offer clients notes clients' out by left id = (told, refl, refl, held)
+    where
+      none : leaving false (client_at id clients') ≡ []
+      none = none_left false clients' left id
+
+      told : notes_of id out.items ≡ notes_of id notes ++ option_map_or (λ s. s.made) (client_at id clients) []
+      told = sym (append-nil (notes_of id out.items))
+          ∙ (ap (λ (l : List (Happening U)). notes_of id out.items ++ l) (sym none)
+          ∙ (by.told id ∙ ap (λ (l : List (Happening U)). notes_of id notes ++ l) (made_of (client_at id clients))))
+
+      parts : option_map (λ s. s.part) (client_at id clients') ≡ option_map (λ s. s.part) (client_at id clients)
+      parts = sym (part_of_left (client_at id clients'))
+          ∙ (ap (option_map (λ (s : Stored T U C). s.part)) (same_left false clients notes clients' out.items by id) ∙ part_of_left (client_at id clients))
+
+      held : seen_as [] (client_at id clients') ≡ record { part = option_map (λ s. s.part) (client_at id clients); made = [] }
+      held = ap (λ (p : Option (Part T U C)). let s : Seen T U C = record { part = p; made = option_map_or (λ s. s.made) (client_at id clients') [] } in s) parts
+          ∙ ap (λ (m : List (Happening U)). let s : Seen T U C = record { part = option_map (λ s. s.part) (client_at id clients); made = m } in s) (sym (made_of (client_at id clients')) ∙ none)
+
+module _ {T U G C : Type 0} (w : World T G C) (before : ServerState T U G C) where
+  -- ---- the step
+
+  taken_so : (clients' : List (Option (Stored T U C))) (out : Vec (Note U) Global) → Gathers false before.clients before.notes clients' out.items → AllLeft false clients'
+      → StepOf w before step.TakeNotes (reply.TakeNotes (Ok out)) false (record before { clients = clients'; notes = [] })
+  taken_so clients' out by left = (
+    record {
+      call = Asked step.TakeNotes (reply.TakeNotes (Ok out));
+      refused = false;
+      lacks = λ id. false;
+      did = λ id. map NoteTaken (notes_of id before.notes ++ option_map_or (λ s. s.made) (client_at id before.clients) []);
+    },
+    refl,
+    refl,
+    record {
+      offer = refl;
+      last = omega arith;
+      client = tt;
+      global = tt;
+      order = tt;
+      room = tt;
+      refused = (λ h. absurd (false≢true h), λ h. was_refused h);
+      each = λ id. (Ok out, refl, each_taken w before.offer before.clients before.notes clients' out by left id);
+    },
+  )
+    where
+      was_refused : (false ≡ true) ⊎ ((id : ClientParts) × (false ≡ true)) → false ≡ true
+      was_refused (inl h) = h
+      was_refused (inr (id, h)) = h
+
+  pub notes_taken : {was : Bool} (clients' : List (Option (Stored T U C))) (gathered : List (Note U)) (out : Vec (Note U) Global) (notes' : List (Note U)) → out.items ≡ gathered → notes' ≡ []
+      → Gathers false before.clients before.notes clients' gathered → AllLeft false clients'
+      → Calls w (record { server = before; refused = was }) step.TakeNotes (reply.TakeNotes (Ok out)) (record { server = record before { clients = clients'; notes = notes' }; refused = false })
+  notes_taken clients' gathered out notes' are none by left =
+      calls _ _ _ _ _
+      (subst (λ (ns : List (Note U)). StepOf w before step.TakeNotes (reply.TakeNotes (Ok out)) false (record before { clients = clients'; notes = ns })) (sym none)
+      (taken_so clients' out (subst (λ (ns : List (Note U)). Gathers false before.clients before.notes clients' ns) (sym are) by) left))
+
+  -- there is no memory for it
+  not_taken : (e : OutOfMemory) → SomeClient before.clients (λ s. s.made ≢ []) → StepOf w before step.TakeNotes (reply.TakeNotes (Err e)) true before
+  not_taken e some = (
+    record { call = Asked step.TakeNotes (reply.TakeNotes (Err e)); refused = true; lacks = λ id. false; did = λ id. [] },
+    refl,
+    refl,
+    record {
+      offer = refl;
+      last = omega arith;
+      client = tt;
+      global = tt;
+      order = tt;
+      room = some;
+      refused = (λ h. inl refl, λ h. refl);
+      each = λ id. (Err e, refl, (refl, refl, refl));
+    },
+  )
+
+  pub notes_starved : {was : Bool} (e : OutOfMemory) (clients' : List (Option (Stored T U C))) (notes' : List (Note U)) → clients' ≡ before.clients → notes' ≡ before.notes
+      → 0 < count_leaving false before.clients
+      → Calls w (record { server = before; refused = was }) step.TakeNotes (reply.TakeNotes (Err e)) (record { server = record before { clients = clients'; notes = notes' }; refused = true })
+  notes_starved e clients' notes' same same' some =
+      calls _ _ _ _ _
+      (subst (λ (xs : List (Option (Stored T U C))). StepOf w before step.TakeNotes (reply.TakeNotes (Err e)) true (record before { clients = xs; notes = notes' })) (sym same)
+      (subst (λ (ns : List (Note U)). StepOf w before step.TakeNotes (reply.TakeNotes (Err e)) true (record before { notes = ns })) (sym same') (not_taken e (notes_ask before.clients some))))

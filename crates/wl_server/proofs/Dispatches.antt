@@ -1,0 +1,4 @@
+-- That a dispatch is a run of calls, and ends.
+pub mod Joining
+pub mod Waiting
+pub mod Serving

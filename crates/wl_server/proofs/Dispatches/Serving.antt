@@ -1,0 +1,391 @@
+-- From what the calls of a dispatch say of themselves to what it does.
+use Rattle.std.proofs.Common.{◌≡◌, ◌<◌, ◌≤◌, ℕ, ◌+◌, length, get_or, take, arith, List, [], ◌∷◌, ◌++◌, append_assoc, append-nil, Bool, true, false, Option, None, Some, is_some, Result, Ok, Err, ap, refl, sym, subst, ◌∙◌, true≢false}
+use Rattle.std.specs.Prelude.{◌||◌, Vec}
+use Rattle.std.proofs.lemmas.List.{take_all, take_more}
+use mathlib.Core.Logic.{inl, inr}
+use Rattle.std.specs.Global.{Global}
+use Rattle.wl_wire.specs.declared.error.IoFault.{IoFault}
+use Rattle.wl_wire.specs.declared.error.OutOfMemory.{OutOfMemory}
+use Rattle.wl_link.specs.Exchange.{IsWithinOffer}
+use Rattle.wl_server.specs.declared.error.ActionError.{ActionError}
+use Rattle.wl_server.specs.declared.error.FinishError.{FinishError}
+use Rattle.wl_server.specs.declared.reading.action.Action.{Action}
+use Rattle.wl_server.specs.declared.reading.action.Reading.{Reading}
+use Rattle.wl_server.specs.declared.runs.step.Reply.{Reply}
+use Rattle.wl_server.specs.declared.runs.step.Reply.TheVariants as reply
+use Rattle.wl_server.specs.declared.runs.step.Step.{Step}
+use Rattle.wl_server.specs.declared.runs.step.Step.TheVariants as step
+use Rattle.wl_server.specs.Backend.{BackendState, Calls}
+use Rattle.wl_server.specs.Dispatch.{Answering, Answers, AreCut, DispatchesAll, DispatchesClient, EndsDispatch, Handles, Last, Serves, ServesEach, StayAccountedFor, Turn, Turns, TurnsEnd, behind_cleanup, dispatched, fault_of_end, fault_of_reading, more, no_action, none, not_ended, refusal_in, total_with}
+use Rattle.wl_server.specs.Ids.{ClientParts}
+use Rattle.wl_server.specs.Inside.Dispatching.{CleansUp, Fewer, HasServed, HasServedEach, ServesAll, ServesOnce, ServesSome, waiting_of}
+use Rattle.wl_server.specs.PartStep.{World}
+use Rattle.wl_server.specs.Reached.{Reached}
+use Rattle.wl_server.specs.Reading.{new_reading}
+use Rattle.wl_server.specs.Runs.{Leads}
+use Rattle.wl_server.specs.Server.{ServerState, new_server}
+use Rattle.wl_server.specs.Steps.{Entry, OneStep}
+use Rattle.wl_server.proofs.Dispatches.Waiting.{turn_fewer}
+use Rattle.wl_server.proofs.OverRuns.Alone.AccountLaws.{is_accounted_for}
+use Rattle.wl_server.proofs.OverRuns.Alone.IsolationLaw.{join_runs}
+use Rattle.wl_server.proofs.OverRuns.Cut.CuttingLaws.{histories_cut}
+
+or_false : (b : Bool) → (b || false) ≡ b
+or_false true = refl
+or_false false = refl
+
+or_assoc : (a b c : Bool) → ((a || b) || c) ≡ (a || (b || c))
+or_assoc true b c = refl
+or_assoc false b c = refl
+
+pub handles_by : {H T U G C : Type 0} (w : World T G C) (answers : Answering H T U G C) (id : ClientParts) (h h' : H) (before left after : BackendState T U G C)
+    (a : Action) (end : Step T U G C) (answer : Reply T U) → Answers w answers id h before a end h' left → Reached w id before.server left.server
+    → Calls w left end answer after → (run : List (Entry T U G C)) × Handles w answers id h before a run after.refused (refusal_in answer) h' after.server
+handles_by w answers id h h' before left after a end answer so reached calls =
+    let (e, is, refused, one) = calls.step in (
+      reached.run ++ (e ∷ []),
+      record {
+        left = left;
+        end = end;
+        answer = answer;
+        calls = reached.run;
+        ended = e;
+        answers_so = so;
+        leads = reached.leads;
+        spared = reached.spared;
+        ends = one;
+        ended_is = is;
+        why_is = refl;
+        run_is = refl;
+        lacked_is = sym refused;
+      },
+    )
+
+module _ {H T U G C : Type 0} (w : World T G C) (answers : Answering H T U G C) (id : ClientParts) where
+  -- a reading that hands out no action is the last
+  last_by : (h : H) (r r' : Reading) (before after : BackendState T U G C) (error : ActionError)
+      → Calls w before (step.NextActionWithin id r) (reply.NextActionWithin (Err error) r') after
+      → (run : List (Entry T U G C)) × Last w answers id h r before.server run after.refused (fault_of_reading error) h r' after.server
+  last_by h r r' before after error calls =
+      let (e, is, refused, one) = calls.step in (e ∷ [], no_action e error one is refl (sym refused) refl refl)
+
+  -- a reading that hands out an action, and what the handler made of that
+  turn_by : (h h' : H) (r r' : Reading) (before found : BackendState T U G C) (after : ServerState T U G C) (a : Action) (lacked : Bool) (why : Option FinishError)
+      → Calls w before (step.NextActionWithin id r) (reply.NextActionWithin (Ok a) r') found
+      → (run : List (Entry T U G C)) × Handles w answers id h found a run lacked why h' after
+      → (run : List (Entry T U G C)) × Turn w answers id h r before.server run (found.refused || lacked) why h' r' after
+  turn_by h h' r r' before found after a lacked why calls (rest, handles) =
+      let (e, is, refused, one) = calls.step in (
+        e ∷ rest,
+        record {
+          handed = a;
+          read = e;
+          found = found;
+          rest = rest;
+          end_lacked = lacked;
+          reads = one;
+          read_is = is;
+          found_is = sym refused;
+          handles = handles;
+          run_is = refl;
+          lacked_is = ap (λ (b : Bool). b || lacked) (sym refused);
+        },
+      )
+
+  -- ---- one action
+
+  -- what is kept behind calls with which memory was refused or not
+  abbrev keeping : Bool → BackendState T U G C → BackendState T U G C
+  keeping before left = record left { refused = before || left.refused }
+
+  pub serves_last : (h : H) (r r' : Reading) (before left : BackendState T U G C) (error : ActionError) (f : IoFault) (after : BackendState T U G C) (was : Bool)
+      → was ≡ before.refused → Calls w before (step.NextActionWithin id r) (reply.NextActionWithin (Err error) r') left → f ≡ fault_of_reading error → after ≡ keeping was left
+      → ServesOnce w answers id h r before (Some f) h r' after
+  serves_last h r r' before left error f after was was_is calls is kept =
+      let (run, last) = last_by h r r' before left error calls in record {
+        run = run;
+        lacked = left.refused;
+        served = subst (λ (x : IoFault). Last w answers id h r before.server run left.refused x h r' after.server) (sym is)
+            (subst (λ (s : ServerState T U G C). Last w answers id h r before.server run left.refused (fault_of_reading error) h r' s) (sym (ap (λ (b : BackendState T U G C). b.server) kept)) last);
+        refused = ap (λ (b : BackendState T U G C). b.refused) kept ∙ ap (λ (b : Bool). b || left.refused) was_is;
+        fewer = λ none. absurd (true≢false (ap is_some none));
+      }
+
+  refused_both : (a b c : Bool) (was read : Bool) → was ≡ a → read ≡ b → ((was || read) || c) ≡ a || (b || c)
+  refused_both a b c was read was_is read_is =
+      ap (λ (x : Bool). (x || read) || c) was_is ∙ ap (λ (x : Bool). (a || x) || c) read_is ∙ or_assoc a b c
+
+  pub serves_refused : (h h' : H) (r r' : Reading) (before found left : BackendState T U G C) (a : Action) (error : FinishError) (f : IoFault) (after : BackendState T U G C) (was read : Bool)
+      → was ≡ before.refused → read ≡ found.refused → Calls w before (step.NextActionWithin id r) (reply.NextActionWithin (Ok a) r') found
+      → (run : List (Entry T U G C)) × Handles w answers id h found a run left.refused (Some error) h' left.server → f ≡ fault_of_end error → after ≡ keeping (was || read) left
+      → ServesOnce w answers id h r before (Some f) h' r' after
+  serves_refused h h' r r' before found left a error f after was read was_is read_is calls handles is kept =
+      let (run, turn) = turn_by h h' r r' before found left.server a left.refused (Some error) calls handles in
+      let last : Last w answers id h r before.server run (found.refused || left.refused) (fault_of_end error) h' r' left.server = not_ended error turn refl in record {
+        run = run;
+        lacked = found.refused || left.refused;
+        served = subst (λ (x : IoFault). Last w answers id h r before.server run (found.refused || left.refused) x h' r' after.server) (sym is)
+            (subst (λ (s : ServerState T U G C). Last w answers id h r before.server run (found.refused || left.refused) (fault_of_end error) h' r' s)
+            (sym (ap (λ (b : BackendState T U G C). b.server) kept)) last);
+        refused = ap (λ (b : BackendState T U G C). b.refused) kept ∙ refused_both before.refused found.refused left.refused was read was_is read_is;
+        fewer = λ none. absurd (true≢false (ap is_some none));
+      }
+
+  pub serves_turn : (h h' : H) (r r' : Reading) (before found left : BackendState T U G C) (a : Action) (after : BackendState T U G C) (was read : Bool)
+      → was ≡ before.refused → read ≡ found.refused → Calls w before (step.NextActionWithin id r) (reply.NextActionWithin (Ok a) r') found
+      → (run : List (Entry T U G C)) × Handles w answers id h found a run left.refused None h' left.server → after ≡ keeping (was || read) left
+      → ServesOnce w answers id h r before None h' r' after
+  serves_turn h h' r r' before found left a after was read was_is read_is calls handles kept =
+      let (run, turn) = turn_by h h' r r' before found left.server a left.refused None calls handles in
+      let server : after.server ≡ left.server = ap (λ (b : BackendState T U G C). b.server) kept in record {
+        run = run;
+        lacked = found.refused || left.refused;
+        served = subst (λ (s : ServerState T U G C). Turn w answers id h r before.server run (found.refused || left.refused) None h' r' s) (sym server) turn;
+        refused = ap (λ (b : BackendState T U G C). b.refused) kept ∙ refused_both before.refused found.refused left.refused was read was_is read_is;
+        fewer = λ none.
+            subst (λ (s : ServerState T U G C). Fewer id r before.server r' s) (sym server)
+            (turn_fewer w id answers h h' r r' before found left.server a handles.0 left.refused None calls handles.1);
+      }
+
+  -- ---- actions one after another
+
+  turns_join : (h h1 h' : H) (r r1 r' : Reading) (s s1 s' : ServerState T U G C) (first next : List (Entry T U G C)) (before now : Bool)
+      → Turns w answers id h r s first before h1 r1 s1 → Turns w answers id h1 r1 s1 next now h' r' s' → Turns w answers id h r s (first ++ next) (before || now) h' r' s'
+  turns_join h h1 h' r r1 r' s s1 s' first next before now one (none no_run unlacked) =
+      subst (λ (run : List (Entry T U G C)). Turns w answers id h r s run (before || now) h' r' s') (sym (append-nil first) ∙ ap (λ (x : List (Entry T U G C)). first ++ x) (sym no_run))
+      (subst (λ (b : Bool). Turns w answers id h r s first b h' r' s') (sym (or_false before) ∙ ap (λ (x : Bool). before || x) (sym unlacked)) one)
+  turns_join h h1 h' r r1 r' s s1 s' first next before now one (more {first = earlier} {next = last} {before = b} {now = c} others turn run_is lacked_is) =
+      more (turns_join h h1 _ r r1 _ s s1 _ first earlier before b one others) turn (ap (λ (x : List (Entry T U G C)). first ++ x) run_is ∙ sym (append_assoc first earlier last))
+      (ap (λ (x : Bool). before || x) lacked_is ∙ sym (or_assoc before b c))
+
+  -- nothing yet
+  pub served_none : (h : H) (r : Reading) (before : BackendState T U G C) → HasServed w answers id h r before h r before
+  served_none h r before = record { run = []; lacked = false; turns = none refl refl; refused = sym (or_false before.refused) }
+
+  -- memory was refused so far, and then
+  refused_so : (a b c d e : Bool) → c ≡ b || e → b ≡ a || d → c ≡ a || (d || e)
+  refused_so a b c d e second first = second ∙ ap (λ (x : Bool). x || e) first ∙ or_assoc a d e
+
+  pub served_more : {h h1 h' : H} {r r1 r' : Reading} {before mid after : BackendState T U G C} {end : Option IoFault} → HasServed w answers id h r before h1 r1 mid
+      → ServesOnce w answers id h1 r1 mid end h' r' after → end ≡ None → HasServed w answers id h r before h' r' after
+  served_more {h} {h1} {h'} {r} {r1} {r'} {before} {mid} {after} {end} so_far one is = record {
+    run = so_far.run ++ one.run;
+    lacked = so_far.lacked || one.lacked;
+    turns = more so_far.turns (rw is at one.served) refl refl;
+    refused = refused_so before.refused mid.refused after.refused so_far.lacked one.lacked one.refused so_far.refused;
+  }
+
+  pub served_joins : {h h1 h' : H} {r r1 r' : Reading} {before mid after : BackendState T U G C} {end : Option IoFault} → HasServed w answers id h r before h1 r1 mid
+      → ServesSome w answers id h1 r1 mid end h' r' after → end ≡ None → HasServed w answers id h r before h' r' after
+  served_joins {h} {h1} {h'} {r} {r1} {r'} {before} {mid} {after} {end} so_far some is = record {
+    run = so_far.run ++ some.run;
+    lacked = so_far.lacked || some.lacked;
+    turns = turns_join h h1 h' r r1 r' before.server mid.server after.server so_far.run some.run so_far.lacked some.lacked so_far.turns (rw is at some.served);
+    refused = refused_so before.refused mid.refused after.refused so_far.lacked some.lacked some.refused so_far.refused;
+  }
+
+  -- a receive was used up
+  pub some_turns : {h h' : H} {r r' : Reading} {before after : BackendState T U G C} → HasServed w answers id h r before h' r' after → r'.turns_left < r.turns_left
+      → ServesSome w answers id h r before None h' r' after
+  some_turns so_far fewer = record { run = so_far.run; lacked = so_far.lacked; served = so_far.turns; refused = so_far.refused; fewer = λ is. fewer }
+
+  -- a fault ended them
+  pub some_end : {h h1 h' : H} {r r1 r' : Reading} {before mid after : BackendState T U G C} {end : Option IoFault} (f : IoFault) → HasServed w answers id h r before h1 r1 mid
+      → ServesOnce w answers id h1 r1 mid end h' r' after → end ≡ Some f → ServesSome w answers id h r before (Some f) h' r' after
+  some_end {h} {h1} {h'} {r} {r1} {r'} {before} {mid} {after} {end} f so_far one is = record {
+    run = so_far.run ++ one.run;
+    lacked = so_far.lacked || one.lacked;
+    served = record {
+      handler = h1;
+      reading = r1;
+      mid = mid.server;
+      first = so_far.run;
+      last = one.run;
+      first_lacked = so_far.lacked;
+      last_lacked = one.lacked;
+      turns = so_far.turns;
+      end = rw is at one.served;
+      run_is = refl;
+      lacked_is = refl;
+    };
+    refused = refused_so before.refused mid.refused after.refused so_far.lacked one.lacked one.refused so_far.refused;
+    fewer = λ none. absurd (true≢false (ap is_some none));
+  }
+
+  pub all_end : {h h1 h' : H} {r1 r' : Reading} {before mid after : BackendState T U G C} {end : Option IoFault} {answer : Result ℕ IoFault} (f : IoFault)
+      → HasServed w answers id h new_reading before h1 r1 mid → ServesSome w answers id h1 r1 mid end h' r' after → end ≡ Some f → answer ≡ dispatched f r'.read
+      → ServesAll w answers id h before answer h' after
+  all_end {h} {h1} {h'} {r1} {r'} {before} {mid} {after} {end} {answer} f so_far some is answered =
+      let last : TurnsEnd w answers id h1 r1 mid.server some.run some.lacked f h' r' after.server = rw is at some.served in record {
+        run = so_far.run ++ some.run;
+        lacked = so_far.lacked || some.lacked;
+        served = record {
+          left = r';
+          fault = f;
+          served = record {
+            handler = last.handler;
+            reading = last.reading;
+            mid = last.mid;
+            first = so_far.run ++ last.first;
+            last = last.last;
+            first_lacked = so_far.lacked || last.first_lacked;
+            last_lacked = last.last_lacked;
+            turns = turns_join h h1 last.handler new_reading r1 last.reading before.server mid.server last.mid so_far.run last.first so_far.lacked last.first_lacked so_far.turns last.turns;
+            end = last.end;
+            run_is = ap (λ (x : List (Entry T U G C)). so_far.run ++ x) last.run_is ∙ sym (append_assoc so_far.run last.first last.last);
+            lacked_is = ap (λ (x : Bool). so_far.lacked || x) last.lacked_is ∙ sym (or_assoc so_far.lacked last.first_lacked last.last_lacked);
+          };
+          answer_is = answered;
+        };
+        refused = refused_so before.refused mid.refused after.refused so_far.lacked some.lacked some.refused so_far.refused;
+      }
+
+-- no receive was used up, so fewer bytes wait
+pub fewer_wait : {T U G C : Type 0} (id : ClientParts) (r : Reading) (s : ServerState T U G C) (r' : Reading) (s' : ServerState T U G C) (left : ℕ) → Fewer id r s r' s'
+    → r.turns_left ≡ left → left ≤ r'.turns_left → (r'.turns_left ≡ left) × (waiting_of id s' < waiting_of id s)
+fewer_wait id r s r' s' left (inl fewer) was many = absurd (omega (arith, fewer, was, many))
+fewer_wait id r s r' s' left (inr (same, less)) was many = (same ∙ was, less)
+
+-- ---- that it is a run
+
+module _ {H T U G C : Type 0} (w : World T G C) (answers : Answering H T U G C) (id : ClientParts) where
+  abbrev Runs : ServerState T U G C → List (Entry T U G C) → ServerState T U G C → Type 0
+  Runs before run after = Leads w before run after
+
+  handles_lead : {h h' : H} {before : BackendState T U G C} {a : Action} {run : List (Entry T U G C)} {lacked : Bool} {why : Option FinishError} {after : ServerState T U G C}
+      → Handles w answers id h before a run lacked why h' after → Runs before.server run after
+  handles_lead {h} {h'} {before} {a} {run} {lacked} {why} {after} x =
+      subst (λ (r : List (Entry T U G C)). Runs before.server r after) (sym x.run_is)
+      (join_runs w before.server x.left.server after x.calls (x.ended ∷ []) x.leads (after, x.ends, refl))
+
+  turn_leads : {h h' : H} {r r' : Reading} {before : ServerState T U G C} {run : List (Entry T U G C)} {lacked : Bool} {why : Option FinishError} {after : ServerState T U G C}
+      → Turn w answers id h r before run lacked why h' r' after → Runs before run after
+  turn_leads {h} {h'} {r} {r'} {before} {run} {lacked} {why} {after} x =
+      subst (λ (y : List (Entry T U G C)). Runs before y after) (sym x.run_is) (x.found.server, x.reads, handles_lead x.handles)
+
+  turns_lead : {h h' : H} {r r' : Reading} {before : ServerState T U G C} {run : List (Entry T U G C)} {lacked : Bool} {after : ServerState T U G C}
+      → Turns w answers id h r before run lacked h' r' after → Runs before run after
+  turns_lead {h} {h'} {r} {r'} {before} {run} {lacked} {after} (none no_run unlacked) = subst (λ (y : List (Entry T U G C)). Runs before y before) (sym no_run) refl
+  turns_lead {h} {h'} {r} {r'} {before} {run} {lacked} {after} (more {s1 = mid} {first = first} {next = next} turns turn run_is lacked_is) =
+      subst (λ (y : List (Entry T U G C)). Runs before y after) (sym run_is) (join_runs w before mid after first next (turns_lead turns) (turn_leads turn))
+
+  last_leads : {h h' : H} {r r' : Reading} {before : ServerState T U G C} {run : List (Entry T U G C)} {lacked : Bool} {f : IoFault} {after : ServerState T U G C}
+      → Last w answers id h r before run lacked f h' r' after → Runs before run after
+  last_leads {h} {h'} {r} {r'} {before} {run} {lacked} {f} {after} (no_action e error one is run_is lacked_is fault_is same) =
+      subst (λ (y : List (Entry T U G C)). Runs before y after) (sym run_is) (after, one, refl)
+  last_leads (not_ended why turn is) = turn_leads turn
+
+  serves_lead : {h h' : H} {before : ServerState T U G C} {run : List (Entry T U G C)} {lacked : Bool} {answer : Result ℕ IoFault} {after : ServerState T U G C}
+      → Serves w answers id h before run lacked answer h' after → Runs before run after
+  serves_lead {h} {h'} {before} {run} {lacked} {answer} {after} x =
+      subst (λ (y : List (Entry T U G C)). Runs before y after) (sym x.served.run_is)
+      (join_runs w before x.served.mid after x.served.first x.served.last (turns_lead x.served.turns) (last_leads x.served.end))
+
+module _ {H T U G C : Type 0} (w : World T G C) (answers : Answering H T U G C) where
+  each_lead : {ids : List ClientParts} {h h' : H} {before : ServerState T U G C} {run : List (Entry T U G C)} {lacked : Bool} {total : ℕ} {after : ServerState T U G C}
+      → ServesEach w answers ids h before run lacked total h' after → Leads w before run after
+  each_lead {ids} {h} {h'} {before} {run} {lacked} {total} {after} (none no_ids no_run unlacked no_total) =
+      subst (λ (y : List (Entry T U G C)). Leads w before y before) (sym no_run) refl
+  each_lead {ids} {h} {h'} {before} {run} {lacked} {total} {after} (more {s1 = mid} {first = first} {next = next} id answer each serves ids_are run_is lacked_is total_is) =
+      subst (λ (y : List (Entry T U G C)). Leads w before y after) (sym run_is)
+      (join_runs w before mid after first next (each_lead each) (serves_lead w answers id serves))
+
+-- ---- its end
+
+module _ {T U G C : Type 0} (w : World T G C) where
+  cuts : (before after : ServerState T U G C) (run : List (Entry T U G C)) → AreCut w before run after
+  cuts before after run earlier later e found left is led one leads = histories_cut w found left e.call e refl one
+
+  stay_accounted : IsWithinOffer w.sends → (before after : ServerState T U G C) (run : List (Entry T U G C)) → Leads w before run after → StayAccountedFor w before run after
+  stay_accounted within before after run leads table earlier led =
+      let longer = join_runs w (new_server table) before after earlier run led leads in (longer, is_accounted_for w within table (earlier ++ run) after longer)
+
+  -- the cleanup of a dispatch
+  pub cleans_up : (before left after : BackendState T U G C) (r : Result (Vec (ClientParts × T) Global) OutOfMemory) (answer result : Result ℕ IoFault) (was : Bool)
+      → was ≡ before.refused → Calls w before step.Cleanup (reply.Cleanup r) left → after ≡ record left { refused = was || left.refused } → result ≡ behind_cleanup r answer
+      → CleansUp w before answer result after
+  cleans_up before left after r answer result was was_is calls kept is =
+      let (e, call, refused, one) = calls.step in record {
+        cleanup = e;
+        out = reply.Cleanup r;
+        cleans = subst (λ (s : ServerState T U G C). OneStep w before.server e s) (sym (ap (λ (b : BackendState T U G C). b.server) kept)) one;
+        cleanup_is = call;
+        result_is = is;
+        refused = ap (λ (b : BackendState T U G C). b.refused) kept ∙ ap (λ (b : Bool). b || left.refused) was_is ∙ ap (λ (b : Bool). before.refused || b) (sym refused);
+      }
+
+  ends_dispatch : {mid after : BackendState T U G C} {answer result : Result ℕ IoFault} (before : ServerState T U G C) (served : List (Entry T U G C)) (lacked : Bool)
+      → Leads w before served mid.server → mid.refused ≡ lacked → CleansUp w mid answer result after → EndsDispatch w before served lacked mid.server answer result after
+  ends_dispatch {mid} {after} {answer} {result} before served lacked leads refused ends =
+      let whole = join_runs w before mid.server after.server served (ends.cleanup ∷ []) leads (after.server, ends.cleans, refl) in record {
+        cleanup = ends.cleanup;
+        out = ends.out;
+        cleans = ends.cleans;
+        cleanup_is = ends.cleanup_is;
+        result_is = ends.result_is;
+        refused = ends.refused ∙ ap (λ (b : Bool). b || ends.cleanup.refused) refused;
+        leads = whole;
+        accounted = λ within. stay_accounted within before after.server (served ++ (ends.cleanup ∷ [])) whole;
+        cut = cuts before after.server (served ++ (ends.cleanup ∷ []));
+      }
+
+module _ {H T U G C : Type 0} (w : World T G C) (answers : Answering H T U G C) where
+  -- of one client
+  pub dispatches_client : {h h' : H} {begun mid after : BackendState T U G C} {answer result : Result ℕ IoFault} (id : ClientParts) (before : BackendState T U G C)
+      → begun ≡ record before { refused = false } → ServesAll w answers id h begun answer h' mid → CleansUp w mid answer result after
+      → DispatchesClient w answers id h before.server result h' after
+  dispatches_client {h} {h'} {begun} {mid} {after} {answer} {result} id before calm all ends =
+      let from : begun.server ≡ before.server = ap (λ (b : BackendState T U G C). b.server) calm in
+      let serves = subst (λ (s : ServerState T U G C). Serves w answers id h s all.run all.lacked answer h' mid.server) from all.served in (
+        all.run,
+        all.lacked,
+        answer,
+        mid.server,
+        serves,
+        ends_dispatch w before.server all.run all.lacked (serves_lead w answers id serves)
+            (all.refused ∙ ap (λ (b : BackendState T U G C). b.refused || all.lacked) calm) ends,
+      )
+
+  -- of several
+  pub each_none : (ids : List ClientParts) (h : H) (before : BackendState T U G C) → ids ≡ [] → HasServedEach w answers ids h before 0 h before
+  each_none ids h before is = record { run = []; lacked = false; each = none is refl refl refl; refused = sym (or_false before.refused) }
+
+  pub each_more : {earlier ids : List ClientParts} {h h1 h' : H} {before mid after : BackendState T U G C} {count total : ℕ} {answer : Result ℕ IoFault} (id : ClientParts)
+      → HasServedEach w answers earlier h before count h1 mid → ServesAll w answers id h1 mid answer h' after → ids ≡ earlier ++ (id ∷ []) → total ≡ total_with count answer
+      → HasServedEach w answers ids h before total h' after
+  each_more {earlier} {ids} {h} {h1} {h'} {before} {mid} {after} {count} {total} {answer} id so_far all ids_are total_is = record {
+    run = so_far.run ++ all.run;
+    lacked = so_far.lacked || all.lacked;
+    each = more id answer so_far.each all.served ids_are refl refl total_is;
+    refused = all.refused ∙ ap (λ (x : Bool). x || all.lacked) so_far.refused ∙ or_assoc before.refused so_far.lacked all.lacked;
+  }
+
+  pub dispatches_all : {ids : List ClientParts} {h h' : H} {mid after : BackendState T U G C} {total : ℕ} {result : Result ℕ IoFault} (before : BackendState T U G C)
+      → HasServedEach w answers ids h (record before { refused = false }) total h' mid → CleansUp w mid (Ok total) result after
+      → DispatchesAll w answers ids h before.server result h' after
+  dispatches_all {ids} {h} {h'} {mid} {after} {total} {result} before each ends = (
+    each.run,
+    each.lacked,
+    total,
+    mid.server,
+    each.each,
+    ends_dispatch w before.server each.run each.lacked (each_lead w answers each.each) each.refused ends,
+  )
+
+  pub each_begun : (h : H) (before begun : BackendState T U G C) → begun ≡ record before { refused = false }
+      → HasServedEach w answers [] h (record before { refused = false }) 0 h begun
+  each_begun h before begun is =
+      subst (λ (b : BackendState T U G C). HasServedEach w answers [] h (record before { refused = false }) 0 h b) (sym is)
+      (each_none [] h (record before { refused = false }) refl)
+
+  -- the next of the clients
+  pub one_more : {h h1 h' : H} {before mid after : BackendState T U G C} {count total : ℕ} {answer : Result ℕ IoFault} (ids : List ClientParts) (n : ℕ) (id : ClientParts)
+      → n < length ids → id ≡ get_or ids n id → HasServedEach w answers (take n ids) h before count h1 mid → ServesAll w answers id h1 mid answer h' after
+      → total ≡ total_with count answer → HasServedEach w answers (take (n + 1) ids) h before total h' after
+  one_more ids n id below here so_far all total_is =
+      each_more id so_far all (take_more ids n id below ∙ ap (λ (y : ClientParts). take n ids ++ y ∷ []) (sym here)) total_is
+
+  pub all_served : {h h' : H} {before after : BackendState T U G C} {total : ℕ} (ids : List ClientParts) (n : ℕ) → length ids ≤ n
+      → HasServedEach w answers (take n ids) h before total h' after → HasServedEach w answers ids h before total h' after
+  all_served {h} {h'} {before} {after} {total} ids n all each =
+      subst (λ (xs : List ClientParts). HasServedEach w answers xs h before total h' after) (take_all n ids all) each

@@ -1,0 +1,108 @@
+-- What becomes of the globals by a change at one name.
+use Rattle.std.proofs.Common.{◌≡◌, ◌<◌, ℕ, ◌+◌, Bool, true, false, List, Option, None, Some, Bor, Err, Result, is_some, not, refl, sym, ap, ◌∙◌, nat_le, subst, arith, ◌≤◌, Ok}
+use Rattle.std.specs.Prelude.{MatchOption, ◌==◌, if◌then◌else◌, option_copied, slice_get}
+use Rattle.std.proofs.lemmas.Bool.{eq-eqb, false≢true, ne_eqb}
+use Rattle.wl_wire.specs.declared.interface.InterfaceId.{InterfaceId}
+use Rattle.wl_wire.specs.Table.{InterfaceRow}
+use Rattle.wl_link.specs.declared.object.Object.{Object}
+use Rattle.wl_link.specs.declared.object_map.NewError.{NewError}
+use Rattle.wl_link.specs.declared.object_map.NewError.TheVariants as new
+use Rattle.wl_link.specs.Identity.{names, named_in}
+use Rattle.wl_link.specs.ObjectMap.{InsertsNew}
+use Rattle.wl_link.specs.Store.{Store, held, removed, rewritten}
+use Rattle.wl_link.proofs.Ids.StoreLaws.{stored_here}
+use Rattle.wl_server.specs.declared.error.GlobalError.TheVariants as refused
+use Rattle.wl_server.specs.declared.globals.KeptGlobal.{KeptGlobal}
+use Rattle.wl_server.specs.Globals.{CreatesGlobal, Globals, as_disabled, disabled, disabled_at, freed, freed_at, global_serial, name_range}
+use Rattle.wl_server.specs.Ids.{GlobalParts}
+use Rattle.wl_server.specs.Part.{last_possible_serial}
+
+module _ {G : Type 0} where
+  abbrev globals_of : Store (KeptGlobal G) → ℕ → Globals G
+  globals_of store last = record { store = store; last_serial = last }
+
+  -- the global that an id names
+  abbrev global_by : Store (KeptGlobal G) → GlobalParts → Option (Object (KeptGlobal G))
+  global_by store id = names global_serial (record { number = id.name; serial = id.serial }) store
+
+  -- it is the one at the name
+  by_held : (store : Store (KeptGlobal G)) (id : GlobalParts) (x : Object (KeptGlobal G)) → global_by store id ≡ Some x → held store id.name ≡ Some x
+  by_held store id x is = at (id.name == 0) (held store id.name) is
+    where
+      inside : (o : Option (Object (KeptGlobal G))) → named_in global_serial (record { number = id.name; serial = id.serial }) o ≡ Some x → o ≡ Some x
+      inside None h = h
+      inside (Some y) h = same (y.value.serial == id.serial) h
+        where
+          same : (b : Bool) → (if b then Some y else None) ≡ Some x → Some y ≡ Some x
+          same true h = h
+          same false h = absurd (false≢true (ap is_some h))
+
+      at : (b : Bool) (o : Option (Object (KeptGlobal G)))
+          → (if b then None else named_in global_serial (record { number = id.name; serial = id.serial }) o) ≡ Some x → o ≡ Some x
+      at true o h = absurd (false≢true (ap is_some h))
+      at false o h = inside o h
+
+  pub nothing_disabled : (store : Store (KeptGlobal G)) (id : GlobalParts) (last : ℕ) → is_some (global_by store id) ≡ false
+      → globals_of store last ≡ disabled (globals_of store last) id
+  nothing_disabled store id last none = at (global_by store id) none
+    where
+      at : (o : Option (Object (KeptGlobal G))) → is_some o ≡ false → globals_of store last ≡ disabled_at (globals_of store last) id.name o
+      at None h = refl
+      at (Some x) h = absurd (false≢true (sym h))
+
+  pub one_disabled : (store after : Store (KeptGlobal G)) (id : GlobalParts) (last : ℕ) → is_some (global_by store id) ≡ true
+      → MatchOption (held store id.name) (after ≡ store) (λ x. after ≡ rewritten store id.name (as_disabled x))
+      → globals_of after last ≡ disabled (globals_of store last) id
+  one_disabled store after id last some becomes = at (global_by store id) refl some
+    where
+      at : (o : Option (Object (KeptGlobal G))) → global_by store id ≡ o → is_some o ≡ true → globals_of after last ≡ disabled_at (globals_of store last) id.name o
+      at None is h = absurd (false≢true h)
+      at (Some x) is h =
+          let here : after ≡ rewritten store id.name (as_disabled x) = rw (by_held store id x is) at becomes in
+          ap (λ (s : Store (KeptGlobal G)). globals_of s last) here
+
+  pub nothing_freed : (store : Store (KeptGlobal G)) (id : GlobalParts) (last : ℕ) → is_some (global_by store id) ≡ false
+      → globals_of store last ≡ freed (globals_of store last) id
+  nothing_freed store id last none = at (global_by store id) none
+    where
+      at : (o : Option (Object (KeptGlobal G))) → is_some o ≡ false → globals_of store last ≡ freed_at (globals_of store last) id.name o
+      at None h = refl
+      at (Some x) h = absurd (false≢true (sym h))
+
+  pub one_freed : (store after : Store (KeptGlobal G)) (id : GlobalParts) (last : ℕ) → is_some (global_by store id) ≡ true
+      → after ≡ removed store id.name → globals_of after last ≡ freed (globals_of store last) id
+  one_freed store after id last some becomes = at (global_by store id) some
+    where
+      at : (o : Option (Object (KeptGlobal G))) → is_some o ≡ true → globals_of after last ≡ freed_at (globals_of store last) id.name o
+      at None h = absurd (false≢true h)
+      at (Some x) h = ap (λ (s : Store (KeptGlobal G)). globals_of s last) becomes
+
+  -- a new global is named by its id
+  pub new_named : (store after : Store (KeptGlobal G)) (id : GlobalParts) (x : Object (KeptGlobal G)) (answer : Result ℕ NewError) → x.value.serial ≡ id.serial
+      → answer ≡ Ok id.name → InsertsNew name_range store x answer after → global_by after id ≡ Some x
+  new_named store after id x answer serial is inserts = at (subst (λ (r : Result ℕ NewError). InsertsNew name_range store x r after) is inserts)
+    where
+      at : InsertsNew name_range store x (Ok id.name) after → global_by after id ≡ Some x
+      at (least, becomes) =
+          let above : 1 ≤ id.name = least.within in
+          let other : (id.name == 0) ≡ false = ne_eqb id.name 0 (λ zero. absurd (omega (arith, zero, above))) in
+          let same : (x.value.serial == id.serial) ≡ true = eq-eqb x.value.serial id.serial serial in
+          rw (other, becomes, stored_here store id.name x id.name refl, same) refl
+
+  -- there was no memory for a new global
+  pub lacks_memory : (table : List InterfaceRow) (store after : Store (KeptGlobal G)) (last : ℕ) (i : InterfaceId) (version : ℕ) (row : InterfaceRow)
+      (x : Object (KeptGlobal G)) (answer : Result ℕ NewError) (e : NewError) → slice_get table i.0 ≡ Some row → nat_le version row.version ≡ true
+      → last < last_possible_serial → answer ≡ Err e → e ≡ new.OutOfMemory → InsertsNew name_range store x answer after
+      → CreatesGlobal table (globals_of store last) i version (Err refused.OutOfMemory)
+  lacks_memory table store after last i version row x answer e known fits left is memory inserts =
+      at (subst (λ (r : Result ℕ NewError). InsertsNew name_range store x r after) (is ∙ ap Err memory) inserts)
+    where
+      at : InsertsNew name_range store x (Err new.OutOfMemory) after → CreatesGlobal table (globals_of store last) i version (Err refused.OutOfMemory)
+      at ((name, least, unused), same) =
+          let id : GlobalParts = record { name = name; serial = last + 1 } in
+          rw (known, fits) (id, (least, left, refl), unused)
+
+-- whether something was found
+pub was_found : {A : Type 0} (found : Option (Bor A)) (x : Option A) (none : Bool) → option_copied found ≡ x → is_some found ≡ not none → is_some x ≡ not none
+was_found None x none is some = rw (← is) some
+was_found (Some y) x none is some = rw (← is) some

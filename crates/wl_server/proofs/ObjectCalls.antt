@@ -1,0 +1,8 @@
+-- Clients and objects that are made, told of and ended.
+pub mod Creation
+pub mod Posting
+pub mod EventFaults
+pub mod Inserting
+pub mod SendingEvents
+pub mod Closing
+pub mod Destroying

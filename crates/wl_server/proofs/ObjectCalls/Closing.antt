@@ -1,0 +1,76 @@
+-- What a client comes to that was told messages: it is closed down where one could not be put.
+use Rattle.std.proofs.Common.{◌≡◌, ◌∙◌, ℕ, Bool, true, false, ◌||◌, List, [], ◌++◌, append-nil, None, Result, Ok, Err, MatchResult, refl, sym, ap, subst}
+use Rattle.wl_wire.specs.declared.error.IoFault.{IoFault}
+use Rattle.wl_wire.specs.declared.error.IoFault.TheVariants as fault
+use Rattle.wl_link.specs.Exchange.{Queue}
+use Rattle.wl_link.specs.Link.{LinkState}
+use Rattle.wl_link.specs.Puts.{Said, lacked_memory}
+use Rattle.wl_link.specs.Reader.{Verdict, came_to}
+use Rattle.wl_server.specs.declared.notes.DisconnectReason.TheVariants.{ConnectionClosed}
+use Rattle.wl_server.specs.declared.notes.Happening.{Happening}
+use Rattle.wl_server.specs.Inside.Client.{Does}
+use Rattle.wl_server.specs.Deeds.{Deed, notes_in}
+use Rattle.wl_server.specs.Part.{Part}
+use Rattle.wl_server.specs.Inside.Puts.{Puts}
+use Rattle.wl_server.specs.Server.{Stored}
+use Rattle.wl_server.specs.Telling.{Core, Kills, Tells, Told, closed_down, end_deeds, part_of, speaker, tells}
+use Rattle.wl_server.specs.Inside.Carried.{told_notes}
+use Rattle.wl_server.proofs.Readings.Notes.{tells_put}
+
+or_false : (b : Bool) → (b || false) ≡ b
+or_false true = refl
+or_false false = refl
+
+module _ {U C : Type 0} where
+  -- the core where all messages were put, and where one was not
+  abbrev pub closing : Core U C → Result (Unit {0}) IoFault → Core U C
+  closing c (Ok _) = c
+  closing c (Err f) = closed_down c
+
+  -- the verdict of a client that is told messages, with other events
+  abbrev pub telling : Core U C → List Said → (Core U C → List (Told U)) → Verdict (Core U C) (Told U)
+  telling c puts events = record (tells c puts) { events = events }
+
+  came_closing : (c : Core U C) (puts : List Said) (events : Core U C → List (Told U)) (told : Result (Unit {0}) IoFault)
+      → came_to speaker (telling c puts events) told ≡ closing c told
+  came_closing c puts events (Ok u) = refl
+  came_closing c puts events (Err fault.WouldBlock) = refl
+  came_closing c puts events (Err fault.Pipe) = refl
+  came_closing c puts events (Err fault.TooBig) = refl
+  came_closing c puts events (Err fault.Proto) = refl
+  came_closing c puts events (Err fault.InvalidInput) = refl
+  came_closing c puts events (Err fault.OutOfMemory) = refl
+  came_closing c puts events (Err (fault.Other n)) = refl
+
+module _ {T U C : Type 0} where
+  -- a client of that core and link, with these notes made
+  abbrev pub client_of : ℕ → Core U C → LinkState T → List (Happening U) → Stored T U C
+  client_of serial c link made = record { serial = serial; part = part_of (record { core = c; link = link }); made = made }
+
+  -- it is closed down where a message could not be put
+  pub told_closing : (serial : ℕ) (c : Core U C) (link : LinkState T) (made : List (Happening U)) (told : Result (Unit {0}) IoFault) (after : Stored T U C)
+      → c.ended ≡ None
+      → MatchResult told (λ _. after ≡ client_of serial c link made) (λ _. Does (client_of serial c link made) (λ p did q. Kills p ConnectionClosed did q) after)
+      → after ≡ client_of serial (closing c told) link (made ++ notes_in (end_deeds (closing c told).ended))
+  told_closing serial c link made (Ok u) after none same =
+      rw none (same ∙ ap (client_of serial c link) (sym (append-nil made)))
+  told_closing serial c link made (Err f) after none (did, q, (did-is, q-is), is) =
+      rw none (is ∙ ap (λ (p : Part T U C). let x : Stored T U C = record { serial = serial; part = p; made = made ++ notes_in did } in x) q-is
+      ∙ ap (λ (d : List (Deed U)). client_of serial (closed_down c) link (made ++ notes_in d)) did-is)
+
+  -- the messages were put up to the first that failed, and nothing is noted beside the end of the client
+  pub told_by : (sends : T → Queue → Result ℕ IoFault → T → Type 0) (c : Core U C) (puts : List Said) (events : Core U C → List (Told U))
+      (before after : LinkState T) (told : Result (Unit {0}) IoFault) → ((d : Core U C) → told_notes (events d) ≡ []) → Puts sends before puts told after
+      → (did : List (Deed U))
+      × Tells sends (telling c puts events) before (lacked_memory told) did (part_of (record { core = closing c told; link = after }))
+      × (notes_in did ≡ notes_in (end_deeds (closing c told).ended))
+  told_by sends c puts events before after told silent put =
+      let v = telling c puts events in
+      let t = tells_put sends v before after after told [] false put (refl, refl, refl) in
+      subst (λ (d : Core U C). (did : List (Deed U)) × Tells sends v before (lacked_memory told) did (part_of (record { core = d; link = after }))
+      × (notes_in did ≡ notes_in (end_deeds d.ended)))
+      (came_closing c puts events told) (
+        t.0,
+        subst (λ (b : Bool). Tells sends v before b t.0 (part_of (record { core = came_to speaker v told; link = after }))) (or_false (lacked_memory told)) t.1,
+        t.2 ∙ ap (λ (l : List (Happening U)). l ++ notes_in (end_deeds (came_to speaker v told).ended)) (silent (came_to speaker v told)),
+      )

@@ -1,0 +1,122 @@
+-- How an insertion, or why there is none, is a creation.
+use Rattle.std.proofs.Common.{◌≡◌, ℕ, ◌+◌, ◌<◌, Bool, true, false, List, [], Option, None, Some, is_some, Result, Ok, Err, MatchOption, MatchBool, Bor, not, option_copied, option_map, refl, ap, subst, ◌∙◌, inl, inr, true≢false, arith}
+use Rattle.std.specs.Prelude.{◌==◌, slice_get}
+use Rattle.std.proofs.lemmas.Bool.{eqb-true, eq-eqb, false≢true}
+use Rattle.wl_wire.specs.declared.interface.InterfaceId.{InterfaceId}
+use Rattle.wl_wire.specs.Table.{InterfaceRow}
+use Rattle.wl_link.specs.declared.object.Object.{Object}
+use Rattle.wl_link.specs.declared.object_map.NewError.{NewError}
+use Rattle.wl_link.specs.declared.object_map.NewError.TheVariants as new
+use Rattle.wl_link.specs.ObjectMap.{InsertsNew}
+use Rattle.wl_link.specs.Store.{Store, server_range, stored}
+use Rattle.wl_server.specs.declared.error.CreateError.{CreateError}
+use Rattle.wl_server.specs.declared.error.CreateError.TheVariants as create
+use Rattle.wl_server.specs.declared.objects.Kept.{Kept}
+use Rattle.wl_server.specs.Inside.Client.{Does}
+use Rattle.wl_server.specs.Inside.Creation.{LacksSerial}
+use Rattle.wl_server.specs.Deeds.{Deed}
+use Rattle.wl_server.specs.Ids.{ClientParts, IdParts}
+use Rattle.wl_server.specs.Objects.{Creates, new_object, with_new_at}
+use Rattle.wl_server.specs.Part.{Part, fresh_object, last_possible_serial}
+use Rattle.wl_server.specs.Server.{Stored}
+use Rattle.wl_server.proofs.CallSteps.Doing.{does_quietly}
+
+known : {A : Type 0} (o : Option A) (X Y : Type 0) → is_some o ≡ true → Y → MatchOption o X (λ _. Y)
+known None X Y is y = absurd (false≢true is)
+known (Some a) X Y is y = y
+
+unknown : {A : Type 0} (o : Option A) (X Y : Type 0) → is_some o ≡ false → X → MatchOption o X (λ _. Y)
+unknown None X Y is x = x
+unknown (Some a) X Y is x = absurd (true≢false is)
+
+-- a row of the table is found where the interface is
+pub row_found : {A B : Type 0} (f : A → B) (found : Option (Bor A)) (row : Option B) (none : Bool) → option_map f (option_copied found) ≡ row → is_some found ≡ not none
+    → is_some row ≡ not none
+row_found f None row none is some = rw (← is) some
+row_found f (Some x) row none is some = rw (← is) some
+
+with_serial : (b : Bool) (X Y : Type 0) → b ≡ false → Y → MatchBool b X Y
+with_serial true X Y is y = absurd (true≢false is)
+with_serial false X Y is y = y
+
+no_serial : (b : Bool) (X Y : Type 0) → b ≡ true → X → MatchBool b X Y
+no_serial true X Y is x = x
+no_serial false X Y is x = absurd (false≢true is)
+
+module _ {T U C : Type 0} (table : List InterfaceRow) (client : ClientParts) (s : Stored T U C) (i : InterfaceId) (version : ℕ) (u : U) where
+  abbrev pub Created : Result IdParts CreateError → Part T U C → List (Deed U) → Part T U C → Type 0
+  Created answer p did q = (did ≡ []) × Creates table client p i version u answer q
+
+  abbrev pub over : Store (Kept U) → Part T U C
+  over store = record s.part { store = store }
+
+  abbrev pub Refused : CreateError → Store (Kept U) → Type 0
+  Refused e store = Does s (λ p did q. Created (Err e) p did q) (record { serial = s.serial; part = over store; made = s.made })
+
+  pub unknown_interface : is_some (slice_get table i.0) ≡ false → Does s (λ p did q. Created (Err create.UnknownInterface) p did q) s
+  unknown_interface is = does_quietly s (Created (Err create.UnknownInterface)) s.part (refl, unknown (slice_get table i.0) _ _ is (refl, refl))
+
+  pub lacks_serial : is_some (slice_get table i.0) ≡ true → s.part.last_serial < 0x10000000000000000 → (s.part.last_serial + 1 < 0x10000000000000000 → ⊥) → (e : CreateError) → LacksSerial s.part.store e
+      → Does s (λ p did q. Created (Err e) p did q) s
+  lacks_serial is fits last e (inl (full, why)) =
+      does_quietly s (Created (Err e)) s.part (refl, known (slice_get table i.0) _ _ is (inl (full, ap Err why, refl)))
+  lacks_serial is fits last e (inr (n, least, why)) =
+      does_quietly s (Created (Err e)) s.part
+      (refl, known (slice_get table i.0) _ _ is (inr (n, least, no_serial (s.part.last_serial == last_possible_serial) _ _ (eq-eqb s.part.last_serial last_possible_serial (omega (arith, fits, last))) (ap Err why, refl))))
+
+  module _ (is_known : is_some (slice_get table i.0) ≡ true) (few : s.part.last_serial + 1 < 0x10000000000000000) where
+    abbrev pub with_both : Store (Kept U) → ℕ → Part T U C
+    with_both store serial = record s.part { store = store; last_serial = serial }
+
+    serial_left : (s.part.last_serial == last_possible_serial) ≡ false
+    serial_left = at (s.part.last_serial == last_possible_serial) refl
+      where
+        at : (b : Bool) → (s.part.last_serial == last_possible_serial) ≡ b → b ≡ false
+        at true is = absurd (not_last (eqb-true s.part.last_serial last_possible_serial is))
+          where
+            not_last : s.part.last_serial ≡ last_possible_serial → ⊥
+            not_last last = omega (arith, last, few)
+        at false is = refl
+
+    -- a number was given
+    pub created : (n serial : ℕ) (x : Object (Kept U)) (store : Store (Kept U)) → serial ≡ s.part.last_serial + 1 → x ≡ fresh_object i version serial (Some u)
+        → InsertsNew server_range s.part.store x (Ok n) store
+        → Does s (λ p did q. Created (Ok (record { number = n; serial = serial; client = client; interface = i })) p did q)
+        (record { serial = s.serial; part = with_both store serial; made = s.made })
+    created n serial x store next is (least, put) =
+        does_quietly s (Created (Ok (id serial))) (with_both store serial) (
+          refl,
+          known (slice_get table i.0) _ _ is_known
+              (inr (n, least, with_serial (s.part.last_serial == last_possible_serial) _ _ serial_left (inl (ap (λ (k : ℕ). Ok (id k)) next, becomes)))),
+        )
+      where
+        id : ℕ → IdParts
+        id k = record { number = n; serial = k; client = client; interface = i }
+
+        is_new : x ≡ new_object s.part i version u
+        is_new = is ∙ ap (λ (k : ℕ). fresh_object i version k (Some u)) next
+
+        becomes : with_both store serial ≡ with_new_at s.part n (new_object s.part i version u)
+        becomes =
+            ap (λ (st : Store (Kept U)). with_both st serial) (put ∙ ap (stored s.part.store n) is_new)
+            ∙ ap (with_both (stored s.part.store n (new_object s.part i version u))) next
+
+    pub exhausted : (e : NewError) (x : Object (Kept U)) (store : Store (Kept U)) → e ≡ new.IdsExhausted → InsertsNew server_range s.part.store x (Err e) store
+        → Refused create.IdsExhausted store
+    exhausted e x store is inserts = at (subst (λ (e : NewError). InsertsNew server_range s.part.store x (Err e) store) is inserts)
+      where
+        at : InsertsNew server_range s.part.store x (Err new.IdsExhausted) store → Refused create.IdsExhausted store
+        at (full, same) =
+            does_quietly s (Created (Err create.IdsExhausted)) (over store) (refl, known (slice_get table i.0) _ _ is_known (inl (full, refl, ap over same)))
+
+    pub no_memory : (e : NewError) (x : Object (Kept U)) (store : Store (Kept U)) → e ≡ new.OutOfMemory → InsertsNew server_range s.part.store x (Err e) store
+        → Refused create.OutOfMemory store
+    no_memory e x store is inserts = at (subst (λ (e : NewError). InsertsNew server_range s.part.store x (Err e) store) is inserts)
+      where
+        at : InsertsNew server_range s.part.store x (Err new.OutOfMemory) store → Refused create.OutOfMemory store
+        at ((n, least, unused), same) =
+            does_quietly s (Created (Err create.OutOfMemory)) (over store) (
+              refl,
+              known (slice_get table i.0) _ _ is_known
+                  (inr (n, least, with_serial (s.part.last_serial == last_possible_serial) _ _ serial_left (inr (refl, unused, ap over same)))),
+            )

@@ -1,0 +1,215 @@
+-- How what was done to an object that the program destroys is its destruction.
+use Rattle.std.proofs.Common.{◌≡◌, ◌∙◌, ℕ, Bool, true, false, eqb, cond, List, [], ◌++◌, append-nil, map, Option, None, Some, is_some, IfSome, Result, Ok, Err, MatchOption, MatchResult, refl, sym, ap, subst, inl, inr}
+use Rattle.std.specs.Prelude.{◌==◌}
+use Rattle.std.proofs.lemmas.Bool.{false≢true}
+use Rattle.wl_wire.specs.declared.error.IoFault.{IoFault}
+use Rattle.wl_wire.specs.declared.error.IoFault.TheVariants as fault
+use Rattle.wl_link.specs.declared.object.Object.{Object}
+use Rattle.wl_link.specs.Exchange.{Queue}
+use Rattle.wl_link.specs.Identity.{Id, named_in}
+use Rattle.wl_link.specs.Link.{LinkState}
+use Rattle.wl_link.specs.Puts.{lacked_memory}
+use Rattle.wl_link.specs.Reader.{Verdict, came_to}
+use Rattle.wl_link.specs.Store.{Store, held, removed}
+use Rattle.wl_server.specs.declared.error.DestroyError.{DestroyError}
+use Rattle.wl_server.specs.declared.error.DestroyError.TheVariants as destroy
+use Rattle.wl_server.specs.declared.objects.Kept.{Kept}
+use Rattle.wl_server.specs.declared.notes.DisconnectReason.TheVariants.{ConnectionClosed}
+use Rattle.wl_server.specs.declared.notes.Happening.{Happening}
+use Rattle.wl_server.specs.Inside.Carried.{IsCarried, told_notes}
+use Rattle.wl_server.specs.Inside.Client.{Does}
+use Rattle.wl_server.specs.Deeds.{Deed, left_if, notes_in}
+use Rattle.wl_server.specs.Inside.Destruction.{lacks_destroy}
+use Rattle.wl_server.specs.Ids.{IdParts}
+use Rattle.wl_server.specs.Objects.{Destroys, destroyable, destroys, leaving, unless_refused}
+use Rattle.wl_server.specs.Part.{Part, id_of, named, note_of_end, registries_without, serial_of}
+use Rattle.wl_server.specs.Inside.Puts.{Puts}
+use Rattle.wl_server.specs.Server.{Stored}
+use Rattle.wl_server.specs.Telling.{Core, Did, Kills, Told, core_of, deletions, end_deeds, speaker}
+use Rattle.wl_server.proofs.CallSteps.Doing.{does_quietly}
+use Rattle.wl_server.proofs.Readings.Notes.{tells_carried}
+use Rattle.wl_server.proofs.ObjectCalls.Posting.{arrived, kills_is, linked}
+
+-- ---- what an id names
+
+chosen : {X : Type 0} (b : Bool) (y x : X) → cond b (Some y) None ≡ Some x → y ≡ x
+chosen true y x e = cc
+chosen false y x e = absurd cc
+
+module _ {U : Type 0} where
+  found : (id : Id) (h : Option (Object (Kept U))) (x : Object (Kept U)) → named_in serial_of id h ≡ Some x → h ≡ Some x
+  found id None x e = absurd cc
+  found id (Some y) x e = ap Some (chosen (eqb (serial_of y.value) id.serial) y x e)
+
+  not_null : (b : Bool) (id : Id) (h : Option (Object (Kept U))) (x : Object (Kept U)) → cond b None (named_in serial_of id h) ≡ Some x → h ≡ Some x
+  not_null true id h x e = absurd cc
+  not_null false id h x e = found id h x e
+
+  -- an object that an id names is the one at the id's number
+  pub named_is_held : (store : Store (Kept U)) (id : IdParts) (x : Object (Kept U)) → named store id ≡ Some x → held store id.number ≡ Some x
+  named_is_held store id x e = not_null (eqb id.number 0) (id_of id) (held store id.number) x e
+
+  -- nothing that an object leaves behind is a note
+  pub leaves_no_note : {C : Type 0} (id : IdParts) (u : Option U) (c : Core U C) → told_notes (leaving id u c) ≡ []
+  leaves_no_note id u c = at (is_some (named c.store id)) u
+    where
+      at : (b : Bool) (u : Option U) → told_notes (cond b [] (map Did (left_if (id_of id) u))) ≡ []
+      at true u = refl
+      at false None = refl
+      at false (Some u) = refl
+
+-- ---- the object that may be destroyed
+
+module _ {T U C : Type 0} where
+  destroyable_named : (p : Part T U C) (id : IdParts) (x : Object (Kept U)) → destroyable p id ≡ Some x → named p.store id ≡ Some x
+  destroyable_named p id x = at (id.number == 1)
+    where
+      at : (b : Bool) → cond b None (named p.store id) ≡ Some x → named p.store id ≡ Some x
+      at true is = absurd cc
+      at false is = is
+
+at_none : {A : Type 0} (o : Option A) (X : Type 0) (Y : A → Type 0) → o ≡ None → X → MatchOption o X Y
+at_none o X Y is x = rw is x
+
+at_some : {A : Type 0} (o : Option A) (X : Type 0) (Y : A → Type 0) (a : A) → o ≡ Some a → Y a → MatchOption o X Y
+at_some o X Y a is y = rw is y
+
+module _ {T U C : Type 0} (sends : T → Queue → Result ℕ IoFault → T → Type 0) (s : Stored T U C) (id : IdParts) where
+  abbrev pub Destruction : Result (Unit {0}) DestroyError → Part T U C → List (Deed U) → Part T U C → Type 0
+  Destruction answer p did q = Destroys sends id.client p id answer (lacks_destroy answer) did q
+
+  -- there is no such object
+  pub refused : destroyable s.part id ≡ None → Does s (λ p did q. Destruction (Err destroy.InvalidId) p did q) s
+  refused none = does_quietly s (Destruction (Err destroy.InvalidId)) s.part (at_none (destroyable s.part id) _ _ none (refl, refl, refl, refl))
+
+  module _ (x : Object (Kept U)) (is : destroyable s.part id ≡ Some x) where
+    abbrev verdict : Verdict (Core U C) (Told U)
+    verdict = destroys id.client (core_of s.part) id x
+
+    carried : (answer : Result (Unit {0}) DestroyError) (after : Stored T U C) → answer ≡ unless_refused destroy.OutOfMemory (lacks_destroy answer)
+        → IsCarried sends verdict s (lacks_destroy answer) after → Does s (λ p did q. Destruction answer p did q) after
+    carried answer after answered done =
+        let t = tells_carried sends verdict s after (lacks_destroy answer) done in
+        (t.0, t.1, at_some (destroyable s.part id) _ _ x is (answered, t.2), t.3)
+
+    silent : (c : Core U C) → told_notes (verdict.events c) ≡ []
+    silent c = leaves_no_note id x.value.user_data c
+
+    abbrev with_notes : Stored T U C → List (Happening U) → Stored T U C
+    with_notes a notes = record { serial = a.serial; part = a.part; made = notes }
+
+    no_notes : (made : List (Happening U)) {notes : List (Happening U)} → notes ≡ [] → made ++ (notes ++ []) ≡ made
+    no_notes made none = rw none (append-nil made)
+
+    -- other notes wait
+    abbrev pub with_waiting : Stored T U C → List (Happening U) → Stored T U C
+    with_waiting a waiting = record a { part = record a.part { waiting = waiting } }
+
+    -- there was no memory for its note
+    pub starved : (waiting : List (Happening U)) → waiting ≡ s.part.waiting → is_some x.value.user_data ≡ true
+        → Does s (λ p did q. Destruction (Err destroy.OutOfMemory) p did q) (with_waiting s waiting)
+    starved waiting same asks = carried (Err destroy.OutOfMemory) (with_waiting s waiting) refl (
+      core_of s.part,
+      s.part.link,
+      inr (asks, refl, refl, refl),
+      ap (with_waiting s) same ∙ ap (with_notes s) (sym (no_notes s.made (silent (core_of s.part)))),
+    )
+
+    -- there was no memory for the message
+    pub untold : (link : LinkState T) (waiting : List (Happening U)) (n : ℕ) (wrote : Result (Unit {0}) IoFault) → waiting ≡ s.part.waiting → n ≡ id.number
+        → Puts sends s.part.link (deletions n) wrote link → lacked_memory wrote ≡ true
+        → Does s (λ p did q. Destruction (Err destroy.OutOfMemory) p did q) (with_waiting (linked s link) waiting)
+    untold link waiting n wrote same number puts lacked = carried (Err destroy.OutOfMemory) (with_waiting (linked s link) waiting) refl (
+      core_of s.part,
+      link,
+      inl (Err fault.OutOfMemory, link, [], false, at wrote lacked (subst (λ (k : ℕ). Puts sends s.part.link (deletions k) wrote link) number puts), (refl, refl, refl), refl, refl),
+      ap (with_waiting (linked s link)) same ∙ ap (with_notes (linked s link)) (sym (no_notes s.made (silent (core_of s.part)))),
+    )
+      where
+        at : (wrote : Result (Unit {0}) IoFault) → lacked_memory wrote ≡ true → Puts sends s.part.link (deletions id.number) wrote link
+            → Puts sends s.part.link (deletions id.number) (Err fault.OutOfMemory) link
+        at (Ok u) lacked puts = absurd (false≢true lacked)
+        at (Err fault.WouldBlock) lacked puts = absurd (false≢true lacked)
+        at (Err fault.Pipe) lacked puts = absurd (false≢true lacked)
+        at (Err fault.TooBig) lacked puts = absurd (false≢true lacked)
+        at (Err fault.Proto) lacked puts = absurd (false≢true lacked)
+        at (Err fault.InvalidInput) lacked puts = absurd (false≢true lacked)
+        at (Err fault.OutOfMemory) lacked puts = puts
+        at (Err (fault.Other n)) lacked puts = absurd (false≢true lacked)
+
+    -- it is gone, and this is the link
+    abbrev pub gone : LinkState T → Stored T U C
+    gone link = record {
+      serial = s.serial;
+      part = record s.part {
+        link = link;
+        store = removed s.part.store id.number;
+        registries = registries_without s.part.registries id.number x;
+        waiting = s.part.waiting ++ note_of_end id.client id.number x;
+      };
+      made = s.made;
+    }
+
+    gone_to : (link : LinkState T) (wrote : Result (Unit {0}) IoFault) (after : Stored T U C) → lacked_memory wrote ≡ false
+        → MatchResult wrote (λ _. after ≡ gone link) (λ _. Does (gone link) (λ p did q. Kills p ConnectionClosed did q) after)
+        → after ≡ arrived s (came_to speaker verdict wrote) link
+    gone_to link (Ok u) after lacked told = told ∙ ap (with_notes (gone link)) (sym (append-nil s.made))
+    gone_to link (Err fault.WouldBlock) after lacked told = kills_is (gone link) after ConnectionClosed told
+    gone_to link (Err fault.Pipe) after lacked told = kills_is (gone link) after ConnectionClosed told
+    gone_to link (Err fault.TooBig) after lacked told = kills_is (gone link) after ConnectionClosed told
+    gone_to link (Err fault.Proto) after lacked told = kills_is (gone link) after ConnectionClosed told
+    gone_to link (Err fault.InvalidInput) after lacked told = kills_is (gone link) after ConnectionClosed told
+    gone_to link (Err fault.OutOfMemory) after lacked told = absurd (false≢true (sym lacked))
+    gone_to link (Err (fault.Other n)) after lacked told = kills_is (gone link) after ConnectionClosed told
+
+    -- it is gone, and the client was told, or closed down where it could not be
+    told_destroyed : (link : LinkState T) (n : ℕ) (wrote : Result (Unit {0}) IoFault) (after a : Stored T U C) → n ≡ id.number → a ≡ gone link
+        → Puts sends s.part.link (deletions n) wrote link → lacked_memory wrote ≡ false
+        → MatchResult wrote (λ _. after ≡ a) (λ _. Does a (λ p did q. Kills p ConnectionClosed did q) after)
+        → Does s (λ p did q. Destruction (Ok tt) p did q) after
+    told_destroyed link n wrote after a number is_gone puts lacked told =
+        let core : Core U C = came_to speaker verdict wrote in
+        carried (Ok tt) after refl (
+          core,
+          link,
+          inl (wrote, link, [], false, subst (λ (k : ℕ). Puts sends s.part.link (deletions k) wrote link) number puts, (refl, refl, refl), refl, rw lacked refl),
+          gone_to link wrote after lacked
+              (subst (λ (b : Stored T U C). MatchResult wrote (λ _. after ≡ b) (λ _. Does b (λ p did q. Kills p ConnectionClosed did q) after)) is_gone told)
+              ∙ ap (λ (notes : List (Happening U)). with_notes (arrived s core link) (s.made ++ (notes ++ notes_in (end_deeds core.ended)))) (sym (silent core)),
+        )
+
+    abbrev pub with_all : LinkState T → Store (Kept U) → List Id → List (Happening U) → Stored T U C
+    with_all link store registries waiting = record {
+      serial = s.serial;
+      part = record s.part { link = link; store = store; registries = registries; waiting = waiting };
+      made = s.made;
+    }
+
+    -- what was taken out is gone
+    left : (link : LinkState T) (store : Store (Kept U)) (registries : List Id) (before waiting : List (Happening U)) → store ≡ removed s.part.store id.number
+        → IfSome (held s.part.store id.number) (λ y. registries ≡ registries_without s.part.registries id.number y)
+        → IfSome (held s.part.store id.number) (λ y. waiting ≡ before ++ note_of_end id.client id.number y) → before ≡ s.part.waiting
+        → with_all link store registries waiting ≡ gone link
+    left link store registries before waiting without forgotten noted same =
+        ap (λ (st : Store (Kept U)). with_all link st registries waiting) without
+        ∙ ap (λ (rs : List Id). with_all link (removed s.part.store id.number) rs waiting) (of_x (λ y. registries ≡ registries_without s.part.registries id.number y) forgotten)
+        ∙ ap (with_all link (removed s.part.store id.number) (registries_without s.part.registries id.number x))
+        (of_x (λ y. waiting ≡ before ++ note_of_end id.client id.number y) noted
+        ∙ ap (λ (w : List (Happening U)). w ++ note_of_end id.client id.number x) same)
+      where
+        of_x : (P : Object (Kept U) → Type 0) → IfSome (held s.part.store id.number) P → P x
+        of_x P said =
+            subst (λ (h : Option (Object (Kept U))). IfSome h P) (named_is_held s.part.store id x (destroyable_named s.part id x is)) said
+
+    -- what was taken out is gone, and the client was told, or closed down where it could not be
+    pub destroyed : (link : LinkState T) (n : ℕ) (store : Store (Kept U)) (registries : List Id) (before waiting : List (Happening U))
+        (wrote : Result (Unit {0}) IoFault) (after : Stored T U C) → n ≡ id.number → Puts sends s.part.link (deletions n) wrote link
+        → lacked_memory wrote ≡ false → store ≡ removed s.part.store id.number
+        → IfSome (held s.part.store id.number) (λ y. registries ≡ registries_without s.part.registries id.number y)
+        → IfSome (held s.part.store id.number) (λ y. waiting ≡ before ++ note_of_end id.client id.number y) → before ≡ s.part.waiting
+        → MatchResult wrote (λ _. after ≡ with_all link store registries waiting)
+        (λ _. Does (with_all link store registries waiting) (λ p did q. Kills p ConnectionClosed did q) after)
+        → Does s (λ p did q. Destruction (Ok tt) p did q) after
+    destroyed link n store registries before waiting wrote after number puts lacked without forgotten noted same told =
+        told_destroyed link n wrote after (with_all link store registries waiting) number
+        (left link store registries before waiting without forgotten noted same) puts lacked told

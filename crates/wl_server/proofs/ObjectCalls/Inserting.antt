@@ -1,0 +1,219 @@
+-- A new client at a free slot, as a step of the server.
+use Rattle.std.proofs.Common.{◌≡◌, ◌≢◌, ℕ, zero, suc, ◌+◌, ◌<◌, ◌≤◌, Bool, true, false, List, [], ◌∷◌, ◌++◌, length, Option, None, Some, is_some, IsSome, Result, Ok, Err, refl, sym, ap, subst, ◌∙◌, arith, append-nil, true≢false}
+use mathlib.Core.Logic.{inl, inr}
+use Rattle.std.specs.Prelude.{◌⊎◌, MatchBool, MatchOption, nat_lt, slice_get, slice_set}
+use Rattle.std.specs.Option.{option_map_or}
+use Rattle.std.specs.Result.{OkIff, result_ok}
+use Rattle.std.proofs.lemmas.Bool.{false≢true, ltb-true, ltb-false}
+use Rattle.std.proofs.lemmas.Option.{slice_get_past, slice_get-get_or}
+use Rattle.wl_link.specs.Link.{IsFresh, LinkState}
+use Rattle.wl_server.specs.declared.error.InsertClientError.TheVariants as insert
+use Rattle.wl_server.specs.declared.notes.Happening.{Happening}
+use Rattle.wl_server.specs.declared.notes.Happening.TheVariants.{Initialized}
+use Rattle.wl_server.specs.declared.notes.Note.{Note}
+use Rattle.wl_server.specs.declared.runs.step.Reply.TheVariants as reply
+use Rattle.wl_server.specs.declared.runs.step.Step.TheVariants as step
+use Rattle.wl_server.proofs.OverRuns.Alone.AccountLaws.{calls}
+use Rattle.wl_server.specs.Backend.{Calls}
+use Rattle.wl_server.specs.Inside.Client.{IsInserted}
+use Rattle.wl_server.specs.Deeds.{Noted}
+use Rattle.wl_server.specs.Globals.{Offer}
+use Rattle.wl_server.specs.Ids.{ClientParts, same_client}
+use Rattle.wl_server.specs.Inside.Inserting.{AreTaken, IsPut}
+use Rattle.wl_server.specs.Part.{fresh_part, last_possible_serial}
+use Rattle.wl_server.specs.PartStep.{Asked, Inserted, Unfelt, World}
+use Rattle.wl_server.specs.Server.{Seen, ServerState, Stored, client_at, if_serial, notes_of, seen_as, stored_at}
+use Rattle.wl_server.specs.Steps.{IsLeastFree, LacksSlot, StepOf}
+use Rattle.wl_server.proofs.CallSteps.Slots.{Are, Serials, Slots, client_absent, client_present, compare, did_at, get_set_other, get_set_same, held_of, other_of, same_parts, same_self, same_serials, same_slots}
+
+module _ {T U C : Type 0} where
+  -- ---- slots
+
+  pub stored_read : (clients : List (Option (Stored T U C))) (k : ℕ) (x : Option (Stored T U C)) → slice_get clients k ≡ Some x → stored_at k clients ≡ x
+  stored_read clients k x here = rw here refl
+
+  pub stored_past : (clients : List (Option (Stored T U C))) (k : ℕ) → length clients ≤ k → stored_at k clients ≡ None
+  stored_past clients k past = rw (slice_get_past clients k past) refl
+
+  pub none_of : (x : Option (Stored T U C)) → is_some x ≡ false → x ≡ None
+  none_of None h = refl
+  none_of (Some x) h = absurd (true≢false h)
+
+  -- the first free place is a slot, or each slot is taken
+  pub slot_of : {E : Type 0} (clients : List (Option (Stored T U C))) (n : ℕ) (r : Result ℕ E) (o : Option ℕ) → stored_at n clients ≡ None
+      → AreTaken n clients → OkIff r (n < 0x100000000) n → o ≡ result_ok r
+      → MatchOption o ((k : ℕ) → k < 0x100000000 → IsSome (stored_at k clients)) (IsLeastFree clients)
+  unfolding AreTaken
+  slot_of clients n (Ok x) o free taken (below, is) given =
+      subst (λ (o : Option ℕ). MatchOption o ((k : ℕ) → k < 0x100000000 → IsSome (stored_at k clients)) (IsLeastFree clients)) (sym given)
+      (subst (λ (m : ℕ). IsLeastFree clients m) (sym is) (record { below = below; free = free; least = taken }))
+  slot_of clients n (Err e) o free taken past given =
+      subst (λ (o : Option ℕ). MatchOption o ((k : ℕ) → k < 0x100000000 → IsSome (stored_at k clients)) (IsLeastFree clients)) (sym given)
+      (λ k below. taken k (omega (arith, past, below)))
+
+  pub least_within : (clients : List (Option (Stored T U C))) (slot : ℕ) → IsLeastFree clients slot → slot ≤ length clients
+  least_within clients slot free = at (nat_lt (length clients) slot) refl
+    where
+      at : (b : Bool) → nat_lt (length clients) slot ≡ b → slot ≤ length clients
+      at true past =
+          absurd (false≢true (sym (ap is_some (stored_past clients (length clients) (omega arith))) ∙ free.least (length clients) (ltb-true (length clients) slot past)))
+      at false within = ltb-false (length clients) slot within
+
+  -- ---- a client is put at a slot
+
+  pub put_within : (clients : List (Option (Stored T U C))) (slot : ℕ) (s : Stored T U C) → slot < length clients → IsPut clients slot s (slice_set clients slot (Some s))
+  put_within clients slot s within =
+      (at (slice_get clients slot) refl, λ k differ. get_set_other clients slot k (Some s) (λ e. differ (sym e)))
+    where
+      at : (x : Option (Option (Stored T U C))) → slice_get clients slot ≡ x → slice_get (slice_set clients slot (Some s)) slot ≡ Some (Some s)
+      at (Some x) here = get_set_same clients slot x (Some s) here
+      at None past = absurd (false≢true (ap is_some (sym past ∙ slice_get-get_or clients slot None within)))
+
+  at_end : (clients : List (Option (Stored T U C))) (s : Stored T U C) → IsPut clients (length clients) s (clients ++ Some s ∷ [])
+  at_end [] s = (refl, λ k differ. past k differ)
+    where
+      past : (k : ℕ) → k ≢ 0 → slice_get (Some s ∷ []) k ≡ None
+      past zero differ = absurd (differ refl)
+      past (suc k) differ = refl
+  at_end (x ∷ clients) s = let rest = at_end clients s in (rest.0, λ k differ. others k rest.1 differ)
+    where
+      others : (k : ℕ) → ((i : ℕ) → i ≢ length clients → slice_get (clients ++ Some s ∷ []) i ≡ slice_get clients i) → k ≢ length (x ∷ clients)
+          → slice_get (x ∷ (clients ++ Some s ∷ [])) k ≡ slice_get (x ∷ clients) k
+      others zero rest differ = refl
+      others (suc k) rest differ = rest k (λ e. differ (ap suc e))
+
+  pub put_behind : (clients : List (Option (Stored T U C))) (slot : ℕ) (s : Stored T U C) → slot ≡ length clients → IsPut clients slot s (clients ++ Some s ∷ [])
+  put_behind clients slot s is = subst (λ (n : ℕ). IsPut clients n s (clients ++ Some s ∷ [])) (sym is) (at_end clients s)
+
+module _ {T U G C : Type 0} (w : World T G C) where
+  -- ---- what each client makes of it
+
+  abbrev InsertedAt : ClientParts → Offer G → T → C → Bool → Seen T U C → Seen T U C → Type 0
+  InsertedAt id offer transport info b before after =
+      MatchBool b (Inserted w id offer transport info before false (did_at b (Noted Initialized ∷ [])) after)
+      (Unfelt before false (did_at b (Noted Initialized ∷ [])) after)
+
+  as_new : (id : ClientParts) (offer : Offer G) (transport : T) (info : C) (gathered : List (Happening U)) (link : LinkState T) (b : Bool) (x y : Option (Stored T U C))
+      → b ≡ true → IsFresh transport (Some offer.default_limit) link → x ≡ None
+      → y ≡ Some (record { serial = id.serial; part = fresh_part link info; made = Initialized ∷ [] })
+      → InsertedAt id offer transport info b (seen_as gathered x) (seen_as gathered y)
+  as_new id offer transport info gathered link true x y is fresh none some = (
+    link,
+    fresh,
+    refl,
+    refl,
+    ap (seen_as gathered) some
+        ∙ ap (λ (m : List (Happening U)). let s : Seen T U C = record { part = Some (fresh_part link info); made = m ++ Initialized ∷ [] } in s)
+        (sym (ap (λ (o : Option (Stored T U C)). let s : Seen T U C = seen_as gathered o in s.made) none ∙ append-nil gathered)),
+  )
+  as_new id offer transport info gathered link false x y is fresh none some = absurd (false≢true is)
+
+  as_unfelt : (id : ClientParts) (offer : Offer G) (transport : T) (info : C) (b : Bool) (before after : Seen T U C) → b ≡ false → after ≡ before
+      → InsertedAt id offer transport info b before after
+  as_unfelt id offer transport info true before after is same = absurd (true≢false is)
+  as_unfelt id offer transport info false before after is same = (refl, refl, same)
+
+  each_inserted : (offer : Offer G) (transport : T) (info : C) (clients clients' : List (Option (Stored T U C))) (notes : List (Note U)) (new : ClientParts) (s : Stored T U C)
+      → stored_at new.slot clients ≡ None → IsPut clients new.slot s clients' → IsInserted new.serial transport (Some offer.default_limit) info s → (id : ClientParts)
+      → InsertedAt id offer transport info (same_client new id) (held_of notes clients id) (held_of notes clients' id)
+  each_inserted offer transport info clients clients' notes new s free (here, others) (link, fresh, is) id =
+      elim (compare new id) [
+        | Are slot serial ↦ subst (λ (i : ClientParts). InsertedAt i offer transport info (same_client new i) (held_of notes clients i) (held_of notes clients' i))
+            (same_parts new id slot serial)
+            (as_new new offer transport info (notes_of new notes) link (same_client new new) (client_at new clients) (client_at new clients') (same_self new) fresh
+            (ap (if_serial new.serial) free) (client_present new clients' s here serial' ∙ ap Some is))
+        | Slots slot ↦ as_unfelt id offer transport info (same_client new id) _ _ (same_slots new id slot)
+            (ap (λ (x : Option (Option (Stored T U C))). seen_as (notes_of id notes) (if_serial id.serial (option_map_or (λ s. s) x None)))
+            (others id.slot (λ e. other_of new.slot id.slot slot (sym e))))
+        | Serials slot differ ↦ as_unfelt id offer transport info (same_client new id) _ _ (same_serials new id slot differ)
+            (ap (seen_as (notes_of id notes))
+            (client_absent id clients' s (subst (λ (n : ℕ). slice_get clients' n ≡ Some (Some s)) slot here) (rw serial' differ)
+            ∙ sym (ap (if_serial id.serial) (subst (λ (n : ℕ). stored_at n clients ≡ None) slot free))))
+      ]
+    where
+      serial' : s.serial ≡ new.serial
+      serial' = ap (λ (x : Stored T U C). x.serial) is
+
+  -- ---- the step
+
+  -- the client of this id was put at its slot
+  pub inserted : {was : Bool} (before : ServerState T U G C) (transport : T) (info : C) (new : ClientParts) (s : Stored T U C) (clients' : List (Option (Stored T U C)))
+      → IsLeastFree before.clients new.slot → before.last_client < last_possible_serial → new.serial ≡ before.last_client + 1
+      → IsInserted new.serial transport (Some before.offer.default_limit) info s → IsPut before.clients new.slot s clients'
+      → Calls w (record { server = before; refused = was }) (step.InsertClient transport info) (reply.InsertClient (Ok new))
+      (record { server = record before { last_client = before.last_client + 1; clients = clients' }; refused = false })
+  inserted before transport info new s clients' free below serial is put = calls _ _ _ _ _ (
+    record {
+      call = Asked (step.InsertClient transport info) (reply.InsertClient (Ok new));
+      refused = false;
+      lacks = λ id. false;
+      did = λ id. did_at (same_client new id) (Noted Initialized ∷ []);
+    },
+    refl,
+    refl,
+    record {
+      offer = refl;
+      last = refl;
+      client = (free, below, serial);
+      global = tt;
+      order = tt;
+      room = tt;
+      refused = (λ h. absurd (false≢true h), λ h. was_refused h);
+      each = λ id. (Ok new, refl, each_inserted before.offer transport info before.clients clients' before.notes new s free.free put is id);
+    },
+  )
+    where
+      was_refused : (false ≡ true) ⊎ ((id : ClientParts) × (false ≡ true)) → false ≡ true
+      was_refused (inl h) = h
+      was_refused (inr (id, h)) = h
+
+  -- no slot or no serial is left
+  pub not_inserted : {was : Bool} (before : ServerState T U G C) (transport : T) (info : C) → LacksSlot before.last_client before.clients
+      → Calls w (record { server = before; refused = was }) (step.InsertClient transport info) (reply.InsertClient (Err insert.Full)) (record { server = before; refused = false })
+  not_inserted before transport info lacks = calls _ _ _ _ _ (
+    record { call = Asked (step.InsertClient transport info) (reply.InsertClient (Err insert.Full)); refused = false; lacks = λ id. false; did = λ id. [] },
+    refl,
+    refl,
+    record {
+      offer = refl;
+      last = omega arith;
+      client = lacks;
+      global = tt;
+      order = tt;
+      room = tt;
+      refused = (λ h. absurd (false≢true h), λ h. was_refused h);
+      each = λ id. (Err insert.Full, refl, (refl, refl, refl));
+    },
+  )
+    where
+      was_refused : (false ≡ true) ⊎ ((id : ClientParts) × (false ≡ true)) → false ≡ true
+      was_refused (inl h) = h
+      was_refused (inr (id, h)) = h
+
+  -- there is no memory for the client of this id
+  starved_so : (before : ServerState T U G C) (transport : T) (info : C) (new : ClientParts) → IsLeastFree before.clients new.slot
+      → before.last_client < last_possible_serial → new.serial ≡ before.last_client + 1
+      → StepOf w before (step.InsertClient transport info) (reply.InsertClient (Err insert.OutOfMemory)) true before
+  starved_so before transport info new free below serial = (
+    record { call = Asked (step.InsertClient transport info) (reply.InsertClient (Err insert.OutOfMemory)); refused = true; lacks = λ id. false; did = λ id. [] },
+    refl,
+    refl,
+    record {
+      offer = refl;
+      last = omega arith;
+      client = (new, (free, below, serial));
+      global = tt;
+      order = tt;
+      room = tt;
+      refused = (λ h. inl refl, λ h. refl);
+      each = λ id. (Err insert.OutOfMemory, refl, (refl, refl, refl));
+    },
+  )
+
+  pub insertion_starved : {was : Bool} (before : ServerState T U G C) (transport : T) (info : C) (new : ClientParts) (clients' : List (Option (Stored T U C)))
+      → IsLeastFree before.clients new.slot → before.last_client < last_possible_serial → new.serial ≡ before.last_client + 1 → clients' ≡ before.clients
+      → Calls w (record { server = before; refused = was }) (step.InsertClient transport info) (reply.InsertClient (Err insert.OutOfMemory)) (record { server = record before { clients = clients' }; refused = true })
+  insertion_starved before transport info new clients' free below serial same =
+      calls _ _ _ _ _
+      (subst (λ (xs : List (Option (Stored T U C))). StepOf w before (step.InsertClient transport info) (reply.InsertClient (Err insert.OutOfMemory)) true (record before { clients = xs }))
+      (sym same) (starved_so before transport info new free below serial))

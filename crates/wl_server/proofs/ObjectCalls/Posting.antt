@@ -1,0 +1,149 @@
+-- How an error that was posted on an object is a verdict that was carried out.
+use Rattle.std.proofs.Common.{◌≡◌, ◌∙◌, ℕ, Bool, true, false, not, ◌||◌, List, [], ◌∷◌, ◌++◌, Option, None, Some, is_some, option_copied, Bor, Result, Ok, Err, MatchResult, refl, sym, ap, subst, append-nil, inl, inr}
+use Rattle.std.proofs.lemmas.Bool.{false≢true}
+use Rattle.wl_wire.specs.declared.error.IoFault.{IoFault}
+use Rattle.wl_wire.specs.declared.error.IoFault.TheVariants as fault
+use Rattle.wl_wire.specs.declared.error.ProtocolError.{ProtocolError}
+use Rattle.wl_wire.specs.Table.{InterfaceRow}
+use Rattle.wl_link.specs.Exchange.{Queue, Sending}
+use Rattle.wl_link.specs.Link.{LinkState}
+use Rattle.wl_link.specs.Puts.{FlushesOut, lacked_memory}
+use Rattle.wl_link.specs.Reader.{came_to}
+use Rattle.wl_server.specs.declared.notes.DisconnectReason.{DisconnectReason}
+use Rattle.wl_server.specs.declared.notes.DisconnectReason.TheVariants.{ConnectionClosed, ProtocolError as BrokeProtocol}
+use Rattle.wl_server.specs.declared.notes.Happening.{Happening}
+use Rattle.wl_server.specs.Inside.Carried.{IsCarried}
+use Rattle.wl_server.specs.Inside.Client.{Does}
+use Rattle.wl_server.specs.Deeds.{notes_in}
+use Rattle.wl_server.specs.Errors.{error_messages, error_of, posts}
+use Rattle.wl_server.specs.Ids.{IdParts}
+use Rattle.wl_server.specs.Part.{Part, named, with_link}
+use Rattle.wl_server.specs.Inside.Puts.{Puts}
+use Rattle.wl_server.specs.Server.{Stored}
+use Rattle.wl_server.specs.Telling.{Core, Kills, core_of, end_deeds, error_message, killed, part_of, speaker}
+use Rattle.wl_server.proofs.GlobalCalls.Putting.{puts_none}
+
+module _ {T U C : Type 0} where
+  -- over another link
+  abbrev pub linked : Stored T U C → LinkState T → Stored T U C
+  linked s link = record { serial = s.serial; part = with_link s.part link; made = s.made }
+
+  -- it is killed
+  abbrev pub ended : Stored T U C → DisconnectReason → Stored T U C
+  ended s reason = record {
+    serial = s.serial;
+    part = record s.part { is_killed = true };
+    made = s.made ++ notes_in (end_deeds (killed (core_of s.part) reason).ended);
+  }
+
+  abbrev with_made : Stored T U C → List (Happening U) → Stored T U C
+  with_made s made = record { serial = s.serial; part = s.part; made = made }
+
+  pub kills_is : (s after : Stored T U C) (reason : DisconnectReason) → Does s (λ p did q. Kills p reason did q) after → after ≡ ended s reason
+  kills_is s after reason (did, q, (deeds, part), is) =
+      is ∙ ap (λ (p : Part T U C). let x : Stored T U C = record { serial = s.serial; part = p; made = s.made ++ notes_in did } in x) part
+      ∙ ap (λ d. let x : Stored T U C = record { serial = s.serial; part = record s.part { is_killed = true }; made = s.made ++ notes_in d } in x) deeds
+
+  -- a killed one stays as it is
+  pub ended_twice : (s : Stored T U C) (first second : DisconnectReason) → ended (ended s first) second ≡ ended s first
+  ended_twice s first second = ap (with_made (ended s first)) (append-nil (ended s first).made)
+
+  -- where a write failed the client is closed down, and any later reason counts no more
+  abbrev pub spoken : Result (Unit {0}) IoFault → Stored T U C → DisconnectReason → Stored T U C
+  spoken (Ok _) s reason = ended s reason
+  spoken (Err _) s reason = ended s ConnectionClosed
+
+  pub told_is : (s after : Stored T U C) (wrote : Result (Unit {0}) IoFault) (reason : DisconnectReason)
+      → MatchResult wrote (λ _. after ≡ s) (λ _. Does s (λ p did q. Kills p ConnectionClosed did q) after) → ended after reason ≡ spoken wrote s reason
+  told_is s after (Ok u) reason told = ap (λ (x : Stored T U C). ended x reason) told
+  told_is s after (Err f) reason told =
+      ap (λ (x : Stored T U C). ended x reason) (kills_is s after ConnectionClosed told) ∙ ended_twice s ConnectionClosed reason
+
+  -- the client as it is where its core came to this
+  abbrev pub arrived : Stored T U C → Core U C → LinkState T → Stored T U C
+  arrived s core link = record {
+    serial = s.serial;
+    part = part_of (record { core = core; link = link });
+    made = s.made ++ notes_in (end_deeds core.ended);
+  }
+
+  spoken_is : (table : List InterfaceRow) (s : Stored T U C) (link : LinkState T) (id : IdParts) (code : ℕ) (text : List ℕ) (wrote : Result (Unit {0}) IoFault)
+      → spoken wrote (linked s link) (BrokeProtocol (error_of table id code text))
+      ≡ arrived s (came_to speaker (posts table (core_of s.part) id code text) wrote) link
+  spoken_is table s link id code text (Ok u) = refl
+  spoken_is table s link id code text (Err fault.WouldBlock) = refl
+  spoken_is table s link id code text (Err fault.Pipe) = refl
+  spoken_is table s link id code text (Err fault.TooBig) = refl
+  spoken_is table s link id code text (Err fault.Proto) = refl
+  spoken_is table s link id code text (Err fault.InvalidInput) = refl
+  spoken_is table s link id code text (Err fault.OutOfMemory) = refl
+  spoken_is table s link id code text (Err (fault.Other n)) = refl
+
+  -- a client that was killed
+  still : (s : Stored T U C) (link : LinkState T) (table : List InterfaceRow) (id : IdParts) (code : ℕ) (text : List ℕ) → s.part.is_killed ≡ true
+      → linked s link ≡ arrived s (killed (core_of s.part) (BrokeProtocol (error_of table id code text))) link
+  still s link table id code text dead = at s.part.is_killed dead
+    where
+      at : (b : Bool) → b ≡ true
+          → (let x : Stored T U C = record { serial = s.serial; part = record s.part { link = link; is_killed = b }; made = s.made } in x)
+          ≡ (let core : Core U C = record (core_of s.part) { is_killed = b } in arrived s (killed core (BrokeProtocol (error_of table id code text))) link)
+      at true is = ap (λ (made : List (Happening U)). let x : Stored T U C = record { serial = s.serial; part = record s.part { link = link; is_killed = true }; made = made } in x) (sym (append-nil s.made))
+      at false is = absurd (false≢true is)
+
+-- what was found by reference is there where it was found
+pub is_some_copied : {X : Type 0} (found : Option (Bor X)) (x : Option X) (b : Bool) → option_copied found ≡ x → is_some found ≡ b → is_some x ≡ b
+is_some_copied (Some r) x b is some = ap is_some (sym is) ∙ some
+is_some_copied None x b is none = ap is_some (sym is) ∙ none
+
+module _ {T U C : Type 0} (sends : T → Queue → Result ℕ IoFault → T → Type 0) (p : Part T U C) (id : IdParts) (code : ℕ) (text : List ℕ)
+    (live : p.is_killed ≡ false) where
+  -- the error of a live client's object that is kept, and of none
+  pub puts_error : (n : ℕ) (answer : Result (Unit {0}) IoFault) (link after : LinkState T) → n ≡ id.number → is_some (named p.store id) ≡ true
+      → Puts sends link (error_message n code text ∷ []) answer after → Puts sends link (error_messages (core_of p) id code text) answer after
+  puts_error n answer link after is kept puts =
+      rw (live, kept) (subst (λ (k : ℕ). Puts sends link (error_message k code text ∷ []) answer after) is puts)
+
+  pub puts_no_error : (link : LinkState T) → is_some (named p.store id) ≡ false → Puts sends link (error_messages (core_of p) id code text) (Ok tt) link
+  puts_no_error link gone = rw (live, gone) (puts_none sends link)
+
+module _ {T U C : Type 0} (sends : T → Queue → Result ℕ IoFault → T → Type 0) (table : List InterfaceRow) (s : Stored T U C) (id : IdParts) (code : ℕ) (text : List ℕ) where
+  -- to a killed client nothing is told
+  pub posted_dead : (after : Stored T U C) (es : List Sending) (lacked : Bool) → s.part.is_killed ≡ true
+      → FlushesOut sends true s.part.link es lacked after.part.link → after ≡ linked s after.part.link
+      → IsCarried sends (posts table (core_of s.part) id code text) s lacked after
+  posted_dead after es lacked dead flushed rest = (
+    killed (core_of s.part) (BrokeProtocol (error_of table id code text)),
+    after.part.link,
+    inl (Ok tt, s.part.link, es, lacked, rw dead (puts_none sends s.part.link), flushed, refl, refl),
+    rest ∙ still s after.part.link table id code text dead,
+  )
+
+  -- there was no memory for the texts
+  pub posted_starved : (after : Stored T U C) → s.part.is_killed ≡ false → Does s (λ p did q. Kills p ConnectionClosed did q) after
+      → IsCarried sends (posts table (core_of s.part) id code text) s true after
+  posted_starved after live kills = (
+    (posts table (core_of s.part) id code text).starved,
+    s.part.link,
+    inr (ap not live, refl, refl, refl),
+    kills_is s after ConnectionClosed kills,
+  )
+
+  -- the error was told, then flushed; the answer to the first tells why the client is killed
+  pub posted_live : (put flushed told after : Stored T U C) (error : ProtocolError) (wrote : Result (Unit {0}) IoFault) (es : List Sending) (refused lacked : Bool)
+      → error ≡ error_of table id code text
+      → Puts sends s.part.link (error_messages (core_of s.part) id code text) wrote put.part.link → put ≡ linked s put.part.link
+      → FlushesOut sends true put.part.link es lacked flushed.part.link → flushed ≡ linked put flushed.part.link
+      → refused ≡ lacked_memory wrote → MatchResult wrote (λ _. told ≡ flushed) (λ _. Does flushed (λ p did q. Kills p ConnectionClosed did q) told)
+      → Does told (λ p did q. Kills p (BrokeProtocol error) did q) after
+      → IsCarried sends (posts table (core_of s.part) id code text) s (refused || lacked) after
+  posted_live put flushed told after error wrote es refused lacked is puts put-is flushes flushed-is refused-is tells kills = (
+    came_to speaker (posts table (core_of s.part) id code text) wrote,
+    flushed.part.link,
+    inl (wrote, put.part.link, es, lacked, puts, flushes, refl, ap (λ (b : Bool). b || lacked) refused-is),
+    kills_is told after (BrokeProtocol error) kills
+        ∙ told_is flushed told wrote (BrokeProtocol error) tells
+        ∙ ap (λ (e : ProtocolError). spoken wrote flushed (BrokeProtocol e)) is
+        ∙ ap (λ (x : Stored T U C). spoken wrote x (BrokeProtocol (error_of table id code text)))
+        (flushed-is ∙ ap (λ (x : Stored T U C). linked x flushed.part.link) put-is)
+        ∙ spoken_is table s flushed.part.link id code text wrote,
+  )

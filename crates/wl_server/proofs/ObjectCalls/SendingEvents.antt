@@ -1,0 +1,240 @@
+-- What an event that is sent does, from the steps of its sending.
+use Rattle.std.proofs.Common.{◌≡◌, ◌∙◌, ℕ, Bool, true, false, List, [], ◌∷◌, ◌++◌, append-nil, map, Option, None, Some, IfSome, Result, Ok, Err, MatchBool, MatchResult, refl, sym, ap, subst, inl, inr}
+use Rattle.std.proofs.lemmas.Bool.{false≢true}
+use Rattle.wl_wire.specs.declared.error.IoFault.{IoFault}
+use Rattle.wl_wire.specs.declared.error.IoFault.TheVariants as fault
+use Rattle.wl_wire.specs.declared.argument.Argument.{Argument}
+use Rattle.wl_wire.specs.declared.argument.Argument.TheVariants as arg
+use Rattle.wl_wire.specs.declared.argument.Token.{Token}
+use Rattle.wl_wire.specs.declared.message.Message.{Message}
+use Rattle.wl_wire.specs.Argument.{WireArgument}
+use Rattle.wl_wire.specs.MapIds.{numbered, with_ids}
+use Rattle.wl_wire.specs.Message.{WireMessage}
+use Rattle.wl_wire.specs.Table.{InterfaceRow}
+use Rattle.wl_link.specs.declared.object.Object.{Object}
+use Rattle.wl_link.specs.Exchange.{Queue, Sending}
+use Rattle.wl_link.specs.Link.{LinkState, Wrote, WroteBy}
+use Rattle.wl_link.specs.Puts.{lacked_memory}
+use Rattle.wl_link.specs.Store.{Store, held}
+use Rattle.wl_server.specs.declared.error.EventError.{EventError}
+use Rattle.wl_server.specs.declared.error.EventError.TheVariants as refused
+use Rattle.wl_server.specs.declared.objects.Kept.{Kept}
+use Rattle.wl_server.specs.declared.notes.DisconnectReason.TheVariants.{ConnectionClosed}
+use Rattle.wl_server.specs.declared.notes.Happening.{Happening}
+use Rattle.wl_server.specs.Inside.Client.{Does}
+use Rattle.wl_server.specs.Deeds.{Deed, Put, Sent, notes_in}
+use Rattle.wl_server.specs.Inside.Ending.{notes_ending, registries_ending, store_ending, told_of_end, PutsEnd, TellsEnd}
+use Rattle.wl_server.specs.Events.{AsksForMemory, SendsEvent, SendsGranted, SentAs, SessionMessage, ends_closed, ends_sender, event_check, said, session_content, wire_argument, wire_message}
+use Rattle.wl_server.specs.Ids.{ClientParts, IdParts}
+use Rattle.wl_server.specs.Objects.{leaving}
+use Rattle.wl_server.specs.Part.{Part, named, with_link}
+use Rattle.wl_server.specs.Inside.Puts.{Puts}
+use Rattle.wl_server.specs.Server.{Stored}
+use Rattle.wl_server.specs.Telling.{Core, Kills, Tells, closed_down, core_of, end_deeds, part_of, tells}
+use Rattle.wl_server.proofs.ObjectCalls.Closing.{client_of, closing, told_by, told_closing}
+use Rattle.wl_server.proofs.ObjectCalls.Destroying.{leaves_no_note, named_is_held}
+use Rattle.wl_server.proofs.Readings.Notes.{notes_append, notes_of_sends}
+use Rattle.wl_server.proofs.GlobalCalls.Putting.{puts_none}
+
+-- ---- the message that is written
+
+argument_numbered : (a : Argument IdParts Token) → with_ids (λ id. id.number) (λ id. id.number) a ≡ wire_argument a
+argument_numbered (arg.Int z) = refl
+argument_numbered (arg.Uint u) = refl
+argument_numbered (arg.Fixed z) = refl
+argument_numbered (arg.Str text) = refl
+argument_numbered (arg.Object id) = refl
+argument_numbered (arg.NewId id) = refl
+argument_numbered (arg.Array bytes) = refl
+argument_numbered (arg.Fd token) = refl
+
+arguments_numbered : (args : List (Argument IdParts Token)) → map (with_ids (λ id. id.number) (λ id. id.number)) args ≡ map wire_argument args
+arguments_numbered [] = refl
+arguments_numbered (a ∷ args) = rw (argument_numbered a, arguments_numbered args) refl
+
+-- where each id has its own number
+pub event_numbered : (m : Message IdParts Token) → numbered (λ id. id.number) (λ id. id.number) m ≡ wire_message (session_content m)
+event_numbered m =
+    ap (λ (args : List WireArgument). let w : WireMessage = record { sender = m.sender_id.number; opcode = m.opcode; args = args } in w) (arguments_numbered m.args.items)
+
+module _ {U : Type 0} where
+  -- what is said of what the sender's number holds is said of the sender
+  pub of_sender : (store : Store (Kept U)) (id : IdParts) (x : Object (Kept U)) (P : Object (Kept U) → Type 0) → named store id ≡ Some x
+      → IfSome (held store id.number) P → P x
+  of_sender store id x P is some = subst (λ (h : Option (Object (Kept U))). IfSome h P) (named_is_held store id x is) some
+
+  -- what follows sends has all the notes
+  notes_behind : (es : List Sending) (did : List (Deed U)) → notes_in (map Sent es ++ did) ≡ notes_in did
+  notes_behind es did =
+      notes_append (map Sent es) did ∙ ap (λ (l : List (Happening U)). l ++ notes_in did) (notes_of_sends es)
+
+-- ---- the client after it
+
+module _ {T U C : Type 0} (client : ClientParts) (m : SessionMessage) (sender : Object (Kept U)) where
+  -- its sender is gone, where the event ends it, and this is its link
+  abbrev after_end : Stored T U C → Bool → LinkState T → Stored T U C
+  after_end s ends link = record s {
+    part = record s.part {
+      link = link;
+      store = store_ending ends s.part.store m.sender.number;
+      registries = registries_ending ends s.part.registries m.sender.number sender;
+      waiting = s.part.waiting ++ notes_ending ends client m.sender.number sender;
+    };
+  }
+
+  after_end_is : (s : Stored T U C) (ends : Bool) (link : LinkState T)
+      → after_end s ends link ≡ client_of s.serial (ends_sender client (core_of s.part) m sender ends).core link s.made
+  after_end_is s true link = refl
+  after_end_is s false link =
+      ap (λ (waiting : List (Happening U)). let x : Stored T U C = record s { part = record s.part { link = link; waiting = waiting } } in x)
+      (append-nil s.part.waiting)
+
+  module _ (sends : T → Queue → Result ℕ IoFault → T → Type 0) where
+    -- the verdicts of an event that was put, and of one that was not
+    told_of : (p : Part T U C) (ends : Bool) (mid after : LinkState T) (told : Result (Unit {0}) IoFault)
+        → Puts sends mid (told_of_end ends m.sender.number) told after
+        → (did : List (Deed U))
+        × Tells sends (ends_sender client (core_of p) m sender ends) mid (lacked_memory told) did
+        (part_of (record { core = closing (ends_sender client (core_of p) m sender ends).core told; link = after }))
+        × (notes_in did ≡ notes_in (end_deeds (closing (ends_sender client (core_of p) m sender ends).core told).ended))
+    told_of p true mid after told puts =
+        told_by sends (ends_sender client (core_of p) m sender true).core _ (leaving m.sender sender.value.user_data) mid after told (leaves_no_note m.sender sender.value.user_data) puts
+    told_of p false mid after told puts = told_by sends (core_of p) [] (λ d. []) mid after told (λ d. refl) puts
+
+    told_closed : (p : Part T U C) (ends : Bool) (mid : LinkState T) (f : IoFault)
+        → (did : List (Deed U))
+        × Tells sends (ends_closed client (core_of p) m sender ends) mid false did
+        (part_of (record { core = closing (ends_sender client (core_of p) m sender ends).core (Err f); link = mid }))
+        × (notes_in did ≡ notes_in (end_deeds (closing (ends_sender client (core_of p) m sender ends).core (Err f)).ended))
+    told_closed p true mid f =
+        told_by sends (ends_sender client (closed_down (core_of p)) m sender true).core [] (leaving m.sender sender.value.user_data) mid mid (Ok tt) (leaves_no_note m.sender sender.value.user_data)
+        (puts_none sends mid)
+    told_closed p false mid f = told_by sends (closed_down (core_of p)) [] (λ d. []) mid mid (Ok tt) (λ d. refl) (puts_none sends mid)
+
+    sent_failed : (before after : Part T U C) (ends : Bool) (f : IoFault) (mid : LinkState T) (did : List (Deed U)) → lacked_memory (Err f) ≡ false
+        → Tells sends (ends_closed client (core_of before) m sender ends) mid false did after
+        → SentAs sends client before m sender ends (Err f) mid (Ok tt) false did after
+    sent_failed before after ends fault.WouldBlock mid did other tells = (tells, refl)
+    sent_failed before after ends fault.Pipe mid did other tells = (tells, refl)
+    sent_failed before after ends fault.TooBig mid did other tells = (tells, refl)
+    sent_failed before after ends fault.Proto mid did other tells = (tells, refl)
+    sent_failed before after ends fault.InvalidInput mid did other tells = (tells, refl)
+    sent_failed before after ends fault.OutOfMemory mid did other tells = absurd (false≢true (sym other))
+    sent_failed before after ends (fault.Other n) mid did other tells = (tells, refl)
+
+    -- the event was written, or its write failed and not for want of memory
+    pub sent : (s s1 s2 : Stored T U C) (ends : Bool) (n : ℕ) (mid : LinkState T) (written : Result (Unit {0}) IoFault) (lacked : Bool)
+        → Wrote sends s.part.link (wire_message m) written mid → lacked_memory written ≡ false
+        → s1 ≡ after_end s ends mid → n ≡ m.sender.number → TellsEnd sends s1 n ends written lacked s2
+        → Does s (λ p did q. SendsGranted sends client p m sender ends (Ok tt) lacked did q) s2
+    sent s s1 s2 ends n mid written lacked (es, wrote) went ended n-is (told, after, puts, lacked-is, closed) =
+        by written wrote went
+        (subst (λ (k : ℕ). PutsEnd sends mid k ends written told after) n-is
+        (subst (λ (x : Stored T U C). PutsEnd sends x.part.link n ends written told after) ended puts))
+      where
+        c : Core U C
+        c = (ends_sender client (core_of s.part) m sender ends).core
+
+        none_ended : (ends : Bool) → (ends_sender client (core_of s.part) m sender ends).core.ended ≡ None
+        none_ended true = refl
+        none_ended false = refl
+
+        after-is : (did : List (Deed U)) → notes_in did ≡ notes_in (end_deeds (closing c told).ended)
+            → s2 ≡ record { serial = s.serial; part = part_of (record { core = closing c told; link = after }); made = s.made ++ notes_in did }
+        after-is did notes =
+            told_closing s.serial c after s.made told s2 (none_ended ends)
+            (subst (λ (x : Stored T U C). MatchResult told (λ _. s2 ≡ x) (λ _. Does x (λ p did q. Kills p ConnectionClosed did q) s2))
+            (ap (λ (x : Stored T U C). let y : Stored T U C = record x { part = with_link x.part after } in y) ended ∙ after_end_is s ends after) closed)
+            ∙ ap (λ (l : List (Happening U)). client_of s.serial (closing c told) after (s.made ++ l)) (sym notes)
+
+        by : (written : Result (Unit {0}) IoFault) → WroteBy sends s.part.link (wire_message m) es written mid → lacked_memory written ≡ false
+            → PutsEnd sends mid m.sender.number ends written told after
+            → Does s (λ p did q. SendsGranted sends client p m sender ends (Ok tt) lacked did q) s2
+        by (Ok u) wrote went puts =
+            let t = told_of s.part ends mid after told puts in
+            let did : List (Deed U) = Put (said m) ∷ t.0 in (
+              map Sent es ++ did,
+              part_of (record { core = closing c told; link = after }),
+              inr (es, did, Ok u, mid, wrote, (t.0, subst (λ (b : Bool). Tells sends (ends_sender client (core_of s.part) m sender ends) mid b t.0 (part_of (record { core = closing c told; link = after }))) (sym lacked-is) t.1, refl, refl), refl),
+              after-is (map Sent es ++ did) (notes_behind es did ∙ t.2),
+            )
+        by (Err f) wrote went (told-err, same) =
+            let t = told_closed s.part ends mid f in
+            let q : Part T U C = part_of (record { core = closing c told; link = after }) in (
+              map Sent es ++ t.0,
+              q,
+              inr (
+                es,
+                t.0,
+                Err f,
+                mid,
+                wrote,
+                subst (λ (b : Bool). SentAs sends client s.part m sender ends (Err f) mid (Ok tt) b t.0 q) (sym (lacked-is ∙ ap lacked_memory told-err ∙ went))
+                    (sent_failed s.part q ends f mid t.0 went (rw (told-err, same) t.1)),
+                refl,
+              ),
+              after-is (map Sent es ++ t.0) (notes_behind es t.0 ∙ rw told-err t.2),
+            )
+
+    -- there was no room for the note of its sender's end
+    pub no_room : (s s1 : Stored T U C) (ends : Bool) → AsksForMemory sender ends → s1 ≡ s
+        → Does s (λ p did q. SendsGranted sends client p m sender ends (Err refused.OutOfMemory) true did q) s1
+    no_room s s1 ends asks same = (
+      [],
+      s.part,
+      inl (asks, refl, refl, refl, refl),
+      same ∙ ap (λ (made : List (Happening U)). let x : Stored T U C = record s { made = made } in x) (sym (append-nil s.made)),
+    )
+
+    -- there was no memory for the write
+    pub not_written : (s s1 : Stored T U C) (ends : Bool) (mid : LinkState T) (written : Result (Unit {0}) IoFault)
+        → Wrote sends s.part.link (wire_message m) written mid → lacked_memory written ≡ true → s1 ≡ record s { part = with_link s.part mid }
+        → Does s (λ p did q. SendsGranted sends client p m sender ends (Err refused.OutOfMemory) true did q) s1
+    not_written s s1 ends mid written (es, wrote) lacked same = (
+      map Sent es ++ [],
+      with_link s.part mid,
+      inr (es, [], written, mid, wrote, refused_as written lacked, refl),
+      same ∙ ap (λ (l : List (Happening U)). let x : Stored T U C = record s { part = with_link s.part mid; made = l } in x)
+          (sym (append-nil s.made) ∙ ap (λ (l : List (Happening U)). s.made ++ l) (sym (notes_behind es []))),
+    )
+      where
+        refused_as : (written : Result (Unit {0}) IoFault) → lacked_memory written ≡ true
+            → SentAs sends client s.part m sender ends written mid (Err refused.OutOfMemory) true [] (with_link s.part mid)
+        refused_as (Ok u) lacked = absurd (false≢true lacked)
+        refused_as (Err fault.WouldBlock) lacked = absurd (false≢true lacked)
+        refused_as (Err fault.Pipe) lacked = absurd (false≢true lacked)
+        refused_as (Err fault.TooBig) lacked = absurd (false≢true lacked)
+        refused_as (Err fault.Proto) lacked = absurd (false≢true lacked)
+        refused_as (Err fault.InvalidInput) lacked = absurd (false≢true lacked)
+        refused_as (Err fault.OutOfMemory) lacked = (refl, refl, refl, refl)
+        refused_as (Err (fault.Other n)) lacked = absurd (false≢true lacked)
+
+-- ---- an event, refused or not
+
+module _ {T U C : Type 0} (sends : T → Queue → Result ℕ IoFault → T → Type 0) (client : ClientParts) (table : List InterfaceRow) (s : Stored T U C) (m : SessionMessage) where
+  same_made : s ≡ record { serial = s.serial; part = s.part; made = s.made ++ [] }
+  same_made = ap (λ (made : List (Happening U)). let x : Stored T U C = record s { made = made } in x) (sym (append-nil s.made))
+
+  -- to a killed client nothing is sent
+  pub to_killed : s.part.is_killed ≡ true → Does s (λ p did q. SendsEvent sends client table p m (Ok tt) false did q) s
+  to_killed killed = ([], s.part, rw killed (refl, refl, refl, refl), same_made)
+
+  pub was_refused : (e : EventError) → s.part.is_killed ≡ false → event_check client s.part.store table m ≡ Err e
+      → Does s (λ p did q. SendsEvent sends client table p m (Err e) false did q) s
+  was_refused e live is = ([], s.part, rw (live, is) (refl, refl, refl, refl), same_made)
+
+  pub was_granted : (sender : Object (Kept U)) (ends : Bool) (answer : Result (Unit {0}) EventError) (lacked : Bool) (after : Stored T U C)
+      → s.part.is_killed ≡ false → event_check client s.part.store table m ≡ Ok (sender, ends)
+      → Does s (λ p did q. SendsGranted sends client p m sender ends answer lacked did q) after
+      → Does s (λ p did q. SendsEvent sends client table p m answer lacked did q) after
+  was_granted sender ends answer lacked after live is (did, q, granted, same) =
+      (did, q, where_live _ _ s.part.is_killed live (where_granted _ (event_check client s.part.store table m) is granted), same)
+    where
+      where_live : (A B : Type 0) (killed : Bool) → killed ≡ false → B → MatchBool killed A B
+      where_live A B true live there = absurd (false≢true (sym live))
+      where_live A B false live there = there
+
+      where_granted : (Q : EventError → Type 0) (checked : Result (Object (Kept U) × Bool) EventError) → checked ≡ Ok (sender, ends)
+          → SendsGranted sends client s.part m sender ends answer lacked did q
+          → MatchResult checked (λ g. SendsGranted sends client s.part m g.0 g.1 answer lacked did q) Q
+      where_granted Q checked is there = rw is there

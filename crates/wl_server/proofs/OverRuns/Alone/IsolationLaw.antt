@@ -1,0 +1,363 @@
+-- That what is held of each client is what its own calls and the shared ones lead to alone: over every run.
+use Rattle.std.proofs.Common.{◌≡◌, ℕ, ◌+◌, ◌<◌, ◌≤◌, Bool, true, false, List, [], ◌∷◌, ◌++◌, None, Some, Result, Ok, Err, refl, sym, ap, subst, ◌∙◌, arith, true≢false}
+use Rattle.std.specs.Prelude.{MatchBool, if◌then◌else◌, ◌==◌, ◌&&◌}
+use Rattle.std.proofs.lemmas.Bool.{eqb-true, eq-eqb, false≢true}
+use Rattle.wl_wire.specs.Table.{InterfaceRow}
+use Rattle.wl_link.specs.Link.{LinkState, IsFresh}
+use Rattle.wl_link.specs.Runs.{RunEntry}
+use Rattle.wl_server.specs.declared.error.InsertClientError.{InsertClientError}
+use Rattle.wl_server.specs.declared.error.InsertClientError.TheVariants as insert
+use Rattle.wl_server.specs.declared.notes.Happening.TheVariants.{Initialized}
+use Rattle.wl_server.specs.declared.runs.step.Reply.{Reply}
+use Rattle.wl_server.specs.declared.runs.step.Reply.TheVariants as reply
+use Rattle.wl_server.specs.declared.runs.step.Step.{Step}
+use Rattle.wl_server.specs.declared.runs.step.Step.TheVariants as step
+use Rattle.wl_server.specs.Deeds.{Deed}
+use Rattle.wl_server.specs.Globals.{Offer}
+use Rattle.wl_server.specs.Ids.{ClientParts, same_client}
+use Rattle.wl_server.specs.Part.{Part, fresh_part}
+use Rattle.wl_server.specs.PartStep.{Asked, Call, Changed, Inserted, InsertedAs, OfClient, PartCall, PartStep, Unfelt, World}
+use Rattle.wl_server.specs.Runs.{Alone, AreIsolated, AreOf, EachAlone, Inserts, IsIsolated, IsNeverInserted, IsNotInserted, Leads, Performs, SharedAlone, begun, concerns, is_about, mine, offer_over, own_of}
+use Rattle.wl_server.specs.Server.{Seen, ServerState, new_server, nothing_seen, seen}
+use Rattle.wl_server.specs.Steps.{Entry, InsertsNext, NumbersClient, OneStep, inserted_by, offer_after}
+
+-- ---- ids
+
+pub same_self : (id : ClientParts) → same_client id id ≡ true
+same_self id = rw (eq-eqb id.slot id.slot refl) (eq-eqb id.serial id.serial refl)
+
+pub same_serial : (a b : ClientParts) → same_client a b ≡ true → a.serial ≡ b.serial
+same_serial a b same = at (a.slot == b.slot) same
+  where
+    at : (t : Bool) → (t && (a.serial == b.serial)) ≡ true → a.serial ≡ b.serial
+    at true same = eqb-true a.serial b.serial same
+    at false same = absurd (false≢true same)
+
+earlier_differs : (new id : ClientParts) → new.serial < id.serial → same_client new id ≡ false
+earlier_differs new id sooner = at (same_client new id) refl
+  where
+    at : (t : Bool) → same_client new id ≡ t → same_client new id ≡ false
+    at false is = is
+    at true is = let same = same_serial new id is in absurd (omega (arith, same, sooner))
+
+later_differs : (new id : ClientParts) → id.serial < new.serial → same_client new id ≡ false
+later_differs new id later = at (same_client new id) refl
+  where
+    at : (t : Bool) → same_client new id ≡ t → same_client new id ≡ false
+    at false is = is
+    at true is = let same = same_serial new id is in absurd (omega (arith, same, later))
+
+-- ---- one step, of a client that is not there or is not meant
+
+module _ {T U C : Type 0} where
+  own_nothing : (b : Bool) (missing : Type 0) (lacked : Bool) (did : List (Deed U)) (after : Seen T U C)
+      → MatchBool b (missing × Unfelt (nothing_seen {T = T} {U = U} {C = C}) lacked did after) (Unfelt nothing_seen lacked did after)
+      → Unfelt nothing_seen lacked did after
+  own_nothing true missing lacked did after h = h.1
+  own_nothing false missing lacked did after h = h
+
+  own_other : (b : Bool) (before : Seen T U C) (R : Part T U C → Part T U C → Type 0) (missing : Type 0) (lacked : Bool) (did : List (Deed U)) (after : Seen T U C)
+      → b ≡ false → OfClient b before R missing lacked did after → Unfelt before lacked did after
+  own_other true before R missing lacked did after other h = absurd (true≢false other)
+  own_other false before R missing lacked did after other h = h
+
+module _ {T U G C : Type 0} (w : World T G C) (id : ClientParts) (offer : Offer G) where
+  inserted_other : (transport : T) (info : C) (r : Result ClientParts InsertClientError) (before : Seen T U C) (lacked : Bool) (did : List (Deed U)) (after : Seen T U C)
+      → ((new : ClientParts) → r ≡ Ok new → same_client new id ≡ false)
+      → InsertedAs w id offer transport info r before lacked did after → Unfelt before lacked did after
+  inserted_other transport info (Err e) before lacked did after other h = h
+  inserted_other transport info (Ok new) before lacked did after other h = at (same_client new id) (other new refl) h
+    where
+      at : (b : Bool) → b ≡ false → MatchBool b (Inserted w id offer transport info before lacked did after) (Unfelt before lacked did after)
+          → Unfelt before lacked did after
+      at true is h = absurd (true≢false is)
+      at false is h = h
+
+  inserts_other : (transport : T) (info : C) (answer : Reply T U) (r : Result ClientParts InsertClientError) → answer ≡ reply.InsertClient r
+      → IsNotInserted {T = T} {U = U} {G = G} {C = C} id (Asked (step.InsertClient transport info) answer) → (new : ClientParts) → r ≡ Ok new → same_client new id ≡ false
+  inserts_other transport info answer r is other new e =
+      other new (transport, info, ap (λ (a : Reply T U). Asked (step.InsertClient transport info) a) (is ∙ ap reply.InsertClient e))
+
+  -- a client of which nothing is held feels nothing of a step that does not insert it
+  nothing_step : (s : Step T U G C) (answer : Reply T U) (lacked : Bool) (did : List (Deed U)) (after : Seen T U C)
+      → IsNotInserted id (Asked s answer) → PartStep w id offer s answer nothing_seen lacked did after → Unfelt nothing_seen lacked did after
+  nothing_step (step.InsertClient transport info) answer lacked did after other (r, is, h) =
+      inserted_other transport info r nothing_seen lacked did after (inserts_other transport info answer r is other) h
+  nothing_step (step.SetObjectData o u) answer lacked did after other (r, is, h) = own_nothing _ _ lacked did after h
+  nothing_step (step.CreateObject target i version u) answer lacked did after other (r, is, h) = own_nothing _ _ lacked did after h
+  nothing_step (step.DestroyObject o) answer lacked did after other (r, is, h) = own_nothing _ _ lacked did after h
+  nothing_step (step.SendEvent m) answer lacked did after other (r, is, h) = own_nothing _ _ lacked did after h
+  nothing_step (step.PostError o code text) answer lacked did after other (is, h) = own_nothing _ _ lacked did after h
+  nothing_step (step.KillClient target reason) answer lacked did after other (is, h) = own_nothing _ _ lacked did after h
+  nothing_step (step.CreateGlobal i version handler) answer lacked did after other (Ok g, is, h) = h.1
+  nothing_step (step.CreateGlobal i version handler) answer lacked did after other (Err e, is, h) = h
+  nothing_step (step.DisableGlobal g) answer lacked did after other (is, h) = own_nothing _ _ lacked did after h
+  nothing_step (step.RemoveGlobal g) answer lacked did after other (is, h) = own_nothing _ _ lacked did after h
+  nothing_step (step.Flush None) answer lacked did after other (r, is, h) = h.1.1
+  nothing_step (step.Flush (Some target)) answer lacked did after other (r, is, h) = own_nothing _ _ lacked did after h
+  nothing_step (step.SetDefaultMaxBufferSize limit) answer lacked did after other (is, h) = h
+  nothing_step (step.SetClientMaxBufferSize target limit) answer lacked did after other (is, h) = own_nothing _ _ lacked did after h
+  nothing_step (step.NextAction target) answer lacked did after other (r, left, is, h) = own_nothing _ _ lacked did after h
+  nothing_step (step.NextActionWithin target reading) answer lacked did after other (r, left, is, h) = own_nothing _ _ lacked did after h
+  nothing_step (step.FinishRequest target u) answer lacked did after other (r, is, h) = own_nothing _ _ lacked did after h
+  nothing_step (step.FinishBind target u) answer lacked did after other (r, is, h) = own_nothing _ _ lacked did after h
+  nothing_step step.Cleanup answer lacked did after other (Ok out, is, h) = h.1
+  nothing_step step.Cleanup answer lacked did after other (Err e, is, h) = h
+  nothing_step step.TakeNotes answer lacked did after other (Ok out, is, h) = (h.1, h.2, h.3)
+  nothing_step step.TakeNotes answer lacked did after other (Err e, is, h) = h
+  nothing_step (step.Arrive target bytes tokens) answer lacked did after other (r, is, h) = own_nothing _ _ lacked did after h
+  nothing_step (step.ArriveFault target f) answer lacked did after other (r, is, h) = own_nothing _ _ lacked did after h
+  nothing_step (step.Accept target n) answer lacked did after other (r, is, h) = own_nothing _ _ lacked did after h
+  nothing_step (step.AcceptFault target f) answer lacked did after other (r, is, h) = own_nothing _ _ lacked did after h
+  nothing_step (step.TakeSent target) answer lacked did after other (r, is, h) = own_nothing _ _ lacked did after h
+
+  nothing_call : (call : Call T U G C) (lacked : Bool) (did : List (Deed U)) (after : Seen T U C)
+      → IsNotInserted id call → PartCall w id offer call nothing_seen lacked did after → Unfelt nothing_seen lacked did after
+  nothing_call (Asked s answer) lacked did after other h = nothing_step s answer lacked did after other h
+  nothing_call (Changed target t) lacked did after other h = own_nothing _ _ lacked did after h
+
+  -- a client feels nothing of a step that names another
+  other_step : (s : Step T U G C) (answer : Reply T U) (before : Seen T U C) (lacked : Bool) (did : List (Deed U)) (after : Seen T U C)
+      → IsNotInserted id (Asked s answer) → is_about id s ≡ false → PartStep w id offer s answer before lacked did after → Unfelt before lacked did after
+  other_step (step.InsertClient transport info) answer before lacked did after other far (r, is, h) =
+      inserted_other transport info r before lacked did after (inserts_other transport info answer r is other) h
+  other_step (step.SetObjectData o u) answer before lacked did after other far (r, is, h) = own_other _ before _ _ lacked did after far h
+  other_step (step.CreateObject target i version u) answer before lacked did after other far (r, is, h) = own_other _ before _ _ lacked did after far h
+  other_step (step.DestroyObject o) answer before lacked did after other far (r, is, h) = own_other _ before _ _ lacked did after far h
+  other_step (step.SendEvent m) answer before lacked did after other far (r, is, h) = own_other _ before _ _ lacked did after far h
+  other_step (step.PostError o code text) answer before lacked did after other far (is, h) = own_other _ before _ _ lacked did after far h
+  other_step (step.KillClient target reason) answer before lacked did after other far (is, h) = own_other _ before _ _ lacked did after far h
+  other_step (step.CreateGlobal i version handler) answer before lacked did after other far h = absurd (true≢false far)
+  other_step (step.DisableGlobal g) answer before lacked did after other far h = absurd (true≢false far)
+  other_step (step.RemoveGlobal g) answer before lacked did after other far h = absurd (true≢false far)
+  other_step (step.Flush None) answer before lacked did after other far h = absurd (true≢false far)
+  other_step (step.Flush (Some target)) answer before lacked did after other far (r, is, h) = own_other _ before _ _ lacked did after far h
+  other_step (step.SetDefaultMaxBufferSize limit) answer before lacked did after other far h = absurd (true≢false far)
+  other_step (step.SetClientMaxBufferSize target limit) answer before lacked did after other far (is, h) = own_other _ before _ _ lacked did after far h
+  other_step (step.NextAction target) answer before lacked did after other far (r, left, is, h) = own_other _ before _ _ lacked did after far h
+  other_step (step.NextActionWithin target reading) answer before lacked did after other far (r, left, is, h) = own_other _ before _ _ lacked did after far h
+  other_step (step.FinishRequest target u) answer before lacked did after other far (r, is, h) = own_other _ before _ _ lacked did after far h
+  other_step (step.FinishBind target u) answer before lacked did after other far (r, is, h) = own_other _ before _ _ lacked did after far h
+  other_step step.Cleanup answer before lacked did after other far h = absurd (true≢false far)
+  other_step step.TakeNotes answer before lacked did after other far h = absurd (true≢false far)
+  other_step (step.Arrive target bytes tokens) answer before lacked did after other far (r, is, h) = own_other _ before _ _ lacked did after far h
+  other_step (step.ArriveFault target f) answer before lacked did after other far (r, is, h) = own_other _ before _ _ lacked did after far h
+  other_step (step.Accept target n) answer before lacked did after other far (r, is, h) = own_other _ before _ _ lacked did after far h
+  other_step (step.AcceptFault target f) answer before lacked did after other far (r, is, h) = own_other _ before _ _ lacked did after far h
+  other_step (step.TakeSent target) answer before lacked did after other far (r, is, h) = own_other _ before _ _ lacked did after far h
+
+  pub other_call : (call : Call T U G C) (before : Seen T U C) (lacked : Bool) (did : List (Deed U)) (after : Seen T U C)
+      → IsNotInserted id call → concerns id call ≡ false → PartCall w id offer call before lacked did after → Unfelt before lacked did after
+  other_call (Asked s answer) before lacked did after other far h = other_step s answer before lacked did after other far h
+  other_call (Changed target t) before lacked did after other far h = own_other _ before _ _ lacked did after far h
+
+module _ {T U : Type 0} where
+  -- what an insertion answers
+  abbrev inserted_in : Reply T U → Result ClientParts InsertClientError
+  inserted_in (reply.InsertClient r) = r
+  inserted_in _ = Err insert.Full
+
+module _ {T U G C : Type 0} where
+  -- and it leaves the offer
+  other_offer : (id : ClientParts) (offer : Offer G) (s : Step T U G C) (answer : Reply T U) → is_about id s ≡ false → offer_after offer (Asked s answer) ≡ offer
+  other_offer id offer (step.CreateGlobal i version handler) answer far = absurd (true≢false far)
+  other_offer id offer (step.DisableGlobal g) answer far = absurd (true≢false far)
+  other_offer id offer (step.RemoveGlobal g) answer far = absurd (true≢false far)
+  other_offer id offer (step.SetDefaultMaxBufferSize limit) answer far = absurd (true≢false far)
+  other_offer id offer (step.InsertClient transport info) answer far = refl
+  other_offer id offer (step.SetObjectData o u) answer far = refl
+  other_offer id offer (step.CreateObject target i version u) answer far = refl
+  other_offer id offer (step.DestroyObject o) answer far = refl
+  other_offer id offer (step.SendEvent m) answer far = refl
+  other_offer id offer (step.PostError o code text) answer far = refl
+  other_offer id offer (step.KillClient target reason) answer far = refl
+  other_offer id offer (step.Flush target) answer far = refl
+  other_offer id offer (step.SetClientMaxBufferSize target limit) answer far = refl
+  other_offer id offer (step.NextAction target) answer far = refl
+  other_offer id offer (step.NextActionWithin target reading) answer far = refl
+  other_offer id offer (step.FinishRequest target u) answer far = refl
+  other_offer id offer (step.FinishBind target u) answer far = refl
+  other_offer id offer step.Cleanup answer far = refl
+  other_offer id offer step.TakeNotes answer far = refl
+  other_offer id offer (step.Arrive target bytes tokens) answer far = refl
+  other_offer id offer (step.ArriveFault target f) answer far = refl
+  other_offer id offer (step.Accept target n) answer far = refl
+  other_offer id offer (step.AcceptFault target f) answer far = refl
+  other_offer id offer (step.TakeSent target) answer far = refl
+
+  pub offer_of_other : (id : ClientParts) (offer : Offer G) (call : Call T U G C) → concerns id call ≡ false → offer_after offer call ≡ offer
+  offer_of_other id offer (Asked s answer) far = other_offer id offer s answer far
+  offer_of_other id offer (Changed target t) far = refl
+
+  -- ---- clients that were not inserted yet
+
+  numbered : (before : ServerState T U G C) (call : Call T U G C) (new : ClientParts) → NumbersClient before call → Inserts new call
+      → InsertsNext before.last_client before.clients (Ok new)
+  numbered before call new by (transport, info, is) = subst (λ (c : Call T U G C). NumbersClient before c) is by
+
+  one_more : (call : Call T U G C) (new : ClientParts) → Inserts new call → inserted_by call ≡ 1
+  one_more call new (transport, info, is) = ap inserted_by is
+
+  -- of an id with a later serial nothing is held
+  record Unborn (s : ServerState T U G C) : Type 0 where
+    each : (id : ClientParts) → s.last_client < id.serial → seen id s ≡ nothing_seen
+
+  unborn_step : (w : World T G C) (before : ServerState T U G C) (e : Entry T U G C) (after : ServerState T U G C)
+      → Unborn before → OneStep w before e after → Unborn after
+  unborn_step w before e after born by = record {
+    each = λ id late.
+        (nothing_call w id before.offer e.call (e.lacks id) (e.did id) (seen id after) (far id late)
+        (subst (λ (x : Seen T U C). PartCall w id before.offer e.call x (e.lacks id) (e.did id) (seen id after))
+        (born.each id (let grown = by.last in omega (arith, late, grown))) (by.each id))).2;
+  }
+    where
+      far : (id : ClientParts) → after.last_client < id.serial → IsNotInserted id e.call
+      far id late new inserts =
+          earlier_differs new id
+          (let next = (numbered before e.call new by.client inserts).2 in
+          let grown = by.last in
+          let one = one_more e.call new inserts in
+          omega (arith, late, next, grown, one))
+
+  -- ---- runs
+
+  unborn_run : (w : World T G C) (before after : ServerState T U G C) (run : List (Entry T U G C)) → Unborn before → Leads w before run after
+      → Unborn after
+  unborn_run w before after [] born same = subst (λ (s : ServerState T U G C). Unborn s) (sym same) born
+  unborn_run w before after (e ∷ run) born (mid, by, leads) = unborn_run w mid after run (unborn_step w before e mid born by) leads
+
+  pub offer_run : (w : World T G C) (before after : ServerState T U G C) (run : List (Entry T U G C)) → Leads w before run after
+      → after.offer ≡ offer_over before.offer run
+  offer_run w before after [] same = ap (λ (s : ServerState T U G C). s.offer) same
+  offer_run w before after (e ∷ run) (mid, by, leads) =
+      offer_run w mid after run leads ∙ ap (λ (o : Offer G). offer_over o run) by.offer
+
+  pub offer_over_one : (offer : Offer G) (run : List (Entry T U G C)) (e : Entry T U G C) → offer_over offer (run ++ e ∷ []) ≡ offer_after (offer_over offer run) e.call
+  offer_over_one offer [] e = refl
+  offer_over_one offer (f ∷ run) e = offer_over_one (offer_after offer f.call) run e
+
+  -- a run in two parts leads by way of some value
+  pub split_run : (w : World T G C) (before after : ServerState T U G C) (run more : List (Entry T U G C)) → Leads w before (run ++ more) after
+      → (mid : ServerState T U G C) × Leads w before run mid × Leads w mid more after
+  split_run w before after [] more leads = (before, refl, leads)
+  split_run w before after (e ∷ run) more (next, by, leads) =
+      let (mid, first, rest) = split_run w next after run more leads in (mid, (next, by, first), rest)
+
+  pub join_runs : (w : World T G C) (before mid after : ServerState T U G C) (run more : List (Entry T U G C)) → Leads w before run mid
+      → Leads w mid more after → Leads w before (run ++ more) after
+  join_runs w before mid after [] more same leads = subst (λ (s : ServerState T U G C). Leads w s more after) same leads
+  join_runs w before mid after (e ∷ run) more (next, by, first) leads = (next, by, join_runs w next mid after run more first leads)
+
+  -- one more entry of a client's own run, or of another's
+  alone_more : (w : World T G C) (id : ClientParts) (before mid after : Seen T U C) (offer : Offer G) (e : Entry T U G C) (run : List (Entry T U G C)) (b : Bool)
+      → concerns id e.call ≡ b → IsNotInserted id e.call
+      → PartCall w id offer e.call before (e.lacks id) (e.did id) mid
+      → Alone w id (offer_after offer e.call) mid (mine id run) after
+      → Alone w id offer before (if b then (own_of id e ∷ mine id run) else mine id run) after
+  alone_more w id before mid after offer e run true is other by rest = (mid, by, rest)
+  alone_more w id before mid after offer e run false is other by rest =
+      subst (λ (s : Seen T U C). Alone w id offer s (mine id run) after) (other_call w id offer e.call before (e.lacks id) (e.did id) mid other is by).2
+      (subst (λ (o : Offer G). Alone w id o mid (mine id run) after) (offer_of_other id offer e.call is) rest)
+
+  -- what is held of a client that was inserted before is what its own calls and the shared ones lead to
+  pub alone_run : (w : World T G C) (id : ClientParts) (before after : ServerState T U G C) (run : List (Entry T U G C)) → id.serial ≤ before.last_client
+      → Leads w before run after → Alone w id before.offer (seen id before) (mine id run) (seen id after)
+  alone_run w id before after [] born same = ap (λ (s : ServerState T U G C). seen id s) same
+  alone_run w id before after (e ∷ run) born (mid, by, leads) =
+      alone_more w id (seen id before) (seen id mid) (seen id after) before.offer e run (concerns id e.call) refl
+      (λ new inserts. later_differs new id (let next = (numbered before e.call new by.client inserts).2 in omega (arith, born, next)))
+      (by.each id)
+      (subst (λ (o : Offer G). Alone w id o (seen id mid) (mine id run) (seen id after)) by.offer
+      (alone_run w id mid after run (let grown = by.last in omega (arith, born, grown)) leads))
+
+  -- ---- the insertion
+
+  begins : (w : World T G C) (id : ClientParts) (offer : Offer G) (transport : T) (info : C) (before : Seen T U C) (lacked : Bool) (did : List (Deed U)) (after : Seen T U C)
+      (b : Bool) → b ≡ true → before ≡ nothing_seen
+      → MatchBool b (Inserted w id offer transport info before lacked did after) (Unfelt before lacked did after)
+      → (link : LinkState T) × IsFresh transport (Some offer.default_limit) link × (after ≡ begun link info)
+  begins w id offer transport info before lacked did after false is nothing h = absurd (false≢true is)
+  begins w id offer transport info before lacked did after true is nothing (link, fresh, no_memory, deeds, same) =
+      (link, fresh, same ∙ ap (λ (s : Seen T U C). record { part = Some (fresh_part link info); made = s.made ++ Initialized ∷ [] }) nothing)
+
+  inserted_as : (w : World T G C) (id : ClientParts) (offer : Offer G) (transport : T) (info : C) (before : Seen T U C) (lacked : Bool) (did : List (Deed U)) (after : Seen T U C)
+      → before ≡ nothing_seen
+      → PartStep w id offer (step.InsertClient transport info) (reply.InsertClient (Ok id)) before lacked did after
+      → (link : LinkState T) × IsFresh transport (Some offer.default_limit) link × (after ≡ begun link info)
+  inserted_as w id offer transport info before lacked did after nothing (r, is, h) =
+      begins w id offer transport info before lacked did after (same_client id id) (same_self id) nothing
+      (subst (λ (r : Result ClientParts InsertClientError). InsertedAs w id offer transport info r before lacked did after) (sym (ap inserted_in is)) h)
+
+  new_unborn : (table : List InterfaceRow) → Unborn (new_server {T = T} {U = U} {G = G} {C = C} table)
+  new_unborn table = record { each = λ id late. refl }
+
+  pub each_alone : (w : World T G C) (table : List InterfaceRow) (run : List (Entry T U G C)) (after : ServerState T U G C)
+      → Leads w (new_server table) run after → EachAlone w table run after
+  each_alone w table run after leads id transport info earlier later e is inserts =
+      let (mid, first, (next, by, rest)) =
+      split_run w (new_server table) after earlier (e ∷ later) (subst (λ (r : List (Entry T U G C)). Leads w (new_server table) r after) is leads) in
+      let offered = offer_run w (new_server table) mid earlier first in
+      let born = unborn_run w (new_server table) mid earlier (new_unborn table) first in
+      let number : id.serial ≡ mid.last_client + 1 = (numbered mid e.call id by.client (transport, info, inserts)).2 in
+      let one : inserted_by e.call ≡ 1 = one_more e.call id (transport, info, inserts) in
+      let grown : next.last_client ≡ mid.last_client + inserted_by e.call = by.last in
+      let (link, fresh, begun_so) =
+      inserted_as w id mid.offer transport info (seen id mid) (e.lacks id) (e.did id) (seen id next) (born.each id (omega (arith, number)))
+      (subst (λ (c : Call T U G C). PartCall w id mid.offer c (seen id mid) (e.lacks id) (e.did id) (seen id next)) inserts (by.each id)) in (
+        link,
+        subst (λ (o : Offer G). IsFresh transport (Some o.default_limit) link) offered fresh,
+        subst (λ (o : Offer G). Alone w id o (begun link info) (mine id later) (seen id after))
+            (by.offer ∙ ap (λ (o : Offer G). offer_after o e.call) offered ∙ sym (offer_over_one (new_server {T = T} {U = U} {C = C} table).offer earlier e))
+            (subst (λ (s : Seen T U C). Alone w id next.offer s (mine id later) (seen id after)) {y = begun link info} begun_so
+            (alone_run w id next after later (omega (arith, number, grown, one)) rest)),
+      )
+
+  -- ---- clients that are not inserted
+
+  unseen_run : (w : World T G C) (id : ClientParts) (before after : ServerState T U G C) (run : List (Entry T U G C)) → seen id before ≡ nothing_seen
+      → IsNeverInserted id run → Leads w before run after
+      → (seen id after ≡ nothing_seen) × Alone w id before.offer (nothing_seen {T = T} {U = U} {C = C}) (mine id run) nothing_seen
+  unseen_run w id before after [] nothing none same = (ap (λ (s : ServerState T U G C). seen id s) same ∙ nothing, refl)
+  unseen_run w id before after (e ∷ run) nothing (far, none) (mid, by, leads) =
+      let from_nothing : PartCall w id before.offer e.call nothing_seen (e.lacks id) (e.did id) (seen id mid) =
+      subst (λ (x : Seen T U C). PartCall w id before.offer e.call x (e.lacks id) (e.did id) (seen id mid)) nothing (by.each id) in
+      let still : seen id mid ≡ nothing_seen = (nothing_call w id before.offer e.call (e.lacks id) (e.did id) (seen id mid) far from_nothing).2 in
+      let (end, alone) = unseen_run w id mid after run still none leads in (
+        end,
+        alone_more w id nothing_seen nothing_seen nothing_seen before.offer e run (concerns id e.call) refl far
+            (subst (λ (x : Seen T U C). PartCall w id before.offer e.call nothing_seen (e.lacks id) (e.did id) x) still from_nothing)
+            (subst (λ (o : Offer G). Alone w id o nothing_seen (mine id run) nothing_seen) by.offer alone),
+      )
+
+  -- ---- what all clients share, with its replies
+
+  pub shared_run : (w : World T G C) (before after : ServerState T U G C) (run : List (Entry T U G C)) → Leads w before run after
+      → SharedAlone before.offer before.last_client run after.offer after.last_client
+  shared_run w before after [] same = (ap (λ (s : ServerState T U G C). s.offer) same, ap (λ (s : ServerState T U G C). s.last_client) same)
+  shared_run w before after (e ∷ run) (mid, by, leads) = (
+    by.global,
+    (λ new inserts. let next = numbered before e.call new by.client inserts in (next.1, next.2)),
+    subst (λ (n : ℕ). SharedAlone (offer_after before.offer e.call) n run after.offer after.last_client) by.last
+        (subst (λ (o : Offer G). SharedAlone o mid.last_client run after.offer after.last_client) by.offer (shared_run w mid after run leads)),
+  )
+
+  -- over every run of a new server
+  pub is_isolated : (w : World T G C) (table : List InterfaceRow) (run : List (Entry T U G C)) (after : ServerState T U G C)
+      → Leads w (new_server table) run after → IsIsolated w table run after
+  is_isolated w table run after leads = record {
+    each = each_alone w table run after leads;
+    unseen = λ id none. unseen_run w id (new_server table) after run refl none leads;
+    shared = shared_run w (new_server table) after run leads;
+  }
+
+  -- steps with their replies have deeds, of each client
+  pub performed : (w : World T G C) (before after : ServerState T U G C) (steps : List (RunEntry (Step T U G C) (Reply T U))) → Performs w before steps after
+      → (run : List (Entry T U G C)) × AreOf steps run × Leads w before run after
+  performed w before after [] same = ([], tt, same)
+  performed w before after (r ∷ steps) (mid, (e, call, refused, by), leads) =
+      let (run, are, rest) = performed w mid after steps leads in (e ∷ run, (call, refused, are), (mid, by, rest))
+
+  pub are_isolated : (w : World T G C) (table : List InterfaceRow) (steps : List (RunEntry (Step T U G C) (Reply T U))) (after : ServerState T U G C)
+      → Performs w (new_server table) steps after → AreIsolated w table steps after
+  are_isolated w table steps after performs =
+      let (run, are, leads) = performed w (new_server table) after steps performs in (run, are, leads, is_isolated w table run after leads)

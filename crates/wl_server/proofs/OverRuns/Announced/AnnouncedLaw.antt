@@ -1,0 +1,433 @@
+-- That what a client's registries announced is what it is shown: over every run.
+use Rattle.std.proofs.Common.{◌≡◌, ◌≢◌, ℕ, ◌≤◌, Bool, true, false, List, [], ◌∷◌, ◌++◌, map, append-nil, append_assoc, Option, None, Some, is_some, Result, Ok, Err, MatchBool, MatchOption, refl, sym, ap, subst, ◌∙◌, true≢false, arith}
+use mathlib.Core.Logic.{inl, inr}
+use Rattle.std.specs.Prelude.{◌+◌, Contains, Vec, if◌then◌else◌, is_ok, nat_le, slice_get}
+use Rattle.std.specs.Global.{Global}
+use Rattle.std.proofs.lemmas.Bool.{cases_eq}
+use Rattle.std.proofs.lemmas.Option.{same_Some}
+use Rattle.wl_wire.specs.declared.error.IoFault.{IoFault}
+use Rattle.wl_wire.specs.declared.error.OutOfMemory.{OutOfMemory}
+use Rattle.wl_wire.specs.declared.interface.InterfaceId.{InterfaceId}
+use Rattle.wl_wire.specs.Table.{InterfaceRow}
+use Rattle.wl_link.specs.declared.object.Object.{Object}
+use Rattle.wl_link.proofs.Calls.Branches.{either_bool, either_option}
+use Rattle.wl_link.specs.Identity.{Id}
+use Rattle.wl_link.specs.Link.{LinkState, with_transport}
+use Rattle.wl_link.specs.Puts.{Said}
+use Rattle.wl_link.specs.Runs.{RunEntry}
+use Rattle.wl_link.specs.Store.{empty_store, held, stored}
+use Rattle.wl_link.proofs.Ids.StoreLaws.{held_empty, stored_here, stored_other}
+use Rattle.wl_server.specs.declared.error.GlobalError.{GlobalError}
+use Rattle.wl_server.specs.declared.objects.Kept.{Kept}
+use Rattle.wl_server.specs.declared.globals.KeptGlobal.{KeptGlobal}
+use Rattle.wl_server.specs.declared.notes.Happening.{Happening}
+use Rattle.wl_server.specs.declared.notes.Note.{Note}
+use Rattle.wl_server.specs.declared.runs.step.Reply.{Reply}
+use Rattle.wl_server.specs.declared.runs.step.Step.{Step}
+use Rattle.wl_server.specs.declared.runs.step.Step.TheVariants as step
+use Rattle.wl_server.proofs.OverRuns.Ids.AmongLaws.{among_contains, contains_among}
+use Rattle.wl_server.specs.Announced.{AreSameGlobals, EachAnnouncesShown, HaveAnnouncements, IsAlwaysLeftAlone, IsLeftAlone, announced, shown_of}
+use Rattle.wl_server.specs.Deeds.{Deed, NoteTaken, Noted, log_of, registries_in}
+use Rattle.wl_server.specs.Felt.{Cleaned, Hears, news, removals}
+use Rattle.wl_server.specs.Globals.{CreatesGlobal, Globals, Offer, disabled, freed, global_of, is_enabled, new_offer, with_created, with_globals}
+use Rattle.wl_server.specs.Ids.{ClientParts, GlobalParts, same_client}
+use Rattle.wl_server.proofs.OverRuns.Alone.IsolationLaw.{are_isolated, is_isolated, offer_of_other, offer_run, shared_run, split_run}
+use Rattle.wl_server.specs.Moves.{Move, Moved}
+use Rattle.wl_server.proofs.OverRuns.Alone.OwnRuns.{AreMine, are_mine}
+use Rattle.wl_server.specs.Part.{Part, display_object, id_of}
+use Rattle.wl_server.specs.PartStep.{Asked, Call, Changed, CleanedAs, FeelsGlobal, FeelsLoss, FlushedFor, MovedFor, NotesTaken, OfClient, OnPart, PartCall, PartStep, ReadsFor, Unfelt, World}
+use Rattle.wl_server.specs.Runs.{Alone, Leads, Own, Performs, SharedAlone, begun, concerns, history, is_about, mine, offer_over, own_of}
+use Rattle.wl_server.specs.Server.{Seen, ServerState, new_server, seen}
+use Rattle.wl_server.proofs.OverRuns.Announced.ShownLaws.{among_shown, disabled_one, disabled_stays, freed_one, freed_stays, shown_among, Hides, StaysShown}
+use Rattle.wl_server.specs.Steps.{Entry, NumbersGlobal, inserted_by, offer_after}
+use Rattle.wl_server.proofs.OverRuns.Announced.WatchedCalls.{creates_lives, data_set_lives, destroys_lives, finishes_bind_lives, finishes_lives, flushed_lives, flushes_lives, kills_lives, posts_lives, relinked_lives, sends_lives}
+use Rattle.wl_server.proofs.OverRuns.Announced.WatchedGlobals.{global_watch, hears_all, limit_watch, loss_watch, stay_watch}
+use Rattle.wl_server.proofs.OverRuns.Announced.WatchedReadings.{next_action_lives}
+use Rattle.wl_server.proofs.OverRuns.Announced.WatchedVerdicts.{PartLives, log_both, registries_both}
+use Rattle.wl_server.proofs.OverRuns.Announced.Watching.{Scene, Watch, part_scene}
+
+none_some : {A : Type 0} {x : A} → None ≡ Some x → ⊥
+none_some e = true≢false (sym (ap is_some e))
+
+-- ---- notes put nothing
+
+module _ {U : Type 0} where
+  silent_notes : (notes : List (Happening U)) → (log_of (map Noted notes) ≡ []) × (registries_in (map Noted notes) ≡ [])
+  silent_notes [] = (refl, refl)
+  silent_notes (h ∷ notes) = silent_notes notes
+
+  silent_taken : (notes : List (Happening U)) → (log_of (map NoteTaken notes) ≡ []) × (registries_in (map NoteTaken notes) ≡ [])
+  silent_taken [] = (refl, refl)
+  silent_taken (h ∷ notes) = silent_taken notes
+
+-- ---- the globals that are created in a client's run have names that were free
+
+module _ {T U G C : Type 0} where
+  abbrev AreNumbered : Offer G → List (Own T U G C) → Type 0
+  AreNumbered offer [] = Unit {0}
+  AreNumbered offer (e ∷ run) = NumbersGlobal offer e.call × AreNumbered (offer_after offer e.call) run
+
+  -- the offer after a client's run
+  abbrev own_offer : Offer G → List (Own T U G C) → Offer G
+  own_offer offer [] = offer
+  own_offer offer (e ∷ run) = own_offer (offer_after offer e.call) run
+
+  mine_numbered : (id : ClientParts) (offer : Offer G) (last : ℕ) (run : List (Entry T U G C)) (offer' : Offer G) (last' : ℕ) → SharedAlone offer last run offer' last'
+      → AreNumbered offer (mine id run) × (own_offer offer (mine id run) ≡ offer')
+  mine_numbered id offer last [] offer' last' (same, none) = (tt, sym same)
+  mine_numbered id offer last (e ∷ run) offer' last' (by, next, rest) =
+      go (concerns id e.call) refl (mine_numbered id (offer_after offer e.call) (last + inserted_by e.call) run offer' last' rest)
+    where
+      go : (b : Bool) → concerns id e.call ≡ b
+          → AreNumbered (offer_after offer e.call) (mine id run) × (own_offer (offer_after offer e.call) (mine id run) ≡ offer')
+          → AreNumbered offer (if b then (own_of id e ∷ mine id run) else mine id run) × (own_offer offer (if b then (own_of id e ∷ mine id run) else mine id run) ≡ offer')
+      go true is (numbered, ends) = ((by, numbered), ends)
+      go false is both =
+          subst (λ (o : Offer G). AreNumbered o (mine id run) × (own_offer o (mine id run) ≡ offer')) (offer_of_other id offer e.call is) both
+
+module _ {T U G C : Type 0} (w : World T G C) (id : ClientParts) (r : Id) where
+  abbrev Watched : Offer G → Part T U C → List Said → List Id → Type 0
+  Watched offer p log made = Watch w.views id r offer (part_scene p) log made
+
+  -- the registry is watched while its client is live
+  abbrev SeenWatched : Offer G → Seen T U C → List Said → List Id → Type 0
+  SeenWatched offer s log made = MatchOption s.part (Unit {0}) (λ p. p.is_killed ≡ false → Watched offer p log made)
+
+  record Follows (offer offer' : Offer G) (s : Seen T U C) (did : List (Deed U)) (t : Seen T U C) : Type 0 where
+    watch : (log : List Said) (made : List Id) → SeenWatched offer s log made → SeenWatched offer' t (log ++ log_of did) (made ++ registries_in did)
+
+  -- ---- forms of a call
+
+  -- what a part comes to
+  abbrev Leads' : Offer G → Offer G → Part T U C → List (Deed U) → Part T U C → Type 0
+  Leads' offer offer' p did q =
+      (log : List Said) (made : List Id) → (p.is_killed ≡ false → Watched offer p log made) → q.is_killed ≡ false
+      → Watched offer' q (log ++ log_of did) (made ++ registries_in did)
+
+  lives_leads : (offer : Offer G) (p : Part T U C) (did : List (Deed U)) (q : Part T U C) → PartLives w.views id r offer p did q → Leads' offer offer p did q
+  lives_leads offer p did q lives log made was on = (lives.goes on).watch log made (was (lives.live on))
+
+  unfelt_follows : (offer : Offer G) (s : Seen T U C) (lacked : Bool) (did : List (Deed U)) (t : Seen T U C) → Unfelt s lacked did t → Follows offer offer s did t
+  unfelt_follows offer s lacked did t (no_memory, none, same) = record {
+    watch = λ log made is.
+        subst (λ (x : Seen T U C). SeenWatched offer x (log ++ log_of did) (made ++ registries_in did)) (sym same)
+        (subst (λ (ds : List (Deed U)). SeenWatched offer s (log ++ log_of ds) (made ++ registries_in ds)) (sym none)
+        (subst (λ (l : List Said). SeenWatched offer s l (made ++ [])) (sym (append-nil log))
+        (subst (λ (l : List Id). SeenWatched offer s log l) (sym (append-nil made)) is)));
+  }
+
+  -- a part that is stored, and goes on as this one
+  part_follows : (offer offer' : Offer G) (s : Seen T U C) (p q : Part T U C) (did : List (Deed U)) (made : List (Happening U)) (t : Seen T U C) → s.part ≡ Some p
+      → t ≡ record { part = Some q; made = made } → Leads' offer offer' p did q → Follows offer offer' s did t
+  part_follows offer offer' s p q did notes t there same leads = record {
+    watch = λ log made is.
+        subst (λ (x : Seen T U C). SeenWatched offer' x (log ++ log_of did) (made ++ registries_in did)) (sym same)
+        (leads log made (subst (λ (o : Option (Part T U C)). MatchOption o (Unit {0}) (λ x. x.is_killed ≡ false → Watched offer x log made)) there is));
+  }
+
+  out_follows : (offer offer' : Offer G) (s : Seen T U C) (did : List (Deed U)) (t : Seen T U C) → t.part ≡ None → Follows offer offer' s did t
+  out_follows offer offer' s did t none = record {
+    watch = λ log made is.
+        subst (λ (o : Option (Part T U C)). MatchOption o (Unit {0}) (λ x. x.is_killed ≡ false → Watched offer' x (log ++ log_of did) (made ++ registries_in did))) (sym none) tt;
+  }
+
+  -- a step that each client feels, where the offer becomes this
+  feels_follows : (offer offer' : Offer G) (s : Seen T U C) (R : Part T U C → Part T U C → Type 0) (missing : Type 0) (lacked : Bool) (did : List (Deed U)) (t : Seen T U C)
+      → ((p q : Part T U C) → R p q → Leads' offer offer' p did q) → OnPart s R missing lacked did t → Follows offer offer' s did t
+  feels_follows offer offer' s R missing lacked did t leads h =
+      elim (either_option s.part h) [
+        | inl (none, (m, (no_memory, nothing, same))) ↦ out_follows offer offer' s did t (ap (λ (x : Seen T U C). x.part) same ∙ none)
+        | inr (p, there, (q, by, same)) ↦ part_follows offer offer' s p q did _ t there same (leads p q by)
+      ]
+
+  -- a step that is about this client or about another
+  of_client : (offer : Offer G) (b : Bool) (s : Seen T U C) (R : Part T U C → Part T U C → Type 0) (missing : Type 0) (lacked : Bool) (did : List (Deed U)) (t : Seen T U C)
+      → ((p q : Part T U C) → R p q → PartLives w.views id r offer p did q) → OfClient b s R missing lacked did t → Follows offer offer s did t
+  of_client offer true s R missing lacked did t lives h = feels_follows offer offer s R missing lacked did t (λ p q by. lives_leads offer p did q (lives p q by)) h
+  of_client offer false s R missing lacked did t lives h = unfelt_follows offer s lacked did t h
+
+  -- ---- globals
+
+  -- what all registries of a live client are told
+  hears_leads : (offer offer' : Offer G) (messages : Part T U C → List Said) (p q : Part T U C) (lacked : Bool) (did : List (Deed U))
+      → ((log : List Said) (made : List Id) → Watched offer p log made → Watched offer' p (log ++ messages p) made)
+      → Hears w.sends p (messages p) lacked did q → Leads' offer offer' p did q
+  hears_leads offer offer' messages p q lacked did watch h log made was on =
+      let heard = hears_all w.views id r w.sends p (messages p) lacked did q h on in
+      subst (λ (s : Scene U C). Watch w.views id r offer' s (log ++ log_of did) (made ++ registries_in did)) (sym heard.scene)
+      (subst (λ (l : List Said). Watch w.views id r offer' (part_scene p) (log ++ l) (made ++ registries_in did)) (sym heard.put)
+      (subst (λ (l : List Id). Watch w.views id r offer' (part_scene p) (log ++ messages p) l) (sym (ap (λ (l : List Id). made ++ l) heard.made ∙ append-nil made))
+      (watch log made (was heard.live))))
+
+  global_follows : (offer : Offer G) (i : InterfaceId) (version : ℕ) (handler : G) (a : Result GlobalParts GlobalError) (s : Seen T U C) (lacked : Bool) (did : List (Deed U))
+      (t : Seen T U C) → CreatesGlobal offer.table offer.globals i version a → FeelsGlobal w id offer i version handler a s lacked did t
+      → Follows offer (with_globals offer (with_created offer.globals i version handler a)) s did t
+  global_follows offer i version handler (Ok g) s lacked did t creates h =
+      feels_follows offer (with_globals offer (with_created offer.globals i version handler (Ok g))) s _ (Unit {0}) lacked did t
+      (λ p q heard.
+      hears_leads offer (with_globals offer (with_created offer.globals i version handler (Ok g)))
+      (λ x. news offer.table x (w.views handler id x.info g) (record { name = g.name; interface = i; version = version })) p q lacked did
+      (λ log made was. global_watch w.views id r offer (part_scene p) i version handler g (is_free creates) log made was) heard) h
+    where
+      is_free : CreatesGlobal offer.table offer.globals i version (Ok g) → held offer.globals.store g.name ≡ None
+      is_free creates =
+          elim (either_option (slice_get offer.table i.0) creates) [
+            | inl (unknown, is) ↦ absurd (not_err is)
+            | inr (row, known, h) ↦
+                elim (either_bool (nat_le version row.version) h) [
+                  | inl next ↦ next.0.absent
+                  | inr is ↦ absurd (not_err is)
+                ]
+          ]
+        where
+          not_err : {e : GlobalError} → Ok g ≡ Err e → ⊥
+          not_err is = true≢false (ap is_ok is)
+  global_follows offer i version handler (Err e) s lacked did t creates h = unfelt_follows offer s lacked did t h
+
+  loss_follows : (offer : Offer G) (g : GlobalParts) (after : Globals G) (s : Seen T U C) (lacked : Bool) (did : List (Deed U)) (t : Seen T U C)
+      → ((info : C) (x : Object (KeptGlobal G)) → global_of offer.globals g ≡ Some x → Hides w.views id info offer g.name after)
+      → ((info : C) (hidden : is_enabled (global_of offer.globals g) ≡ false) → StaysShown w.views id info offer g hidden after)
+      → FeelsLoss w id offer g s lacked did t → Follows offer (with_globals offer after) s did t
+  loss_follows offer g after s lacked did t hides stays h = go (is_enabled (global_of offer.globals g)) refl h
+    where
+      kept : (o : Option (Object (KeptGlobal G))) → global_of offer.globals g ≡ o → is_enabled o ≡ true → (x : Object (KeptGlobal G)) × (global_of offer.globals g ≡ Some x)
+      kept None is on = absurd (true≢false (sym on))
+      kept (Some x) is on = (x, is)
+
+      go : (b : Bool) → is_enabled (global_of offer.globals g) ≡ b
+          → MatchBool b (OnPart s (λ p q. Hears w.sends p (removals p g.name) lacked did q) (Unit {0}) lacked did t) (Unfelt s lacked did t)
+          → Follows offer (with_globals offer after) s did t
+      go true on felt =
+          let (x, is) = kept (global_of offer.globals g) refl on in
+          feels_follows offer (with_globals offer after) s _ (Unit {0}) lacked did t
+          (λ p q heard.
+          hears_leads offer (with_globals offer after) (λ y. removals y g.name) p q lacked did
+          (λ log made was. loss_watch w.views id r offer (part_scene p) g.name after (hides p.info x is) log made was) heard) felt
+      go false off (no_memory, none, same) = record {
+        watch = λ log made is.
+            subst (λ (x : Seen T U C). SeenWatched (with_globals offer after) x (log ++ log_of did) (made ++ registries_in did)) (sym same)
+            (subst (λ (ds : List (Deed U)). SeenWatched (with_globals offer after) s (log ++ log_of ds) (made ++ registries_in ds)) (sym none)
+            (subst (λ (l : List Said). SeenWatched (with_globals offer after) s l (made ++ [])) (sym (append-nil log))
+            (subst (λ (l : List Id). SeenWatched (with_globals offer after) s log l) (sym (append-nil made)) (still s.part log made is))));
+      }
+        where
+          still : (o : Option (Part T U C)) (log : List Said) (made : List Id) → MatchOption o (Unit {0}) (λ p. p.is_killed ≡ false → Watched offer p log made)
+              → MatchOption o (Unit {0}) (λ p. p.is_killed ≡ false → Watched (with_globals offer after) p log made)
+          still None log made is = tt
+          still (Some p) log made is = λ on. stay_watch w.views id r offer (part_scene p) g off after (stays p.info off) log made (is on)
+
+  -- ---- flushes, cleanups, notes, readings, moves
+
+  flushed_follows : (offer : Offer G) (target : Option ClientParts) (answer : Result (Unit {0}) IoFault) (s : Seen T U C) (lacked : Bool) (did : List (Deed U)) (t : Seen T U C)
+      → FlushedFor w id offer target answer s lacked did t → Follows offer offer s did t
+  flushed_follows offer None answer s lacked did t (is, h) =
+      of_client offer true s _ (Unit {0}) lacked did t (λ p q f. flushes_lives w.views id r offer w.sends p lacked did q f) h
+  flushed_follows offer (Some target) answer s lacked did t h =
+      of_client offer (same_client target id) s _ _ lacked did t (λ p q f. flushed_lives w.views id r offer w.sends p answer lacked did q f) h
+
+  cleaned_follows : (offer : Offer G) (s : Seen T U C) (p : Part T U C) → s.part ≡ Some p → (lacked : Bool) (did : List (Deed U)) (out : List T) (q : Option (Part T U C))
+      (t : Seen T U C) → Cleaned w.sends id p lacked did out q → t.part ≡ q → Follows offer offer s did t
+  cleaned_follows offer s p there lacked did out q t h same =
+      elim (either_bool p.is_killed h) [
+        | inl (sent, answer, end, flushed, did_so, handed, is) ↦ out_follows offer offer s did t (same ∙ is)
+        | inr (no_memory, did_so, nobody, is) ↦
+            record {
+              watch = λ log made was.
+                  subst (λ (o : Option (Part T U C)). MatchOption o (Unit {0}) (λ x. x.is_killed ≡ false → Watched offer x (log ++ log_of did) (made ++ registries_in did)))
+                  (sym (same ∙ is))
+                  (λ on.
+                  subst (λ (l : List Said). Watched offer p (log ++ l) (made ++ registries_in did)) (sym (ap log_of did_so ∙ (silent_notes p.waiting).0))
+                  (subst (λ (l : List Id). Watched offer p (log ++ []) (made ++ l)) (sym (ap registries_in did_so ∙ (silent_notes p.waiting).1))
+                  (subst (λ (l : List Said). Watched offer p l (made ++ [])) (sym (append-nil log))
+                  (subst (λ (l : List Id). Watched offer p log l) (sym (append-nil made))
+                  (subst (λ (o : Option (Part T U C)). MatchOption o (Unit {0}) (λ x. x.is_killed ≡ false → Watched offer x log made)) there was on)))));
+            }
+      ]
+
+  cleanup_follows : (offer : Offer G) (answer : Result (Vec (ClientParts × T) Global) OutOfMemory) (s : Seen T U C) (lacked : Bool) (did : List (Deed U)) (t : Seen T U C)
+      → CleanedAs w id offer answer s lacked did t → Follows offer offer s did t
+  cleanup_follows offer (Err e) s lacked did t h = unfelt_follows offer s lacked did t h
+  cleanup_follows offer (Ok out) s lacked did t h =
+      elim (either_option s.part h) [
+        | inl (none, (nobody, u)) ↦ unfelt_follows offer s lacked did t u
+        | inr (p, there, (q, c, same)) ↦ cleaned_follows offer s p there lacked did _ q t c (ap (λ (x : Seen T U C). x.part) same)
+      ]
+
+  taken_follows : (offer : Offer G) (answer : Result (Vec (Note U) Global) OutOfMemory) (s : Seen T U C) (lacked : Bool) (did : List (Deed U)) (t : Seen T U C)
+      → NotesTaken w id offer answer s lacked did t → Follows offer offer s did t
+  taken_follows offer (Err e) s lacked did t h = unfelt_follows offer s lacked did t h
+  taken_follows offer (Ok out) s lacked did t (all, no_memory, did_so, same) = record {
+    watch = λ log made is.
+        subst (λ (x : Seen T U C). SeenWatched offer x (log ++ log_of did) (made ++ registries_in did)) (sym same)
+        (subst (λ (l : List Said). SeenWatched offer s (log ++ l) (made ++ registries_in did)) (sym (ap log_of did_so ∙ (silent_taken s.made).0))
+        (subst (λ (l : List Id). SeenWatched offer s (log ++ []) (made ++ l)) (sym (ap registries_in did_so ∙ (silent_taken s.made).1))
+        (subst (λ (l : List Said). SeenWatched offer s l (made ++ [])) (sym (append-nil log))
+        (subst (λ (l : List Id). SeenWatched offer s log l) (sym (append-nil made)) is))));
+  }
+
+  moved_follows : (offer : Offer G) (target : ClientParts) (m : Move) (answer : Moved) (s : Seen T U C) (lacked : Bool) (did : List (Deed U)) (t : Seen T U C)
+      → MovedFor w id offer target m answer s lacked did t → Follows offer offer s did t
+  moved_follows offer target m answer s lacked did t h =
+      of_client offer (same_client target id) s _ _ lacked did t
+      (λ p q (no_memory, none, (x, becomes, same)). relinked_lives w.views id r offer p (with_transport p.link x) did q none same) h
+
+  reads_follows : (offer : Offer G) (target : ClientParts) (n : _) (answer : _) (n' : _) (s : Seen T U C) (lacked : Bool) (did : List (Deed U)) (t : Seen T U C)
+      → ReadsFor w id offer target n answer n' s lacked did t → Follows offer offer s did t
+  reads_follows offer target n answer n' s lacked did t h =
+      of_client offer (same_client target id) s _ _ lacked did t
+      (λ p q read. next_action_lives w.views id r offer w.sends w.receives n p answer n' lacked did q read) h
+
+  -- ---- a call
+
+  -- a call that is about this client, or about none
+  step_follows : (offer : Offer G) (call : Step T U G C) (answer : Reply T U) (s : Seen T U C) (lacked : Bool) (did : List (Deed U)) (t : Seen T U C)
+      → is_about id call ≡ true → NumbersGlobal {T = T} {U = U} {C = C} offer (Asked call answer) → IsLeftAlone {T = T} {U = U} {G = G} {C = C} r (Asked call answer)
+      → PartStep w id offer call answer s lacked did t → Follows offer (offer_after {T = T} {U = U} {C = C} offer (Asked call answer)) s did t
+  step_follows offer (step.InsertClient transport info) answer s lacked did t about numbered alone h = absurd (true≢false (sym about))
+  step_follows offer (step.SetObjectData o u) answer s lacked did t about numbered alone (a, is, h) =
+      of_client offer (same_client o.client id) s _ _ lacked did t (λ p q (no_memory, none, set). data_set_lives w.views id r offer p o u a did q none set) h
+  step_follows offer (step.CreateObject target i version u) answer s lacked did t about numbered alone (a, is, h) =
+      of_client offer (same_client target id) s _ _ lacked did t (λ p q (no_memory, none, created). creates_lives w.views id r offer p i version u a did q none created) h
+  step_follows offer (step.DestroyObject o) answer s lacked did t about numbered alone (a, is, h) =
+      let left : id_of o ≡ r → a ≢ Ok tt = subst (λ (x : Reply T U). IsLeftAlone {T = T} {U = U} {G = G} {C = C} r (Asked (step.DestroyObject o) x)) is alone in
+      of_client offer (same_client o.client id) s _ _ lacked did t (λ p q d. destroys_lives w.views id r offer w.sends p o a lacked did q left d) h
+  step_follows offer (step.SendEvent m) answer s lacked did t about numbered alone (a, is, h) =
+      let left : id_of m.sender_id ≡ r → a ≢ Ok tt = subst (λ (x : Reply T U). IsLeftAlone {T = T} {U = U} {G = G} {C = C} r (Asked (step.SendEvent m) x)) is alone in
+      of_client offer (same_client m.sender_id.client id) s _ _ lacked did t (λ p q d. sends_lives w.views id r offer w.sends p _ a lacked did q left d) h
+  step_follows offer (step.PostError o code text) answer s lacked did t about numbered alone (is, h) =
+      of_client offer (same_client o.client id) s _ _ lacked did t (λ p q d. posts_lives w.views id r offer w.sends p o _ _ lacked did q d) h
+  step_follows offer (step.KillClient target reason) answer s lacked did t about numbered alone (is, h) =
+      of_client offer (same_client target id) s _ _ lacked did t (λ p q (no_memory, k). kills_lives w.views id r offer p reason did q k) h
+  step_follows offer (step.CreateGlobal i version handler) answer s lacked did t about numbered alone (a, is, h) =
+      subst (λ (x : Reply T U). NumbersGlobal {T = T} {U = U} {C = C} offer (Asked (step.CreateGlobal i version handler) x)
+      → Follows offer (offer_after {T = T} {U = U} {C = C} offer (Asked (step.CreateGlobal i version handler) x)) s did t) (sym is)
+      (λ creates. global_follows offer i version handler a s lacked did t creates h) numbered
+  step_follows offer (step.DisableGlobal g) answer s lacked did t about numbered alone (is, h) =
+      loss_follows offer g (disabled offer.globals g) s lacked did t (λ info x kept. disabled_one w.views id info offer g x kept)
+      (λ info hidden. disabled_stays w.views id info offer g hidden) h
+  step_follows offer (step.RemoveGlobal g) answer s lacked did t about numbered alone (is, h) =
+      loss_follows offer g (freed offer.globals g) s lacked did t (λ info x kept. freed_one w.views id info offer g x kept)
+      (λ info hidden. freed_stays w.views id info offer g hidden) h
+  step_follows offer (step.Flush target) answer s lacked did t about numbered alone (a, is, h) = flushed_follows offer target a s lacked did t h
+  step_follows offer (step.SetDefaultMaxBufferSize limit) answer s lacked did t about numbered alone (is, h) = other_limit (unfelt_follows offer s lacked did t h)
+    where
+      -- the limit is nothing to what is shown
+      other_limit : Follows offer offer s did t → Follows offer (record offer { default_limit = limit }) s did t
+      other_limit f = record { watch = λ log made is. go (log ++ log_of did) (made ++ registries_in did) t.part (f.watch log made is) }
+        where
+          go : (log : List Said) (made : List Id) (o : Option (Part T U C)) → MatchOption o (Unit {0}) (λ p. p.is_killed ≡ false → Watched offer p log made)
+              → MatchOption o (Unit {0}) (λ p. p.is_killed ≡ false → Watched (record offer { default_limit = limit }) p log made)
+          go log made None is = tt
+          go log made (Some p) is = λ on. limit_watch w.views id r offer limit (part_scene p) log made (is on)
+  step_follows offer (step.SetClientMaxBufferSize target limit) answer s lacked did t about numbered alone (is, h) =
+      of_client offer (same_client target id) s _ _ lacked did t
+      (λ p q (no_memory, none, (link, set, same)). relinked_lives w.views id r offer p link did q none same) h
+  step_follows offer (step.NextAction target) answer s lacked did t about numbered alone (a, left, is, h) = reads_follows offer target _ _ left s lacked did t h
+  step_follows offer (step.NextActionWithin target reading) answer s lacked did t about numbered alone (a, left, is, h) = reads_follows offer target reading _ left s lacked did t h
+  step_follows offer (step.FinishRequest target u) answer s lacked did t about numbered alone (a, is, h) =
+      of_client offer (same_client target id) s _ _ lacked did t (λ p q f. finishes_lives w.views id r offer w.sends p u a lacked did q f) h
+  step_follows offer (step.FinishBind target u) answer s lacked did t about numbered alone (a, is, h) =
+      of_client offer (same_client target id) s _ _ lacked did t (λ p q f. finishes_bind_lives w.views id r offer p u a lacked did q f) h
+  step_follows offer step.Cleanup answer s lacked did t about numbered alone (a, is, h) = cleanup_follows offer a s lacked did t h
+  step_follows offer step.TakeNotes answer s lacked did t about numbered alone (a, is, h) = taken_follows offer a s lacked did t h
+  step_follows offer (step.Arrive target bytes tokens) answer s lacked did t about numbered alone (a, is, h) = moved_follows offer target _ _ s lacked did t h
+  step_follows offer (step.ArriveFault target f) answer s lacked did t about numbered alone (a, is, h) = moved_follows offer target _ _ s lacked did t h
+  step_follows offer (step.Accept target n) answer s lacked did t about numbered alone (a, is, h) = moved_follows offer target _ _ s lacked did t h
+  step_follows offer (step.AcceptFault target f) answer s lacked did t about numbered alone (a, is, h) = moved_follows offer target _ _ s lacked did t h
+  step_follows offer (step.TakeSent target) answer s lacked did t about numbered alone (a, is, h) = moved_follows offer target _ _ s lacked did t h
+
+  call_follows : (offer : Offer G) (call : Call T U G C) (s : Seen T U C) (lacked : Bool) (did : List (Deed U)) (t : Seen T U C) → concerns id call ≡ true
+      → NumbersGlobal offer call → IsLeftAlone r call → PartCall w id offer call s lacked did t → Follows offer (offer_after offer call) s did t
+  call_follows offer (Asked call answer) s lacked did t about numbered alone h = step_follows offer call answer s lacked did t about numbered alone h
+  call_follows offer (Changed target x) s lacked did t about numbered alone h =
+      of_client offer (same_client target id) s _ _ lacked did t
+      (λ p q (no_memory, none, (y, becomes, same)). relinked_lives w.views id r offer p (with_transport p.link y) did q none same) h
+
+  -- ---- a run
+
+  run_follows : (offer : Offer G) (s : Seen T U C) (run : List (Own T U G C)) (t : Seen T U C) → AreMine id run → AreNumbered offer run → IsAlwaysLeftAlone r run
+      → Alone w id offer s run t → Follows offer (own_offer offer run) s (history run) t
+  run_follows offer s [] t own numbered alone same = record {
+    watch = λ log made is.
+        subst (λ (x : Seen T U C). SeenWatched offer x (log ++ []) (made ++ [])) (sym same)
+        (subst (λ (l : List Said). SeenWatched offer s l (made ++ [])) (sym (append-nil log))
+        (subst (λ (l : List Id). SeenWatched offer s log l) (sym (append-nil made)) is));
+  }
+  run_follows offer s (e ∷ run) t own numbered alone (mid, by, rest) =
+      let first = call_follows offer e.call s e.lacked e.did mid own.0 numbered.0 alone.0 by in
+      let more = run_follows (offer_after offer e.call) mid run t own.1 numbered.1 alone.1 rest in
+      let end : Offer G = own_offer (offer_after offer e.call) run in record {
+        watch = λ log made is.
+            subst (λ (l : List Said). SeenWatched end t l (made ++ registries_in (e.did ++ history run)))
+            (append_assoc log (log_of e.did) (log_of (history run)) ∙ ap (λ (l : List Said). log ++ l) (sym (log_both e.did (history run))))
+            (subst (λ (l : List Id). SeenWatched end t ((log ++ log_of e.did) ++ log_of (history run)) l)
+            (append_assoc made (registries_in e.did) (registries_in (history run)) ∙ ap (λ (l : List Id). made ++ l) (sym (registries_both e.did (history run))))
+            (more.watch (log ++ log_of e.did) (made ++ registries_in e.did) (first.watch log made is)));
+      }
+
+  -- a client to which nothing happened yet
+  begun_watched : (offer : Offer G) (link : LinkState T) (info : C) → SeenWatched offer (begun link info) [] []
+  begun_watched offer link info on = record {
+    bounded = λ n x holds. most n x holds;
+    listed = λ y among. absurd among;
+    open_bounded = λ sender b created is. absurd (none_some is);
+    open_other = λ sender b created is. absurd (none_some is);
+    silent = λ later. record { same = λ told. refl };
+    unborn = λ later among. absurd among;
+    known = λ among. absurd among;
+    tells = λ among. absurd among;
+  }
+    where
+      most : (n : ℕ) (x : Object (Kept U)) → held (stored empty_store 1 display_object) n ≡ Some x → x.value.serial ≤ 0
+      most n x holds =
+          elim (cases_eq n 1) [
+            | inl same ↦
+                let this : display_object ≡ x = same_Some display_object x (sym (stored_here empty_store 1 display_object n same) ∙ holds) in
+                let zero : x.value.serial ≡ 0 = ap (λ (y : Object (Kept U)). y.value.serial) (sym this) in omega (arith, zero)
+            | inr other ↦ absurd (none_some (sym (stored_other empty_store 1 display_object n other ∙ held_empty n) ∙ holds))
+          ]
+
+  own_announced : (offer : Offer G) (link : LinkState T) (info : C) (run : List (Own T U G C)) (t : Seen T U C) → AreMine id run → AreNumbered offer run
+      → IsAlwaysLeftAlone r run → Alone w id offer (begun link info) run t → Contains (registries_in (history run)) r
+      → MatchOption t.part (Unit {0})
+      (λ p. p.is_killed ≡ false → AreSameGlobals (announced (log_of (history run)) r) (shown_of w.views (own_offer offer run) id p.info))
+  own_announced offer link info run t own numbered left alone there =
+      of_watched t.part ((run_follows offer (begun link info) run t own numbered left alone).watch [] [] (begun_watched offer link info))
+    where
+      of_watched : (o : Option (Part T U C))
+          → MatchOption o (Unit {0}) (λ p. p.is_killed ≡ false → Watched (own_offer offer run) p (log_of (history run)) (registries_in (history run)))
+          → MatchOption o (Unit {0})
+          (λ p. p.is_killed ≡ false → AreSameGlobals (announced (log_of (history run)) r) (shown_of w.views (own_offer offer run) id p.info))
+      of_watched None is = tt
+      of_watched (Some p) is = λ on g.
+          let tells = (is on).tells (among_contains (registries_in (history run)) r there) in (
+            λ told.
+                contains_among (shown_of w.views (own_offer offer run) id p.info) g
+                (shown_among w.views id p.info (own_offer offer run) g (tells.told g (among_contains (announced (log_of (history run)) r) g told))),
+            λ shown'.
+                contains_among (announced (log_of (history run)) r) g
+                (tells.tells g (among_shown w.views id p.info (own_offer offer run) g (among_contains (shown_of w.views (own_offer offer run) id p.info) g shown'))),
+          )
+
+-- ---- of every client of a server
+
+module _ {T U G C : Type 0} where
+  pub each_announces : (w : World T G C) (table : List InterfaceRow) (run : List (Entry T U G C)) (after : ServerState T U G C) → Leads w (new_server table) run after
+      → EachAnnouncesShown w run after
+  each_announces w table run after leads id transport info earlier later e split inserts r there left =
+      let (link, fresh, alone) = (is_isolated w table run after leads).each id transport info earlier later e split inserts in
+      let whole : run ≡ (earlier ++ e ∷ []) ++ later = split ∙ sym (append_assoc earlier (e ∷ []) later) in
+      let (mid, first, rest) = split_run w (new_server table) after (earlier ++ e ∷ []) later (subst (λ (l : List (Entry T U G C)). Leads w (new_server table) l after) whole leads) in
+      let at : mid.offer ≡ offer_over (new_offer table) (earlier ++ e ∷ []) = offer_run w (new_server table) mid (earlier ++ e ∷ []) first in
+      let shared = shared_run w mid after later rest in
+      let offer : Offer G = offer_over (new_offer table) (earlier ++ e ∷ []) in
+      let (numbered, ends) = mine_numbered id offer mid.last_client later after.offer after.last_client
+      (subst (λ (o : Offer G). SharedAlone o mid.last_client later after.offer after.last_client) at shared) in
+      subst (λ (o : Offer G). MatchOption (seen id after).part (Unit {0})
+      (λ p. p.is_killed ≡ false → AreSameGlobals (announced (log_of (history (mine id later))) r) (shown_of w.views o id p.info))) ends
+      (own_announced w id r offer link info (mine id later) (seen id after) (are_mine id later) numbered left alone there)
+
+  pub have_announcements : (w : World T G C) (table : List InterfaceRow) (steps : List (RunEntry (Step T U G C) (Reply T U))) (after : ServerState T U G C)
+      → Performs w (new_server table) steps after → HaveAnnouncements w table steps after
+  have_announcements w table steps after performs =
+      let (run, are, leads, isolated) = are_isolated w table steps after performs in (run, are, leads, each_announces w table run after leads)

@@ -1,0 +1,159 @@
+-- What an object's messages announce, one list behind another.
+use Rattle.std.proofs.Common.{◌≡◌, ◌≢◌, ◌⊎◌, ℕ, Bool, true, false, not, ◌&&◌, cond, eqb, List, [], ◌∷◌, ◌++◌, map, refl, sym, ap, subst, ◌∙◌, true≢false, append-nil, append_assoc}
+use mathlib.Core.Logic.{inl, inr}
+use Rattle.std.proofs.lemmas.Bool.{eqb-true, eq-eqb, ne_eqb}
+use Rattle.wl_wire.specs.Table.{InterfaceRow}
+use Rattle.wl_link.specs.Identity.{Id}
+use Rattle.wl_link.specs.Puts.{Said}
+use Rattle.wl_server.proofs.OverRuns.Ids.AmongLaws.{among_both, among_filter, among_first, among_later, filter_among}
+use Rattle.wl_server.specs.Announced.{Announced, announced_after, announced_as, announced_over, sender_of, without_name}
+use Rattle.wl_server.specs.Deeds.{IsAmong}
+use Rattle.wl_server.specs.Globals.{Shown}
+use Rattle.wl_server.specs.Part.{same_id}
+use Rattle.wl_server.specs.Telling.{global_message, removal_message}
+
+-- ---- ids
+
+pub same_id_is : (a b : Id) → same_id a b ≡ true → a ≡ b
+same_id_is a b e = go (eqb a.number b.number) (eqb a.serial b.serial) refl refl e
+  where
+    go : (n s : Bool) → eqb a.number b.number ≡ n → eqb a.serial b.serial ≡ s → (n && s) ≡ true → a ≡ b
+    go true true en es e =
+        let with_number : ℕ → Id = λ k. record { number = k; serial = a.serial } in
+        let with_serial : ℕ → Id = λ k. record { number = b.number; serial = k } in
+        ap with_number (eqb-true a.number b.number en) ∙ ap with_serial (eqb-true a.serial b.serial es)
+    go true false en es e = absurd (true≢false (sym e))
+    go false s en es e = absurd (true≢false (sym e))
+
+pub same_id_self : (a : Id) → same_id a a ≡ true
+same_id_self a = rw (eq-eqb a.number a.number refl, eq-eqb a.serial a.serial refl) refl
+
+pub other_id : (a b : Id) → a ≢ b → same_id a b ≡ false
+other_id a b other = go (same_id a b) refl
+  where
+    go : (c : Bool) → same_id a b ≡ c → c ≡ false
+    go true e = absurd (other (same_id_is a b e))
+    go false e = refl
+
+-- ---- one list behind another
+
+pub announced-append : (r : Id) (told : List Announced) (a b : List Said) → announced_over r told (a ++ b) ≡ announced_over r (announced_over r told a) b
+announced-append r told [] b = refl
+announced-append r told (m ∷ a) b = announced-append r (cond (same_id (sender_of m) r) (announced_after told m.message) told) a b
+
+-- the object says nothing in these messages
+pub record SaysNothing (r : Id) (log : List Said) : Type 0 where
+  pub same : (told : List Announced) → announced_over r told log ≡ told
+
+-- they are of others
+abbrev pub AreOfOthers : Id → List Said → Type 0
+AreOfOthers r [] = Unit {0}
+AreOfOthers r (m ∷ log) = (sender_of m ≢ r) × AreOfOthers r log
+
+pub others_say : (r : Id) (log : List Said) → AreOfOthers r log → SaysNothing r log
+others_say r [] others = record { same = λ told. refl }
+others_say r (m ∷ log) others = record {
+  same = λ told.
+      ap (λ b. announced_over r (cond b (announced_after told m.message) told) log) (other_id (sender_of m) r others.0)
+      ∙ (others_say r log others.1).same told;
+}
+
+pub say_then : (r : Id) (a b : List Said) → SaysNothing r a → SaysNothing r b → SaysNothing r (a ++ b)
+say_then r a b first second = record {
+  same = λ told. announced-append r told a b ∙ ap (λ t. announced_over r t b) (first.same told) ∙ second.same told;
+}
+
+-- ---- a registry is told of globals one after another
+
+module _ (table : List InterfaceRow) where
+  pub greeted : (r : Id) (told : List Announced) (gs : List Shown)
+      → announced_over r told (map (global_message table r) gs) ≡ told ++ map (announced_as table) gs
+  greeted r told [] = sym (append-nil told)
+  greeted r told (g ∷ gs) =
+      ap (λ b. announced_over r (cond b (told ++ announced_as table g ∷ []) told) (map (global_message table r) gs)) (same_id_self r)
+      ∙ greeted r (told ++ announced_as table g ∷ []) gs ∙ append_assoc told (announced_as table g ∷ []) (map (announced_as table) gs)
+
+  -- what one registry is told is of others to another
+  pub greeted_other : (r y : Id) (gs : List Shown) → y ≢ r → AreOfOthers r (map (global_message table y) gs)
+  greeted_other r y [] other = tt
+  greeted_other r y (g ∷ gs) other = (other, greeted_other r y gs other)
+
+  -- ---- all registries are told of a new global
+
+  module _ (g : Shown) (r : Id) where
+    abbrev after_adding : List Announced → List Id → List Announced
+    after_adding told rs = announced_over r told (map (λ y. global_message table y g) rs)
+
+    pub adding_keeps : (told : List Announced) (rs : List Id) (x : Announced) → IsAmong told x
+        → IsAmong (announced_over r told (map (λ y. global_message table y g) rs)) x
+    adding_keeps told [] x among = among
+    adding_keeps told (y ∷ rs) x among = go (same_id y r) (λ t k. adding_keeps t rs x k)
+      where
+        go : (b : Bool) → ((t : List Announced) → IsAmong t x → IsAmong (after_adding t rs) x)
+            → IsAmong (after_adding (cond b (told ++ announced_as table g ∷ []) told) rs) x
+        go true more = more (told ++ announced_as table g ∷ []) (among_first told (announced_as table g ∷ []) x among)
+        go false more = more told among
+
+    pub adding_adds : (told : List Announced) (rs : List Id) → IsAmong rs r
+        → IsAmong (announced_over r told (map (λ y. global_message table y g) rs)) (announced_as table g)
+    adding_adds told [] among = absurd among
+    adding_adds told (y ∷ rs) (inl e) =
+        subst (λ b. IsAmong (after_adding (cond b (told ++ announced_as table g ∷ []) told) rs) (announced_as table g)) (sym (ap (λ z. same_id z r) e ∙ same_id_self r))
+        (adding_keeps (told ++ announced_as table g ∷ []) rs (announced_as table g) (among_later told (announced_as table g ∷ []) (announced_as table g) (inl refl)))
+    adding_adds told (y ∷ rs) (inr among) = adding_adds (cond (same_id y r) (told ++ announced_as table g ∷ []) told) rs among
+
+    pub adding_only : (told : List Announced) (rs : List Id) (x : Announced)
+        → IsAmong (announced_over r told (map (λ y. global_message table y g) rs)) x → IsAmong told x ⊎ (announced_as table g ≡ x)
+    adding_only told [] x among = inl among
+    adding_only told (y ∷ rs) x among = go (same_id y r) (λ t k. adding_only t rs x k) among
+      where
+        go : (b : Bool) → ((t : List Announced) → IsAmong (after_adding t rs) x → IsAmong t x ⊎ (announced_as table g ≡ x))
+            → IsAmong (after_adding (cond b (told ++ announced_as table g ∷ []) told) rs) x → IsAmong told x ⊎ (announced_as table g ≡ x)
+        go true more among =
+            elim (more (told ++ announced_as table g ∷ []) among) [
+              | inl k ↦ elim (among_both told (announced_as table g ∷ []) x k) [ inl a ↦ inl a | inr (inl e) ↦ inr e | inr (inr none) ↦ absurd none ]
+              | inr e ↦ inr e
+            ]
+        go false more among = more told among
+
+-- those that are told say nothing of a registry that is not among them
+pub told_others : (r : Id) (message : Id → Said) → ((y : Id) → sender_of (message y) ≡ y) → (rs : List Id) → (IsAmong rs r → ⊥)
+    → AreOfOthers r (map message rs)
+told_others r message by [] none = tt
+told_others r message by (y ∷ rs) none = (λ is. none (inl (sym (by y) ∙ is)), told_others r message by rs (λ among. none (inr among)))
+
+-- ---- all registries are told that a global is announced no more
+
+module _ (name : ℕ) (r : Id) where
+  abbrev after_removing : List Announced → List Id → List Announced
+  after_removing told rs = announced_over r told (map (removal_message name) rs)
+
+  pub removing_keeps : (told : List Announced) (rs : List Id) (x : Announced) → IsAmong told x → x.name ≢ name
+      → IsAmong (announced_over r told (map (removal_message name) rs)) x
+  removing_keeps told [] x among other = among
+  removing_keeps told (y ∷ rs) x among other = go (same_id y r) (λ t k. removing_keeps t rs x k other)
+    where
+      go : (b : Bool) → ((t : List Announced) → IsAmong t x → IsAmong (after_removing t rs) x)
+          → IsAmong (after_removing (cond b (without_name name told) told) rs) x
+      go true more = more (without_name name told) (filter_among _ told x among (ap not (ne_eqb x.name name other)))
+      go false more = more told among
+
+  pub removing_only : (told : List Announced) (rs : List Id) (x : Announced) → IsAmong (announced_over r told (map (removal_message name) rs)) x
+      → IsAmong told x
+  removing_only told [] x among = among
+  removing_only told (y ∷ rs) x among = go (same_id y r) (λ t k. removing_only t rs x k) among
+    where
+      go : (b : Bool) → ((t : List Announced) → IsAmong (after_removing t rs) x → IsAmong t x)
+          → IsAmong (after_removing (cond b (without_name name told) told) rs) x → IsAmong told x
+      go true more among = (among_filter _ told x (more (without_name name told) among)).0
+      go false more among = more told among
+
+  pub removing_removes : (told : List Announced) (rs : List Id) (x : Announced) → IsAmong rs r
+      → IsAmong (announced_over r told (map (removal_message name) rs)) x → x.name ≢ name
+  removing_removes told [] x there among = absurd there
+  removing_removes told (y ∷ rs) x (inl e) among =
+      let kept : IsAmong (without_name name told) x =
+      removing_only (without_name name told) rs x
+      (subst (λ b. IsAmong (after_removing (cond b (without_name name told) told) rs) x) (ap (λ z. same_id z r) e ∙ same_id_self r) among) in
+      λ same. true≢false (sym (among_filter _ told x kept).1 ∙ ap not (eq-eqb x.name name same))
+  removing_removes told (y ∷ rs) x (inr there) among = removing_removes (cond (same_id y r) (without_name name told) told) rs x there among

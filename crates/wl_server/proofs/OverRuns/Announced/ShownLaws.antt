@@ -1,0 +1,185 @@
+-- Which globals a client is shown, before and after one is created, disabled or removed.
+use Rattle.std.proofs.Common.{◌≡◌, ◌≢◌, ◌⊎◌, ℕ, Bool, true, false, not, ◌&&◌, cond, eqb, Option, None, Some, is_some, refl, sym, ap, subst, ◌∙◌, true≢false}
+use mathlib.Core.Logic.{inl, inr}
+use Rattle.std.specs.List.{filter}
+use Rattle.std.specs.FinMap as finmap
+use Rattle.std.proofs.lemmas.Bool.{cases_eq}
+use Rattle.std.proofs.lemmas.Option.{same_Some}
+use Rattle.wl_link.specs.declared.object.Object.{Object}
+use Rattle.wl_link.specs.Identity.{named_in}
+use Rattle.wl_link.specs.Store.{held, removed, rewritten, stored}
+use Rattle.wl_link.proofs.Ids.StoreLaws.{removed_here, removed_other, rewritten_here, rewritten_other, stored_here, stored_other, walk_of_entries}
+use Rattle.wl_server.specs.declared.globals.KeptGlobal.{KeptGlobal}
+use Rattle.wl_server.proofs.OverRuns.Ids.AmongLaws.{among_contains, among_filter, among_map, contains_among, filter_among, map_among}
+use Rattle.wl_server.specs.Announced.{Announced, announced_as, shown_of}
+use Rattle.wl_server.specs.Deeds.{IsAmong}
+use Rattle.wl_server.specs.Globals.{Globals, Offer, as_disabled, disabled, disabled_at, freed, freed_at, global_of, global_serial, is_enabled, is_shown, shown, shown_as, with_globals}
+use Rattle.wl_server.specs.Ids.{ClientParts, GlobalParts}
+
+none_some : {A : Type 0} {x : A} → None ≡ Some x → ⊥
+none_some e = true≢false (sym (ap is_some e))
+
+module _ {G : Type 0} where
+  -- the global that an id names has its name
+  pub global_held : (globals : Globals G) (g : GlobalParts) (x : Object (KeptGlobal G)) → global_of globals g ≡ Some x → held globals.store g.name ≡ Some x
+  global_held globals g x e = go (eqb g.name 0) (held globals.store g.name) e
+    where
+      one : (c : Bool) (y : Object (KeptGlobal G)) → cond c (Some y) None ≡ Some x → Some y ≡ Some x
+      one true y e = e
+      one false y e = absurd (none_some e)
+
+      go : (b : Bool) (o : Option (Object (KeptGlobal G))) → cond b None (named_in global_serial (record { number = g.name; serial = g.serial }) o) ≡ Some x → o ≡ Some x
+      go true o e = absurd (none_some e)
+      go false None e = absurd (none_some e)
+      go false (Some y) e = one (eqb y.value.serial g.serial) y e
+
+module _ {G C : Type 0} (views : G → ClientParts → C → GlobalParts → Bool) (client : ClientParts) (info : C) where
+  -- a global is shown under its name
+  pub record IsShown (offer : Offer G) (g : Announced) : Type 0 where
+    pub global : Object (KeptGlobal G)
+    pub at : held offer.globals.store g.name ≡ Some global
+    pub passes : is_shown views client info (g.name, global) ≡ true
+    pub is : announced_as offer.table (shown_as (g.name, global)) ≡ g
+
+  pub among_shown : (offer : Offer G) (g : Announced) → IsAmong (shown_of views offer client info) g → IsShown offer g
+  among_shown offer g among =
+      let (s, there, is) = among_map (announced_as offer.table) (shown views offer.globals client info) g among in
+      let (e, in_filter, same) = among_map shown_as (filter (is_shown views client info) (finmap.entries offer.globals.store.objects)) s there in
+      let (kept, passes) = among_filter (is_shown views client info) (finmap.entries offer.globals.store.objects) e in_filter in
+      let whole : announced_as offer.table (shown_as e) ≡ g = ap (announced_as offer.table) same ∙ is in
+      let name : e.0 ≡ g.name = ap (λ (z : Announced). z.name) whole in
+      record {
+        global = e.1;
+        at = ap (held offer.globals.store) (sym name)
+            ∙ ((walk_of_entries offer.globals.store).each e.0 e.1).0 (contains_among (finmap.entries offer.globals.store.objects) e kept);
+        passes = subst (λ n. is_shown views client info (n, e.1) ≡ true) name passes;
+        is = subst (λ n. announced_as offer.table (shown_as (n, e.1)) ≡ g) name whole;
+      }
+
+  pub shown_among : (offer : Offer G) (g : Announced) → IsShown offer g → IsAmong (shown_of views offer client info) g
+  shown_among offer g h =
+      subst (λ z. IsAmong (shown_of views offer client info) z) h.is
+      (map_among (announced_as offer.table) (shown views offer.globals client info) (shown_as (g.name, h.global))
+      (map_among shown_as (filter (is_shown views client info) (finmap.entries offer.globals.store.objects)) (g.name, h.global)
+      (filter_among (is_shown views client info) (finmap.entries offer.globals.store.objects) (g.name, h.global)
+      (among_contains (finmap.entries offer.globals.store.objects) (g.name, h.global) (((walk_of_entries offer.globals.store).each g.name h.global).1 h.at)) h.passes)))
+
+  module _ (offer : Offer G) (name : ℕ) where
+    abbrev With : Globals G → Announced → Type 0
+    With globals g = IsShown (with_globals offer globals) g
+
+    -- the same globals are shown at every other name
+    moved : (after : Globals G) (g : Announced) → held after.store g.name ≡ held offer.globals.store g.name → IsShown offer g → With after g
+    moved after g same h = record { global = h.global; at = same ∙ h.at; passes = h.passes; is = h.is }
+
+    back : (after : Globals G) (g : Announced) → held after.store g.name ≡ held offer.globals.store g.name → With after g → IsShown offer g
+    back after g same h = record { global = h.global; at = sym same ∙ h.at; passes = h.passes; is = h.is }
+
+    -- a new global at a free name
+    module _ (x : Object (KeptGlobal G)) (last : ℕ) (free : held offer.globals.store name ≡ None) where
+      abbrev created : Globals G
+      created = record { store = stored offer.globals.store name x; last_serial = last }
+
+      pub created_old : (g : Announced) → IsShown offer g → IsShown (with_globals offer (record { store = stored offer.globals.store name x; last_serial = last })) g
+      created_old g h =
+          moved created g (stored_other offer.globals.store name x g.name (λ same. none_some (sym free ∙ ap (held offer.globals.store) (sym same) ∙ h.at))) h
+
+      pub created_new : is_shown views client info (name, x) ≡ true
+          → IsShown (with_globals offer (record { store = stored offer.globals.store name x; last_serial = last })) (announced_as offer.table (shown_as (name, x)))
+      created_new passes = record { global = x; at = stored_here offer.globals.store name x name refl; passes = passes; is = refl }
+
+      pub created_only : (g : Announced) → IsShown (with_globals offer (record { store = stored offer.globals.store name x; last_serial = last })) g
+          → IsShown offer g ⊎ ((is_shown views client info (name, x) ≡ true) × (announced_as offer.table (shown_as (name, x)) ≡ g))
+      created_only g h =
+          elim (cases_eq g.name name) [
+            | inl same ↦
+                let is : x ≡ h.global = same_Some x h.global (sym (stored_here offer.globals.store name x g.name same) ∙ h.at) in
+                inr (
+                  subst (λ (y : Object (KeptGlobal G)). is_shown views client info (name, y) ≡ true) (sym is)
+                      (subst (λ n. is_shown views client info (n, h.global) ≡ true) same h.passes),
+                  subst (λ (y : Object (KeptGlobal G)). announced_as offer.table (shown_as (name, y)) ≡ g) (sym is)
+                      (subst (λ n. announced_as offer.table (shown_as (n, h.global)) ≡ g) same h.is),
+                )
+            | inr other ↦ inl (back created g (stored_other offer.globals.store name x g.name other) h)
+          ]
+
+    -- other globals are as they were, and what has the name is not shown
+    pub record Hides (after : Globals G) : Type 0 where
+      pub beside : (m : ℕ) → m ≢ name → held after.store m ≡ held offer.globals.store m
+      pub hidden : (x : Object (KeptGlobal G)) → held after.store name ≡ Some x → is_shown views client info (name, x) ≡ true → ⊥
+
+    module _ (after : Globals G) (hides : Hides after) where
+      pub hidden_old : (g : Announced) → IsShown offer g → g.name ≢ name → IsShown (with_globals offer after) g
+      hidden_old g h other = moved after g (hides.beside g.name other) h
+
+      hidden_other : (g : Announced) → With after g → g.name ≢ name
+      hidden_other g h same =
+          hides.hidden h.global (ap (held after.store) (sym same) ∙ h.at) (subst (λ n. is_shown views client info (n, h.global) ≡ true) same h.passes)
+
+      pub hidden_only : (g : Announced) → IsShown (with_globals offer after) g → IsShown offer g × (g.name ≢ name)
+      hidden_only g h = (back after g (hides.beside g.name (hidden_other g h)) h, hidden_other g h)
+
+    disabled_hides : (x : Object (KeptGlobal G)) → Hides (record offer.globals { store = rewritten offer.globals.store name (as_disabled x) })
+    disabled_hides x = record {
+      beside = λ m other. rewritten_other offer.globals.store name (as_disabled x) m other;
+      hidden = λ y at passes. (
+          let is : as_disabled x ≡ y = same_Some (as_disabled x) y (sym (rewritten_here offer.globals.store name (as_disabled x) name refl) ∙ at) in
+          true≢false (sym (subst (λ (z : Object (KeptGlobal G)). is_shown views client info (name, z) ≡ true) (sym is) passes))
+          );
+    }
+
+    removed_hides : Hides (record offer.globals { store = removed offer.globals.store name })
+    removed_hides = record {
+      beside = λ m other. removed_other offer.globals.store name m other;
+      hidden = λ y at passes. none_some (sym (removed_here offer.globals.store name name refl) ∙ at);
+    }
+
+  module _ (offer : Offer G) (g : GlobalParts) (x : Object (KeptGlobal G)) (is : global_of offer.globals g ≡ Some x) where
+    pub disabled_one : Hides offer g.name (disabled offer.globals g)
+    disabled_one =
+        subst (λ (o : Option (Object (KeptGlobal G))). Hides offer g.name (disabled_at offer.globals g.name o)) (sym is) (disabled_hides offer g.name x)
+
+    pub freed_one : Hides offer g.name (freed offer.globals g)
+    freed_one =
+        subst (λ (o : Option (Object (KeptGlobal G))). Hides offer g.name (freed_at offer.globals g.name o)) (sym is) (removed_hides offer g.name)
+
+  -- a global that is not enabled is shown to nobody: nothing changes where it is disabled again, or removed
+  module _ (offer : Offer G) (g : GlobalParts) (hidden : is_enabled (global_of offer.globals g) ≡ false) where
+    -- what is shown stays
+    pub record StaysShown (after : Globals G) : Type 0 where
+      pub kept : (a : Announced) → IsShown offer a → IsShown (with_globals offer after) a
+      pub only : (a : Announced) → IsShown (with_globals offer after) a → IsShown offer a
+
+    not_named : (x : Object (KeptGlobal G)) → global_of offer.globals g ≡ Some x → (a : Announced) → IsShown offer a → a.name ≢ g.name
+    not_named x is a h same =
+        let this : x ≡ h.global = same_Some x h.global (sym (global_held offer.globals g x is) ∙ ap (held offer.globals.store) (sym same) ∙ h.at) in
+        let off : not x.value.is_disabled ≡ false = ap is_enabled (sym is) ∙ hidden in
+        let on : not x.value.is_disabled ≡ true = first_true (not x.value.is_disabled) _ (subst (λ (y : Object (KeptGlobal G)). is_shown views client info (a.name, y) ≡ true) (sym this) h.passes) in
+        true≢false (sym on ∙ off)
+      where
+        first_true : (b c : Bool) → (b && c) ≡ true → b ≡ true
+        first_true true c e = refl
+        first_true false c e = absurd (true≢false (sym e))
+
+    stays_where_hidden : (after : Globals G) (x : Object (KeptGlobal G)) → global_of offer.globals g ≡ Some x → Hides offer g.name after → StaysShown after
+    stays_where_hidden after x is hides = record {
+      kept = λ a h. hidden_old offer g.name after hides a h (not_named x is a h);
+      only = λ a h. (hidden_only offer g.name after hides a h).0;
+    }
+
+    stays_same : StaysShown offer.globals
+    stays_same = record { kept = λ a h. h; only = λ a h. h }
+
+    pub disabled_stays : StaysShown (disabled offer.globals g)
+    disabled_stays = go (global_of offer.globals g) refl
+      where
+        go : (o : Option (Object (KeptGlobal G))) → global_of offer.globals g ≡ o → StaysShown (disabled_at offer.globals g.name o)
+        go None is = stays_same
+        go (Some x) is = stays_where_hidden (disabled_at offer.globals g.name (Some x)) x is (disabled_hides offer g.name x)
+
+    pub freed_stays : StaysShown (freed offer.globals g)
+    freed_stays = go (global_of offer.globals g) refl
+      where
+        go : (o : Option (Object (KeptGlobal G))) → global_of offer.globals g ≡ o → StaysShown (freed_at offer.globals g.name o)
+        go None is = stays_same
+        go (Some x) is = stays_where_hidden (freed_at offer.globals g.name (Some x)) x is (removed_hides offer g.name)

@@ -1,0 +1,383 @@
+-- A registry that is watched over what the program does with its client.
+use Rattle.std.proofs.Common.{◌≡◌, ◌≢◌, ℕ, Bool, true, false, cond, eqb, List, [], ◌∷◌, ◌++◌, map, append-nil, Option, None, Some, is_some, Result, Ok, Err, MatchResult, refl, sym, ap, subst, ◌∙◌, true≢false}
+use mathlib.Core.Logic.{inl, inr}
+use Rattle.std.specs.Prelude.{slice_get}
+use Rattle.wl_wire.specs.declared.error.IoFault.{IoFault}
+use Rattle.wl_wire.specs.declared.error.IoFault.TheVariants as fault
+use Rattle.wl_wire.specs.declared.interface.InterfaceId.{InterfaceId}
+use Rattle.wl_link.specs.declared.object.Object.{Object}
+use Rattle.wl_link.proofs.Calls.Branches.{either_bool, either_option}
+use Rattle.wl_link.specs.Exchange.{Queue, Sending}
+use Rattle.wl_link.specs.Identity.{Id}
+use Rattle.wl_link.specs.Link.{LinkState}
+use Rattle.wl_link.specs.Puts.{Said}
+use Rattle.wl_link.specs.Store.{Store}
+use Rattle.wl_server.specs.declared.reading.action.OpenAction.TheVariants as opened
+use Rattle.wl_server.specs.declared.error.CreateError.{CreateError}
+use Rattle.wl_server.specs.declared.error.DestroyError.{DestroyError}
+use Rattle.wl_server.specs.declared.error.EventError.{EventError}
+use Rattle.wl_server.specs.declared.error.FinishError.{FinishError}
+use Rattle.wl_server.specs.declared.error.FinishRefused.{FinishRefused}
+use Rattle.wl_server.specs.declared.error.InvalidId.{InvalidId}
+use Rattle.wl_server.specs.declared.objects.Kept.{Kept}
+use Rattle.wl_server.specs.declared.notes.DisconnectReason.{DisconnectReason}
+use Rattle.wl_server.proofs.OverRuns.Moves.BaseMoves.{Doings}
+use Rattle.wl_server.specs.Deeds.{Deed, Noted, Sent, left_if, log_of, registries_in}
+use Rattle.wl_server.proofs.OverRuns.Moves.DoingsLaws.{done_sends, told_deeds}
+use Rattle.wl_server.specs.Errors.{PostsError, posts}
+use Rattle.wl_server.specs.Events.{SendsEvent, SendsGranted, SentAs, SessionMessage, ends_closed, ends_sender, event_check, said}
+use Rattle.wl_server.specs.Felt.{FlushedTo, FlushesLive}
+use Rattle.wl_server.specs.Finish.{FinishesBind, FinishesRequest, Refuses, closed, closes, data_given, ended_by, ending, ends, refusal, store_with_data}
+use Rattle.wl_server.specs.Globals.{Offer}
+use Rattle.wl_server.specs.Ids.{ClientParts, GlobalParts, IdParts}
+use Rattle.wl_server.proofs.OverRuns.Moves.MovesOfCalls.{ended_named, granted_named, named_held, named_serial}
+use Rattle.wl_server.specs.Objects.{Creates, DataSet, Destroys, destroyable, destroys, leaving, new_object, unless_refused, without, without_noted}
+use Rattle.wl_server.specs.Part.{Part, end_note, id_at, id_of, last_possible_serial, named, note_of_end, with_link}
+use Rattle.wl_server.specs.Telling.{Core, Did, Kills, Tells, core_of, delete_message, deletions}
+use Rattle.wl_server.proofs.OverRuns.Announced.WatchedReadings.{deletions_other}
+use Rattle.wl_server.proofs.OverRuns.Announced.WatchedVerdicts.{Forms, IsShort, Leads, Lives, PartLives, lives_not, lives_same, lives_so, lives_then, log_both, registries_both, tells_lives}
+use Rattle.wl_server.proofs.OverRuns.Announced.Watching.{Goes, Scene, Steady, born_goes, display_other, goes_then, id_at_number, others_goes, part_scene, scene_of, set_action_goes, steady_goes, steady_same, steady_then, went_goes, wrote_goes}
+
+-- ---- deeds that put nothing
+
+module _ {U : Type 0} where
+  -- nothing is put, and no registry made
+  abbrev IsSilent : List (Deed U) → Type 0
+  IsSilent did = (log_of did ≡ []) × (registries_in did ≡ [])
+
+  silent_left : (id : IdParts) (u : Option U) (b : Bool) → IsSilent (told_deeds (cond b [] (map Did (left_if (id_of id) u))))
+  silent_left id u true = (refl, refl)
+  silent_left id None false = (refl, refl)
+  silent_left id (Some u) false = (refl, refl)
+
+  silent_ended : (client : ClientParts) (id : IdParts) (x : Object (Kept U)) (b : Bool)
+      → IsSilent (told_deeds (cond b [] (map Did (map Noted (note_of_end client id.number x) ++ left_if (id_of id) x.value.user_data))))
+  silent_ended client id x true = (refl, refl)
+  silent_ended client id x false = go x.value.user_data
+    where
+      go : (o : Option U) → IsSilent (told_deeds (map Did (map Noted (end_note (id_at client id.number x) o) ++ left_if (id_of id) o)))
+      go None = (refl, refl)
+      go (Some u) = (refl, refl)
+
+  named_at : (store : Store (Kept U)) (id : IdParts) (x : Object (Kept U)) → named store id ≡ Some x → id_at_number id.number x ≡ id_of id
+  named_at store id x is = ap (λ (s : ℕ). record { number = id.number; serial = s }) (named_serial store id x is)
+
+-- the number of an object is told in one message at most
+short_deletions : (n : ℕ) → IsShort (deletions n)
+short_deletions n = go _
+  where
+    go : (b : Bool) → IsShort (cond b [] (delete_message n ∷ []))
+    go true = tt
+    go false = tt
+
+not_refused : {E : Type 0} (e : E) (answer : Result (Unit {0}) E) (refused : Bool) → answer ≡ unless_refused e refused → refused ≡ false → answer ≡ Ok tt
+not_refused e answer refused is fine = is ∙ ap (unless_refused e) fine
+
+silent_sends : (U : Type 0) (es : List Sending) → IsSilent {U = U} (map Sent es)
+silent_sends U es = (ap (λ (d : Doings U). d.put) (done_sends es), ap (λ (d : Doings U). d.registries) (done_sends es))
+
+destroyable_is : {T U C : Type 0} (p : Part T U C) (id : IdParts) (x : Object (Kept U)) → destroyable p id ≡ Some x → named p.store id ≡ Some x
+destroyable_is p id x e = go (eqb id.number 1) e
+  where
+    go : (b : Bool) → cond b None (named p.store id) ≡ Some x → named p.store id ≡ Some x
+    go true e = absurd (true≢false (sym (ap is_some e)))
+    go false e = e
+
+module _ {G C : Type 0} (views : G → ClientParts → C → GlobalParts → Bool) (client : ClientParts) (r : Id) {U : Type 0} (offer : Offer G) where
+  abbrev Still : Scene U C → Scene U C → Type 0
+  Still s t = Steady views client r offer s t
+
+  abbrev Change : Scene U C → List Said → List Id → Scene U C → Type 0
+  Change s put regs t = Goes views client r offer s put regs t
+
+  abbrev Run : {T : Type 0} → Part T U C → List (Deed U) → Part T U C → Type 0
+  Run p did q = PartLives views client r offer p did q
+
+  -- ---- forms of a call
+
+  -- nothing is put, and the client stays as live as it was
+  quietly : {T : Type 0} (p q e : Part T U C) (did : List (Deed U)) → IsSilent did → q ≡ e → e.is_killed ≡ p.is_killed → Still (part_scene p) (part_scene e) → Run p did q
+  quietly p q e did silent same live still =
+      subst (λ (x : Part _ U C). Run p did x) (sym same)
+      (lives_so views client r offer p.is_killed e.is_killed (part_scene p) (part_scene e) [] (log_of did) [] (registries_in did) silent.0 silent.1
+      (record { live = λ on. sym live ∙ on; goes = λ on. steady_goes views client r offer (part_scene p) (part_scene e) still }))
+
+  pub none_done : {T : Type 0} (p q : Part T U C) (did : List (Deed U)) → did ≡ [] → q ≡ p → Run p did q
+  none_done p q did none same =
+      quietly p q p did (ap log_of none, ap registries_in none) same refl (steady_same views client r offer (part_scene p))
+
+  same_still : {T : Type 0} (p e : Part T U C) → part_scene e ≡ part_scene p → Still (part_scene p) (part_scene e)
+  same_still p e is = subst (λ (s : Scene U C). Still (part_scene p) s) (sym is) (steady_same views client r offer (part_scene p))
+
+  -- the display tells that a number is free
+  deletes_goes : (s : Scene U C) (n : ℕ) → Change s (deletions n) [] s
+  deletes_goes s n =
+      others_goes views client r offer s (deletions n) (λ log made w ours. deletions_other r n (λ k. display_other views client r offer s log made w ours k))
+
+  -- messages and then a change, of a core that is as live as before
+  speaks_then : (c e : Core U C) (puts : List Said) (told : List (Deed U)) → e.is_killed ≡ c.is_killed → registries_in told ≡ [] → Change (scene_of c) puts [] (scene_of c)
+      → Still (scene_of c) (scene_of e) → Lives views client r offer c.is_killed e.is_killed (scene_of c) puts (registries_in told) (scene_of e)
+  speaks_then c e puts told same none says still =
+      lives_so views client r offer c.is_killed e.is_killed (scene_of c) (scene_of e) puts puts [] (registries_in told) refl none
+      (record {
+        live = λ on. sym same ∙ on;
+        goes = λ on.
+            subst (λ (l : List Said). Change (scene_of c) l [] (scene_of e)) (append-nil puts)
+            (goes_then views client r offer (scene_of c) (scene_of c) (scene_of e) puts [] [] [] says (steady_goes views client r offer (scene_of c) (scene_of e) still));
+      })
+
+  -- ---- data, and new objects
+
+  pub data_set_lives : {T : Type 0} (p : Part T U C) (id : IdParts) (u : U) (answer : Result (Unit {0}) InvalidId) (did : List (Deed U)) (q : Part T U C) → did ≡ []
+      → DataSet p id u answer q → Run p did q
+  data_set_lives p id u answer did q none h =
+      elim (either_option (named p.store id) h) [
+        | inl (nobody, (is, same)) ↦ none_done p q did none same
+        | inr (x, some, (is, same)) ↦
+            quietly p q _ did (ap log_of none, ap registries_in none) same refl (wrote_goes views client r offer (part_scene p) id.number x u (named_held p.store id x some))
+      ]
+
+  pub creates_lives : {T : Type 0} (p : Part T U C) (i : InterfaceId) (version : ℕ) (u : U) (answer : Result IdParts CreateError) (did : List (Deed U)) (q : Part T U C)
+      → did ≡ [] → Creates offer.table client p i version u answer q → Run p did q
+  creates_lives p i version u answer did q none h =
+      elim (either_option (slice_get offer.table i.0) h) [
+        | inl (unknown, (is, same)) ↦ none_done p q did none same
+        | inr (row, known, inl (full, is, same)) ↦ none_done p q did none same
+        | inr (row, known, inr (n, least, g)) ↦
+            elim (either_bool (eqb p.last_serial last_possible_serial) g) [
+              | inl (is, same) ↦ none_done p q did none same
+              | inr (inr (is, unused, same)) ↦ none_done p q did none same
+              | inr (inl (is, same)) ↦
+                  quietly p q _ did (ap log_of none, ap registries_in none) same refl
+                  (born_goes views client r offer (part_scene p) n (new_object p i version u) least.absent refl)
+            ]
+      ]
+
+  -- ---- an object that leaves
+
+  -- the object that an id names, which is not the registry
+  without_still : (c : Core U C) (id : IdParts) (x : Object (Kept U)) → named c.store id ≡ Some x → (id_of id ≢ r)
+      → Still (scene_of c) (scene_of (without c id.number x))
+  without_still c id x is other =
+      went_goes views client r offer (scene_of c) id.number x (named_held c.store id x is) (λ log made w among same. other (sym (named_at c.store id x is) ∙ same))
+
+  pub destroys_lives : {T : Type 0} (sends : T → Queue → Result ℕ IoFault → T → Type 0) (p : Part T U C) (id : IdParts) (answer : Result (Unit {0}) DestroyError) (lacked : Bool)
+      (did : List (Deed U)) (q : Part T U C) → (id_of id ≡ r → answer ≢ Ok tt) → Destroys sends client p id answer lacked did q → Run p did q
+  destroys_lives sends p id answer lacked did q alone h =
+      elim (either_option (destroyable p id) h) [
+        | inl (none, (is, no_memory, nothing, same)) ↦ none_done p q did nothing same
+        | inr (x, some, (is, tells')) ↦
+            let there = destroyable_is p id x some in
+            tells_lives views client r offer sends p (destroys client (core_of p) id x) p.link lacked did q
+            (record {
+              last = λ d killed'. killed';
+              starved = inr (refl, (silent_left id x.value.user_data (is_some (named p.store id))).1, short_deletions id.number);
+              silent = λ e. (silent_left id x.value.user_data (is_some (named e.store id))).0;
+            })
+            (λ fits.
+            speaks_then (core_of p) (without_noted client (core_of p) id.number x) (deletions id.number)
+            (told_deeds (leaving id x.value.user_data (without_noted client (core_of p) id.number x))) refl
+            (silent_left id x.value.user_data (is_some (named (without_noted client (core_of p) id.number x).store id))).1 (deletes_goes (part_scene p) id.number)
+            (without_still (core_of p) id x there (λ same. alone same (not_refused _ answer lacked is (fits refl)))))
+            tells'
+      ]
+
+  -- ---- errors, and the end of a client
+
+  pub posts_lives : {T : Type 0} (sends : T → Queue → Result ℕ IoFault → T → Type 0) (p : Part T U C) (id : IdParts) (code : ℕ) (text : List ℕ) (lacked : Bool) (did : List (Deed U))
+      (q : Part T U C) → PostsError sends offer.table p id code text lacked did q → Run p did q
+  posts_lives sends p id code text lacked did q h =
+      elim (either_bool (eqb id.number 0) h) [
+        | inl (no_memory, none, same) ↦ none_done p q did none same
+        | inr tells' ↦
+            tells_lives views client r offer sends p (posts offer.table (core_of p) id code text) p.link lacked did q
+            (record { last = λ d killed'. refl; starved = inl refl; silent = λ e. refl })
+            (λ fits. lives_not views client r offer p.is_killed true (part_scene p) _ _ _ refl) tells'
+      ]
+
+  pub kills_lives : {T : Type 0} (p : Part T U C) (reason : DisconnectReason) (did : List (Deed U)) (q : Part T U C) → Kills p reason did q → Run p did q
+  kills_lives p reason did q (is, same) =
+      subst (λ (e : Part _ U C). Run p did e) (sym same) (lives_not views client r offer p.is_killed true (part_scene p) (log_of did) (registries_in did) (part_scene p) refl)
+
+  -- ---- flushes, and what the program does to a transport
+
+  pub relinked_lives : {T : Type 0} (p : Part T U C) (link : LinkState T) (did : List (Deed U)) (q : Part T U C) → did ≡ [] → q ≡ with_link p link → Run p did q
+  relinked_lives p link did q none same =
+      quietly p q (with_link p link) did (ap log_of none, ap registries_in none) same refl (steady_same views client r offer (part_scene p))
+
+  pub flushed_lives : {T : Type 0} (sends : T → Queue → Result ℕ IoFault → T → Type 0) (p : Part T U C) (answer : Result (Unit {0}) IoFault) (lacked : Bool) (did : List (Deed U))
+      (q : Part T U C) → FlushedTo sends p answer lacked did q → Run p did q
+  flushed_lives sends p answer lacked did q (es, link, by, no_memory, did_so, same) =
+      quietly p q (with_link p link) did (ap log_of did_so ∙ (silent_sends U es).0, ap registries_in did_so ∙ (silent_sends U es).1) same refl
+      (steady_same views client r offer (part_scene p))
+
+  pub flushes_lives : {T : Type 0} (sends : T → Queue → Result ℕ IoFault → T → Type 0) (p : Part T U C) (lacked : Bool) (did : List (Deed U)) (q : Part T U C)
+      → FlushesLive sends p lacked did q → Run p did q
+  flushes_lives sends p lacked did q h =
+      elim (either_bool p.is_killed h) [
+        | inl (no_memory, none, same) ↦ none_done p q did none same
+        | inr (answer, f) ↦ flushed_lives sends p answer lacked did q f
+      ]
+
+  -- ---- an event
+
+  module _ {T : Type 0} (sends : T → Queue → Result ℕ IoFault → T → Type 0) (m : SessionMessage) (sender : Object (Kept U)) where
+    module _ (p : Part T U C) (b : Bool) (es : List Sending) (link : LinkState T) (answer : Result (Unit {0}) EventError) (lacked : Bool) (rest did : List (Deed U)) (q : Part T U C)
+        (is : named p.store m.sender ≡ Some sender) (alone : id_of m.sender ≡ r → answer ≢ Ok tt) (did_so : did ≡ map Sent es ++ rest) where
+      after_sends : Lives views client r offer p.is_killed q.is_killed (part_scene p) (log_of rest) (registries_in rest) (part_scene q) → Run p did q
+      after_sends lives =
+          lives_so views client r offer p.is_killed q.is_killed (part_scene p) (part_scene q) (log_of rest) (log_of did) (registries_in rest) (registries_in did)
+          (ap log_of did_so ∙ log_both (map Sent es) rest ∙ ap (λ (l : List Said). l ++ log_of rest) (silent_sends U es).0)
+          (ap registries_in did_so ∙ registries_both (map Sent es) rest ∙ ap (λ (l : List Id). l ++ registries_in rest) (silent_sends U es).1) lives
+
+      ends_forms : (c : Core U C) (d : Bool) → Forms c (ends_sender client c m sender d)
+      ends_forms c false = record { last = λ e killed'. killed'; starved = inl refl; silent = λ e. refl }
+      ends_forms c true = record {
+        last = λ e killed'. killed';
+        starved = inl refl;
+        silent = λ e. (silent_left m.sender sender.value.user_data (is_some (named e.store m.sender))).0;
+      }
+
+      -- the sender is not the registry: it may leave
+      ends_leads : (d : Bool) → id_of m.sender ≢ r → Leads views client r offer (core_of p) (ends_sender client (core_of p) m sender d)
+      ends_leads false other = lives_same views client r offer p.is_killed (part_scene p)
+      ends_leads true other =
+          speaks_then (core_of p) (without_noted client (core_of p) m.sender.number sender) (deletions m.sender.number)
+          (told_deeds (leaving m.sender sender.value.user_data (without_noted client (core_of p) m.sender.number sender))) refl
+          (silent_left m.sender sender.value.user_data (is_some (named (without_noted client (core_of p) m.sender.number sender).store m.sender))).1
+          (deletes_goes (part_scene p) m.sender.number) (without_still (core_of p) m.sender sender is other)
+
+      closed_forms : (c : Core U C) (d : Bool) → Forms c (ends_closed client c m sender d)
+      closed_forms c false = record { last = λ e killed'. killed'; starved = inl refl; silent = λ e. refl }
+      closed_forms c true = record {
+        last = λ e killed'. killed';
+        starved = inl refl;
+        silent = λ e. (silent_left m.sender sender.value.user_data (is_some (named e.store m.sender))).0;
+      }
+
+      closed_leads : (d : Bool) → Leads views client r offer (core_of p) (ends_closed client (core_of p) m sender d)
+      closed_leads false = lives_not views client r offer p.is_killed true (part_scene p) _ _ _ refl
+      closed_leads true = lives_not views client r offer p.is_killed true (part_scene p) _ _ _ refl
+
+      broken_lives : Tells sends (ends_closed client (core_of p) m sender b) link lacked rest q → Run p did q
+      broken_lives tells' =
+          after_sends (tells_lives views client r offer sends p (ends_closed client (core_of p) m sender b) link lacked rest q (closed_forms (core_of p) b) (λ fits. closed_leads b) tells')
+
+      sent_lives : (w : Result (Unit {0}) IoFault) → SentAs sends client p m sender b w link answer lacked rest q → Run p did q
+      sent_lives (Ok u) (more, tells', is_ok, rest_so) =
+          let other : id_of m.sender ≢ r = λ same. alone same is_ok in
+          let then' = tells_lives views client r offer sends p (ends_sender client (core_of p) m sender b) link lacked more q (ends_forms (core_of p) b) (λ fits. ends_leads b other) tells' in
+          let says = others_goes views client r offer (part_scene p) (said m ∷ []) (λ log made w ours. (other, tt)) in
+          after_sends (lives_so views client r offer p.is_killed q.is_killed (part_scene p) (part_scene q) (said m ∷ log_of more) (log_of rest) (registries_in more) (registries_in rest)
+          (ap log_of rest_so) (ap registries_in rest_so)
+          (lives_then views client r offer p.is_killed p.is_killed q.is_killed (part_scene p) (part_scene p) (part_scene q) (said m ∷ []) (log_of more) [] (registries_in more)
+          (record { live = λ on. on; goes = λ on. says }) then'))
+      sent_lives (Err fault.OutOfMemory) (is_err, no_memory, none, same) =
+          after_sends (subst (λ (e : Part T U C). Lives views client r offer p.is_killed e.is_killed (part_scene p) (log_of rest) (registries_in rest) (part_scene e)) (sym same)
+          (lives_so views client r offer p.is_killed p.is_killed (part_scene p) (part_scene p) [] (log_of rest) [] (registries_in rest) (ap log_of none) (ap registries_in none)
+          (lives_same views client r offer p.is_killed (part_scene p))))
+      sent_lives (Err fault.WouldBlock) (tells', is_ok) = broken_lives tells'
+      sent_lives (Err fault.Pipe) (tells', is_ok) = broken_lives tells'
+      sent_lives (Err fault.TooBig) (tells', is_ok) = broken_lives tells'
+      sent_lives (Err fault.Proto) (tells', is_ok) = broken_lives tells'
+      sent_lives (Err fault.InvalidInput) (tells', is_ok) = broken_lives tells'
+      sent_lives (Err (fault.Other n)) (tells', is_ok) = broken_lives tells'
+
+    granted_lives : (p : Part T U C) (b : Bool) (answer : Result (Unit {0}) EventError) (lacked : Bool) (did : List (Deed U)) (q : Part T U C)
+        → named p.store m.sender ≡ Some sender → (id_of m.sender ≡ r → answer ≢ Ok tt) → SendsGranted sends client p m sender b answer lacked did q → Run p did q
+    granted_lives p b answer lacked did q is alone (inl (asks, is_err, no_memory, none, same)) = none_done p q did none same
+    granted_lives p b answer lacked did q is alone (inr (es, rest, w, link, by, sent, did_so)) = sent_lives p b es link answer lacked rest did q is alone did_so w sent
+
+  pub sends_lives : {T : Type 0} (sends : T → Queue → Result ℕ IoFault → T → Type 0) (p : Part T U C) (m : SessionMessage) (answer : Result (Unit {0}) EventError) (lacked : Bool)
+      (did : List (Deed U)) (q : Part T U C) → (id_of m.sender ≡ r → answer ≢ Ok tt) → SendsEvent sends client offer.table p m answer lacked did q → Run p did q
+  sends_lives sends p m answer lacked did q alone h =
+      elim (either_bool p.is_killed h) [
+        | inl (is, no_memory, none, same) ↦ none_done p q did none same
+        | inr g ↦ checked (event_check client p.store offer.table m) refl g
+      ]
+    where
+      checked : (t : Result (Object (Kept U) × Bool) EventError) → event_check client p.store offer.table m ≡ t
+          → MatchResult t (λ g. SendsGranted sends client p m g.0 g.1 answer lacked did q)
+          (λ e. (answer ≡ Err e) × (lacked ≡ false) × (did ≡ []) × (q ≡ p)) → Run p did q
+      checked (Ok g) is h = granted_lives sends m g.0 p g.1 answer lacked did q (granted_named client p.store offer.table m g is) alone h
+      checked (Err e) is (is_err, no_memory, none, same) = none_done p q did none same
+
+  -- ---- the end of an action
+
+  closed_still : (c : Core U C) (created : Option IdParts) (u : Option U) → Still (scene_of c) (scene_of (closed c created u))
+  closed_still c created u =
+      steady_then views client r offer (scene_of c) (scene_of (record c { action = None })) (scene_of (closed c created u))
+      (set_action_goes views client r offer (scene_of c) None (λ sender b made is. true≢false (sym (ap is_some is)))) (given created u)
+    where
+      given : (created : Option IdParts) (u : Option U) → Still (scene_of (record c { action = None })) (scene_of (closed c created u))
+      given None u = steady_same views client r offer (scene_of (record c { action = None }))
+      given (Some id) None = steady_same views client r offer (scene_of (record c { action = None }))
+      given (Some id) (Some u) = go (named c.store id) refl
+        where
+          go : (o : Option (Object (Kept U))) → named c.store id ≡ o
+              → Still (scene_of (record c { action = None })) (scene_of (record c { action = None; store = data_given c.store id.number o u }))
+          go None e = steady_same views client r offer (scene_of (record c { action = None }))
+          go (Some x) e = wrote_goes views client r offer (scene_of (record c { action = None })) id.number x u (named_held c.store id x e)
+
+  -- the sender of an open request is not the registry
+  ends_still : (c : Core U C) (id : IdParts) (b : Bool) (created : Option IdParts) (x : Object (Kept U)) → c.action ≡ Some (opened.Request id b created)
+      → named c.store id ≡ Some x → Still (scene_of c) (scene_of (without c id.number x))
+  ends_still c id b created x open' is =
+      went_goes views client r offer (scene_of c) id.number x (named_held c.store id x is)
+      (λ log made w among same. w.open_other id b created open' among (sym (named_at c.store id x is) ∙ same))
+
+  refuses_lives : {T D : Type 0} (p : Part T U C) (d : D) (e : FinishError) (answer : Result (Unit {0}) (FinishRefused D)) (lacked : Bool) (did : List (Deed U)) (q : Part T U C)
+      → Refuses p d e answer lacked did q → Run p did q
+  refuses_lives p d e answer lacked did q (is, no_memory, none, same) = none_done p q did none same
+
+  module _ {T : Type 0} (sends : T → Queue → Result ℕ IoFault → T → Type 0) (p : Part T U C) (sender : IdParts) (b : Bool) (created : Option IdParts) (u : Option U)
+      (open' : p.action ≡ Some (opened.Request sender b created)) (lacked : Bool) (did : List (Deed U)) (q : Part T U C) where
+    ends_lives : (o : Option (Object (Kept U))) → ((x : Object (Kept U)) → o ≡ Some x → named p.store sender ≡ Some x)
+        → Tells sends (ends client (core_of p) sender o created u) p.link lacked did q → Run p did q
+    ends_lives None is tells' =
+        tells_lives views client r offer sends p (closes (core_of p) created u) p.link lacked did q
+        (record { last = λ d killed'. killed'; starved = inl refl; silent = λ e. refl })
+        (λ fits. record {
+          live = λ on. on;
+          goes = λ on. steady_goes views client r offer (part_scene p) (scene_of (closed (core_of p) created u)) (closed_still (core_of p) created u);
+        })
+        tells'
+    ends_lives (Some x) is tells' =
+        tells_lives views client r offer sends p (ends client (core_of p) sender (Some x) created u) p.link lacked did q
+        (record {
+          last = λ d killed'. killed';
+          starved = inr (refl, (silent_ended client sender x (is_some (named p.store sender))).1, short_deletions sender.number);
+          silent = λ e. (silent_ended client sender x (is_some (named e.store sender))).0;
+        })
+        (λ fits.
+        speaks_then (core_of p) (closed (without (core_of p) sender.number x) created u) (deletions sender.number)
+        (told_deeds (ending client sender x (closed (without (core_of p) sender.number x) created u))) refl
+        (silent_ended client sender x (is_some (named (closed (without (core_of p) sender.number x) created u).store sender))).1 (deletes_goes (part_scene p) sender.number)
+        (steady_then views client r offer (part_scene p) (scene_of (without (core_of p) sender.number x)) (scene_of (closed (without (core_of p) sender.number x) created u))
+        (ends_still (core_of p) sender b created x open' (is x refl)) (closed_still (without (core_of p) sender.number x) created u)))
+        tells'
+
+  pub finishes_lives : {T : Type 0} (sends : T → Queue → Result ℕ IoFault → T → Type 0) (p : Part T U C) (u : Option U) (answer : Result (Unit {0}) (FinishRefused (Option U)))
+      (lacked : Bool) (did : List (Deed U)) (q : Part T U C) → FinishesRequest sends client p u answer lacked did q → Run p did q
+  finishes_lives sends p u answer lacked did q h =
+      elim (either_option p.action h) [
+        | inl (none, refuses) ↦ refuses_lives p u _ answer lacked did q refuses
+        | inr (opened.Bind object, is, refuses) ↦ refuses_lives p u _ answer lacked did q refuses
+        | inr (opened.Request sender b created, is, g) ↦
+            elim (either_option (refusal p.is_killed created u) g) [
+              | inr (e, why, refuses) ↦ refuses_lives p u e answer lacked did q refuses
+              | inl (none, (is', tells')) ↦
+                  ends_lives sends p sender b created u is lacked did q (ended_by p.store sender b) (λ x e. ended_named p.store sender b x e) tells'
+            ]
+      ]
+
+  pub finishes_bind_lives : {T : Type 0} (p : Part T U C) (u : U) (answer : Result (Unit {0}) (FinishRefused U)) (lacked : Bool) (did : List (Deed U)) (q : Part T U C)
+      → FinishesBind p u answer lacked did q → Run p did q
+  finishes_bind_lives p u answer lacked did q h =
+      elim (either_option p.action h) [
+        | inl (none, refuses) ↦ refuses_lives p u _ answer lacked did q refuses
+        | inr (opened.Request sender b created, is, refuses) ↦ refuses_lives p u _ answer lacked did q refuses
+        | inr (opened.Bind object, is, (is', no_memory, none, same)) ↦
+            quietly p q (record p { action = None; store = store_with_data p.store (Some object) (Some u) }) did (ap log_of none, ap registries_in none) same refl
+            (closed_still (core_of p) (Some object) (Some u))
+      ]

@@ -1,0 +1,344 @@
+-- A registry that is watched over the readings of its client.
+use Rattle.std.proofs.Common.{◌≡◌, ◌≢◌, ℕ, Bool, true, false, cond, eqb, List, [], ◌∷◌, ◌++◌, map, append-nil, Option, None, Some, Result, Ok, Err, refl, sym, ap, subst, ◌∙◌, true≢false}
+use mathlib.Core.Logic.{inl, inr}
+use Rattle.std.specs.Prelude.{nat_lt}
+use Rattle.wl_wire.specs.declared.argument.Argument.{Argument}
+use Rattle.wl_wire.specs.declared.argument.Argument.TheVariants as arg
+use Rattle.wl_wire.specs.declared.argument.Token.{Token}
+use Rattle.wl_wire.specs.declared.error.IoFault.{IoFault}
+use Rattle.wl_wire.specs.declared.error.IoFault.TheVariants as fault
+use Rattle.wl_wire.specs.declared.interface.InterfaceId.{InterfaceId}
+use Rattle.wl_wire.specs.Argument.{WireArgument}
+use Rattle.wl_wire.specs.Asked.{fits, next_interface}
+use Rattle.wl_wire.specs.Message.{WireMessage}
+use Rattle.wl_wire.specs.Table.{MessageRow, callback_id, name_of, registry_id}
+use Rattle.wl_link.specs.declared.object.Object.{Object}
+use Rattle.wl_link.proofs.Calls.Branches.{either_bool, either_option, either_result}
+use Rattle.wl_link.specs.Exchange.{Queue, Sending}
+use Rattle.wl_link.specs.Identity.{Id, Objects}
+use Rattle.wl_link.specs.Link.{LinkState, count_of, counted_answer}
+use Rattle.wl_link.specs.Puts.{Said}
+use Rattle.wl_link.specs.Reader.{CarriesOut, Given, Gives, Handled, Reads, Received, Turn, Unread, Verdict, with_link, ReaderState}
+use Rattle.wl_link.specs.Store.{held}
+use Rattle.wl_link.proofs.Ids.StoreLaws.{stored_here}
+use Rattle.wl_server.specs.declared.reading.action.OpenAction.{OpenAction}
+use Rattle.wl_server.specs.declared.reading.action.OpenAction.TheVariants as opened
+use Rattle.wl_server.specs.declared.reading.action.Reading.{Reading}
+use Rattle.wl_server.specs.declared.error.ActionError.{ActionError}
+use Rattle.wl_server.specs.declared.objects.Kept.{Kept}
+use Rattle.wl_server.specs.declared.globals.KeptGlobal.{KeptGlobal}
+use Rattle.wl_server.specs.declared.reading.response.RequestFault.TheVariants as wrong
+use Rattle.wl_server.proofs.OverRuns.Announced.AnnouncementLaws.{AreOfOthers}
+use Rattle.wl_server.specs.Deeds.{Acted, Deed, Handed, Remembered, log_of, registries_in}
+use Rattle.wl_server.specs.Deeds as deeds
+use Rattle.wl_server.proofs.OverRuns.Moves.DoingsLaws.{deeds_both, told_deeds}
+use Rattle.wl_server.specs.Errors.{fault_text, since_text}
+use Rattle.wl_server.specs.Globals.{Offer, global_at}
+use Rattle.wl_server.specs.Ids.{ClientParts, GlobalParts, IdParts}
+use Rattle.wl_server.proofs.OverRuns.Moves.MovesOfReadings.{gave_none}
+use Rattle.wl_server.proofs.OverRuns.Moves.MovesOfRequests.{valid_new}
+use Rattle.wl_server.specs.Part.{Part, id_at, null_id}
+use Rattle.wl_server.specs.Reading.{Around, NextAction, binds, breaks, converted, faulted, garbled, hands_out, new_at, other_request, registers, replies, server, stops_if, synced, syncs, with_registry}
+use Rattle.wl_server.proofs.OverRuns.Announced.RequestCases.{request_case}
+use Rattle.wl_server.specs.Requests.{Converted, Converting, Outcome, Whole, Wrong, allows_null, convert, convert_one, going_on, is_valid_new, kinds_after, made_id, made_object, object_found, start, with_made, with_new_argument, with_object_argument}
+use Rattle.wl_server.specs.Telling.{Core, Did, Told, deeds_in, delete_message, deletions, done_message, objects_in, reader_part, with_objects}
+use Rattle.wl_server.proofs.OverRuns.Announced.WatchedVerdicts.{CoreLives, Forms, Leads, PartLives, carried_to, lives_not, lives_same, lives_so, lives_then, log_both, registries_both, told_stops, turned, verdict_lives}
+use Rattle.wl_server.proofs.OverRuns.Announced.Watching.{Goes, Scene, Steady, born_goes, display_other, goes_then, kept_other, opens_goes, others_goes, part_scene, registers_goes, scene_of, set_action_goes, steady_goes, steady_same, steady_then, went_goes}
+
+-- the messages that a display sends are of no registry
+pub deletions_other : (r : Id) (n : ℕ) → ((k : ℕ) → record { number = k; serial = 0 } ≢ r) → AreOfOthers r (deletions n)
+deletions_other r n display = go _
+  where
+    go : (b : Bool) → AreOfOthers r (cond b [] (delete_message n ∷ []))
+    go true = tt
+    go false = (display 1, tt)
+
+-- what a reading asks beside its client
+abbrev around_of : {G C : Type 0} → (G → ClientParts → C → GlobalParts → Bool) → ClientParts → Offer G → Around G C
+around_of views client offer = record { table = offer.table; client = client; globals = offer.globals; views = views }
+
+module _ {G C : Type 0} (views : G → ClientParts → C → GlobalParts → Bool) (client : ClientParts) (r : Id) {U : Type 0} (offer : Offer G) where
+  abbrev Still : Scene U C → Scene U C → Type 0
+  Still s t = Steady views client r offer s t
+
+  abbrev Goes' : Scene U C → List Said → List Id → Scene U C → Type 0
+  Goes' s put regs t = Goes views client r offer s put regs t
+
+  -- a verdict that is carried out over the client
+  record Handles (c : Core U C) (v : Verdict (Core U C) (Told U)) : Type 0 where
+    forms : Forms c v
+    leads : Leads views client r offer c v
+
+  -- ---- verdicts that end the client
+
+  garbled_handles : (c : Core U C) → Handles c (garbled c)
+  garbled_handles c = record {
+    forms = record { last = λ d killed. killed; starved = inl refl; silent = λ e. refl };
+    leads = lives_not views client r offer c.is_killed true (scene_of c) _ _ _ refl;
+  }
+
+  breaks_handles : (c m : Core U C) (code : ℕ) (text : List ℕ) → Handles c (breaks (around_of views client offer) m code text)
+  breaks_handles c m code text = record {
+    forms = record { last = λ d killed. refl; starved = inl refl; silent = λ e. refl };
+    leads = lives_not views client r offer c.is_killed true (scene_of c) _ _ _ refl;
+  }
+
+  -- ---- verdicts that answer
+
+  -- what it answers, where the client is as live as it was
+  replies_handles : (c m : Core U C) (puts : List Said) (did : List (Deed U)) → m.is_killed ≡ c.is_killed → log_of did ≡ []
+      → told_deeds (map Did did ++ stops_if m) ≡ did → ((e : Core U C) → log_of (told_deeds (map Did did ++ stops_if e)) ≡ [])
+      → Goes' (scene_of c) puts (registries_in did) (scene_of m) → Handles c (replies m puts did)
+  replies_handles c m puts did same quiet told silent goes = record {
+    forms = record { last = λ d killed. killed; starved = inl refl; silent = silent };
+    leads = lives_so views client r offer c.is_killed m.is_killed (scene_of c) (scene_of m) puts puts (registries_in did)
+        (registries_in (told_deeds (map Did did ++ stops_if m))) refl (ap registries_in told)
+        (record { live = λ on. sym same ∙ on; goes = λ on. goes });
+  }
+
+  hands_out_handles : (c m : Core U C) (action : OpenAction) (h : Handed) → m.is_killed ≡ c.is_killed → Still (scene_of c) (scene_of (record m { action = Some action }))
+      → Handles c (hands_out m action h)
+  hands_out_handles c m action h same still = record {
+    forms = record { last = λ d killed. killed; starved = inl refl; silent = λ e. refl };
+    leads = record {
+      live = λ on. sym same ∙ on;
+      goes = λ on. steady_goes views client r offer (scene_of c) (scene_of (record m { action = Some action })) still;
+    };
+  }
+
+  -- ---- a display's
+
+  syncs_handles : (c : Core U C) (n : ℕ) → is_valid_new (objects_in c) n ≡ true → Handles c (syncs (around_of views client offer) c n)
+  syncs_handles c n valid =
+      replies_handles c (synced (around_of views client offer) c n) (done_message (new_at (around_of views client offer) c n) ∷ deletions n) [] refl refl (told_stops (synced (around_of views client offer) c n)) (λ e. ap log_of (told_stops e))
+      (goes_then views client r offer (scene_of c) made (scene_of (synced (around_of views client offer) c n)) [] (done_message (new_at (around_of views client offer) c n) ∷ deletions n) [] []
+      (steady_goes views client r offer (scene_of c) made (born_goes views client r offer (scene_of c) n x (valid_new (objects_in c) n valid).0 refl))
+      (subst (λ (l : List Said). Goes' made l [] (scene_of (synced (around_of views client offer) c n))) (append-nil (done_message (new_at (around_of views client offer) c n) ∷ deletions n))
+      (goes_then views client r offer made made (scene_of (synced (around_of views client offer) c n)) (done_message (new_at (around_of views client offer) c n) ∷ deletions n) [] [] []
+      (others_goes views client r offer made (done_message (new_at (around_of views client offer) c n) ∷ deletions n)
+      (λ log regs w ours. (
+        kept_other views client r offer made log regs w ours n x (stored_here c.store n x n refl) refl,
+        deletions_other r n (λ k. display_other views client r offer made log regs w ours k),
+      )))
+      (steady_goes views client r offer made (scene_of (synced (around_of views client offer) c n))
+      (went_goes views client r offer made n x (stored_here c.store n x n refl)
+      (λ log regs w is. kept_other views client r offer made log regs w (inl is) n x (stored_here c.store n x n refl) refl))))))
+    where
+      x : Object (Kept U)
+      x = made_object (objects_in c) callback_id 1
+
+      made : Scene U C
+      made = scene_of (with_objects c (with_made (objects_in c) n callback_id 1))
+
+  registers_handles : (c : Core U C) (n : ℕ) → is_valid_new (objects_in c) n ≡ true → Handles c (registers (around_of views client offer) c n)
+  registers_handles c n valid =
+      replies_handles c (with_registry (around_of views client offer) c n) _ (Remembered (new_at (around_of views client offer) c n) ∷ []) refl refl
+      (ap (λ (did : List (Deed U)). Remembered (new_at (around_of views client offer) c n) ∷ did) (told_stops (with_registry (around_of views client offer) c n)))
+      (λ e. ap log_of (told_stops e))
+      (registers_goes views client r offer (scene_of c) n (made_object (objects_in c) registry_id 1) (valid_new (objects_in c) n valid).0 refl refl)
+
+  -- ---- a registry's
+
+  binds_handles : (c : Core U C) (g version n : ℕ) (x : Object (KeptGlobal G)) → is_valid_new (objects_in c) n ≡ true → Handles c (binds (around_of views client offer) c g version n x)
+  binds_handles c g version n x valid =
+      hands_out_handles c made (opened.Bind id) (deeds.Bind (global_at g x) id) refl
+      (steady_then views client r offer (scene_of c) (scene_of made) (scene_of (record made { action = Some (opened.Bind id) }))
+      (born_goes views client r offer (scene_of c) n (made_object (objects_in c) x.interface version) (valid_new (objects_in c) n valid).0 refl)
+      (set_action_goes views client r offer (scene_of made) (Some (opened.Bind id)) (λ sender b created is. true≢false (ap is_bind is))))
+    where
+      id : IdParts
+      id = made_id client (objects_in c) n x.interface
+
+      made : Core U C
+      made = with_objects c (with_made (objects_in c) n x.interface version)
+
+      is_bind : Option OpenAction → Bool
+      is_bind (Some (opened.Bind o)) = true
+      is_bind _ = false
+
+  -- ---- other requests
+
+  module _ (c : Core U C) (version : ℕ) where
+    -- from some objects to others
+    abbrev Over : Objects (Kept U) → Objects (Kept U) → Type 0
+    Over o o' = Still (scene_of (with_objects c o)) (scene_of (with_objects c o'))
+
+    still : (o : Objects (Kept U)) → Over o o
+    still o = steady_same views client r offer (scene_of (with_objects c o))
+
+    abbrev One : Converting U → Converted U → Type 0
+    One d (Ok next) = Over d.objects next.1.objects
+    One d (Err w) = Unit {0}
+
+    converts_found : (d : Converting U) (asked : InterfaceId) (n : ℕ) (x : Option (Object (Kept U))) → One d (with_object_argument d (object_found client asked n x))
+    converts_found d asked n None = tt
+    converts_found d asked n (Some x) = go (fits asked x.interface)
+      where
+        go : (b : Bool) → One d (with_object_argument d (cond b (Ok (id_at client n x)) (Err (wrong.WrongInterface n asked x.interface))))
+        go true = still d.objects
+        go false = tt
+
+    converts_object : (d : Converting U) (null : Bool) (asked : InterfaceId) (n : ℕ) (b : Bool)
+        → One d (with_object_argument d (cond b (cond null (Ok (null_id client)) (Err wrong.NullObject)) (object_found client asked n (held d.objects.store n))))
+    converts_object d null asked n false = converts_found d asked n (held d.objects.store n)
+    converts_object d true asked n true = still d.objects
+    converts_object d false asked n true = tt
+
+    converts_new : (d : Converting U) (n : ℕ) (child : Option InterfaceId) → One d (with_new_argument client version d n child)
+    converts_new d n None = tt
+    converts_new d n (Some i) = go (is_valid_new d.objects n) refl
+      where
+        go : (b : Bool) → is_valid_new d.objects n ≡ b
+            → One d (cond b
+            (Ok (
+              arg.NewId (made_id client d.objects n i),
+              record {
+                objects = with_made d.objects n i version;
+                kinds = kinds_after d.kinds;
+                asked = d.asked;
+                child = None;
+                created = Some (made_id client d.objects n i);
+              },
+            ))
+            (Err (wrong.InvalidNewId n)))
+        go true valid = born_goes views client r offer (scene_of (with_objects c d.objects)) n (made_object d.objects i version) (valid_new d.objects n valid).0 refl
+        go false valid = tt
+
+    converts_one : (d : Converting U) (x : WireArgument) → One d (convert_one client version d x)
+    converts_one d (arg.Int z) = still d.objects
+    converts_one d (arg.Uint n) = still d.objects
+    converts_one d (arg.Fixed z) = still d.objects
+    converts_one d (arg.Str text) = still d.objects
+    converts_one d (arg.Object n) = converts_object d (allows_null d.kinds) (next_interface d.asked) n (eqb n 0)
+    converts_one d (arg.NewId n) = converts_new d n d.child
+    converts_one d (arg.Array bytes) = still d.objects
+    converts_one d (arg.Fd token) = still d.objects
+
+    abbrev Came : Objects (Kept U) → Outcome U → Type 0
+    Came o (Whole d args) = Over o d.objects
+    Came o (Wrong w objects) = Unit {0}
+
+    goes_on : (o : Objects (Kept U)) (d : Converting U) (done : List (Argument IdParts Token)) (args : List WireArgument)
+        → ((next : Converting U) (more : List (Argument IdParts Token)) → Over o next.objects → Came o (convert client version next more args))
+        → (t : Converted U) → One d t → Over o d.objects
+        → Came o (going_on t d.objects (λ b next. convert client version next (done ++ b ∷ []) args))
+    goes_on o d done args rest (Ok next) one so =
+        rest next.1 (done ++ next.0 ∷ [])
+        (steady_then views client r offer (scene_of (with_objects c o)) (scene_of (with_objects c d.objects)) (scene_of (with_objects c next.1.objects)) so one)
+    goes_on o d done args rest (Err w) one so = tt
+
+    converts : (o : Objects (Kept U)) (d : Converting U) (done : List (Argument IdParts Token)) (args : List WireArgument) → Over o d.objects
+        → Came o (convert client version d done args)
+    converts o d done [] so = so
+    converts o d done (x ∷ args) so =
+        goes_on o d done args (λ next more so-far. converts o next more args so-far) (convert_one client version d x) (converts_one d x) so
+
+  module _ (c : Core U C) (m : WireMessage) (receiver : Object (Kept U)) (row : MessageRow) (holds : held c.store m.sender ≡ Some receiver)
+      (other : eqb receiver.interface.0 registry_id.0 ≡ false) where
+    abbrev id : IdParts
+    id = id_at client m.sender receiver
+
+    -- the action is open, and then the arguments make their objects
+    converted_handles : (outcome : Outcome U) → ((e : Core U C) → Came e receiver.version (objects_in c) outcome) → Handles c (converted (around_of views client offer) c m receiver row outcome)
+    converted_handles (Wrong w objects) came = breaks_handles c (with_objects c objects) 0 (fault_text offer.table receiver.interface row w)
+    converted_handles (Whole d args) came =
+        hands_out_handles c (with_objects c d.objects) (opened.Request id row.is_destructor d.created) _ refl
+        (steady_then views client r offer (scene_of c) (scene_of opening) (scene_of (with_objects opening d.objects))
+        (opens_goes views client r offer (scene_of c) id row.is_destructor d.created receiver holds refl other) (came opening))
+      where
+        opening : Core U C
+        opening = record c { action = Some (opened.Request id row.is_destructor d.created) }
+
+    other_handles : Handles c (other_request (around_of views client offer) c m receiver row)
+    other_handles = go (nat_lt receiver.version row.since)
+      where
+        go : (b : Bool) → Handles c (cond b
+            (breaks (around_of views client offer) c 1 (since_text m.opcode receiver.version row.since (name_of offer.table receiver.interface.0) m.sender))
+            (converted (around_of views client offer) c m receiver row (convert client receiver.version (start (objects_in c) row) [] m.args)))
+        go true = breaks_handles c c 1 _
+        go false =
+            converted_handles (convert client receiver.version (start (objects_in c) row) [] m.args)
+            (λ e. converts e receiver.version (objects_in c) (start (objects_in c) row) [] m.args (still e receiver.version (objects_in c)))
+
+  handles : (c : Core U C) (m : WireMessage) → Handles c ((server (around_of views client offer)).handles c m)
+  handles c m =
+      request_case (around_of views client offer) c (Handles c) (garbled_handles c) (λ code text. breaks_handles c c code text) (syncs_handles c) (registers_handles c) (binds_handles c) m
+      (λ receiver row holds other. other_handles c m receiver row holds other)
+
+  -- ---- a reading
+
+  module _ {T : Type 0} (sends : T → Queue → Result ℕ IoFault → T → Type 0) (receives : T → ℕ → Result Queue IoFault → T → Type 0) where
+    abbrev Gave : Core U C → List (Given (Told U)) → Core U C → Type 0
+    Gave c gave e = CoreLives views client r offer c (log_of (deeds_in gave)) (registries_in (deeds_in gave)) e
+
+    none_gave : (c : Core U C) (gave : List (Given (Told U))) → gave ≡ [] → Gave c gave c
+    none_gave c gave none = subst (λ (g : List (Given (Told U))). Gave c g c) (sym none) (lives_same views client r offer c.is_killed (scene_of c))
+
+    gave_then : (c m e : Core U C) (first rest : List (Given (Told U))) → Gave c first m → Gave m rest e → Gave c (first ++ rest) e
+    gave_then c m e first rest one more =
+        lives_so views client r offer c.is_killed e.is_killed (scene_of c) (scene_of e) (log_of (deeds_in first) ++ log_of (deeds_in rest)) (log_of (deeds_in (first ++ rest)))
+        (registries_in (deeds_in first) ++ registries_in (deeds_in rest)) (registries_in (deeds_in (first ++ rest)))
+        (ap log_of (deeds_both first rest) ∙ log_both (deeds_in first) (deeds_in rest))
+        (ap registries_in (deeds_both first rest) ∙ registries_both (deeds_in first) (deeds_in rest))
+        (lives_then views client r offer c.is_killed m.is_killed e.is_killed (scene_of c) (scene_of m) (scene_of e) (log_of (deeds_in first)) (log_of (deeds_in rest))
+        (registries_in (deeds_in first)) (registries_in (deeds_in rest)) one more)
+
+    turn_lives : (before : ReaderState T (Core U C)) (link : LinkState T) (v : Verdict (Core U C) (Told U)) → Handles before.core v → (es : List Sending) (first : List (Given (Told U)))
+        (lacked : Bool) (mid : ReaderState T (Core U C)) → CarriesOut sends (server (around_of views client offer)) v link es first lacked mid → Gave before.core first mid.core
+    turn_lives before link v h es first lacked mid by =
+        verdict_lives views client r offer before.core v first lacked mid.core (λ told. h.leads)
+        (carried_to sends (server (around_of views client offer)) (λ d f. refl) before.core v h.forms link es first lacked mid by)
+
+    faulted_lives : (c : Core U C) (f : IoFault) → Gave c [] (faulted c f)
+    faulted_lives c fault.WouldBlock = none_gave c [] refl
+    faulted_lives c fault.OutOfMemory = none_gave c [] refl
+    faulted_lives c fault.Pipe = lives_not views client r offer c.is_killed true (scene_of c) [] [] (scene_of c) refl
+    faulted_lives c fault.TooBig = lives_not views client r offer c.is_killed true (scene_of c) [] [] (scene_of c) refl
+    faulted_lives c fault.Proto = lives_not views client r offer c.is_killed true (scene_of c) [] [] (scene_of c) refl
+    faulted_lives c fault.InvalidInput = lives_not views client r offer c.is_killed true (scene_of c) [] [] (scene_of c) refl
+    faulted_lives c (fault.Other n) = lives_not views client r offer c.is_killed true (scene_of c) [] [] (scene_of c) refl
+
+    reads_lives : (left : ℕ) (before : ReaderState T (Core U C)) (turns : List Turn) (out : Gives (Told U)) (after : ReaderState T (Core U C))
+        → Reads sends (server (around_of views client offer)) receives left before turns out after → Gave before.core out.gave after.core
+    reads_lives left before [] out after (same, ends) =
+        subst (λ (e : ReaderState T (Core U C)). Gave before.core out.gave e.core) (sym same) (none_gave before.core out.gave (gave_none sends receives (around_of views client offer) left before out ends))
+    reads_lives left before (Received t ∷ turns) out after (on, lacks, (n, is, (link, filled, room, h))) =
+        elim (either_result (counted_answer (count_of t)) h) [
+          | inl (u, more) ↦ reads_lives n (with_link before link) turns out after more
+          | inr (f, (over, stopped, same)) ↦
+              subst (λ (e : ReaderState T (Core U C)). Gave before.core out.gave e.core) (sym same)
+              (subst (λ (o : Gives (Told U)). Gave before.core o.gave (faulted before.core f)) (sym stopped) (faulted_lives before.core f))
+        ]
+    reads_lives left before (Handled es ∷ turns) out after (on, (v, link, first, lacked, mid, rest, (m, read, is), by, split, more)) =
+        subst (λ (o : Gives (Told U)). Gave before.core o.gave after.core) (sym split)
+        (gave_then before.core mid.core after.core first rest.gave
+        (turn_lives before link v (subst (λ (w : Verdict (Core U C) (Told U)). Handles before.core w) (sym is) (handles before.core m)) es first lacked mid by)
+        (reads_lives left mid turns rest after more))
+    reads_lives left before (Unread es ∷ turns) out after (on, (v, link, first, lacked, mid, rest, (read, same, is), by, split, more)) =
+        subst (λ (o : Gives (Told U)). Gave before.core o.gave after.core) (sym split)
+        (gave_then before.core mid.core after.core first rest.gave
+        (turn_lives before link v (subst (λ (w : Verdict (Core U C) (Told U)). Handles before.core w) (sym is) (garbled_handles before.core)) es first lacked mid by)
+        (reads_lives left mid turns rest after more))
+
+    pub next_action_lives : (t : Reading) (p : Part T U C) (answer : Result Handed ActionError) (t' : Reading) (lacked : Bool) (did : List (Deed U)) (q : Part T U C)
+        → NextAction sends receives (record { table = offer.table; client = client; globals = offer.globals; views = views }) t p answer t' lacked did q
+        → PartLives views client r offer p did q
+    next_action_lives t p answer t' lacked did q h =
+        elim (either_option p.action h) [
+          | inr (action, is_open, (is, same, no_memory, none, stays)) ↦ stands none stays
+          | inl (not_open, g) ↦
+              elim (either_bool p.is_killed g) [
+                | inl (is, same, no_memory, none, stays) ↦ stands none stays
+                | inr (turns, out, end, reads, is, same, no_memory, did_so, after) ↦
+                    let so = turned turns out.gave end.core in
+                    subst (λ (e : Part T U C). PartLives views client r offer p did e) (sym after)
+                    (lives_so views client r offer p.is_killed end.core.is_killed (part_scene p) (scene_of end.core) (log_of (deeds_in out.gave)) (log_of did)
+                    (registries_in (deeds_in out.gave)) (registries_in did) (ap log_of did_so ∙ so.put) (ap registries_in did_so ∙ so.made)
+                    (reads_lives t.turns_left (reader_part p) turns out end reads))
+              ]
+        ]
+      where
+        stands : did ≡ [] → q ≡ p → PartLives views client r offer p did q
+        stands none same =
+            subst (λ (e : Part T U C). PartLives views client r offer p did e) (sym same)
+            (subst (λ (ds : List (Deed U)). PartLives views client r offer p ds p) (sym none) (lives_same views client r offer p.is_killed (part_scene p)))

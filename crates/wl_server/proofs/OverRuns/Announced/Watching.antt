@@ -1,0 +1,490 @@
+-- One registry of a client, watched over the changes of its client: what holds of it all the time, while the client is live.
+use Rattle.std.proofs.Common.{◌≡◌, ◌≢◌, ◌⊎◌, ℕ, ◌+◌, ◌<◌, ◌≤◌, Bool, true, false, not, cond, eqb, List, [], ◌∷◌, ◌++◌, map, append-nil, append_assoc, Option, None, Some, is_some, refl, sym, ap, subst, ◌∙◌, true≢false, arith}
+use mathlib.Core.Logic.{inl, inr}
+use Rattle.std.specs.List.{filter}
+use Rattle.std.proofs.lemmas.Bool.{cases_eq}
+use Rattle.std.proofs.lemmas.Option.{same_Some}
+use Rattle.wl_wire.specs.Table.{registry_id}
+use Rattle.wl_link.specs.declared.object.Object.{Object}
+use Rattle.wl_link.specs.Identity.{Id}
+use Rattle.wl_link.specs.Puts.{Said}
+use Rattle.wl_link.specs.Store.{Store, held, removed, rewritten, stored}
+use Rattle.wl_link.proofs.Ids.StoreLaws.{removed_here, removed_other, rewritten_here, rewritten_other, stored_here, stored_other}
+use Rattle.wl_server.specs.declared.reading.action.OpenAction.{OpenAction}
+use Rattle.wl_server.specs.declared.reading.action.OpenAction.TheVariants as opened
+use Rattle.wl_server.specs.declared.objects.Kept.{Kept}
+use Rattle.wl_server.proofs.OverRuns.Ids.AmongLaws.{among_both, among_filter, among_first, among_later, filter_among}
+use Rattle.wl_server.specs.Announced.{Announced, announced, announced_over, sender_of, shown_of}
+use Rattle.wl_server.proofs.OverRuns.Announced.AnnouncementLaws.{AreOfOthers, SaysNothing, announced-append, greeted, greeted_other, other_id, others_say, same_id_is, same_id_self, say_then, told_others}
+use Rattle.wl_server.specs.Deeds.{IsAmong}
+use Rattle.wl_server.specs.Globals.{Offer, shown}
+use Rattle.wl_server.specs.Ids.{ClientParts, GlobalParts, IdParts}
+use Rattle.wl_server.specs.Part.{Part, id_of, registries_without, same_id, with_user_data}
+use Rattle.wl_server.proofs.OverRuns.Announced.ShownLaws.{IsShown, among_shown, shown_among}
+use Rattle.wl_server.specs.Telling.{Core, global_message}
+
+none_some : {A : Type 0} {x : A} → None ≡ Some x → ⊥
+none_some e = true≢false (sym (ap is_some e))
+
+-- what of a client its registries depend on
+pub record Scene (U C : Type 0) : Type 0 where
+  pub info : C
+  pub store : Store (Kept U)
+  pub last_serial : ℕ
+  pub action : Option OpenAction
+  pub registries : List Id
+
+abbrev pub scene_of : {U C : Type 0} → Core U C → Scene U C
+scene_of c = record { info = c.info; store = c.store; last_serial = c.last_serial; action = c.action; registries = c.registries }
+
+abbrev pub part_scene : {T U C : Type 0} → Part T U C → Scene U C
+part_scene p = record { info = p.info; store = p.store; last_serial = p.last_serial; action = p.action; registries = p.registries }
+
+abbrev pub id_at_number : {U : Type 0} → ℕ → Object (Kept U) → Id
+id_at_number n x = record { number = n; serial = x.value.serial }
+
+module _ {G C : Type 0} (views : G → ClientParts → C → GlobalParts → Bool) (client : ClientParts) (r : Id) where
+  -- the registry is kept, and told of globals
+  pub record IsKnown {U : Type 0} (s : Scene U C) : Type 0 where
+    pub listed : IsAmong s.registries r
+    pub object : Object (Kept U)
+    pub holds : held s.store r.number ≡ Some object
+    pub serial : object.value.serial ≡ r.serial
+    pub interface : eqb object.interface.0 registry_id.0 ≡ true
+    pub positive : 0 < r.serial
+
+  -- what is announced on it is what is shown
+  pub record TellsShown (offer : Offer G) (info : C) (log : List Said) : Type 0 where
+    pub told : (g : Announced) → IsAmong (announced log r) g → IsShown views client info offer g
+    pub tells : (g : Announced) → IsShown views client info offer g → IsAmong (announced log r) g
+
+  -- What holds of the registry after these messages, where these registries were made. Before it is born it says nothing;
+  -- once it was made it is kept, and what is announced on it is what is shown.
+  pub record Watch {U : Type 0} (offer : Offer G) (s : Scene U C) (log : List Said) (made : List Id) : Type 0 where
+    pub bounded : (n : ℕ) (x : Object (Kept U)) → held s.store n ≡ Some x → x.value.serial ≤ s.last_serial
+    pub listed : (y : Id) → IsAmong s.registries y → y.serial ≤ s.last_serial
+    pub open_bounded : (sender : IdParts) (b : Bool) (created : Option IdParts) → s.action ≡ Some (opened.Request sender b created) → sender.serial ≤ s.last_serial
+    pub open_other : (sender : IdParts) (b : Bool) (created : Option IdParts) → s.action ≡ Some (opened.Request sender b created) → IsAmong made r → id_of sender ≢ r
+    pub silent : s.last_serial < r.serial → SaysNothing r log
+    pub unborn : s.last_serial < r.serial → IsAmong made r → ⊥
+    pub known : IsAmong made r → IsKnown s
+    pub tells : IsAmong made r → TellsShown offer s.info log
+
+  -- the registry was made, or is yet to be born
+  abbrev pub IsOurs : {U : Type 0} → Scene U C → List Id → Type 0
+  IsOurs s made = IsAmong made r ⊎ (s.last_serial < r.serial)
+
+  module _ {U : Type 0} (offer : Offer G) where
+    -- a change, with the messages that are put in it and the registries that are made
+    pub record Goes (s : Scene U C) (put : List Said) (regs : List Id) (t : Scene U C) : Type 0 where
+      pub watch : (log : List Said) (made : List Id) → Watch offer s log made → Watch offer t (log ++ put) (made ++ regs)
+
+    -- a change without either
+    pub record Steady (s t : Scene U C) : Type 0 where
+      pub watch : (log : List Said) (made : List Id) → Watch offer s log made → Watch offer t log made
+
+    pub steady_goes : (s t : Scene U C) → Steady s t → Goes s [] [] t
+    steady_goes s t steady = record {
+      watch = λ log made w.
+          subst (λ (l : List Said). Watch offer t l (made ++ [])) (sym (append-nil log))
+          (subst (λ (l : List Id). Watch offer t log l) (sym (append-nil made)) (steady.watch log made w));
+    }
+
+    pub steady_then : (s m t : Scene U C) → Steady s m → Steady m t → Steady s t
+    steady_then s m t first second = record { watch = λ log made w. second.watch log made (first.watch log made w) }
+
+    pub steady_same : (s : Scene U C) → Steady s s
+    steady_same s = record { watch = λ log made w. w }
+
+    pub goes_then : (s m t : Scene U C) (a b : List Said) (c d : List Id) → Goes s a c m → Goes m b d t → Goes s (a ++ b) (c ++ d) t
+    goes_then s m t a b c d first second = record {
+      watch = λ log made w.
+          subst (λ (l : List Said). Watch offer t l (made ++ (c ++ d))) (append_assoc log a b)
+          (subst (λ (l : List Id). Watch offer t ((log ++ a) ++ b) l) (append_assoc made c d) (second.watch (log ++ a) (made ++ c) (first.watch log made w)));
+    }
+
+    -- ---- who speaks
+
+    -- the display is no registry
+    pub display_other : (s : Scene U C) (log : List Said) (made : List Id) → Watch offer s log made → IsOurs s made → (n : ℕ) → record { number = n; serial = 0 } ≢ r
+    display_other s log made w (inl is) n same =
+        let zero : 0 ≡ r.serial = ap (λ (i : Id). i.serial) same in let positive = (w.known is).positive in omega (arith, zero, positive)
+    display_other s log made w (inr later) n same = let zero : 0 ≡ r.serial = ap (λ (i : Id). i.serial) same in omega (arith, zero, later)
+
+    -- nor is a kept object of another interface
+    pub kept_other : (s : Scene U C) (log : List Said) (made : List Id) → Watch offer s log made → IsOurs s made → (n : ℕ) (x : Object (Kept U))
+        → held s.store n ≡ Some x → eqb x.interface.0 registry_id.0 ≡ false → id_at_number n x ≢ r
+    kept_other s log made w (inl is) n x holds other same =
+        let known = w.known is in
+        let this : x ≡ known.object = same_Some x known.object (sym holds ∙ ap (λ (i : Id). held s.store i.number) same ∙ known.holds) in
+        true≢false (sym known.interface ∙ sym (ap (λ (y : Object (Kept U)). eqb y.interface.0 registry_id.0) this) ∙ other)
+    kept_other s log made w (inr later) n x holds other same =
+        let most = w.bounded n x holds in let serial : x.value.serial ≡ r.serial = ap (λ (i : Id). i.serial) same in omega (arith, most, serial, later)
+
+    -- messages of others
+    pub others_goes : (s : Scene U C) (put : List Said) → ((log : List Said) (made : List Id) → Watch offer s log made → IsOurs s made → AreOfOthers r put) → Goes s put [] s
+    others_goes s put others = record {
+      watch = λ log made w.
+          subst (λ (l : List Id). Watch offer s (log ++ put) l) (sym (append-nil made))
+          (record {
+            bounded = w.bounded;
+            listed = w.listed;
+            open_bounded = w.open_bounded;
+            open_other = w.open_other;
+            silent = λ later. say_then r log put (w.silent later) (others_say r put (others log made w (inr later)));
+            unborn = w.unborn;
+            known = w.known;
+            tells = λ is. (
+                let tells = w.tells is in
+                let still : announced (log ++ put) r ≡ announced log r =
+                announced-append r [] log put ∙ (others_say r put (others log made w (inl is))).same (announced log r) in
+                record {
+                  told = λ g among. tells.told g (subst (λ (l : List Announced). IsAmong l g) still among);
+                  tells = λ g shown'. subst (λ (l : List Announced). IsAmong l g) (sym still) (tells.tells g shown');
+                }
+                );
+          });
+    }
+
+    -- ---- objects come, change and go
+
+    -- a new object takes a free number and the next serial
+    pub born_goes : (s : Scene U C) (n : ℕ) (x : Object (Kept U)) → held s.store n ≡ None → x.value.serial ≡ s.last_serial + 1
+        → Steady s (record s { store = stored s.store n x; last_serial = s.last_serial + 1 })
+    born_goes s n x free serial = record {
+      watch = λ log made w. record {
+        bounded = λ m y holds. most w.bounded m y holds;
+        listed = λ y among. (let old = w.listed y among in omega (arith, old));
+        open_bounded = λ sender b created is. (let old = w.open_bounded sender b created is in omega (arith, old));
+        open_other = w.open_other;
+        silent = λ later. w.silent (omega (arith, later));
+        unborn = λ later. w.unborn (omega (arith, later));
+        known = λ is. keeps (w.known is);
+        tells = w.tells;
+      };
+    }
+      where
+        most : ((m : ℕ) (y : Object (Kept U)) → held s.store m ≡ Some y → y.value.serial ≤ s.last_serial) → (m : ℕ) (y : Object (Kept U))
+            → held (stored s.store n x) m ≡ Some y → y.value.serial ≤ s.last_serial + 1
+        most old m y holds =
+            elim (cases_eq m n) [
+              | inl same ↦
+                  let this : x ≡ y = same_Some x y (sym (stored_here s.store n x m same) ∙ holds) in
+                  let so : y.value.serial ≡ s.last_serial + 1 = ap (λ (z : Object (Kept U)). z.value.serial) (sym this) ∙ serial in omega (arith, so)
+              | inr other ↦ let before = old m y (sym (stored_other s.store n x m other) ∙ holds) in omega (arith, before)
+            ]
+
+        keeps : IsKnown s → IsKnown (record s { store = stored s.store n x; last_serial = s.last_serial + 1 })
+        keeps known = record {
+          listed = known.listed;
+          object = known.object;
+          holds = stored_other s.store n x r.number (λ same. none_some (sym free ∙ ap (held s.store) (sym same) ∙ known.holds)) ∙ known.holds;
+          serial = known.serial;
+          interface = known.interface;
+          positive = known.positive;
+        }
+
+    -- an object gets user data
+    pub wrote_goes : (s : Scene U C) (n : ℕ) (x : Object (Kept U)) (u : U) → held s.store n ≡ Some x
+        → Steady s (record s { store = rewritten s.store n (with_user_data u x) })
+    wrote_goes s n x u there = record {
+      watch = λ log made w. record {
+        bounded = λ m y holds. most w.bounded m y holds;
+        listed = w.listed;
+        open_bounded = w.open_bounded;
+        open_other = w.open_other;
+        silent = w.silent;
+        unborn = w.unborn;
+        known = λ is. keeps (w.known is);
+        tells = w.tells;
+      };
+    }
+      where
+        most : ((m : ℕ) (y : Object (Kept U)) → held s.store m ≡ Some y → y.value.serial ≤ s.last_serial) → (m : ℕ) (y : Object (Kept U))
+            → held (rewritten s.store n (with_user_data u x)) m ≡ Some y → y.value.serial ≤ s.last_serial
+        most old m y holds =
+            elim (cases_eq m n) [
+              | inl same ↦
+                  let this : with_user_data u x ≡ y = same_Some (with_user_data u x) y (sym (rewritten_here s.store n (with_user_data u x) m same) ∙ holds) in
+                  subst (λ (z : Object (Kept U)). z.value.serial ≤ s.last_serial) this (old n x there)
+              | inr other ↦ old m y (sym (rewritten_other s.store n (with_user_data u x) m other) ∙ holds)
+            ]
+
+        keeps : IsKnown s → IsKnown (record s { store = rewritten s.store n (with_user_data u x) })
+        keeps known =
+            elim (cases_eq r.number n) [
+              | inl same ↦
+                  let this : x ≡ known.object = same_Some x known.object (sym there ∙ ap (held s.store) (sym same) ∙ known.holds) in
+                  record {
+                    listed = known.listed;
+                    object = with_user_data u x;
+                    holds = rewritten_here s.store n (with_user_data u x) r.number same;
+                    serial = ap (λ (z : Object (Kept U)). z.value.serial) this ∙ known.serial;
+                    interface = ap (λ (z : Object (Kept U)). eqb z.interface.0 registry_id.0) this ∙ known.interface;
+                    positive = known.positive;
+                  }
+              | inr other ↦
+                  record {
+                    listed = known.listed;
+                    object = known.object;
+                    holds = rewritten_other s.store n (with_user_data u x) r.number other ∙ known.holds;
+                    serial = known.serial;
+                    interface = known.interface;
+                    positive = known.positive;
+                  }
+            ]
+
+    -- another object leaves
+    pub went_goes : (s : Scene U C) (n : ℕ) (x : Object (Kept U)) → held s.store n ≡ Some x
+        → ((log : List Said) (made : List Id) → Watch offer s log made → IsAmong made r → id_at_number n x ≢ r)
+        → Steady s (record s { store = removed s.store n; registries = registries_without s.registries n x })
+    went_goes s n x there other = record {
+      watch = λ log made w. record {
+        bounded = λ m y holds. w.bounded m y (before m y holds);
+        listed = λ y among. w.listed y (was (eqb x.interface.0 registry_id.0) y among);
+        open_bounded = w.open_bounded;
+        open_other = w.open_other;
+        silent = w.silent;
+        unborn = w.unborn;
+        known = λ is. keeps (other log made w is) (w.known is);
+        tells = w.tells;
+      };
+    }
+      where
+        before : (m : ℕ) (y : Object (Kept U)) → held (removed s.store n) m ≡ Some y → held s.store m ≡ Some y
+        before m y holds =
+            elim (cases_eq m n) [
+              | inl same ↦ absurd (none_some (sym (removed_here s.store n m same) ∙ holds))
+              | inr else' ↦ sym (removed_other s.store n m else') ∙ holds
+            ]
+
+        test : Id → Bool
+        test y = not (same_id y (id_at_number n x))
+
+        was : (b : Bool) (y : Id) → IsAmong (cond b (filter test s.registries) s.registries) y → IsAmong s.registries y
+        was true y among = (among_filter test s.registries y among).0
+        was false y among = among
+
+        stays : (b : Bool) → id_at_number n x ≢ r → IsAmong s.registries r → IsAmong (cond b (filter test s.registries) s.registries) r
+        stays true differs among = filter_among test s.registries r among (ap not (other_id r (id_at_number n x) (λ same. differs (sym same))))
+        stays false differs among = among
+
+        keeps : id_at_number n x ≢ r → IsKnown s → IsKnown (record s { store = removed s.store n; registries = registries_without s.registries n x })
+        keeps differs known = record {
+          listed = stays (eqb x.interface.0 registry_id.0) differs known.listed;
+          object = known.object;
+          holds = removed_other s.store n r.number (λ same. differs (one same known)) ∙ known.holds;
+          serial = known.serial;
+          interface = known.interface;
+          positive = known.positive;
+        }
+          where
+            one : r.number ≡ n → IsKnown s → id_at_number n x ≡ r
+            one same known =
+                let this : x ≡ known.object = same_Some x known.object (sym there ∙ ap (held s.store) (sym same) ∙ known.holds) in
+                let with_number : ℕ → Id = λ k. record { number = k; serial = x.value.serial } in
+                let with_serial : ℕ → Id = λ k. record { number = r.number; serial = k } in
+                ap with_number (sym same) ∙ ap with_serial (ap (λ (z : Object (Kept U)). z.value.serial) this ∙ known.serial)
+
+    -- ---- actions
+
+    -- a request of a kept object that is no registry is handed out, and open
+    pub opens_goes : (s : Scene U C) (sender : IdParts) (b : Bool) (created : Option IdParts) (x : Object (Kept U)) → held s.store sender.number ≡ Some x
+        → x.value.serial ≡ sender.serial → eqb x.interface.0 registry_id.0 ≡ false → Steady s (record s { action = Some (opened.Request sender b created) })
+    opens_goes s sender b created x holds serial other = record {
+      watch = λ log made w. record {
+        bounded = w.bounded;
+        listed = w.listed;
+        open_bounded = λ sender' b' created' is.
+            subst (λ (n : ℕ). n ≤ s.last_serial) (serial ∙ ap (λ (i : Id). i.serial) (of_request sender' b' created' is)) (w.bounded sender.number x holds);
+        open_other = λ sender' b' created' is among same.
+            kept_other s log made w (inl among) sender.number x holds other (ap (λ (k : ℕ). record { number = sender.number; serial = k }) serial ∙ of_request sender' b' created' is ∙ same);
+        silent = w.silent;
+        unborn = w.unborn;
+        known = λ is. (let known = w.known is in record {
+          listed = known.listed;
+          object = known.object;
+          holds = known.holds;
+          serial = known.serial;
+          interface = known.interface;
+          positive = known.positive;
+        });
+        tells = w.tells;
+      };
+    }
+      where
+        sender_in : Option OpenAction → Id
+        sender_in (Some (opened.Request i b c)) = id_of i
+        sender_in _ = id_of sender
+
+        of_request : (sender' : IdParts) (b' : Bool) (created' : Option IdParts) → Some (opened.Request sender b created) ≡ Some (opened.Request sender' b' created')
+            → id_of sender ≡ id_of sender'
+        of_request sender' b' created' is = ap sender_in is
+
+    -- a bind is open, or nothing is
+    pub set_action_goes : (s : Scene U C) (action : Option OpenAction)
+        → ((sender : IdParts) (b : Bool) (created : Option IdParts) → action ≡ Some (opened.Request sender b created) → ⊥) → Steady s (record s { action = action })
+    set_action_goes s action none = record {
+      watch = λ log made w. record {
+        bounded = w.bounded;
+        listed = w.listed;
+        open_bounded = λ sender b created is. absurd (none sender b created is);
+        open_other = λ sender b created is. absurd (none sender b created is);
+        silent = w.silent;
+        unborn = w.unborn;
+        known = λ is. (let known = w.known is in record {
+          listed = known.listed;
+          object = known.object;
+          holds = known.holds;
+          serial = known.serial;
+          interface = known.interface;
+          positive = known.positive;
+        });
+        tells = w.tells;
+      };
+    }
+
+    -- ---- a registry is made
+
+    -- It takes a free number and the next serial, is told of each global that the client is shown, and is among those that
+    -- are told of others from then on.
+    module _ (s : Scene U C) (n : ℕ) (x : Object (Kept U)) (free : held s.store n ≡ None) (serial : x.value.serial ≡ s.last_serial + 1)
+        (registry : eqb x.interface.0 registry_id.0 ≡ true) where
+      abbrev new_id : Id
+      new_id = record { number = n; serial = s.last_serial + 1 }
+
+      abbrev greeting : List Said
+      greeting = map (global_message offer.table new_id) (shown views offer.globals client s.info)
+
+      abbrev after : Scene U C
+      after = record s { store = stored s.store n x; last_serial = s.last_serial + 1; registries = s.registries ++ new_id ∷ [] }
+
+      -- the watched one is another
+      registers_other : new_id ≢ r → Goes s greeting (new_id ∷ []) after
+      registers_other other = record {
+        watch = λ log made w.
+            let born = (born_goes s n x free serial).watch log made w in
+            let others = greeted_other offer.table r new_id (shown views offer.globals client s.info) other in
+            let old : IsAmong (made ++ new_id ∷ []) r → IsAmong made r = λ among. earlier (among_both made (new_id ∷ []) r among) in
+            record {
+              bounded = born.bounded;
+              listed = λ y among. most w.listed y (among_both s.registries (new_id ∷ []) y among);
+              open_bounded = born.open_bounded;
+              open_other = λ sender b created is among. w.open_other sender b created is (old among);
+              silent = λ later. say_then r log greeting (born.silent later) (others_say r greeting others);
+              unborn = λ later among. born.unborn later (old among);
+              known = λ among. (let known = born.known (old among) in record {
+                listed = among_first s.registries (new_id ∷ []) r known.listed;
+                object = known.object;
+                holds = known.holds;
+                serial = known.serial;
+                interface = known.interface;
+                positive = known.positive;
+              });
+              tells = λ among. (
+                  let tells = w.tells (old among) in
+                  let still : announced (log ++ greeting) r ≡ announced log r = announced-append r [] log greeting ∙ (others_say r greeting others).same (announced log r) in
+                  record {
+                    told = λ g in-log. tells.told g (subst (λ (l : List Announced). IsAmong l g) still in-log);
+                    tells = λ g shown'. subst (λ (l : List Announced). IsAmong l g) (sym still) (tells.tells g shown');
+                  }
+                  );
+            };
+      }
+        where
+          earlier : {A : Type 0} → A ⊎ ((new_id ≡ r) ⊎ ⊥) → A
+          earlier (inl a) = a
+          earlier (inr (inl same)) = absurd (other same)
+          earlier (inr (inr none)) = absurd none
+
+          most : ((y : Id) → IsAmong s.registries y → y.serial ≤ s.last_serial) → (y : Id) → IsAmong s.registries y ⊎ ((new_id ≡ y) ⊎ ⊥) → y.serial ≤ s.last_serial + 1
+          most old y (inl among) = let before = old y among in omega (arith, before)
+          most old y (inr (inl same)) = let so : s.last_serial + 1 ≡ y.serial = ap (λ (i : Id). i.serial) same in omega (arith, so)
+          most old y (inr (inr none)) = absurd none
+
+      -- the watched one is this
+      registers_this : new_id ≡ r → Goes s greeting (new_id ∷ []) after
+      registers_this this = record {
+        watch = λ log made w.
+            let born = (born_goes s n x free serial).watch log made w in
+            let number : s.last_serial + 1 ≡ r.serial = ap (λ (i : Id). i.serial) this in
+            let later : s.last_serial < r.serial = omega (arith, number) in
+            let fresh : announced (log ++ greeting) r ≡ shown_as_announced =
+            announced-append r [] log greeting
+            ∙ ap (λ (t : List Announced). announced_over r t greeting) ((w.silent later).same [])
+            ∙ subst (λ (i : Id). announced_over i [] greeting ≡ shown_as_announced) this (greeted offer.table new_id [] (shown views offer.globals client s.info)) in
+            record {
+              bounded = born.bounded;
+              listed = λ y among. most w.listed y (among_both s.registries (new_id ∷ []) y among);
+              open_bounded = born.open_bounded;
+              open_other = λ sender b created is among same. (
+                  let old = w.open_bounded sender b created is in let so : sender.serial ≡ r.serial = ap (λ (i : Id). i.serial) same in
+                  omega (arith, old, so, number)
+                  );
+              silent = λ yet. absurd (omega (arith, yet, number));
+              unborn = λ yet. absurd (omega (arith, yet, number));
+              known = λ among. record {
+                listed = among_later s.registries (new_id ∷ []) r (inl this);
+                object = x;
+                holds = stored_here s.store n x r.number (ap (λ (i : Id). i.number) (sym this));
+                serial = serial ∙ number;
+                interface = registry;
+                positive = omega (arith, number);
+              };
+              tells = λ among. record {
+                told = λ g in-log. among_shown views client s.info offer g (subst (λ (l : List Announced). IsAmong l g) fresh in-log);
+                tells = λ g shown'. subst (λ (l : List Announced). IsAmong l g) (sym fresh) (shown_among views client s.info offer g shown');
+              };
+            };
+      }
+        where
+          shown_as_announced : List Announced
+          shown_as_announced = shown_of views offer client s.info
+
+          most : ((y : Id) → IsAmong s.registries y → y.serial ≤ s.last_serial) → (y : Id) → IsAmong s.registries y ⊎ ((new_id ≡ y) ⊎ ⊥) → y.serial ≤ s.last_serial + 1
+          most old y (inl among) = let before = old y among in omega (arith, before)
+          most old y (inr (inl same)) = let so : s.last_serial + 1 ≡ y.serial = ap (λ (i : Id). i.serial) same in omega (arith, so)
+          most old y (inr (inr none)) = absurd none
+
+      pub registers_goes : Goes s (map (global_message offer.table (record { number = n; serial = s.last_serial + 1 })) (shown views offer.globals client s.info))
+          (record { number = n; serial = s.last_serial + 1 } ∷ [])
+          (record s { store = stored s.store n x; last_serial = s.last_serial + 1; registries = s.registries ++ record { number = n; serial = s.last_serial + 1 } ∷ [] })
+      registers_goes = go (same_id new_id r) refl
+        where
+          go : (b : Bool) → same_id new_id r ≡ b → Goes s greeting (new_id ∷ []) after
+          go true is = registers_this (same_id_is new_id r is)
+          go false is = registers_other (λ same. true≢false (sym (ap (same_id new_id) (sym same) ∙ same_id_self new_id) ∙ is))
+
+  -- ---- globals come and go
+
+  module _ {U : Type 0} (offer offer' : Offer G) (s : Scene U C) where
+    -- all registries are told of it, each in a message of its own
+    pub told_all : (message : Id → Said) → ((y : Id) → sender_of (message y) ≡ y) → (log : List Said) (made : List Id)
+        → (IsAmong s.registries r → TellsShown offer s.info log → TellsShown offer' s.info (log ++ map message s.registries))
+        → Watch offer s log made → Watch offer' s (log ++ map message s.registries) made
+    told_all message by log made tells w = record {
+      bounded = w.bounded;
+      listed = w.listed;
+      open_bounded = w.open_bounded;
+      open_other = w.open_other;
+      silent = λ later.
+          say_then r log (map message s.registries) (w.silent later)
+          (others_say r (map message s.registries)
+          (told_others r message by s.registries (λ among. let old = w.listed r among in absurd (omega (arith, old, later)))));
+      unborn = w.unborn;
+      known = w.known;
+      tells = λ is. tells (w.known is).listed (w.tells is);
+    }
+
+    -- none is told
+    pub told_none : (log : List Said) (made : List Id) → (TellsShown offer s.info log → TellsShown offer' s.info log) → Watch offer s log made → Watch offer' s log made
+    told_none log made tells w = record {
+      bounded = w.bounded;
+      listed = w.listed;
+      open_bounded = w.open_bounded;
+      open_other = w.open_other;
+      silent = w.silent;
+      unborn = w.unborn;
+      known = w.known;
+      tells = λ is. tells (w.tells is);
+    }

@@ -1,0 +1,562 @@
+-- What the readings of a client of a server answer, and how they leave it: an action, or that the client was killed, or that
+-- more may be received later.
+use Rattle.std.proofs.Common.{◌≡◌, ◌≢◌, ◌⊎◌, ℕ, Bool, true, false, not, ◌&&◌, eqb, cond, List, [], ◌∷◌, ◌++◌, append-nil, map, Option, None, Some, is_none, is_some, Result, Ok, Err, is_ok, MatchResult, refl, sym, ap, ap₂, subst, ◌∙◌, true≢false}
+use mathlib.Core.Logic.{inl, inr}
+use Rattle.std.proofs.lemmas.Option.{same_Some}
+use Rattle.std.specs.Prelude.{if◌then◌else◌, nat_lt, MatchBool}
+use Rattle.std.specs.Option.{option_map_or}
+use Rattle.wl_wire.specs.declared.argument.Argument.TheVariants as arg
+use Rattle.wl_wire.specs.declared.error.IoFault.{IoFault}
+use Rattle.wl_wire.specs.declared.error.IoFault.TheVariants as fault
+use Rattle.wl_wire.specs.Argument.{WireArgument}
+use Rattle.wl_wire.specs.Message.{WireMessage}
+use Rattle.wl_wire.specs.Table.{MessageRow, display_id, name_of, registry_id}
+use Rattle.wl_link.specs.declared.object.Object.{Object}
+use Rattle.wl_link.specs.Exchange.{Queue, Sending}
+use Rattle.wl_link.specs.Identity.{Objects}
+use Rattle.wl_link.specs.Link.{LinkState, counted_answer, count_of}
+use Rattle.wl_link.specs.Puts.{PutsOut, Said, lacked_memory}
+use Rattle.wl_link.specs.Reader.{CarriesOut, Ends, Given, Gives, Halts, HandedOut, Handled, Reads, Received, Turn, Unread, Verdict, behind, came_to, put_and_gave, stops, with_link, ReaderState}
+use Rattle.wl_link.proofs.Readings.ServedLaws.{both_false}
+use Rattle.wl_link.specs.Store.{held}
+use Rattle.wl_server.specs.declared.reading.action.OpenAction.{OpenAction}
+use Rattle.wl_server.specs.declared.reading.action.OpenAction.TheVariants as opened
+use Rattle.wl_server.specs.declared.error.ActionError.{ActionError}
+use Rattle.wl_server.specs.declared.error.ActionError.TheVariants.{Io}
+use Rattle.wl_server.specs.declared.error.FinishError.{FinishError}
+use Rattle.wl_server.specs.declared.objects.Kept.{Kept}
+use Rattle.wl_server.specs.declared.globals.KeptGlobal.{KeptGlobal}
+use Rattle.wl_server.specs.declared.notes.DisconnectReason.{DisconnectReason}
+use Rattle.wl_server.specs.declared.notes.DisconnectReason.TheVariants.{ConnectionClosed}
+use Rattle.wl_server.specs.declared.notes.Happening.TheVariants.{Disconnected}
+use Rattle.wl_server.specs.Deeds.{Acted, Came, Deed, Handed, Noted, Put, Remembered, Sent, left_if}
+use Rattle.wl_server.proofs.OverRuns.Moves.DoingsLaws.{deeds_both, deeds_given}
+use Rattle.wl_server.specs.Errors.{bind_text, new_id_text, since_text}
+use Rattle.wl_server.specs.Finish.{closes, ended_by, ends, ends_request, finishing, refusal, unless_some}
+use Rattle.wl_server.specs.Ids.{IdParts}
+use Rattle.wl_server.specs.Part.{end_note, id_at, id_of, named}
+use Rattle.wl_server.specs.Reading.{Around, action_in, binds, binds_to, breaks, converted, display_request, exchanges_in, faulted, garbled, hands_out, made_at, may_bind, other_request, reads_on, registers, registry_request, replies, request, row_in, server, synced, syncs, takes, with_registry}
+use Rattle.wl_server.specs.Requests.{Outcome, Whole, Wrong, convert, is_valid_new, start}
+use Rattle.wl_server.specs.Stretches.{answers_in, beside_exchanges, was_killed}
+use Rattle.wl_server.specs.Telling.{Core, Did, Finish, OfBind, OfRequest, Stops, Told, closed_down, deeds_in, deeds_of, end_deeds, killed, objects_in, with_objects}
+
+-- ---- lists of what was given
+
+-- the first of the answers
+abbrev pub first_of : List (Result Handed IoFault) → Result Handed ActionError
+first_of [] = Err (Io fault.Pipe)
+first_of (Ok h ∷ answers) = Ok h
+first_of (Err f ∷ answers) = Err (Io f)
+
+pipe_not : fault.Pipe ≢ fault.WouldBlock
+pipe_not same = cc
+
+proto_not : fault.Proto ≢ fault.WouldBlock
+proto_not same = cc
+
+not_ok : (f : IoFault) → ◌≡◌ {A = Result (Unit {0}) IoFault} (Err f) (Ok tt) → ⊥
+not_ok f same = true≢false (sym (ap is_ok same))
+
+none_some : {A : Type 0} {x : A} → None ≡ Some x → ⊥
+none_some e = true≢false (ap is_none e)
+
+module _ {U : Type 0} where
+  pub answers_both : (gave others : List (Given (Told U))) → answers_in (gave ++ others) ≡ answers_in gave ++ answers_in others
+  answers_both [] others = refl
+  answers_both (HandedOut (Did (Acted h)) ∷ gave) others = ap (λ (l : List (Result Handed IoFault)). Ok h ∷ l) (answers_both gave others)
+  answers_both (HandedOut (Stops f) ∷ gave) others = ap (λ (l : List (Result Handed IoFault)). Err f ∷ l) (answers_both gave others)
+  answers_both (g ∷ gave) others = answers_both gave others
+
+  answers_given : (put : List Said) (events : List (Told U)) → answers_in (put_and_gave put events) ≡ answers_in (map HandedOut events)
+  answers_given [] events = refl
+  answers_given (m ∷ put) events = answers_given put events
+
+  pub action_first : (gave : List (Given (Told U))) → action_in gave ≡ first_of (answers_in gave)
+  action_first [] = refl
+  action_first (HandedOut (Did (Acted h)) ∷ gave) = refl
+  action_first (HandedOut (Stops f) ∷ gave) = refl
+  action_first (g ∷ gave) = action_first gave
+
+  -- ---- deeds beside what was sent and received
+
+  pub beside_both : (did others : List (Deed U)) → beside_exchanges (did ++ others) ≡ beside_exchanges did ++ beside_exchanges others
+  beside_both [] others = refl
+  beside_both (Sent e ∷ did) others = beside_both did others
+  beside_both (Came r ∷ did) others = beside_both did others
+  beside_both (d ∷ did) others = ap (λ (l : List (Deed U)). d ∷ l) (beside_both did others)
+
+  pub beside_sends : (es : List Sending) → beside_exchanges {U = U} (map Sent es) ≡ []
+  beside_sends [] = refl
+  beside_sends (e ∷ es) = beside_sends es
+
+  pub beside_turns : (turns : List Turn) → beside_exchanges {U = U} (exchanges_in turns) ≡ []
+  beside_turns [] = refl
+  beside_turns (Received r ∷ turns) = beside_turns turns
+  beside_turns (Handled es ∷ turns) =
+      beside_both (map Sent es) (exchanges_in turns) ∙ ap (λ (l : List (Deed U)). l ++ beside_exchanges (exchanges_in turns)) (beside_sends es) ∙ beside_turns turns
+  beside_turns (Unread es ∷ turns) =
+      beside_both (map Sent es) (exchanges_in turns) ∙ ap (λ (l : List (Deed U)). l ++ beside_exchanges (exchanges_in turns)) (beside_sends es) ∙ beside_turns turns
+
+  beside_puts : (put : List Said) (others : List (Deed U)) → beside_exchanges (map Put put ++ others) ≡ map Put put ++ beside_exchanges others
+  beside_puts [] others = refl
+  beside_puts (m ∷ put) others = ap (λ (l : List (Deed U)). Put m ∷ l) (beside_puts put others)
+
+  beside_end : (o : Option DisconnectReason) → beside_exchanges {U = U} (end_deeds o) ≡ end_deeds o
+  beside_end None = refl
+  beside_end (Some reason) = refl
+
+  killed_later : (did others : List (Deed U)) → was_killed others ≡ true → was_killed (did ++ others) ≡ true
+  killed_later [] others is = is
+  killed_later (Noted (Disconnected reason) ∷ did) others is = refl
+  killed_later (d ∷ did) others is = killed_later did others is
+
+  -- nothing that was sent or received is among what was given
+  abbrev pub IsBeside : List (Given (Told U)) → Type 0
+  IsBeside gave = beside_exchanges (deeds_in gave) ≡ deeds_in gave
+
+  beside_gave : (gave others : List (Given (Told U))) → IsBeside gave → IsBeside others → IsBeside (gave ++ others)
+  beside_gave gave others first second =
+      ap beside_exchanges (deeds_both gave others) ∙ beside_both (deeds_in gave) (deeds_in others)
+      ∙ ap₂ (λ (a b : List (Deed U)). a ++ b) first second ∙ sym (deeds_both gave others)
+
+  beside_given : (put : List Said) (events : List (Told U)) → IsBeside (map HandedOut events) → IsBeside (put_and_gave put events)
+  beside_given put events quiet =
+      ap beside_exchanges (deeds_given put events) ∙ beside_puts put (deeds_in (map HandedOut events))
+      ∙ ap (λ (l : List (Deed U)). map Put put ++ l) quiet ∙ sym (deeds_given put events)
+
+module _ {U C : Type 0} where
+  -- of a call's deeds these are what was given, and the end of the client
+  pub beside_deeds : (exchanges : List (Deed U)) (gave : List (Given (Told U))) (c : Core U C) → beside_exchanges exchanges ≡ [] → IsBeside gave
+      → beside_exchanges (deeds_of exchanges gave c) ≡ deeds_in gave ++ end_deeds c.ended
+  beside_deeds exchanges gave c none quiet =
+      beside_both exchanges (deeds_in gave ++ end_deeds c.ended)
+      ∙ ap (λ (l : List (Deed U)). l ++ beside_exchanges (deeds_in gave ++ end_deeds c.ended)) none
+      ∙ beside_both (deeds_in gave) (end_deeds c.ended)
+      ∙ ap₂ (λ (a b : List (Deed U)). a ++ b) quiet (beside_end c.ended)
+
+  pub killed_deeds : (exchanges : List (Deed U)) (gave : List (Given (Told U))) (c : Core U C) (reason : DisconnectReason) → c.ended ≡ Some reason
+      → was_killed (deeds_of exchanges gave c) ≡ true
+  killed_deeds exchanges gave c reason is =
+      killed_later exchanges (deeds_in gave ++ end_deeds c.ended) (killed_later (deeds_in gave) (end_deeds c.ended) (ap (λ (o : Option DisconnectReason). was_killed (end_deeds {U = U} o)) is))
+
+  -- ---- how a client stands
+
+  -- it is live, and has no end; or it was killed, with no action open, for a reason
+  abbrev pub IsSound : Core U C → Type 0
+  IsSound c =
+      ((c.is_killed ≡ false) × (c.ended ≡ None))
+      ⊎ ((c.is_killed ≡ true) × (c.action ≡ None) × ((reason : DisconnectReason) × (c.ended ≡ Some reason)))
+
+  sound_killed : (c : Core U C) (reason : DisconnectReason) → IsSound c → c.action ≡ None → IsSound (killed c reason)
+  sound_killed c reason (inl (live, none)) unopened =
+      inr (refl, unopened, (reason, ap (λ (b : Bool). if b then c.ended else Some reason) live))
+  sound_killed c reason (inr (was, none, (first, is))) unopened =
+      inr (refl, unopened, (first, ap (λ (b : Bool). if b then c.ended else Some reason) was ∙ is))
+
+  -- the client is read on, and so has no end
+  record IsReady (c : Core U C) : Type 0 where
+    live : c.is_killed ≡ false
+    unopened : c.action ≡ None
+    none : c.ended ≡ None
+
+  ready : (c : Core U C) → reads_on c ≡ true → IsSound c → IsReady c
+  ready c on sound = at c.is_killed c.action refl refl on sound
+    where
+      at : (b : Bool) (o : Option OpenAction) → c.is_killed ≡ b → c.action ≡ o → (not b && is_none o) ≡ true
+          → ((b ≡ false) × (c.ended ≡ None)) ⊎ ((b ≡ true) × (o ≡ None) × ((reason : DisconnectReason) × (c.ended ≡ Some reason)))
+          → IsReady c
+      at true o was is off sound = absurd (true≢false (sym off))
+      at false (Some x) was is off sound = absurd (true≢false (sym off))
+      at false None was is on' (inl (live, none)) = record { live = was; unopened = is; none = none }
+      at false None was is on' (inr (dead, none, end)) = absurd (true≢false (sym dead))
+
+  pub on_of : (c : Core U C) → c.is_killed ≡ false → c.action ≡ None → reads_on c ≡ true
+  on_of c live unopened = ap₂ (λ (b : Bool) (o : Option OpenAction). not b && is_none o) live unopened
+
+  off_of : (c : Core U C) → c.is_killed ≡ true → reads_on c ≡ false
+  off_of c dead = ap (λ (b : Bool). not b && is_none c.action) dead
+
+  -- ---- what a verdict answers
+
+  -- one answer: an action, or that nothing more is read, where the client was killed
+  abbrev pub IsOver : List (Result Handed IoFault) → Core U C → Type 0
+  IsOver answers d =
+      (reads_on d ≡ false)
+      × (((h : Handed) × (answers ≡ Ok h ∷ []))
+      ⊎ ((f : IoFault) × (answers ≡ Err f ∷ []) × (f ≢ fault.WouldBlock) × (d.is_killed ≡ true)))
+
+  -- nothing was answered, and the client is read on; or one answer was, and it is not
+  record Says (gave : List (Given (Told U))) (d : Core U C) : Type 0 where
+    sound : IsSound d
+    quiet : IsBeside gave
+    so : ((reads_on d ≡ true) × (answers_in gave ≡ [])) ⊎ IsOver (answers_in gave) d
+
+  says_stops : (f : IoFault) (d : Core U C) → f ≢ fault.WouldBlock → IsSound d → d.is_killed ≡ true → Says (HandedOut (Stops f) ∷ []) d
+  says_stops f d not sound dead = record { sound = sound; quiet = refl; so = inr (off_of d dead, inr (f, refl, not, dead)) }
+
+module _ {T : Type 0} (sends : T → Queue → Result ℕ IoFault → T → Type 0) where
+  none_broken : (ms : List Said) (before after : LinkState T) (es : List Sending) (put : List Said) (f : IoFault) → PutsOut sends before ms es put (Err f) after → ms ≢ []
+  none_broken ms before after es put f puts none =
+      let nothing_put = subst (λ (l : List Said). PutsOut sends before l es put (Err f) after) none puts in not_ok f nothing_put.2
+
+module _ {U G C : Type 0} (a : Around G C) where
+  -- what a verdict says where its messages were put, and where one could not be
+  record Speaks (v : Verdict (Core U C) (Told U)) : Type 0 where
+    whole : Says (map HandedOut (v.events (v.last v.core))) (v.last v.core)
+    broken : (v.puts ≢ []) → Says (map HandedOut (v.events (v.last (closed_down v.core)))) (v.last (closed_down v.core))
+
+  stops_speaks : (c : Core U C) (code : ℕ) (text : List ℕ) → IsReady c → Speaks (breaks a c code text)
+  stops_speaks c code text r =
+      let closed' = sound_killed c ConnectionClosed (inl (r.live, r.none)) r.unopened in record {
+        whole = says_stops fault.Pipe _ pipe_not (sound_killed c _ (inl (r.live, r.none)) r.unopened) refl;
+        broken = λ some. says_stops fault.Pipe _ pipe_not (sound_killed (closed_down c) ConnectionClosed closed' r.unopened) refl;
+      }
+
+  garbled_speaks : (c : Core U C) → IsReady c → Speaks (garbled c)
+  garbled_speaks c r =
+      let closed' = sound_killed c ConnectionClosed (inl (r.live, r.none)) r.unopened in record {
+        whole = says_stops fault.Proto _ proto_not closed' refl;
+        broken = λ some. says_stops fault.Proto _ proto_not (sound_killed (closed_down c) ConnectionClosed closed' r.unopened) refl;
+      }
+
+  action_speaks : (c : Core U C) (action : OpenAction) (h : Handed) → IsReady c → Speaks (hands_out c action h)
+  action_speaks c action h r = record {
+    whole = record { sound = inl (r.live, r.none); quiet = refl; so = inr (off c.is_killed, inl (h, refl)) };
+    broken = λ some. absurd (some refl);
+  }
+    where
+      off : (b : Bool) → (not b && false) ≡ false
+      off true = refl
+      off false = refl
+
+  -- what was done beside the answer is no exchange, and hands nothing out
+  record IsPlain (did : List (Deed U)) : Type 0 where
+    quiet : IsBeside (map HandedOut (map Did did ++ []))
+    none : answers_in (map HandedOut (map Did did ++ [])) ≡ []
+    quiet_end : IsBeside (map HandedOut (map Did did ++ Stops fault.Pipe ∷ []))
+    end : answers_in (map HandedOut (map Did did ++ Stops fault.Pipe ∷ [])) ≡ Err fault.Pipe ∷ []
+
+  reply_speaks : (c : Core U C) (puts : List Said) (did : List (Deed U)) → IsReady c → IsPlain did → Speaks (replies c puts did)
+  reply_speaks c puts did r plain = record {
+    whole = subst (λ (l : List (Told U)). Says (map HandedOut (map Did did ++ l)) c) (sym (ap (λ (b : Bool). let l : List (Told U) = if b then Stops fault.Pipe ∷ [] else [] in l) r.live))
+        (record { sound = inl (r.live, r.none); quiet = plain.quiet; so = inl (on_of c r.live r.unopened, plain.none) });
+    broken = λ some. record {
+      sound = sound_killed c _ (inl (r.live, r.none)) r.unopened;
+      quiet = plain.quiet_end;
+      so = inr (refl, inr (fault.Pipe, plain.end, pipe_not, refl));
+    };
+  }
+
+  made_speaks : (c : Core U C) (n : ℕ) (v : Verdict (Core U C) (Told U)) → IsReady c → Speaks v → Speaks (made_at a c n v)
+  made_speaks c n v r speaks = go (is_valid_new (objects_in c) n)
+    where
+      go : (b : Bool) → Speaks (if b then v else breaks a c 0 (new_id_text n))
+      go true = speaks
+      go false = stops_speaks c 0 (new_id_text n) r
+
+  -- ---- requests to a display
+
+  synced_ready : (c : Core U C) (n : ℕ) → IsReady c → IsReady (synced a c n)
+  synced_ready c n r = record { live = r.live; unopened = r.unopened; none = r.none }
+
+  registry_ready : (c : Core U C) (n : ℕ) → IsReady c → IsReady (with_registry a c n)
+  registry_ready c n r = record { live = r.live; unopened = r.unopened; none = r.none }
+
+  objects_ready : (c : Core U C) (o : Objects (Kept U)) → IsReady c → IsReady (with_objects c o)
+  objects_ready c o r = record { live = r.live; unopened = r.unopened; none = r.none }
+
+  display_speaks : (c : Core U C) (opcode : ℕ) (args : List WireArgument) → IsReady c → Speaks (display_request a c opcode args)
+  display_speaks c opcode (arg.NewId n ∷ []) r = made_speaks c n _ r (go (eqb opcode 0))
+    where
+      go : (b : Bool) → Speaks (cond b (syncs a c n) (registers a c n))
+      go true = reply_speaks (synced a c n) _ [] (synced_ready c n r) (record { quiet = refl; none = refl; quiet_end = refl; end = refl })
+      go false = reply_speaks (with_registry a c n) _ (Remembered _ ∷ []) (registry_ready c n r) (record { quiet = refl; none = refl; quiet_end = refl; end = refl })
+  display_speaks c opcode _ r = garbled_speaks c r
+
+  -- ---- requests to a registry
+
+  binds_to_speaks : (c : Core U C) (g : ℕ) (name : Option (List ℕ)) (version n : ℕ) (x : Option (Object (KeptGlobal G))) → IsReady c → Speaks (binds_to a c g name version n x)
+  binds_to_speaks c g name version n None r = stops_speaks c 0 _ r
+  binds_to_speaks c g name version n (Some x) r = go (may_bind a c g name version x)
+    where
+      go : (b : Bool) → Speaks (cond b (made_at a c n (binds a c g version n x)) (breaks a c 0 (bind_text (option_map_or (λ t. t) name []) version g)))
+      go true = made_speaks c n _ r (action_speaks _ _ _ (objects_ready c _ r))
+      go false = stops_speaks c 0 _ r
+
+  registry_speaks : (c : Core U C) (args : List WireArgument) → IsReady c → Speaks (registry_request a c args)
+  registry_speaks c (arg.Uint g ∷ arg.Str name ∷ arg.Uint version ∷ arg.NewId n ∷ []) r = binds_to_speaks c g name version n (held a.globals.store g) r
+  registry_speaks c _ r = garbled_speaks c r
+
+  -- ---- other requests
+
+  converted_speaks : (c : Core U C) (m : WireMessage) (receiver : Object (Kept U)) (row : MessageRow) (outcome : Outcome U) → IsReady c → Speaks (converted a c m receiver row outcome)
+  converted_speaks c m receiver row (Wrong w objects) r = stops_speaks (with_objects c objects) 0 _ (objects_ready c objects r)
+  converted_speaks c m receiver row (Whole d args) r = action_speaks (with_objects c d.objects) _ _ (objects_ready c d.objects r)
+
+  other_speaks : (c : Core U C) (m : WireMessage) (receiver : Object (Kept U)) (row : MessageRow) → IsReady c → Speaks (other_request a c m receiver row)
+  other_speaks c m receiver row r = go (nat_lt receiver.version row.since)
+    where
+      go : (b : Bool) → Speaks (cond b
+          (breaks a c 1 (since_text m.opcode receiver.version row.since (name_of a.table receiver.interface.0) m.sender))
+          (converted a c m receiver row (convert a.client receiver.version (start (objects_in c) row) [] m.args)))
+      go true = stops_speaks c 1 _ r
+      go false = converted_speaks c m receiver row (convert a.client receiver.version (start (objects_in c) row) [] m.args) r
+
+  -- ---- a message
+
+  request_speaks : (c : Core U C) (m : WireMessage) (receiver : Option (Object (Kept U))) (row : Option MessageRow) → IsReady c → Speaks (request a c m receiver row)
+  request_speaks c m None row r = garbled_speaks c r
+  request_speaks c m (Some receiver) None r = garbled_speaks c r
+  request_speaks c m (Some receiver) (Some row) r = go (eqb receiver.interface.0 display_id.0) (eqb receiver.interface.0 registry_id.0)
+    where
+      go : (b t : Bool) → Speaks (cond b (display_request a c m.opcode m.args) (cond t (registry_request a c m.args) (other_request a c m receiver row)))
+      go true t = display_speaks c m.opcode m.args r
+      go false true = registry_speaks c m.args r
+      go false false = other_speaks c m receiver row r
+
+  handles_speaks : (c : Core U C) (m : WireMessage) → IsReady c → Speaks ((server a).handles c m)
+  handles_speaks c m r = request_speaks c m (held c.store m.sender) (row_in a.table (held c.store m.sender) m.opcode) r
+
+  -- ---- a verdict that was carried out
+
+  came_broken : (v : Verdict (Core U C) (Told U)) (f : IoFault) → lacked_memory (Err f) ≡ false → came_to (server a) v (Err f) ≡ v.last (closed_down v.core)
+  came_broken v fault.OutOfMemory ample = absurd (true≢false ample)
+  came_broken v fault.WouldBlock ample = refl
+  came_broken v fault.Pipe ample = refl
+  came_broken v fault.TooBig ample = refl
+  came_broken v fault.Proto ample = refl
+  came_broken v fault.InvalidInput ample = refl
+  came_broken v (fault.Other n) ample = refl
+
+  module _ {T : Type 0} (sends : T → Queue → Result ℕ IoFault → T → Type 0) where
+    came_says : (v : Verdict (Core U C) (Told U)) → Speaks v → (before mid : LinkState T) (es : List Sending) (put : List Said) (wrote : Result (Unit {0}) IoFault)
+        → PutsOut sends before v.puts es put wrote mid → lacked_memory wrote ≡ false → Says (map HandedOut (v.events (came_to (server a) v wrote))) (came_to (server a) v wrote)
+    came_says v speaks before mid es put (Ok u) puts ample = speaks.whole
+    came_says v speaks before mid es put (Err f) puts ample =
+        subst (λ (d : Core U C). Says (map HandedOut (v.events d)) d) (sym (came_broken v f ample)) (speaks.broken (none_broken sends v.puts before mid es put f puts))
+
+    carried_says : (v : Verdict (Core U C) (Told U)) → Speaks v → (before : LinkState T) (es : List Sending) (gave : List (Given (Told U))) (refused : Bool)
+        (after : ReaderState T (Core U C)) → refused ≡ false → CarriesOut sends (server a) v before es gave refused after → Says gave after.core
+    carried_says v speaks before es gave refused after ample (inr (asks, was, none, is, same)) = absurd (true≢false (sym was ∙ ample))
+    carried_says v speaks before es gave refused after ample (inl (first, others, put, wrote, mid, lacked, puts, flushed, split, core, is, was)) =
+        let calm = both_false (lacked_memory wrote) lacked (sym ample ∙ was) in
+        let says = came_says v speaks before mid first put wrote puts calm.0 in
+        let events = v.events (came_to (server a) v wrote) in
+        subst (λ (d : Core U C). Says gave d) (sym core)
+        (subst (λ (g : List (Given (Told U))). Says g (came_to (server a) v wrote)) (sym is)
+        (record {
+          sound = says.sound;
+          quiet = beside_given put events says.quiet;
+          so = subst (λ (l : List (Result Handed IoFault)). ((reads_on (came_to (server a) v wrote) ≡ true) × (l ≡ [])) ⊎ IsOver l (came_to (server a) v wrote))
+              (sym (answers_given put events)) says.so;
+        }))
+
+-- ---- a reading
+
+module _ {U : Type 0} where
+  abbrev given_of : Gives (Told U) → List (Given (Told U))
+  given_of o = o.gave
+
+  abbrev stopped_of : Gives (Told U) → Option IoFault
+  stopped_of o = o.stopped
+
+module _ {U C : Type 0} where
+  -- it stopped, and answered nothing; or it is over: the client was not read on before, or there is one answer
+  abbrev pub IsAnswered : Core U C → Gives (Told U) → Core U C → Type 0
+  IsAnswered c out e =
+      ((f : IoFault) × (out.stopped ≡ Some f) × (answers_in out.gave ≡ []))
+      ⊎ ((out.stopped ≡ None) × (((reads_on c ≡ false) × (out.gave ≡ [])) ⊎ IsOver (answers_in out.gave) e))
+
+  pub record ReadsSo (c : Core U C) (out : Gives (Told U)) (e : Core U C) : Type 0 where
+    pub sound : IsSound e
+    pub quiet : IsBeside out.gave
+    pub answered : IsAnswered c out e
+
+  -- nothing was given
+  stops_so : (c e : Core U C) (out : Gives (Told U)) (o : Option IoFault) (refused : Bool) (left : ℕ) → IsSound e → out ≡ stops o refused left
+      → IsAnswered c (stops o refused left) e → ReadsSo c out e
+  stops_so c e out o refused left sound is answered =
+      subst (λ (g : Gives (Told U)). ReadsSo c g e) (sym is) (record { sound = sound; quiet = refl; answered = answered })
+
+  faulted_sound : (c : Core U C) (f : IoFault) → IsReady c → IsSound (faulted c f)
+  faulted_sound c fault.WouldBlock r = inl (r.live, r.none)
+  faulted_sound c fault.OutOfMemory r = inl (r.live, r.none)
+  faulted_sound c fault.Pipe r = sound_killed c _ (inl (r.live, r.none)) r.unopened
+  faulted_sound c fault.TooBig r = sound_killed c _ (inl (r.live, r.none)) r.unopened
+  faulted_sound c fault.Proto r = sound_killed c _ (inl (r.live, r.none)) r.unopened
+  faulted_sound c fault.InvalidInput r = sound_killed c _ (inl (r.live, r.none)) r.unopened
+  faulted_sound c (fault.Other n) r = sound_killed c _ (inl (r.live, r.none)) r.unopened
+
+  -- what a verdict said, and then the rest
+  joins_so : (c mid e : Core U C) (first : List (Given (Told U))) (lacked : Bool) (rest out : Gives (Told U)) → out ≡ behind first lacked rest → Says first mid
+      → ReadsSo mid rest e → (reads_on mid ≡ false → (rest.stopped ≡ None) × (rest.gave ≡ []) × (e ≡ mid)) → ReadsSo c out e
+  joins_so c mid e first lacked rest out split says more over =
+      subst (λ (g : Gives (Told U)). ReadsSo c g e) (sym split)
+      (record {
+        sound = more.sound;
+        quiet = beside_gave first rest.gave says.quiet more.quiet;
+        answered = go says.so more.answered;
+      })
+    where
+      both : answers_in (first ++ rest.gave) ≡ answers_in first ++ answers_in rest.gave
+      both = answers_both first rest.gave
+
+      go : ((reads_on mid ≡ true) × (answers_in first ≡ [])) ⊎ IsOver (answers_in first) mid → IsAnswered mid rest e → IsAnswered c (behind first lacked rest) e
+      go (inl (on, none)) (inl (f, stopped, nothing)) =
+          inl (f, stopped, both ∙ ap₂ (λ (x y : List (Result Handed IoFault)). x ++ y) none nothing)
+      go (inl (on, none)) (inr (stopped, inl (off, nothing))) = absurd (true≢false (sym on ∙ off))
+      go (inl (on, none)) (inr (stopped, inr over')) =
+          inr (stopped, inr (subst (λ (l : List (Result Handed IoFault)). IsOver l e) (sym (both ∙ ap (λ (x : List (Result Handed IoFault)). x ++ answers_in rest.gave) none)) over'))
+      go (inr ended) answered =
+          let o = over ended.0 in
+          let same : answers_in first ≡ answers_in (first ++ rest.gave) = sym (ap (λ (g : List (Given (Told U))). answers_in (first ++ g)) o.1 ∙ both_nothing) in
+          inr (o.0, inr (subst (λ (d : Core U C). IsOver (answers_in (first ++ rest.gave)) d) (sym o.2) (subst (λ (l : List (Result Handed IoFault)). IsOver l mid) same ended)))
+        where
+          both_nothing : answers_in (first ++ []) ≡ answers_in first
+          both_nothing = ap answers_in (append-nil first)
+
+module _ {T U G C : Type 0} (sends : T → Queue → Result ℕ IoFault → T → Type 0) (receives : T → ℕ → Result Queue IoFault → T → Type 0)
+    (a : Around G C) where
+  reads_off : (left : ℕ) (p after : ReaderState T (Core U C)) (turns : List Turn) (out : Gives (Told U)) → reads_on p.core ≡ false
+      → Reads sends (server a) receives left p turns out after → (out.stopped ≡ None) × (out.gave ≡ []) × (after.core ≡ p.core)
+  reads_off left p after [] out off (same, ends) = go (reads_on p.core) off ends
+    where
+      go : (b : Bool) → b ≡ false → MatchBool b (Halts sends (server a) left p out) (out ≡ stops None false left) → (out.stopped ≡ None) × (out.gave ≡ []) × (after.core ≡ p.core)
+      go true is h = absurd (true≢false is)
+      go false is h = (ap stopped_of h, ap given_of h, ap (λ (x : ReaderState T (Core U C)). x.core) same)
+  reads_off left p after (Received r ∷ turns) out off h = absurd (true≢false (sym h.0 ∙ off))
+  reads_off left p after (Handled es ∷ turns) out off h = absurd (true≢false (sym h.0 ∙ off))
+  reads_off left p after (Unread es ∷ turns) out off h = absurd (true≢false (sym h.0 ∙ off))
+
+  pub reads_so : (left : ℕ) (p after : ReaderState T (Core U C)) (turns : List Turn) (out : Gives (Told U)) → Reads sends (server a) receives left p turns out after
+      → out.refused ≡ false → IsSound p.core → ReadsSo p.core out after.core
+  reads_so left p after [] out (same, ends) ample sound = go (reads_on p.core) refl ends
+    where
+      kept : IsSound after.core
+      kept = subst (λ (x : ReaderState T (Core U C)). IsSound x.core) (sym same) sound
+
+      go : (b : Bool) → reads_on p.core ≡ b → MatchBool b (Halts sends (server a) left p out) (out ≡ stops None false left) → ReadsSo p.core out after.core
+      go true on (inl (lacks, none, is)) = stops_so p.core after.core out (Some fault.WouldBlock) false left kept is (inl (fault.WouldBlock, refl, refl))
+      go true on (inr (inl (asks, is))) = stops_so p.core after.core out (Some fault.OutOfMemory) true left kept is (inl (fault.OutOfMemory, refl, refl))
+      go true on (inr (inr (lacks, (n, one, is)))) = stops_so p.core after.core out (Some fault.OutOfMemory) true n kept is (inl (fault.OutOfMemory, refl, refl))
+      go false off is = stops_so p.core after.core out None false left kept is (inr (refl, inl (off, refl)))
+  reads_so left p after (Received r ∷ turns) out (on, lacks, (n, is, (link, filled, finds, h))) ample sound =
+      go (counted_answer (count_of r)) h (λ more. reads_so n (with_link p link) after turns out more ample sound)
+    where
+      go : (c : Result (Unit {0}) IoFault)
+          → MatchResult c (λ _. Reads sends (server a) receives n (with_link p link) turns out after)
+          (λ f. (turns ≡ []) × (out ≡ stops (Some f) (lacked_memory (Err f)) n) × (after ≡ record { core = faulted p.core f; link = link }))
+          → (Reads sends (server a) receives n (with_link p link) turns out after → ReadsSo p.core out after.core) → ReadsSo p.core out after.core
+      go (Ok u) more goes = goes more
+      go (Err f) (none, ends, same) goes =
+          stops_so p.core after.core out (Some f) (lacked_memory (Err f)) n
+          (subst (λ (x : ReaderState T (Core U C)). IsSound x.core) (sym same) (faulted_sound p.core f (ready p.core on sound))) ends (inl (f, refl, refl))
+  reads_so left p after (Handled es ∷ turns) out (on, (v, link, first, lacked, mid, rest, (m, read, is), carried, split, more)) ample sound =
+      let calm = both_false lacked rest.refused (sym ample ∙ ap (λ (o : Gives (Told U)). o.refused) split) in
+      let speaks = subst (λ (w : Verdict (Core U C) (Told U)). Speaks a w) (sym is) (handles_speaks a p.core m (ready p.core on sound)) in
+      let says = carried_says a sends v speaks link es first lacked mid calm.0 carried in
+      joins_so p.core mid.core after.core first lacked rest out split says (reads_so left mid after turns rest more calm.1 says.sound) (λ off. reads_off left mid after turns rest off more)
+  reads_so left p after (Unread es ∷ turns) out (on, (v, link, first, lacked, mid, rest, (read, same, is), carried, split, more)) ample sound =
+      let calm = both_false lacked rest.refused (sym ample ∙ ap (λ (o : Gives (Told U)). o.refused) split) in
+      let speaks = subst (λ (w : Verdict (Core U C) (Told U)). Speaks a w) (sym is) (garbled_speaks a p.core (ready p.core on sound)) in
+      let says = carried_says a sends v speaks link es first lacked mid calm.0 carried in
+      joins_so p.core mid.core after.core first lacked rest out split says (reads_so left mid after turns rest more calm.1 says.sound) (λ off. reads_off left mid after turns rest off more)
+
+-- ---- the end of an action
+
+module _ {U C : Type 0} where
+  -- what an end came to: nothing is answered, and none is open
+  pub record EndsSo (gave : List (Given (Told U))) (d : Core U C) : Type 0 where
+    pub sound : IsSound d
+    pub quiet : IsBeside gave
+    pub none : answers_in gave ≡ []
+
+module _ {U G C : Type 0} (a : Around G C) where
+  -- what such a verdict says
+  record Closes (v : Verdict (Core U C) (Told U)) : Type 0 where
+    last : (d : Core U C) → v.last d ≡ d
+    live : v.core.is_killed ≡ false
+    unopened : v.core.action ≡ None
+    unended : v.core.ended ≡ None
+    quiet : (d : Core U C) → IsBeside (map HandedOut (v.events d))
+    none : (d : Core U C) → answers_in (map HandedOut (v.events d)) ≡ []
+
+  closed_end : (v : Verdict (Core U C) (Told U)) → Closes v → (wrote : Result (Unit {0}) IoFault) → lacked_memory wrote ≡ false → IsSound (came_to (server a) v wrote)
+  closed_end v closes' (Ok u) ample = subst IsSound (sym (closes'.last v.core)) (inl (closes'.live, closes'.unended))
+  closed_end v closes' (Err f) ample =
+      subst IsSound (sym (came_broken a v f ample ∙ closes'.last (closed_down v.core))) (sound_killed v.core _ (inl (closes'.live, closes'.unended)) closes'.unopened)
+
+  -- what is told of an object that is gone
+  abbrev told_end : IdParts → Object (Kept U) → Bool → Option U → List (Told U)
+  told_end id x b o = if b then [] else map Did (map Noted (end_note (id_at a.client id.number x) o) ++ left_if (id_of id) o)
+
+  ending_closes : (c : Core U C) (id : IdParts) (x : Option (Object (Kept U))) (created : Option IdParts) (u : Option U) → c.is_killed ≡ false → c.ended ≡ None
+      → Closes (ends a.client c id x created u)
+  ending_closes c id None created u live unended = record {
+    last = λ d. refl;
+    live = live;
+    unopened = refl;
+    unended = unended;
+    quiet = λ d. refl;
+    none = λ d. refl;
+  }
+  ending_closes c id (Some x) created u live unended = record {
+    last = λ d. refl;
+    live = live;
+    unopened = refl;
+    unended = unended;
+    quiet = λ d. quiet (is_some (named d.store id)) x.value.user_data;
+    none = λ d. none (is_some (named d.store id)) x.value.user_data;
+  }
+    where
+      quiet : (b : Bool) (o : Option U) → IsBeside (map HandedOut (told_end id x b o))
+      quiet true o = refl
+      quiet false None = refl
+      quiet false (Some d) = refl
+
+      none : (b : Bool) (o : Option U) → answers_in (map HandedOut (told_end id x b o)) ≡ []
+      none true o = refl
+      none false None = refl
+      none false (Some d) = refl
+
+  bound_closes : (c : Core U C) (created : Option IdParts) (u : Option U) → c.is_killed ≡ false → c.ended ≡ None → Closes (closes c created u)
+  bound_closes c created u live unended = record {
+    last = λ d. refl;
+    live = live;
+    unopened = refl;
+    unended = unended;
+    quiet = λ d. refl;
+    none = λ d. refl;
+  }
+
+  taken_closes : (c : Core U C) (u : Finish U) (v : Verdict (Core U C) (Told U)) → c.ended ≡ None → takes a.client c u ≡ Some v → Closes v
+  taken_closes c u v unended is = at c.is_killed refl c.action u is
+    where
+      closed_by : (w : Verdict (Core U C) (Told U)) → Closes w → Some w ≡ Some v → Closes v
+      closed_by w closes' same = subst Closes (same_Some w v same) closes'
+
+      request : (live : c.is_killed ≡ false) (sender : IdParts) (b : Bool) (created : Option IdParts) (o : Option U) (e : Option FinishError)
+          → unless_some e (ends_request a.client c sender b created o) ≡ Some v → Closes v
+      request live sender b created o None same =
+          closed_by (ends_request a.client c sender b created o) (ending_closes c sender (ended_by c.store sender b) created o live unended) same
+      request live sender b created o (Some e) same = absurd (none_some same)
+
+      at : (b : Bool) → c.is_killed ≡ b → (action : Option OpenAction) (u : Finish U) → (if b then None else finishing a.client c action u) ≡ Some v → Closes v
+      at true dead action u same = absurd (none_some same)
+      at false live (Some (opened.Request sender d created)) (OfRequest o) same = request live sender d created o (refusal c.is_killed created o) same
+      at false live (Some (opened.Bind object)) (OfBind d) same = closed_by (closes c (Some object) (Some d)) (bound_closes c (Some object) (Some d) live unended) same
+      at false live action u same = absurd (none_some same)
+
+  module _ {T : Type 0} (sends : T → Queue → Result ℕ IoFault → T → Type 0) where
+    pub ends_so : (p after : ReaderState T (Core U C)) (u : Finish U) (es : List Sending) (gave : List (Given (Told U))) → p.core.ended ≡ None
+        → Ends sends (server a) p u es gave false after → EndsSo gave after.core
+    ends_so p after u es gave unended (v, taken, inr (asks, was, none, is, same)) = absurd (true≢false (sym was))
+    ends_so p after u es gave unended (v, taken, inl (first, others, put, wrote, mid, lacked, puts, flushed, split, core, is, was)) =
+        let closes' = taken_closes p.core u v unended taken in
+        let calm = both_false (lacked_memory wrote) lacked was in
+        let end = came_to (server a) v wrote in
+        record {
+          sound = subst IsSound (sym core) (closed_end v closes' wrote calm.0);
+          quiet = subst IsBeside (sym is) (beside_given put (v.events end) (closes'.quiet end));
+          none = ap answers_in is ∙ answers_given put (v.events end) ∙ closes'.none end;
+        }

@@ -1,0 +1,249 @@
+-- What follows for a client of a server from the laws of a reader: that it does not matter to it how bytes and tokens are
+-- cut, reading by reading and finish by finish.
+use Rattle.std.proofs.Common.{◌≡◌, ℕ, ◌<◌, Bool, true, false, List, ◌∷◌, ◌++◌, Option, None, Some, is_none, Result, Ok, Err, refl, sym, ap, subst, ◌∙◌, true≢false}
+use mathlib.Core.Logic.{inl, inr}
+use Rattle.std.proofs.lemmas.Option.{same_Some}
+use Rattle.std.specs.Prelude.{if◌then◌else◌, not, ◌&&◌, is_ok, map, MatchBool}
+use Rattle.wl_wire.specs.declared.error.IoFault.{IoFault}
+use Rattle.wl_wire.specs.declared.error.IoFault.TheVariants as fault
+use Rattle.wl_link.specs.Total.{EndsMalformed}
+use Rattle.wl_link.proofs.Readings.AnsweringLaws.{some_answered}
+use Rattle.wl_link.proofs.Calls.Branches.{either_option}
+use Rattle.wl_link.proofs.Readings.CuttingLaws.{finish_law, reading_law}
+use Rattle.wl_link.specs.Exchange.{Queue, Sending, nothing}
+use Rattle.wl_link.specs.Reader.{AllFed, CarriesOut, Ends, Given, Gives, Reads, Turn, Verdict, received_in, sends_in, ReaderState}
+use Rattle.wl_link.specs.Served.{Answers, AsTold, state_as}
+use Rattle.wl_link.proofs.Readings.ServedLaws.{served_one, told_function}
+use Rattle.wl_server.specs.declared.reading.action.OpenAction.{OpenAction}
+use Rattle.wl_server.specs.declared.reading.action.OpenAction.TheVariants as opened
+use Rattle.wl_server.specs.declared.reading.action.Reading.{Reading}
+use Rattle.wl_server.specs.declared.error.ActionError.{ActionError}
+use Rattle.wl_server.specs.declared.error.ActionError.TheVariants.{ActionOpen, Io}
+use Rattle.wl_server.specs.declared.error.FinishError.TheVariants as finish
+use Rattle.wl_server.specs.declared.error.FinishRefused.{FinishRefused}
+use Rattle.wl_server.specs.declared.runs.step.Reply.{Reply}
+use Rattle.wl_server.specs.declared.runs.step.Reply.TheVariants as reply
+use Rattle.wl_server.specs.declared.runs.step.Step.TheVariants as step
+use Rattle.wl_server.specs.Cutting.{CutsFinish, CutsReading, GoesOn, HistoriesAreCut, IsServed, seen_after}
+use Rattle.wl_server.specs.Deeds.{Deed, Handed, Sent, notes_in}
+use Rattle.wl_server.specs.Finish.{FinishesBind, FinishesRequest, finishing, refusal}
+use Rattle.wl_server.specs.Globals.{Offer}
+use Rattle.wl_server.specs.Ids.{ClientParts, same_client}
+use Rattle.wl_server.proofs.OverRuns.Alone.IsolationLaw.{same_self}
+use Rattle.wl_server.specs.Objects.{unless_refused}
+use Rattle.wl_server.specs.Part.{Part}
+use Rattle.wl_server.specs.PartStep.{Asked, Call, OfClient, OnPart, PartCall, ReadsFor, World, around}
+use Rattle.wl_server.proofs.OverRuns.Cut.ReaderLaws.{EndsAlike, bind_ends_alike, request_ends_alike}
+use Rattle.wl_server.specs.Reading.{Around, NextAction, ReadsNone, ReadsTo, action_content, new_reading, reads_on, server, takes}
+use Rattle.wl_server.proofs.OverRuns.Ids.ReplyLaws.{own_step}
+use Rattle.wl_server.specs.Server.{Seen, ServerState, seen}
+use Rattle.wl_server.specs.Steps.{Entry, IsRefused, OneStep}
+use Rattle.wl_server.specs.Telling.{Core, Finish, OfBind, OfRequest, Told, core_of, deeds_of, part_of, reader_part}
+
+none_some : {A : Type 0} {x : A} → None ≡ Some x → ⊥
+none_some e = true≢false (ap is_none e)
+
+-- ---- a reading, and the end of an action
+
+module _ {T U G C : Type 0} (sends : T → Queue → Result ℕ IoFault → T → Type 0) (receives : T → ℕ → Result Queue IoFault → T → Type 0)
+    (a : Around G C) where
+  -- a reading that was fed goes on as what came does
+  pub reading_cuts : (left : ℕ) (p end : ReaderState T (Core U C)) (turns : List Turn) (out : Gives (Told U)) → Reads sends (server a) receives left p turns out end
+      → AllFed turns → out.refused ≡ false → (finishes : List (Finish U)) → GoesOn a p (received_in turns) (sends_in turns) finishes out.gave end finishes
+  reading_cuts left p end turns out reads fed ample finishes =
+      reading_law sends receives AsTold (server a) told_function (λ c. refl) left p end turns out reads fed ample finishes
+
+  -- so does what is ended
+  pub ending_cuts : (p end : ReaderState T (Core U C)) (u : Finish U) (es : List Sending) (gave : List (Given (Told U))) → reads_on p.core ≡ false
+      → Ends sends (server a) p u es gave false end → (finishes : List (Finish U)) → GoesOn a p nothing es (u ∷ finishes) gave end finishes
+  ending_cuts p end u es gave off ends finishes = finish_law sends receives AsTold (server a) told_function p end u es gave off ends finishes
+
+  -- ---- of a client
+
+  -- a reading of a live client with no action open is one of the reader
+  pub reads_to : (r : Reading) (p : Part T U C) (answer : Result Handed ActionError) (r' : Reading) (refused : Bool) (did : List (Deed U)) (q : Part T U C)
+      → p.is_killed ≡ false → p.action ≡ None → NextAction sends receives a r p answer r' refused did q → ReadsTo sends receives a r p answer r' refused did q
+  reads_to r p answer r' refused did q live unopened h =
+      elim (either_option p.action h) [
+        | inr (action, is_open, g) ↦ absurd (none_some (sym unopened ∙ is_open))
+        | inl (not_open, g) ↦ of_live p.is_killed live g
+      ]
+    where
+      of_live : (b : Bool) → b ≡ false → MatchBool b (ReadsNone (Io fault.Pipe) r p answer r' refused did q) (ReadsTo sends receives a r p answer r' refused did q)
+          → ReadsTo sends receives a r p answer r' refused did q
+      of_live true is g = absurd (true≢false is)
+      of_live false is g = g
+
+-- ---- what is open
+
+module _ {U C : Type 0} where
+  -- a client of which something is ended is not read on
+  pub taken_off : (client : ClientParts) (c : Core U C) (u : Finish U) (v : Verdict (Core U C) (Told U)) → takes client c u ≡ Some v → reads_on c ≡ false
+  taken_off client c u v is = at c.is_killed c.action is
+    where
+      at : (b : Bool) (o : Option OpenAction) → (if b then None else finishing client c o u) ≡ Some v → (not b && is_none o) ≡ false
+      at true o taken = refl
+      at false None taken = absurd (none_some taken)
+      at false (Some x) taken = refl
+
+module _ {T U C : Type 0} where
+  -- a finish that is accepted lacked no memory
+  accepted_ample : (sends : T → Queue → Result ℕ IoFault → T → Type 0) (client : ClientParts) (p : Part T U C) (u : Option U) (lacked : Bool) (did : List (Deed U)) (q : Part T U C)
+      → FinishesRequest sends client p u (Ok tt) lacked did q → lacked ≡ false
+  accepted_ample sends client p u lacked did q h =
+      elim (either_option p.action h) [
+        | inl (none, (is, no_memory, nothing', same)) ↦ no_memory
+        | inr (opened.Bind object, is_open, (is, no_memory, nothing', same)) ↦ no_memory
+        | inr (opened.Request sender b created, is_open, g) ↦
+            elim (either_option (refusal p.is_killed created u) g) [
+              | inr (e, why, (is, no_memory, nothing', same)) ↦ no_memory
+              | inl (none, (is, tells')) ↦ unless lacked _ is
+            ]
+      ]
+    where
+      unless : (b : Bool) (e : FinishRefused (Option U)) → Ok tt ≡ unless_refused e b → b ≡ false
+      unless true e is = absurd (true≢false (ap is_ok is))
+      unless false e is = refl
+
+  bound_ample : (p : Part T U C) (u : U) (lacked : Bool) (did : List (Deed U)) (q : Part T U C) → FinishesBind p u (Ok tt) lacked did q → lacked ≡ false
+  bound_ample p u lacked did q h =
+      elim (either_option p.action h) [
+        | inl (none, (is, no_memory, nothing', same)) ↦ no_memory
+        | inr (opened.Bind object, is_open, (is, no_memory, nothing', same)) ↦ no_memory
+        | inr (opened.Request sender b created, is_open, (is, no_memory, nothing', same)) ↦ no_memory
+      ]
+
+module _ {T U G C : Type 0} (w : World T G C) (id : ClientParts) (offer : Offer G) (before after : Seen T U C) where
+  abbrev here : Around G C
+  here = around w id offer
+
+  -- what is held of a client, by its part
+  held_so : (q : Part T U C) (end : ReaderState T (Core U C)) (did : List (Deed U)) → after ≡ record { part = Some q; made = before.made ++ notes_in did }
+      → q ≡ part_of end → after ≡ seen_after here before end did
+  held_so q end did same is = same ∙ ap (λ (x : Part T U C). let s : Seen T U C = record { part = Some x; made = before.made ++ notes_in did } in s) is
+
+  pub of_part : (R : Part T U C → Part T U C → Type 0) (missing : Type 0) (lacked : Bool) (did : List (Deed U)) (p : Part T U C) → before.part ≡ Some p
+      → OnPart before R missing lacked did after → (q : Part T U C) × R p q × (after ≡ record { part = Some q; made = before.made ++ notes_in did })
+  of_part R missing lacked did p there h =
+      elim (either_option before.part h) [
+        | inl (none, g) ↦ absurd (none_some (sym none ∙ there))
+        | inr (other, there', (q, by, same)) ↦ (q, subst (λ (x : Part T U C). R x q) (same_Some other p (sym there' ∙ there)) by, same)
+      ]
+
+  pub seen_reads : (r : Reading) (answer : Result Handed ActionError) (r' : Reading) (lacked : Bool) (did : List (Deed U)) → lacked ≡ false
+      → ReadsFor w id offer id r answer r' before lacked did after → CutsReading here w.sends w.receives r before answer did after
+  seen_reads r answer r' lacked did unlacked h p there live unopened =
+      let (q, next, same) = of_part _ _ lacked did p there (own_step (same_client id id) before _ _ lacked did after (same_self id) h) in
+      let (turns, out, end, reads, is, left, lacks, did_so, ends) = reads_to w.sends w.receives here r p answer r' lacked did q live unopened next in (
+        turns,
+        out,
+        end,
+        reads,
+        is,
+        did_so,
+        held_so q end did same ends,
+        λ fed finishes. reading_cuts w.sends w.receives here r.turns_left (reader_part p) end turns out reads fed (sym lacks ∙ unlacked) finishes,
+      )
+
+  -- a finish that is what the reader makes of these data
+  seen_ends : (u : Finish U) (lacked : Bool) (did : List (Deed U)) (p q : Part T U C)
+      → lacked ≡ false → EndsAlike w.sends here p u lacked did q → after ≡ record { part = Some q; made = before.made ++ notes_in did }
+      → (es : List Sending) × (gave : List (Given (Told U))) × (end : ReaderState T (Core U C))
+      × Ends w.sends (server here) (reader_part p) u es gave false end
+      × (did ≡ deeds_of (map Sent es) gave end.core)
+      × (after ≡ seen_after here before end did)
+      × ((finishes : List (Finish U)) → GoesOn here (reader_part p) nothing es (u ∷ finishes) gave end finishes)
+  seen_ends u lacked did p q unlacked (es, gave, end, (v, taken, carried), did_so, ends) same =
+      let by : Ends w.sends (server here) (reader_part p) u es gave false end
+      = (v, taken, subst (λ (b : Bool). CarriesOut w.sends (server here) v p.link es gave b end) unlacked carried) in (
+        es,
+        gave,
+        end,
+        by,
+        did_so,
+        held_so q end did same ends,
+        λ finishes. ending_cuts w.sends w.receives here (reader_part p) end u es gave (taken_off id (core_of p) u v taken) by finishes,
+      )
+
+  pub seen_finishes : (u : Option U) (answer : Result (Unit {0}) (FinishRefused (Option U))) (lacked : Bool) (did : List (Deed U))
+      → OfClient (same_client id id) before (λ p q. FinishesRequest w.sends id p u answer lacked did q)
+      (answer ≡ Err (record { error = finish.InvalidId; user_data = u })) lacked did after
+      → CutsFinish here w.sends (OfRequest u) before answer did after
+  seen_finishes u answer lacked did h p there live accepted =
+      let (q, next, same) = of_part _ _ lacked did p there (own_step (same_client id id) before _ _ lacked did after (same_self id) h) in
+      let done = subst (λ (r : Result (Unit {0}) (FinishRefused (Option U))). FinishesRequest w.sends id p u r lacked did q) accepted next in
+      seen_ends (OfRequest u) lacked did p q (accepted_ample w.sends id p u lacked did q done) (request_ends_alike w.sends here p u lacked did q live done) same
+
+  pub seen_finishes_bind : (u : U) (answer : Result (Unit {0}) (FinishRefused U)) (lacked : Bool) (did : List (Deed U))
+      → OfClient (same_client id id) before (λ p q. FinishesBind p u answer lacked did q)
+      (answer ≡ Err (record { error = finish.InvalidId; user_data = u })) lacked did after
+      → CutsFinish here w.sends (OfBind u) before answer did after
+  seen_finishes_bind u answer lacked did h p there live accepted =
+      let (q, next, same) = of_part _ _ lacked did p there (own_step (same_client id id) before _ _ lacked did after (same_self id) h) in
+      let done = subst (λ (r : Result (Unit {0}) (FinishRefused U)). FinishesBind p u r lacked did q) accepted next in
+      seen_ends (OfBind u) lacked did p q (bound_ample p u lacked did q done) (bind_ends_alike w.sends here p u lacked did q live done) same
+
+-- ---- the calls of a server
+
+module _ {T U : Type 0} where
+  abbrev action_answer : Reply T U → Result Handed ActionError
+  action_answer (reply.NextAction r) = action_content r
+  action_answer (reply.NextActionWithin r left) = action_content r
+  action_answer _ = Err ActionOpen
+
+  abbrev request_answer : Reply T U → Result (Unit {0}) (FinishRefused (Option U))
+  request_answer (reply.FinishRequest r) = r
+  request_answer _ = Ok tt
+
+  abbrev bind_answer : Reply T U → Result (Unit {0}) (FinishRefused U)
+  bind_answer (reply.FinishBind r) = r
+  bind_answer _ = Ok tt
+
+module _ {T U G C : Type 0} (w : World T G C) (before after : ServerState T U G C) where
+  -- where memory was not refused in a call, it was not refused to any client
+  ample : (id : ClientParts) (e : Entry T U G C) → IsRefused e → e.refused ≡ false → e.lacks id ≡ false
+  ample id e by calm = go (e.lacks id) refl
+    where
+      go : (b : Bool) → e.lacks id ≡ b → b ≡ false
+      go true is = absurd (true≢false (sym (by.1 (inr (id, is))) ∙ calm))
+      go false is = refl
+
+  -- what the call is to this client
+  of_call : (id : ClientParts) (e : Entry T U G C) (call : Call T U G C) → e.call ≡ call → OneStep w before e after
+      → PartCall w id before.offer call (seen id before) (e.lacks id) (e.did id) (seen id after)
+  of_call id e call is by = subst (λ (c : Call T U G C). PartCall w id before.offer c (seen id before) (e.lacks id) (e.did id) (seen id after)) is (by.each id)
+
+  pub histories_cut : (call : Call T U G C) → HistoriesAreCut w before call after
+  histories_cut (Asked (step.NextAction id) (reply.NextAction answer)) e call by =
+      let (r, left, is, h) = of_call id e (Asked (step.NextAction id) (reply.NextAction answer)) call by in
+      λ calm. seen_reads w id before.offer (seen id before) (seen id after) new_reading (action_content answer) left (e.lacks id) (e.did id) (ample id e by.refused calm)
+      (subst (λ (x : Result Handed ActionError). ReadsFor w id before.offer id new_reading x left (seen id before) (e.lacks id) (e.did id) (seen id after)) (sym (ap action_answer is)) h)
+  histories_cut (Asked (step.NextActionWithin id reading) (reply.NextActionWithin answer reading')) e call by =
+      let (r, left, is, h) = of_call id e (Asked (step.NextActionWithin id reading) (reply.NextActionWithin answer reading')) call by in
+      λ calm. seen_reads w id before.offer (seen id before) (seen id after) reading (action_content answer) left (e.lacks id) (e.did id) (ample id e by.refused calm)
+      (subst (λ (x : Result Handed ActionError). ReadsFor w id before.offer id reading x left (seen id before) (e.lacks id) (e.did id) (seen id after)) (sym (ap action_answer is)) h)
+  histories_cut (Asked (step.FinishRequest id u) (reply.FinishRequest answer)) e call by =
+      let (r, is, h) = of_call id e (Asked (step.FinishRequest id u) (reply.FinishRequest answer)) call by in
+      λ p there live accepted. seen_finishes w id before.offer (seen id before) (seen id after) u r (e.lacks id) (e.did id) h p there live (sym (ap request_answer is) ∙ accepted)
+  histories_cut (Asked (step.FinishBind id u) (reply.FinishBind answer)) e call by =
+      let (r, is, h) = of_call id e (Asked (step.FinishBind id u) (reply.FinishBind answer)) call by in
+      λ p there live accepted. seen_finishes_bind w id before.offer (seen id before) (seen id after) u r (e.lacks id) (e.did id) h p there live (sym (ap bind_answer is) ∙ accepted)
+  histories_cut _ e call by = tt
+
+-- ---- what is served has one outcome
+
+pub one_served : {T U G C : Type 0} (a : Around G C) (p : ReaderState T (Core U C)) (more : Queue) (answers : Answers) (finishes : List (Finish U))
+    (gave others : List (Given (Told U))) (x y : ReaderState Answers (Core U C)) → IsServed a p more answers finishes gave x → IsServed a p more answers finishes others y
+    → (gave ≡ others) × (x ≡ y)
+one_served a p more answers finishes gave others x y = served_one AsTold told_function (server a) (state_as p more answers) x y finishes gave others
+
+-- ---- something is served, with answers that suffice
+
+ends_malformed : {U G C : Type 0} (a : Around G C) → EndsMalformed (server {U = U} a)
+ends_malformed a c (Ok _) = (refl, λ u. refl)
+ends_malformed a c (Err fault.OutOfMemory) = (refl, λ u. refl)
+ends_malformed a c (Err _) = (refl, λ u. refl)
+
+pub some_served : {T U G C : Type 0} (a : Around G C) (p : ReaderState T (Core U C)) (more : Queue) (finishes : List (Finish U)) → 0 < p.link.outgoing_capacity
+    → (answers : Answers) × (gave : List (Given (Told U))) × (end : ReaderState Answers (Core U C)) × IsServed a p more answers finishes gave end
+some_served a p more finishes holds = some_answered (server a) (ends_malformed a) p more finishes holds

@@ -1,0 +1,197 @@
+-- That a reading has room for each message of a client that may come.
+use Rattle.std.proofs.Common.{◌≡◌, ◌≢◌, ◌⊎◌, ℕ, Bool, List, [], ◌∷◌, ◌++◌, append-nil, length, map, Option, None, Some, Result, Ok, Err, is_ok, MatchResult, refl, sym, ap, subst, ◌∙◌, true≢false}
+use mathlib.Core.Logic.{inl, inr}
+use Rattle.std.proofs.lemmas.Option.{same_Some}
+use Rattle.wl_wire.specs.declared.error.IoFault.{IoFault}
+use Rattle.wl_wire.specs.declared.error.IoFault.TheVariants as fault
+use Rattle.wl_link.proofs.Calls.Branches.{either_bool, either_option, either_result}
+use Rattle.wl_link.specs.Exchange.{Queue, Sending}
+use Rattle.wl_link.proofs.Streams.LengthLaws.{failed_finds}
+use Rattle.wl_link.specs.Link.{FindsRoom, LinkState, count_of, counted_answer}
+use Rattle.wl_link.specs.Puts.{Said, lacked_memory}
+use Rattle.wl_link.specs.Reader.{CarriesOut, Given, Gives, Handled, Reads, Received, Turn, Unread, Verdict, behind, stops, with_link, ReaderState}
+use Rattle.wl_server.specs.declared.reading.action.Reading.{Reading}
+use Rattle.wl_server.specs.declared.error.ActionError.{ActionError}
+use Rattle.wl_server.specs.declared.notes.DisconnectReason.{DisconnectReason}
+use Rattle.wl_server.specs.declared.runs.step.Reply.{Reply}
+use Rattle.wl_server.specs.declared.runs.step.Step.TheVariants as step
+use Rattle.wl_server.specs.Deeds.{IsAmong, came_in, Deed, Handed, Put, Sent}
+use Rattle.wl_server.proofs.OverRuns.Moves.BaseMoves.{Doings}
+use Rattle.wl_server.proofs.OverRuns.Moves.DoingsLaws.{deeds_both, done_both}
+use Rattle.wl_server.specs.Globals.{Offer}
+use Rattle.wl_server.specs.Ids.{ClientParts, same_client}
+use Rattle.wl_server.proofs.OverRuns.Moves.MovesOfReadings.{gave_none}
+use Rattle.wl_server.proofs.OverRuns.Moves.MovesOfRequests.{handles_comes, malformed_comes}
+use Rattle.wl_server.proofs.OverRuns.Moves.MovesOfVerdicts.{Comes, IsCalm, carried}
+use Rattle.wl_server.specs.Part.{Part}
+use Rattle.wl_server.specs.PartStep.{Asked, Call, PartCall, ReadsFor, World, around}
+use Rattle.wl_server.specs.Reading.{Around, NextAction, action_content, exchanges_in, faulted, new_reading, server}
+use Rattle.wl_server.specs.Room.{BringsNone, HasRoom, LeavesRoom}
+use Rattle.wl_server.specs.Server.{Seen, ServerState, seen}
+use Rattle.wl_server.specs.Telling.{Core, Told, deeds_in, deeds_of, end_deeds, reader_part}
+
+-- ---- a receive
+
+not_done : (f : IoFault) → ◌≡◌ {A = Result (Unit {0}) IoFault} (Err f) (Ok tt) → ⊥
+not_done f is = true≢false (sym (ap is_ok is))
+
+-- one that brought no byte ended the reading
+none_fails : (r : Result Queue IoFault) → BringsNone r → counted_answer (count_of r) ≢ Ok tt
+none_fails (Ok came) none is =
+    let fails : counted_answer (count_of (Ok came)) ≡ Err fault.Pipe = ap (λ (bytes : List ℕ). counted_answer (Ok (length bytes))) none in
+    not_done fault.Pipe (sym fails ∙ is)
+none_fails (Err f) none is = not_done f is
+
+nothing_came : {T U : Type 0} (did : List (Deed U)) (link : LinkState T) → did ≡ [] → LeavesRoom did link
+nothing_came {U = U} did link none r among = absurd (subst (λ (ds : List (Deed U)). IsAmong (came_in ds) r) none among)
+
+-- ---- the receives among the deeds
+
+module _ {U : Type 0} where
+  came_both : (did others : List (Deed U)) → came_in (did ++ others) ≡ came_in did ++ came_in others
+  came_both did others = ap (λ (d : Doings U). d.came) (done_both did others)
+
+  none_sent : (es : List Sending) (did : List (Deed U)) → came_in (map Sent es ++ did) ≡ came_in did
+  none_sent [] did = refl
+  none_sent (e ∷ es) did = none_sent es did
+
+  none_put : (put : List Said) (did : List (Deed U)) → came_in (map Put put ++ did) ≡ came_in did
+  none_put [] did = refl
+  none_put (m ∷ put) did = none_put put did
+
+none_at_end : (U : Type 0) (o : Option DisconnectReason) → came_in (end_deeds {U = U} o) ≡ []
+none_at_end U None = refl
+none_at_end U (Some reason) = refl
+
+no_more : (rs others : List (Result Queue IoFault)) → rs ≡ [] → others ≡ [] → rs ++ others ≡ []
+no_more rs others none nor = ap (λ (l : List (Result Queue IoFault)). l ++ others) none ∙ nor
+
+-- what the turns received
+abbrev pub received : Type 0 → List Turn → List (Result Queue IoFault)
+received U turns = came_in (exchanges_in {U = U} turns)
+
+-- ---- a reading
+
+abbrev Leaves : {T : Type 0} → LinkState T → Type 0
+Leaves link = FindsRoom link link.incoming_capacity
+
+module _ {T U G C : Type 0} (sends : T → Queue → Result ℕ IoFault → T → Type 0) (receives : T → ℕ → Result Queue IoFault → T → Type 0)
+    (a : Around G C) where
+  abbrev Calm : Core U C → Type 0
+  Calm c = IsCalm sends receives a.client c
+
+  abbrev Came : Core U C → Verdict (Core U C) (Told U) → Type 0
+  Came c v = Comes sends receives a.client c v
+
+  -- a verdict receives nothing
+  none_heard : (p mid : ReaderState T (Core U C)) (v : Verdict (Core U C) (Told U)) (link : LinkState T) (es : List Sending) (first : List (Given (Told U))) (lacked : Bool)
+      → Came p.core v → Calm p.core → CarriesOut sends (server a) v link es first lacked mid → (came_in (deeds_in first) ≡ []) × Calm mid.core
+  none_heard p mid v link es first lacked comes calm by =
+      let c = carried sends receives a.client (server a) (λ d f. refl) p.core v comes calm link es first lacked mid by in
+      (ap came_in c.deeds ∙ none_put c.put c.made ∙ c.quiet.1, c.calm)
+
+  none_told : (first : List (Given (Told U))) (lacked : Bool) (rest out : Gives (Told U)) → out ≡ behind first lacked rest → came_in (deeds_in first) ≡ []
+      → came_in (deeds_in rest.gave) ≡ [] → came_in (deeds_in out.gave) ≡ []
+  none_told first lacked rest out split none nor =
+      ap (λ (o : Gives (Told U)). came_in (deeds_in o.gave)) split
+      ∙ ap came_in (deeds_both first rest.gave) ∙ came_both (deeds_in first) (deeds_in rest.gave)
+      ∙ no_more (came_in (deeds_in first)) (came_in (deeds_in rest.gave)) none nor
+
+  none_given : (left : ℕ) (p after : ReaderState T (Core U C)) (turns : List Turn) (out : Gives (Told U)) → Calm p.core → Reads sends (server a) receives left p turns out after
+      → came_in (deeds_in out.gave) ≡ []
+  none_given left p after [] out calm (same, ends) = ap (λ (gave : List (Given (Told U))). came_in (deeds_in gave)) (gave_none sends receives a left p out ends)
+  none_given left p after (Received r ∷ turns) out calm (on, lacks, (n, is, (link, filled, finds, h))) =
+      elim (either_result (counted_answer (count_of r)) h) [
+        | inl (u, more) ↦ none_given n (with_link p link) after turns out calm more
+        | inr (f, (over, ends, same)) ↦ ap (λ (o : Gives (Told U)). came_in (deeds_in o.gave)) ends
+      ]
+  none_given left p after (Handled es ∷ turns) out calm (on, (v, link, first, lacked, mid, rest, (m, read, is), by, split, more)) =
+      let comes = subst (Came p.core) (sym is) (handles_comes sends receives a p.core m calm) in
+      let heard = none_heard p mid v link es first lacked comes calm by in
+      none_told first lacked rest out split heard.0 (none_given left mid after turns rest heard.1 more)
+  none_given left p after (Unread es ∷ turns) out calm (on, (v, link, first, lacked, mid, rest, (read, same, is), by, split, more)) =
+      let comes = subst (Came p.core) (sym is) (malformed_comes sends receives a p.core calm) in
+      let heard = none_heard p mid v link es first lacked comes calm by in
+      none_told first lacked rest out split heard.0 (none_given left mid after turns rest heard.1 more)
+
+  -- so the receives among the deeds of a reading are those of its turns
+  pub received_deeds : (left : ℕ) (p : Part T U C) (after : ReaderState T (Core U C)) (turns : List Turn) (out : Gives (Told U))
+      → Reads sends (server a) receives left (reader_part p) turns out after → came_in (deeds_of (exchanges_in turns) out.gave after.core) ≡ received U turns
+  received_deeds left p after turns out reads =
+      came_both (exchanges_in turns) (deeds_in out.gave ++ end_deeds after.core.ended)
+      ∙ ap (λ (rs : List (Result Queue IoFault)). received U turns ++ rs)
+      (came_both (deeds_in out.gave) (end_deeds after.core.ended)
+      ∙ no_more (came_in (deeds_in out.gave)) (came_in (end_deeds {U = U} after.core.ended)) (none_given left (reader_part p) after turns out (λ live. refl) reads)
+      (none_at_end U after.core.ended))
+      ∙ append-nil (received U turns)
+
+  -- behind a receive that brought no byte, one is free
+  leaves_room : (left : ℕ) (p after : ReaderState T (Core U C)) (turns : List Turn) (out : Gives (Told U)) → Reads sends (server a) receives left p turns out after
+      → (r : Result Queue IoFault) → IsAmong (received U turns) r → BringsNone r → Leaves after.link
+  leaves_room left p after [] out reads r among none = absurd among
+  leaves_room left p after (Received s ∷ turns) out (on, lacks, (n, is, (link, filled, finds, h))) r among none =
+      go (counted_answer (count_of s)) refl h among (λ more later. leaves_room n (with_link p link) after turns out more r later none)
+    where
+      go : (c : Result (Unit {0}) IoFault) → counted_answer (count_of s) ≡ c
+          → MatchResult c (λ _. Reads sends (server a) receives n (with_link p link) turns out after)
+          (λ f. (turns ≡ []) × (out ≡ stops (Some f) (lacked_memory (Err f)) n) × (after ≡ record { core = faulted p.core f; link = link }))
+          → (s ≡ r) ⊎ IsAmong (received U turns) r
+          → (Reads sends (server a) receives n (with_link p link) turns out after → IsAmong (received U turns) r → Leaves after.link) → Leaves after.link
+      go (Ok u) was more (inl same) goes = absurd (none_fails s (subst BringsNone (sym same) none) was)
+      go (Ok u) was more (inr later) goes = goes more later
+      go (Err f) was (over, ends, same) (inl this) goes =
+          subst (λ (x : ReaderState T (Core U C)). Leaves x.link) (sym same)
+          (failed_finds receives p.link link s f was filled finds)
+      go (Err f) was (over, ends, same) (inr later) goes = absurd (subst (λ (ts : List Turn). IsAmong (received U ts) r) over later)
+  leaves_room left p after (Handled es ∷ turns) out (on, (v, link, first, lacked, mid, rest, found, by, split, more)) r among none =
+      leaves_room left mid after turns rest more r (subst (λ (rs : List (Result Queue IoFault)). IsAmong rs r) (none_sent {U = U} es (exchanges_in turns)) among) none
+  leaves_room left p after (Unread es ∷ turns) out (on, (v, link, first, lacked, mid, rest, found, by, split, more)) r among none =
+      leaves_room left mid after turns rest more r (subst (λ (rs : List (Result Queue IoFault)). IsAmong rs r) (none_sent {U = U} es (exchanges_in turns)) among) none
+
+  -- so it is of each reading of a client
+  pub next_action_room : (reading : Reading) (p : Part T U C) (answer : Result Handed ActionError) (left : Reading) (refused : Bool) (did : List (Deed U)) (q : Part T U C)
+      → NextAction sends receives a reading p answer left refused did q → LeavesRoom did q.link
+  next_action_room reading p answer left refused did q h =
+      elim (either_option p.action h) [
+        | inr (action, is_open, (is, same, calm, none, stays)) ↦ nothing_came did q.link none
+        | inl (shut, g) ↦
+            elim (either_bool p.is_killed g) [
+              | inl (is, same, calm, none, stays) ↦ nothing_came did q.link none
+              | inr (turns, out, end, reads, is, same, calm, did_so, after) ↦
+                  λ r among none.
+                  let came : came_in did ≡ received U turns = ap came_in did_so ∙ received_deeds reading.turns_left p end turns out reads in
+                  subst (λ (x : Part T U C). Leaves x.link) (sym after)
+                  (leaves_room reading.turns_left (reader_part p) end turns out reads r (subst (λ (rs : List (Result Queue IoFault)). IsAmong rs r) came among) none)
+            ]
+      ]
+
+-- ---- a call
+
+module _ {T U G C : Type 0} (w : World T G C) where
+  reads_for_room : (id target : ClientParts) (offer : Offer G) (reading : Reading) (answer : Result Handed ActionError) (left : Reading) (before after : Seen T U C)
+      (lacked : Bool) (did : List (Deed U)) (p : Part T U C) → ReadsFor w id offer target reading answer left before lacked did after → after.part ≡ Some p
+      → LeavesRoom did p.link
+  reads_for_room id target offer reading answer left before after lacked did p h there =
+      elim (either_bool (same_client target id) h) [
+        | inr (calm, nothing, same) ↦ nothing_came did p.link nothing
+        | inl g ↦
+            elim (either_option before.part g) [
+              | inl (none, (missing, (calm, nothing, same))) ↦ nothing_came did p.link nothing
+              | inr (q, was, (r, read, same)) ↦
+                  let is : r ≡ p = same_Some r p (sym (ap (λ (s : Seen T U C). s.part) same) ∙ there) in
+                  subst (λ (x : Part T U C). LeavesRoom did x.link) is
+                  (next_action_room w.sends w.receives (around w id offer) reading q answer left lacked did r read)
+            ]
+      ]
+
+  pub next_has_room : (before after : ServerState T U G C) (target : ClientParts) (answer : Reply T U)
+      → HasRoom w before (Asked (step.NextAction target) answer) after
+  next_has_room before after target answer e id p call by there =
+      let (r, left, is, h) = subst (λ (c : Call T U G C). PartCall w id before.offer c (seen id before) (e.lacks id) (e.did id) (seen id after)) call (by.each id) in
+      reads_for_room id target before.offer new_reading (action_content r) left (seen id before) (seen id after) (e.lacks id) (e.did id) p h there
+
+  pub within_has_room : (before after : ServerState T U G C) (target : ClientParts) (reading : Reading) (answer : Reply T U)
+      → HasRoom w before (Asked (step.NextActionWithin target reading) answer) after
+  within_has_room before after target reading answer e id p call by there =
+      let (r, left, is, h) = subst (λ (c : Call T U G C). PartCall w id before.offer c (seen id before) (e.lacks id) (e.did id) (seen id after)) call (by.each id) in
+      reads_for_room id target before.offer reading (action_content r) left (seen id before) (seen id after) (e.lacks id) (e.did id) p h there

@@ -1,0 +1,91 @@
+-- That the storage for what is sent of each stored client holds a byte, an induction over base moves; and so something is
+-- served of each.
+use Rattle.std.proofs.Common.{◌≡◌, ℕ, ◌<◌, List, [], ◌∷◌, ◌++◌, Option, Some, Result, sym, ap, subst, arith}
+use Rattle.std.specs.Prelude.{MatchOption}
+use Rattle.wl_wire.specs.declared.error.IoFault.{IoFault}
+use Rattle.wl_wire.specs.Table.{InterfaceRow}
+use Rattle.wl_link.specs.Exchange.{Queue}
+use Rattle.wl_link.proofs.Readings.HoldingLaws.{puts_hold}
+use Rattle.wl_link.specs.Link.{IsFresh, LinkState}
+use Rattle.wl_server.proofs.OverRuns.Moves.BaseMoves.{Doings, Goes, Moves, born, cleaned, closed, doings_of, ended, flushed, followed, found, found_none, handed_by, handed_out, notes_taken, opens, received, relinked, remembered, stayed, taken_out, told, unfelt, went, within, wrote}
+use Rattle.wl_server.proofs.OverRuns.Moves.BaseMovesLaw.{call_goes}
+use Rattle.wl_server.specs.Cutting.{EachIsServed}
+use Rattle.wl_server.proofs.OverRuns.Cut.CuttingLaws.{some_served}
+use Rattle.wl_server.specs.Globals.{Offer, new_offer}
+use Rattle.wl_server.specs.Ids.{ClientParts}
+use Rattle.wl_server.proofs.OverRuns.Alone.IsolationLaw.{is_isolated}
+use Rattle.wl_server.proofs.OverRuns.Alone.OwnRuns.{AreMine, are_mine}
+use Rattle.wl_server.specs.Part.{Part}
+use Rattle.wl_server.specs.PartStep.{World, around}
+use Rattle.wl_server.specs.Runs.{Alone, Leads, Own, begun, mine, offer_over}
+use Rattle.wl_server.specs.Server.{Seen, ServerState, new_server, seen}
+use Rattle.wl_server.specs.Steps.{Entry, offer_after}
+use Rattle.wl_server.specs.Telling.{reader_part}
+
+alike : {T : Type 0} (l k : LinkState T) → k.outgoing_capacity ≡ l.outgoing_capacity → 0 < l.outgoing_capacity → 0 < k.outgoing_capacity
+alike l k same holds = subst (λ (n : ℕ). 0 < n) (sym same) holds
+
+module _ {T U C : Type 0} where
+  abbrev Holds : Part T U C → Type 0
+  Holds p = 0 < p.link.outgoing_capacity
+
+  -- so it is of a client that is stored
+  abbrev SeenHolds : Seen T U C → Type 0
+  SeenHolds s = MatchOption s.part (Unit {0}) (λ p. Holds p)
+
+  holds_at : (s : Seen T U C) (p : Part T U C) → s.part ≡ Some p → SeenHolds s → Holds p
+  holds_at s p there holds = subst (λ (x : Option (Part T U C)). MatchOption x (Unit {0}) (λ q. Holds q)) {x = s.part} {y = Some p} there holds
+
+  as_before : (p q : Part T U C) → q ≡ p → Holds p → Holds q
+  as_before p q same holds = subst Holds (sym same) holds
+
+  over_link : (p q : Part T U C) (link : LinkState T) → q ≡ record p { link = link } → 0 < link.outgoing_capacity → Holds q
+  over_link p q link same holds = subst Holds (sym same) holds
+
+module _ {T U C : Type 0} (sends : T → Queue → Result ℕ IoFault → T → Type 0) (receives : T → ℕ → Result Queue IoFault → T → Type 0)
+    (client : ClientParts) where
+  moves_hold : (p q : Part T U C) (d : Doings U) → Moves sends receives client p d q → Holds p → Holds q
+  moves_hold p q d (stayed is same) holds = as_before p q same holds
+  moves_hold p q d (followed {m = m} {a = a} {b = b} first second is) holds = moves_hold m q b second (moves_hold p m a first holds)
+  moves_hold p q d (handed_out {a = a} ids moves among is) holds = moves_hold p q a moves holds
+  moves_hold p q d (relinked link waits stays is same) holds = over_link p q link same (alike p.link link stays holds)
+  moves_hold p q d (received r answer link filled is same) holds = over_link p q link same (alike p.link link (ap (λ (l : LinkState T). l.outgoing_capacity) filled.2) holds)
+  moves_hold p q d (told messages es put answer link puts is same) holds = over_link p q link same (puts_hold sends messages p.link link es put answer puts holds)
+  moves_hold p q d (flushed es answer link by is same) holds = over_link p q link same (alike p.link link (ap (λ (l : LinkState T). l.outgoing_capacity) by.2) holds)
+  moves_hold p q d (ended reason is same) holds = subst Holds (sym same) holds
+  moves_hold p q d (born n x free ne serial is same) holds = subst Holds (sym same) holds
+  moves_hold p q d (found n x kept is same) holds = as_before p q same holds
+  moves_hold p q d (found_none is same) holds = as_before p q same holds
+  moves_hold p q d (wrote n x u kept is same) holds = subst Holds (sym same) holds
+  moves_hold p q d (went n x waits kept is same) holds = subst Holds (sym same) holds
+  moves_hold p q d (remembered n x kept registry is same) holds = subst Holds (sym same) holds
+  moves_hold p q d (opens action h so is same) holds = subst Holds (sym same) holds
+  moves_hold p q d (closed is same) holds = subst Holds (sym same) holds
+  moves_hold p q d (cleaned is same) holds = subst Holds (sym same) holds
+
+  goes_hold : (s t : Seen T U C) (d : Doings U) → Goes sends receives client s d t → SeenHolds s → SeenHolds t
+  goes_hold s t d (unfelt none same) holds = subst SeenHolds (sym same) holds
+  goes_hold s t d (notes_taken none same) holds = subst SeenHolds (sym same) holds
+  goes_hold s t d (within p q there moves same) holds = subst SeenHolds (sym same) (moves_hold p q d moves (holds_at s p there holds))
+  goes_hold s t d (taken_out p q there killed moves none noted same) holds = subst SeenHolds (sym same) tt
+
+module _ {T U G C : Type 0} (w : World T G C) (id : ClientParts) where
+  run_holds : (offer : Offer G) (s : Seen T U C) (run : List (Own T U G C)) (t : Seen T U C) → AreMine id run → Alone w id offer s run t → SeenHolds s → SeenHolds t
+  run_holds offer s [] t own same holds = subst SeenHolds (sym same) holds
+  run_holds offer s (e ∷ run) t own (mid, by, alone) holds =
+      run_holds (offer_after offer e.call) mid run t own.1 alone
+      (goes_hold w.sends w.receives id s mid (doings_of (handed_by id e.call e.did) e.did) (call_goes w id offer e.call s e.lacked e.did mid own.0 by) holds)
+
+fresh_holds : {T : Type 0} (transport : T) (limit : Option ℕ) (link : LinkState T) → IsFresh transport limit link → 0 < link.outgoing_capacity
+fresh_holds {T = T} transport limit link (l, limits, fresh) =
+    let is = ap (λ (x : LinkState T). x.outgoing_capacity) fresh in omega (arith, is)
+
+module _ {T U G C : Type 0} where
+  pub each_served : (w : World T G C) (table : List InterfaceRow) (run : List (Entry T U G C)) (after : ServerState T U G C) → Leads w (new_server table) run after
+      → EachIsServed w run after
+  each_served w table run after leads id transport info earlier later e split inserts p there more finishes =
+      let (link, fresh, alone) = (is_isolated w table run after leads).each id transport info earlier later e split inserts in
+      some_served (around w id after.offer) (reader_part p) more finishes
+      (holds_at (seen id after) p there
+      (run_holds w id (offer_over (new_offer table) (earlier ++ e ∷ [])) (begun link info) (mine id later) (seen id after) (are_mine id later) alone
+      (fresh_holds transport (Some (offer_over (new_offer table) earlier).default_limit) link fresh)))

@@ -1,0 +1,455 @@
+-- The changes of a client's objects in each call: an induction over base moves, over which the laws of ids stand.
+use Rattle.std.proofs.Common.{◌≡◌, ◌≢◌, ◌⊎◌, ℕ, ◌+◌, Bool, true, false, cond, List, [], ◌∷◌, ◌++◌, Option, None, Some, is_some, IsSome, Result, refl, sym, ap, subst, ◌∙◌, true≢false, append-nil, append_assoc}
+use mathlib.Core.Logic.{inl, inr}
+use Rattle.std.specs.Prelude.{MatchOption, if◌then◌else◌}
+use Rattle.std.proofs.lemmas.Bool.{eq-eqb, ne_eqb}
+use Rattle.wl_wire.specs.declared.error.IoFault.{IoFault}
+use Rattle.wl_link.specs.declared.object.Object.{Object}
+use Rattle.wl_link.proofs.Ids.EndsLaw.{keeps_joins}
+use Rattle.wl_link.specs.Exchange.{Queue}
+use Rattle.wl_link.specs.Identity.{Born, Change, Ended, Gone, Id, IsMadeInStep, Made, Objects, OwnsExactly, StepEnds, Wrote, counted_id, ended_in, named_in, names, Found, HandedId, New}
+use Rattle.wl_link.proofs.Ids.IdentityLaw.{born_first, born_later, made_first, made_later}
+use Rattle.wl_link.specs.Store.{Store, held, removed, rewritten, stored}
+use Rattle.wl_link.proofs.Ids.StoreLaws.{removed_other, rewritten_other, stored_here, stored_other}
+use Rattle.wl_server.specs.declared.objects.Kept.{Kept}
+use Rattle.wl_server.specs.declared.notes.DisconnectReason.{DisconnectReason}
+use Rattle.wl_server.specs.declared.notes.Happening.{Happening}
+use Rattle.wl_server.specs.declared.notes.Happening.TheVariants.{Destroyed, Disconnected, Initialized}
+use Rattle.wl_server.specs.Deeds.{IsAmong}
+use Rattle.wl_server.proofs.OverRuns.Moves.BaseMoves.{Doings, Goes, Moves, born, cleaned, closed, end_notes, ended, flushed, followed, found, found_none, handed_out, handing, joined, leaving, left_by, left_id, nothing_done, notes_taken, noting, opens, putting, received, receiving, relinked, remembered, sending, stayed, taken_out, told, unfelt, went, within, wrote}
+use Rattle.wl_server.specs.Identified.{AreObjectsOf, IsHandedIn, IsNotedIn, has_data, is_over, waiting_of}
+use Rattle.wl_server.specs.Ids.{ClientParts, IdParts}
+use Rattle.wl_server.proofs.OverRuns.Ids.AmongLaws.{among_both, among_first, among_later}
+use Rattle.wl_server.specs.Part.{Part, end_note, id_at, id_of, note_of_end, null_id, objects_of, serial_of, with_user_data}
+use Rattle.wl_server.specs.Server.{Seen}
+
+none_some : {A : Type 0} {x : A} → None ≡ Some x → ⊥
+none_some e = true≢false (sym (ap is_some e))
+
+-- ---- ids
+
+module _ {U : Type 0} where
+  left_ids : (n : ℕ) (x : Object (Kept U)) (client : ClientParts) → left_id (id_of (id_at client n x)) x.value.user_data ≡ counted_id serial_of has_data n x ++ []
+  left_ids n x client = go x.value.user_data
+    where
+      go : (u : Option U) → left_id (id_of (id_at client n x)) u ≡ cond (is_some u) (id_of (id_at client n x) ∷ []) [] ++ []
+      go None = refl
+      go (Some u) = refl
+
+  ended_both : (changes others : List (Change (Kept U))) → ended_in serial_of has_data (changes ++ others) ≡ ended_in serial_of has_data changes ++ ended_in serial_of has_data others
+  ended_both [] others = refl
+  ended_both (Born n x ∷ changes) others = ended_both changes others
+  ended_both (Gone n ∷ changes) others = ended_both changes others
+  ended_both (Wrote n x ∷ changes) others = ended_both changes others
+  ended_both (Made id ∷ changes) others = ended_both changes others
+  ended_both (Ended n x left ∷ changes) others =
+      ap (λ (ids : List Id). counted_id serial_of has_data n x ++ ids) (ended_both changes others)
+      ∙ sym (append_assoc (counted_id serial_of has_data n x) (ended_in serial_of has_data changes) (ended_in serial_of has_data others))
+
+  -- an object is named by its id
+  id_names : (client : ClientParts) (store : Store (Kept U)) (n : ℕ) (x : Object (Kept U)) → n ≢ 0 → held store n ≡ Some x
+      → IsSome (names serial_of (id_of (id_at client n x)) store)
+  id_names client store n x ne e =
+      ap (λ b. is_some (cond b None (named_in serial_of (id_of (id_at client n x)) (held store n)))) (ne_eqb n 0 ne)
+      ∙ ap (λ o. is_some (named_in serial_of (id_of (id_at client n x)) o)) e
+      ∙ ap (λ b. is_some (cond b (Some x) None)) (eq-eqb x.value.serial x.value.serial refl)
+
+  module _ (client : ClientParts) where
+    handed_first : (changes others : List (Change (Kept U))) (h : HandedId IdParts) → IsHandedIn client changes h → IsHandedIn client (changes ++ others) h
+    handed_first changes others (Found id) (inl none) = inl none
+    handed_first changes others (Found id) (inr (of_it, made)) = inr (of_it, made_first changes others (id_of id) made)
+    handed_first changes others (New id) (of_it, made, put_in) =
+        (of_it, made_first changes others (id_of id) made, born_first serial_of changes others (id_of id) put_in)
+
+    handed_later : (changes others : List (Change (Kept U))) (h : HandedId IdParts) → IsHandedIn client others h → IsHandedIn client (changes ++ others) h
+    handed_later changes others (Found id) (inl none) = inl none
+    handed_later changes others (Found id) (inr (of_it, made)) = inr (of_it, made_later changes others (id_of id) made)
+    handed_later changes others (New id) (of_it, made, put_in) =
+        (of_it, made_later changes others (id_of id) made, born_later serial_of changes others (id_of id) put_in)
+
+    noted_first : (changes others : List (Change (Kept U))) (h : Happening U) → IsNotedIn client changes h → IsNotedIn client (changes ++ others) h
+    noted_first changes others (Destroyed id u) (of_it, made) = (of_it, made_first changes others (id_of id) made)
+    noted_first changes others Initialized noted = tt
+    noted_first changes others (Disconnected reason) noted = tt
+
+    noted_later : (changes others : List (Change (Kept U))) (h : Happening U) → IsNotedIn client others h → IsNotedIn client (changes ++ others) h
+    noted_later changes others (Destroyed id u) (of_it, made) = (of_it, made_later changes others (id_of id) made)
+    noted_later changes others Initialized noted = tt
+    noted_later changes others (Disconnected reason) noted = tt
+
+    -- the note of an object, if its id is made
+    end_noted : (changes : List (Change (Kept U))) (id : IdParts) (u : Option U) (h : Happening U) → id.client ≡ client → IsMadeInStep changes (id_of id)
+        → IsAmong (end_note id u) h → IsNotedIn client changes h
+    end_noted changes id None h of_it made among = absurd among
+    end_noted changes id (Some u) h of_it made (inl is) = subst (λ (x : Happening U). IsNotedIn client changes x) is (of_it, made)
+    end_noted changes id (Some u) h of_it made (inr none) = absurd none
+
+  ended_quiet : (client : ClientParts) (b : Bool) (reason : DisconnectReason) (h : Happening U) → IsAmong (end_notes b reason) h → IsNotedIn client [] h
+  ended_quiet client true reason h among = absurd among
+  ended_quiet client false reason h (inl is) = subst (λ (x : Happening U). IsNotedIn client [] x) is tt
+  ended_quiet client false reason h (inr none) = absurd none
+
+  -- the taken, the made and the waiting notes
+  pub in_three : (a b c : List (Happening U)) (h : Happening U) → IsAmong (a ++ (b ++ c)) h → IsAmong a h ⊎ (IsAmong b h ⊎ IsAmong c h)
+  in_three a b c h among = elim (among_both a (b ++ c) h among) [ inl first ↦ inl first | inr rest ↦ inr (among_both b c h rest) ]
+
+-- ---- moves
+
+module _ {T U C : Type 0} (sends : T → Queue → Result ℕ IoFault → T → Type 0) (receives : T → ℕ → Result Queue IoFault → T → Type 0)
+    (client : ClientParts) where
+  -- the changes of the objects, in which the ids are handed out; a note waited before, or its object leaves
+  pub record Changing (p : Part T U C) (d : Doings U) (q : Part T U C) : Type 0 where
+    pub changes : List (Change (Kept U))
+    pub ends : StepEnds serial_of is_over (objects_of p) changes (objects_of q)
+    pub handed : (h : HandedId IdParts) → IsAmong d.handed h → IsHandedIn client changes h
+    pub left : d.left ≡ ended_in serial_of has_data changes
+    pub noted : (h : Happening U) → IsAmong d.notes h → IsAmong p.waiting h ⊎ IsNotedIn client changes h
+    pub waits : (h : Happening U) → IsAmong q.waiting h → IsAmong p.waiting h ⊎ IsNotedIn client changes h
+    pub empty : held q.store 0 ≡ None
+
+  changing_so : (p q q' : Part T U C) (d d' : Doings U) → d' ≡ d → q' ≡ q → Changing p d q → Changing p d' q'
+  changing_so p q q' d d' is same changing =
+      subst (λ (x : Doings U). Changing p x q') (sym is) (subst (λ (x : Part T U C). Changing p d x) (sym same) changing)
+
+  -- the objects and the notes that wait stay, and nothing is noted of an object
+  quiet : (p q : Part T U C) (d : Doings U) → held p.store 0 ≡ None → objects_of q ≡ objects_of p → q.waiting ≡ p.waiting → d.handed ≡ [] → d.left ≡ []
+      → ((h : Happening U) → IsAmong d.notes h → IsNotedIn client [] h) → Changing p d q
+  quiet p q d empty same waits none_handed none_left none_noted = record {
+    changes = [];
+    ends = same;
+    handed = λ h among. absurd (subst (λ (ids : List (HandedId IdParts)). IsAmong ids h) none_handed among);
+    left = none_left;
+    noted = λ h among. inr (none_noted h among);
+    waits = λ h among. inl (subst (λ (hs : List (Happening U)). IsAmong hs h) waits among);
+    empty = ap (λ (o : Objects (Kept U)). held o.store 0) same ∙ empty;
+  }
+
+  still : (p : Part T U C) → held p.store 0 ≡ None → Changing p nothing_done p
+  still p empty = quiet p p nothing_done empty refl refl refl refl (λ h among. absurd among)
+
+  then_changing : (p m q : Part T U C) (a b : Doings U) → Changing p a m → Changing m b q → Changing p (joined a b) q
+  then_changing p m q a b first second = record {
+    changes = first.changes ++ second.changes;
+    ends = keeps_joins serial_of (OwnsExactly is_over) (objects_of p) (objects_of m) (objects_of q) first.changes second.changes first.ends second.ends;
+    handed = λ h among. (
+        elim (among_both a.handed b.handed h among) [
+          | inl earlier ↦ handed_first client first.changes second.changes h (first.handed h earlier)
+          | inr later ↦ handed_later client first.changes second.changes h (second.handed h later)
+        ]
+        );
+    left = ap (λ (l : List Id). l ++ b.left) first.left ∙ ap (λ (l : List Id). ended_in serial_of has_data first.changes ++ l) second.left
+        ∙ sym (ended_both first.changes second.changes);
+    noted = λ h among. (
+        elim (among_both a.notes b.notes h among) [
+          | inl earlier ↦ from_first h (first.noted h earlier)
+          | inr later ↦ from_second h (second.noted h later)
+        ]
+        );
+    waits = λ h among. from_second h (second.waits h among);
+    empty = second.empty;
+  }
+    where
+      from_first : (h : Happening U) → IsAmong p.waiting h ⊎ IsNotedIn client first.changes h → IsAmong p.waiting h ⊎ IsNotedIn client (first.changes ++ second.changes) h
+      from_first h (inl waited) = inl waited
+      from_first h (inr noted) = inr (noted_first client first.changes second.changes h noted)
+
+      from_second : (h : Happening U) → IsAmong m.waiting h ⊎ IsNotedIn client second.changes h → IsAmong p.waiting h ⊎ IsNotedIn client (first.changes ++ second.changes) h
+      from_second h (inl waited) = from_first h (first.waits h waited)
+      from_second h (inr noted) = inr (noted_later client first.changes second.changes h noted)
+
+  -- a number that holds an object is not 0
+  not_zero : (p : Part T U C) (n : ℕ) (x : Object (Kept U)) → held p.store 0 ≡ None → held p.store n ≡ Some x → n ≢ 0
+  not_zero p n x empty holds same = none_some (sym empty ∙ ap (held p.store) (sym same) ∙ holds)
+
+  born_changing : (p : Part T U C) (n : ℕ) (x : Object (Kept U)) → held p.store 0 ≡ None → held p.store n ≡ None → n ≢ 0 → x.value.serial ≡ p.last_serial + 1
+      → Changing p (handing (New (id_at client n x) ∷ [])) (record p { store = stored p.store n x; last_serial = p.last_serial + 1 })
+  born_changing p n x empty free ne serial =
+      let after : Objects (Kept U) = record { store = stored p.store n x; last_serial = p.last_serial + 1 } in
+      record {
+        changes = Born n x ∷ Made (id_of (id_at client n x)) ∷ [];
+        ends = (after, (free, serial, refl), tt, (after, (id_names client after.store n x ne (stored_here p.store n x n refl), refl), tt, refl));
+        handed = λ h among. (
+            elim among [
+              | inl is ↦
+                  subst (λ (y : HandedId IdParts). IsHandedIn client (Born n x ∷ Made (id_of (id_at client n x)) ∷ []) y) is
+                  (refl, inl refl, inl (refl, refl))
+              | inr none ↦ absurd none
+            ]
+            );
+        left = refl;
+        noted = λ h among. absurd among;
+        waits = λ h among. inl among;
+        empty = stored_other p.store n x 0 (λ same. ne (sym same)) ∙ empty;
+      }
+
+  found_changing : (p : Part T U C) (n : ℕ) (x : Object (Kept U)) → held p.store 0 ≡ None → held p.store n ≡ Some x → Changing p (handing (Found (id_at client n x) ∷ [])) p
+  found_changing p n x empty holds = record {
+    changes = Made (id_of (id_at client n x)) ∷ [];
+    ends = (objects_of p, (id_names client p.store n x (not_zero p n x empty holds) holds, refl), tt, refl);
+    handed = λ h among. (
+        elim among [
+          | inl is ↦ subst (λ (y : HandedId IdParts). IsHandedIn {U = U} client (Made (id_of (id_at client n x)) ∷ []) y) is (inr (refl, inl refl))
+          | inr none ↦ absurd none
+        ]
+        );
+    left = refl;
+    noted = λ h among. absurd among;
+    waits = λ h among. inl among;
+    empty = empty;
+  }
+
+  none_changing : (p : Part T U C) → held p.store 0 ≡ None → Changing p (handing (Found (null_id client) ∷ [])) p
+  none_changing p empty = record {
+    changes = [];
+    ends = refl;
+    handed = λ h among. (
+        elim among [
+          | inl is ↦ subst (λ (y : HandedId IdParts). IsHandedIn {U = U} client [] y) is (inl refl)
+          | inr none ↦ absurd none
+        ]
+        );
+    left = refl;
+    noted = λ h among. absurd among;
+    waits = λ h among. inl among;
+    empty = empty;
+  }
+
+  wrote_changing : (p : Part T U C) (n : ℕ) (x : Object (Kept U)) (u : U) → held p.store 0 ≡ None → held p.store n ≡ Some x
+      → Changing p nothing_done (record p { store = rewritten p.store n (with_user_data u x) })
+  wrote_changing p n x u empty holds = record {
+    changes = Wrote n (with_user_data u x) ∷ [];
+    ends = (record { store = rewritten p.store n (with_user_data u x); last_serial = p.last_serial }, ((x, holds, refl), refl), λ y is. refl, refl);
+    handed = λ h among. absurd among;
+    left = refl;
+    noted = λ h among. absurd among;
+    waits = λ h among. inl among;
+    empty = rewritten_other p.store n (with_user_data u x) 0 (λ same. not_zero p n x empty holds (sym same)) ∙ empty;
+  }
+
+  went_changing : (p : Part T U C) (n : ℕ) (x : Object (Kept U)) (waits : Bool) → held p.store 0 ≡ None → held p.store n ≡ Some x
+      → Changing p (leaving client waits n x) (left_by client waits p n x)
+  went_changing p n x waits empty holds = record {
+    changes = changes;
+    ends = (
+      objects_of p,
+      (id_names client p.store n x (not_zero p n x empty holds) holds, refl),
+      tt,
+      (record { store = removed p.store n; last_serial = p.last_serial }, (holds, refl), refl, refl),
+    );
+    handed = λ h among. absurd among;
+    left = left_ids n x client;
+    noted = λ h among. at_once waits h among;
+    waits = λ h among. later waits h among;
+    empty = removed_other p.store n 0 (λ same. not_zero p n x empty holds (sym same)) ∙ empty;
+  }
+    where
+      changes : List (Change (Kept U))
+      changes = Made (id_of (id_at client n x)) ∷ Ended n x None ∷ []
+
+      at_once : (b : Bool) (h : Happening U) → IsAmong (if b then [] else note_of_end client n x) h → IsAmong p.waiting h ⊎ IsNotedIn client changes h
+      at_once true h among = absurd among
+      at_once false h among = inr (end_noted client changes (id_at client n x) x.value.user_data h refl (inl refl) among)
+
+      later : (b : Bool) (h : Happening U) → IsAmong (if b then p.waiting ++ note_of_end client n x else p.waiting) h → IsAmong p.waiting h ⊎ IsNotedIn client changes h
+      later true h among =
+          elim (among_both p.waiting (note_of_end client n x) h among) [
+            | inl waited ↦ inl waited
+            | inr new ↦ inr (end_noted client changes (id_at client n x) x.value.user_data h refl (inl refl) new)
+          ]
+      later false h among = inl among
+
+  -- each move changes the objects so
+  pub moves_change : (p q : Part T U C) (d : Doings U) → held p.store 0 ≡ None → Moves sends receives client p d q → Changing p d q
+  moves_change p q d empty (stayed is same) = changing_so p p q nothing_done d is same (still p empty)
+  moves_change p q d empty (followed {m = m} {a = a} {b = b} first second is) =
+      let one = moves_change p m a empty first in
+      changing_so p q q (joined a b) d is refl (then_changing p m q a b one (moves_change m q b one.empty second))
+  moves_change p q d empty (handed_out {a = a} ids moves among is) =
+      let changing = moves_change p q a empty moves in
+      changing_so p q q (record a { handed = ids }) d is refl (record {
+        changes = changing.changes;
+        ends = changing.ends;
+        handed = λ h one. changing.handed h (among h one);
+        left = changing.left;
+        noted = changing.noted;
+        waits = changing.waits;
+        empty = changing.empty;
+      })
+  moves_change p q d empty (relinked link waits stays is same) =
+      changing_so p (record p { link = link }) q nothing_done d is same (quiet p (record p { link = link }) nothing_done empty refl refl refl refl (λ h among. absurd among))
+  moves_change p q d empty (received r answer link filled is same) =
+      changing_so p (record p { link = link }) q (receiving r) d is same (quiet p (record p { link = link }) (receiving r) empty refl refl refl refl (λ h among. absurd among))
+  moves_change p q d empty (told messages es put answer link puts is same) =
+      changing_so p (record p { link = link }) q (putting es put) d is same (quiet p (record p { link = link }) (putting es put) empty refl refl refl refl (λ h among. absurd among))
+  moves_change p q d empty (flushed es answer link by is same) =
+      changing_so p (record p { link = link }) q (sending es) d is same (quiet p (record p { link = link }) (sending es) empty refl refl refl refl (λ h among. absurd among))
+  moves_change p q d empty (ended reason is same) =
+      changing_so p (record p { is_killed = true }) q (noting (end_notes p.is_killed reason)) d is same
+      (quiet p (record p { is_killed = true }) (noting (end_notes p.is_killed reason)) empty refl refl refl refl (λ h among. ended_quiet client p.is_killed reason h among))
+  moves_change p q d empty (born n x free ne serial is same) = changing_so p _ q _ d is same (born_changing p n x empty free ne serial)
+  moves_change p q d empty (found n x holds is same) = changing_so p p q _ d is same (found_changing p n x empty holds)
+  moves_change p q d empty (found_none is same) = changing_so p p q _ d is same (none_changing p empty)
+  moves_change p q d empty (wrote n x u holds is same) = changing_so p _ q nothing_done d is same (wrote_changing p n x u empty holds)
+  moves_change p q d empty (went n x waits holds is same) = changing_so p _ q _ d is same (went_changing p n x waits empty holds)
+  moves_change p q d empty (remembered n x holds registry is same) =
+      changing_so p (record p { registries = p.registries ++ id_of (id_at client n x) ∷ [] }) q (record nothing_done { registries = id_of (id_at client n x) ∷ [] }) d is same
+      (quiet p (record p { registries = p.registries ++ id_of (id_at client n x) ∷ [] }) (record nothing_done { registries = id_of (id_at client n x) ∷ [] }) empty
+      refl refl refl refl (λ h among. absurd among))
+  moves_change p q d empty (opens action h so is same) =
+      changing_so p (record p { action = Some action }) q (record nothing_done { acted = h ∷ [] }) d is same
+      (quiet p (record p { action = Some action }) (record nothing_done { acted = h ∷ [] }) empty refl refl refl refl (λ h among. absurd among))
+  moves_change p q d empty (closed is same) =
+      changing_so p (record p { action = None }) q nothing_done d is same (quiet p (record p { action = None }) nothing_done empty refl refl refl refl (λ h among. absurd among))
+  moves_change p q d empty (cleaned is same) =
+      changing_so p (record p { waiting = [] }) q (noting p.waiting) d is same (record {
+        changes = [];
+        ends = refl;
+        handed = λ h among. absurd among;
+        left = refl;
+        noted = λ h among. inl among;
+        waits = λ h among. absurd among;
+        empty = empty;
+      })
+
+  -- no note is handed out by moves of the part
+  pub moves_take : (p q : Part T U C) (d : Doings U) → Moves sends receives client p d q → d.taken ≡ []
+  moves_take p q d (stayed is same) = ap (λ (x : Doings U). x.taken) is
+  moves_take p q d (followed {m = m} {a = a} {b = b} first second is) =
+      ap (λ (x : Doings U). x.taken) is ∙ ap (λ l. l ++ b.taken) (moves_take p m a first) ∙ moves_take m q b second
+  moves_take p q d (handed_out {a = a} ids moves among is) = ap (λ (x : Doings U). x.taken) is ∙ moves_take p q a moves
+  moves_take p q d (relinked link waits stays is same) = ap (λ (x : Doings U). x.taken) is
+  moves_take p q d (received r answer link filled is same) = ap (λ (x : Doings U). x.taken) is
+  moves_take p q d (told messages es put answer link puts is same) = ap (λ (x : Doings U). x.taken) is
+  moves_take p q d (flushed es answer link by is same) = ap (λ (x : Doings U). x.taken) is
+  moves_take p q d (ended reason is same) = ap (λ (x : Doings U). x.taken) is
+  moves_take p q d (born n x free ne serial is same) = ap (λ (x : Doings U). x.taken) is
+  moves_take p q d (found n x holds is same) = ap (λ (x : Doings U). x.taken) is
+  moves_take p q d (found_none is same) = ap (λ (x : Doings U). x.taken) is
+  moves_take p q d (wrote n x u holds is same) = ap (λ (x : Doings U). x.taken) is
+  moves_take p q d (went n x waits holds is same) = ap (λ (x : Doings U). x.taken) is
+  moves_take p q d (remembered n x holds registry is same) = ap (λ (x : Doings U). x.taken) is
+  moves_take p q d (opens action h so is same) = ap (λ (x : Doings U). x.taken) is
+  moves_take p q d (closed is same) = ap (λ (x : Doings U). x.taken) is
+  moves_take p q d (cleaned is same) = ap (λ (x : Doings U). x.taken) is
+
+  -- ---- what is held of a client
+
+  -- the changes of a call, from what is held of a client and its objects to those that are then held
+  pub record CallChanging (s : Seen T U C) (o : Objects (Kept U)) (d : Doings U) (t : Seen T U C) : Type 0 where
+    pub after : Objects (Kept U)
+    pub changes : List (Change (Kept U))
+    pub ends : StepEnds serial_of is_over o changes after
+    pub are : AreObjectsOf t after
+    pub empty : held after.store 0 ≡ None
+    pub handed : (h : HandedId IdParts) → IsAmong d.handed h → IsHandedIn client changes h
+    pub left : d.left ≡ ended_in serial_of has_data changes
+    pub noted : (h : Happening U) → IsAmong (d.taken ++ (t.made ++ waiting_of t.part)) h → IsAmong (s.made ++ waiting_of s.part) h ⊎ IsNotedIn client changes h
+    pub new : (h : Happening U) → IsAmong (d.notes ++ waiting_of t.part) h → IsAmong (waiting_of s.part) h ⊎ IsNotedIn client changes h
+
+  goes_unfelt : (s : Seen T U C) (o : Objects (Kept U)) → AreObjectsOf s o → held o.store 0 ≡ None → CallChanging s o nothing_done s
+  goes_unfelt s o are empty = record {
+    after = o;
+    changes = [];
+    ends = refl;
+    are = are;
+    empty = empty;
+    handed = λ h among. absurd among;
+    left = refl;
+    noted = λ h among. inl among;
+    new = λ h among. inl among;
+  }
+
+  goes_taken : (s : Seen T U C) (o : Objects (Kept U)) → AreObjectsOf s o → held o.store 0 ≡ None
+      → CallChanging s o (record nothing_done { taken = s.made }) (record { part = s.part; made = [] })
+  goes_taken s o are empty = record {
+    after = o;
+    changes = [];
+    ends = refl;
+    are = are;
+    empty = empty;
+    handed = λ h among. absurd among;
+    left = refl;
+    noted = λ h among. inl among;
+    new = λ h among. inl among;
+  }
+
+  goes_within : (p q : Part T U C) (made : List (Happening U)) (d : Doings U) → d.taken ≡ [] → held p.store 0 ≡ None → Moves sends receives client p d q
+      → CallChanging (record { part = Some p; made = made }) (objects_of p) d (record { part = Some q; made = made ++ d.notes })
+  goes_within p q made d none_taken empty moves =
+      let changing = moves_change p q d empty moves in
+      record {
+        after = objects_of q;
+        changes = changing.changes;
+        ends = changing.ends;
+        are = refl;
+        empty = changing.empty;
+        handed = changing.handed;
+        left = changing.left;
+        noted = λ h among. (
+            elim (in_three d.taken (made ++ d.notes) q.waiting h among) [
+              | inl taken ↦ absurd (subst (λ (hs : List (Happening U)). IsAmong hs h) none_taken taken)
+              | inr (inl so) ↦ (
+                  elim (among_both made d.notes h so) [
+                    | inl old ↦ inl (among_first made p.waiting h old)
+                    | inr new ↦ waited h changing.changes (changing.noted h new)
+                  ]
+                  )
+              | inr (inr waits) ↦ waited h changing.changes (changing.waits h waits)
+            ]
+            );
+        new = λ h among. elim (among_both d.notes q.waiting h among) [ inl made_now ↦ changing.noted h made_now | inr waits ↦ changing.waits h waits ];
+      }
+    where
+      waited : (h : Happening U) (changes : List (Change (Kept U))) → IsAmong p.waiting h ⊎ IsNotedIn client changes h → IsAmong (made ++ p.waiting) h ⊎ IsNotedIn client changes h
+      waited h changes (inl old) = inl (among_later made p.waiting h old)
+      waited h changes (inr new) = inr new
+
+  -- a client that is taken out leaves no objects
+  goes_out : (p q : Part T U C) (made : List (Happening U)) (d : Doings U) → d.taken ≡ [] → held p.store 0 ≡ None → Moves sends receives client p d q
+      → ((n : ℕ) → held q.store n ≡ None) → CallChanging (record { part = Some p; made = made }) (objects_of p) d (record { part = None; made = made ++ d.notes })
+  goes_out p q made d none_taken empty moves none =
+      let changing = goes_within p q made d none_taken empty moves in
+      record {
+        after = changing.after;
+        changes = changing.changes;
+        ends = changing.ends;
+        are = subst (λ (o : Objects (Kept U)). (n : ℕ) → held o.store n ≡ None) (sym changing.are) none;
+        empty = changing.empty;
+        handed = changing.handed;
+        left = changing.left;
+        noted = λ h among. (
+            elim (in_three d.taken (made ++ d.notes) [] h among) [
+              | inl taken ↦ changing.noted h (among_first d.taken ((made ++ d.notes) ++ q.waiting) h taken)
+              | inr (inl so) ↦ changing.noted h (among_later d.taken ((made ++ d.notes) ++ q.waiting) h (among_first (made ++ d.notes) q.waiting h so))
+              | inr (inr nothing) ↦ absurd nothing
+            ]
+            );
+        new = λ h among. changing.new h (subst (λ (hs : List (Happening U)). IsAmong (hs ++ q.waiting) h) (append-nil d.notes) (among_first (d.notes ++ []) q.waiting h among));
+      }
+
+  objects_at : (s : Seen T U C) (p : Part T U C) (o : Objects (Kept U)) → s.part ≡ Some p → AreObjectsOf s o → o ≡ objects_of p
+  objects_at s p o there are =
+      subst (λ (x : Option (Part T U C)). MatchOption x ((n : ℕ) → held o.store n ≡ None) (λ p. o ≡ objects_of p)) {x = s.part} {y = Some p} there are
+
+  moved_from : (s : Seen T U C) (p : Part T U C) (o : Objects (Kept U)) (d : Doings U) (t : Seen T U C) → s.part ≡ Some p → o ≡ objects_of p
+      → CallChanging (record { part = Some p; made = s.made }) (objects_of p) d t → CallChanging s o d t
+  moved_from s p o d t there at changing =
+      subst (λ (x : Objects (Kept U)). CallChanging s x d t) (sym at)
+      (subst (λ (x : Option (Part T U C)). CallChanging (record { part = x; made = s.made }) (objects_of p) d t) (sym there) changing)
+
+  pub goes_change : (s t : Seen T U C) (o : Objects (Kept U)) (d : Doings U) → AreObjectsOf s o → held o.store 0 ≡ None → Goes sends receives client s d t → CallChanging s o d t
+  goes_change s t o d are empty (unfelt is same) =
+      subst (λ (x : Doings U). CallChanging s o x t) (sym is) (subst (λ (x : Seen T U C). CallChanging s o nothing_done x) (sym same) (goes_unfelt s o are empty))
+  goes_change s t o d are empty (notes_taken is same) =
+      subst (λ (x : Doings U). CallChanging s o x t) (sym is)
+      (subst (λ (x : Seen T U C). CallChanging s o (record nothing_done { taken = s.made }) x) (sym same) (goes_taken s o are empty))
+  goes_change s t o d are empty (within p q there moves same) =
+      let at : o ≡ objects_of p = objects_at s p o there are in
+      let start : held p.store 0 ≡ None = subst (λ (x : Objects (Kept U)). held x.store 0 ≡ None) at empty in
+      subst (λ (x : Seen T U C). CallChanging s o d x) (sym same)
+      (moved_from s p o d (record { part = Some q; made = s.made ++ d.notes }) there at (goes_within p q s.made d (moves_take p q d moves) start moves))
+  goes_change s t o d are empty (taken_out p q there killed moves none waiting same) =
+      let at : o ≡ objects_of p = objects_at s p o there are in
+      let start : held p.store 0 ≡ None = subst (λ (x : Objects (Kept U)). held x.store 0 ≡ None) at empty in
+      subst (λ (x : Seen T U C). CallChanging s o d x) (sym same)
+      (moved_from s p o d (record { part = None; made = s.made ++ d.notes }) there at (goes_out p q s.made d (moves_take p q d moves) start moves none))

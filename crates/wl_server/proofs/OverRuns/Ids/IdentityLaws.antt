@@ -1,0 +1,202 @@
+-- What holds of the ids of every run.
+use Rattle.std.proofs.Common.{◌≡◌, ◌≢◌, ◌⊎◌, ℕ, Bool, true, false, cond, eqb, List, [], ◌∷◌, ◌++◌, Option, None, Some, is_some, IsSome, refl, sym, ap, subst, ◌∙◌, true≢false, append_assoc, arith}
+use mathlib.Core.Logic.{inl, inr}
+use Rattle.std.specs.Prelude.{AllPairs, Contains, MatchOption, ◌↔◌}
+use Rattle.wl_wire.specs.Table.{InterfaceRow}
+use Rattle.wl_link.proofs.Ids.EndsLaw.{ends_once_law, run_leads, run_owns}
+use Rattle.wl_link.specs.Identity.{Birth, Born, Change, Ended, Gone, HasIdentity, Id, IsBornInStep, IsMadeIn, IsMadeInStep, Made, Objects, OwnsExactly, RunEnds, StepEnds, Wrote, births_of, counted_id, ended_in, ended_over, named_in, names}
+use Rattle.wl_link.specs.Identity as objects
+use Rattle.wl_link.proofs.Ids.IdentityLaw.{identity_law}
+use Rattle.wl_link.specs.Link.{LinkState}
+use Rattle.wl_link.specs.Runs.{RunEntry}
+use Rattle.wl_link.specs.Store.{empty_store, held}
+use Rattle.wl_link.proofs.Ids.StoreLaws.{held_empty, stored_other}
+use Rattle.wl_server.specs.declared.objects.Kept.{Kept}
+use Rattle.wl_server.specs.declared.notes.Happening.{Happening}
+use Rattle.wl_server.specs.declared.notes.Happening.TheVariants.{Destroyed, Initialized}
+use Rattle.wl_server.specs.declared.runs.step.Reply.{Reply}
+use Rattle.wl_server.specs.declared.runs.step.Step.{Step}
+use Rattle.wl_server.specs.Deeds.{IsAmong, Deed, left_in, notes_in, taken_in}
+use Rattle.wl_server.proofs.OverRuns.Moves.BaseMoves.{Doings, doings_of, handed_by}
+use Rattle.wl_server.proofs.OverRuns.Moves.BaseMovesLaw.{call_goes}
+use Rattle.wl_server.proofs.OverRuns.Moves.DoingsLaws.{done_both}
+use Rattle.wl_server.proofs.OverRuns.Ids.ChangeLaws.{CallChanging, goes_change, in_three}
+use Rattle.wl_server.proofs.OverRuns.Ids.ReplyLaws.{covers}
+use Rattle.wl_server.specs.Globals.{Offer, new_offer}
+use Rattle.wl_server.specs.Identified.{AreObjectsOf, EachHasOwnIds, Follows, HasOwnIds, HaveOwnIds, IsHandedIn, IsNotedIn, has_data, ids_in, is_over, named_of, waiting_of}
+use Rattle.wl_server.specs.Ids.{ClientParts, IdParts}
+use Rattle.wl_server.proofs.OverRuns.Alone.IsolationLaw.{are_isolated, is_isolated}
+use Rattle.wl_server.specs.Lookups.{and_then}
+use Rattle.wl_server.proofs.OverRuns.Ids.AmongLaws.{all_among, among_contains, among_first, among_later, contains_among}
+use Rattle.wl_server.proofs.OverRuns.Alone.OwnRuns.{AreMine, are_mine}
+use Rattle.wl_server.specs.Part.{Part, display_object, id_of, named, objects_of, serial_of}
+use Rattle.wl_server.specs.PartStep.{World}
+use Rattle.wl_server.specs.Runs.{Alone, Leads, Own, Performs, begun, history, mine, offer_over}
+use Rattle.wl_server.specs.Server.{Seen, ServerState, new_server, seen}
+use Rattle.wl_server.specs.Steps.{Entry, offer_after}
+
+-- ---- the run of a client
+
+module _ {U : Type 0} (client : ClientParts) where
+  -- a note whose id is made in some step
+  abbrev IsNotedOver : List (List (Change (Kept U))) → Happening U → Type 0
+  IsNotedOver [] h = ⊥
+  IsNotedOver (step ∷ rest) h = IsNotedIn client step h ⊎ IsNotedOver rest h
+
+  noted_over : (run : List (List (Change (Kept U)))) (o : IdParts) (u : U) → IsNotedOver run (Destroyed o u) → (o.client ≡ client) × IsMadeIn run (id_of o)
+  noted_over [] o u noted = absurd noted
+  noted_over (step ∷ rest) o u (inl (of_it, made)) = (of_it, inl made)
+  noted_over (step ∷ rest) o u (inr later) = let (of_it, made) = noted_over rest o u later in (of_it, inr made)
+
+  begins_without : (o : IdParts) (u : U) → IsAmong (Initialized ∷ []) (Destroyed o u) → ⊥
+  begins_without o u (inl is) = true≢false (ap begins is)
+    where
+      begins : Happening U → Bool
+      begins Initialized = true
+      begins _ = false
+  begins_without o u (inr none) = none
+
+module _ {T U G C : Type 0} (w : World T G C) (id : ClientParts) where
+  record RunChanging (offer : Offer G) (s : Seen T U C) (o : Objects (Kept U)) (run : List (Own T U G C)) (t : Seen T U C) : Type 0 where
+    changes : List (List (Change (Kept U)))
+    kept : Objects (Kept U)
+    follows : Follows w id offer s o run changes t kept
+    ends : RunEnds serial_of is_over o changes kept
+    are : AreObjectsOf t kept
+    left : left_in (history run) ≡ ended_over serial_of has_data changes
+    noted : (h : Happening U) → IsAmong (taken_in (history run) ++ (t.made ++ waiting_of t.part)) h → IsAmong (s.made ++ waiting_of s.part) h ⊎ IsNotedOver id changes h
+
+  left_both : (a b : List (Deed U)) → left_in (a ++ b) ≡ left_in a ++ left_in b
+  left_both a b = ap (λ (d : Doings U). d.left) (done_both a b)
+
+  taken_both : (a b : List (Deed U)) → taken_in (a ++ b) ≡ taken_in a ++ taken_in b
+  taken_both a b = ap (λ (d : Doings U). d.taken) (done_both a b)
+
+  run_change : (offer : Offer G) (s : Seen T U C) (o : Objects (Kept U)) (run : List (Own T U G C)) (t : Seen T U C) → AreMine id run → AreObjectsOf s o
+      → held o.store 0 ≡ None → Alone w id offer s run t → RunChanging offer s o run t
+  run_change offer s o [] t own are empty same = record {
+    changes = [];
+    kept = o;
+    follows = (same, refl);
+    ends = refl;
+    are = subst (λ (x : Seen T U C). AreObjectsOf x o) (sym same) are;
+    left = refl;
+    noted = λ h among. inl (subst (λ (x : Seen T U C). IsAmong (x.made ++ waiting_of x.part) h) same among);
+  }
+  run_change offer s o (e ∷ run) t own are empty (mid, by, alone) =
+      let first = goes_change w.sends w.receives id s mid o (doings_of (handed_by id e.call e.did) e.did) are empty (call_goes w id offer e.call s e.lacked e.did mid own.0 by) in
+      let rest = run_change (offer_after offer e.call) mid first.after run t own.1 first.are first.empty alone in
+      record {
+        changes = first.changes ∷ rest.changes;
+        kept = rest.kept;
+        follows = (
+          mid,
+          first.after,
+          by,
+          first.ends,
+          first.are,
+          all_among (IsHandedIn id first.changes) (ids_in e.call) (λ i among. first.handed i (covers w id offer e.call s e.lacked e.did mid own.0 by i among)),
+          first.left,
+          (λ h there. made_now first h
+              (first.new h (among_contains (notes_in e.did ++ waiting_of mid.part) h there))),
+          rest.follows,
+        );
+        ends = (first.after, first.ends, rest.ends);
+        are = rest.are;
+        left = left_both e.did (history run) ∙ ap (λ (l : List Id). l ++ left_in (history run)) first.left
+            ∙ ap (λ (l : List Id). ended_in serial_of has_data first.changes ++ l) rest.left;
+        noted = λ h among. (
+            elim (in_three (taken_in e.did) (taken_in (history run)) (t.made ++ waiting_of t.part) h
+            (subst (λ (l : List (Happening U)). IsAmong l h)
+            (ap (λ (l : List (Happening U)). l ++ (t.made ++ waiting_of t.part)) (taken_both e.did (history run))
+            ∙ append_assoc (taken_in e.did) (taken_in (history run)) (t.made ++ waiting_of t.part)) among)) [
+              | inl now ↦ sooner first.changes rest.changes h (first.noted h (among_first (taken_in e.did) (mid.made ++ waiting_of mid.part) h now))
+              | inr (inl later) ↦ behind first rest h (rest.noted h (among_first (taken_in (history run)) (t.made ++ waiting_of t.part) h later))
+              | inr (inr left) ↦ behind first rest h (rest.noted h (among_later (taken_in (history run)) (t.made ++ waiting_of t.part) h left))
+            ]
+            );
+      }
+    where
+      made_now : (first : CallChanging w.sends w.receives id s o (doings_of (handed_by id e.call e.did) e.did) mid) (h : Happening U)
+          → IsAmong (waiting_of s.part) h ⊎ IsNotedIn id first.changes h → Contains (waiting_of s.part) h ⊎ IsNotedIn id first.changes h
+      made_now first h (inl old) = inl (contains_among (waiting_of s.part) h old)
+      made_now first h (inr new) = inr new
+
+      sooner : (changes : List (Change (Kept U))) (others : List (List (Change (Kept U)))) (h : Happening U) → IsAmong (s.made ++ waiting_of s.part) h ⊎ IsNotedIn id changes h
+          → IsAmong (s.made ++ waiting_of s.part) h ⊎ IsNotedOver id (changes ∷ others) h
+      sooner changes others h (inl old) = inl old
+      sooner changes others h (inr new) = inr (inl new)
+
+      behind : (first : CallChanging w.sends w.receives id s o (doings_of (handed_by id e.call e.did) e.did) mid)
+          (rest : RunChanging (offer_after offer e.call) mid first.after run t) (h : Happening U)
+          → IsAmong (mid.made ++ waiting_of mid.part) h ⊎ IsNotedOver id rest.changes h
+          → IsAmong (s.made ++ waiting_of s.part) h ⊎ IsNotedOver id (first.changes ∷ rest.changes) h
+      behind first rest h (inl old) = sooner first.changes rest.changes h (first.noted h (among_later (taken_in e.did) (mid.made ++ waiting_of mid.part) h old))
+      behind first rest h (inr new) = inr (inr new)
+
+  -- ---- what holds of it
+
+  names_of : (t : Seen T U C) (kept : Objects (Kept U)) → AreObjectsOf t kept → (o : IdParts) → IsSome (named_of t o) ↔ IsSome (names serial_of (id_of o) kept.store)
+  names_of t kept are o = go t.part are
+    where
+      none_there : held kept.store o.number ≡ None → IsSome (names serial_of (id_of o) kept.store) → ⊥
+      none_there none some = at (eqb o.number 0) some
+        where
+          at : (b : Bool) → IsSome (cond b None (named_in serial_of (id_of o) (held kept.store o.number))) → ⊥
+          at true some = true≢false (sym some)
+          at false some = true≢false (sym (sym (ap (λ x. is_some (named_in serial_of (id_of o) x)) none) ∙ some))
+
+      go : (p : Option (Part T U C)) → MatchOption p ((n : ℕ) → held kept.store n ≡ None) (λ q. kept ≡ objects_of q)
+          → IsSome (and_then p (λ q. named q.store o)) ↔ IsSome (names serial_of (id_of o) kept.store)
+      go None none = (λ some. absurd (true≢false (sym some)), λ some. absurd (none_there (none o.number) some))
+      go (Some q) is = (
+        λ some. ap (λ (x : Objects (Kept U)). is_some (names serial_of (id_of o) x.store)) is ∙ some,
+        λ some. sym (ap (λ (x : Objects (Kept U)). is_some (names serial_of (id_of o) x.store)) is) ∙ some,
+      )
+
+  pub own_ids : (offer : Offer G) (link : LinkState T) (info : C) (run : List (Own T U G C)) (t : Seen T U C) → AreMine id run → Alone w id offer (begun link info) run t
+      → HasOwnIds w id offer (begun link info) run t
+  own_ids offer link info run t own alone =
+      let changing = run_change offer (begun link info) (objects.first_objects display_object) run t own refl (stored_other empty_store 1 display_object 0 (λ is. none_one is) ∙ held_empty 0) alone in
+      let identity = identity_law serial_of display_object refl changing.changes changing.kept
+      (run_leads serial_of (OwnsExactly is_over) (objects.first_objects display_object) changing.kept changing.changes changing.ends) in
+      record {
+        changes = changing.changes;
+        kept = changing.kept;
+        follows = changing.follows;
+        are = changing.are;
+        identity = identity;
+        names = λ o birth made. (
+            let at = names_of t changing.kept changing.are o in
+            let own = identity.own (id_of o) birth made in (λ some. own.0 (at.0 some), λ is. at.1 (own.1 is))
+            );
+        noted = λ o u there. (
+            elim (changing.noted (Destroyed o u) (among_contains (taken_in (history run) ++ (t.made ++ waiting_of t.part)) (Destroyed o u) there)) [
+              | inl old ↦ absurd (begins_without id o u old)
+              | inr over ↦ noted_over id changing.changes o u over
+            ]
+            );
+        left = changing.left;
+        once = subst (λ (is : List Id). AllPairs (λ a b. a ≢ b) is) (sym changing.left)
+            (ends_once_law serial_of is_over has_data display_object refl changing.changes changing.kept
+            (run_owns serial_of is_over (objects.first_objects display_object) changing.kept changing.changes changing.ends));
+      }
+    where
+      none_one : ◌≡◌ {A = ℕ} 0 1 → ⊥
+      none_one is = omega (arith, is)
+
+-- ---- every client of a server
+
+module _ {T U G C : Type 0} where
+  -- over every run of a new server, each client has ids of its own
+  pub each_has_own_ids : (w : World T G C) (table : List InterfaceRow) (run : List (Entry T U G C)) (after : ServerState T U G C) → Leads w (new_server table) run after
+      → EachHasOwnIds w table run after
+  each_has_own_ids w table run after leads id transport info earlier later e split inserts =
+      let (link, fresh, alone) = (is_isolated w table run after leads).each id transport info earlier later e split inserts in
+      (link, fresh, own_ids w id (offer_over (new_offer table) (earlier ++ e ∷ [])) link info (mine id later) (seen id after) (are_mine id later) alone)
+
+  -- and over steps with their replies
+  pub have_own_ids : (w : World T G C) (table : List InterfaceRow) (steps : List (RunEntry (Step T U G C) (Reply T U))) (after : ServerState T U G C)
+      → Performs w (new_server table) steps after → HaveOwnIds w table steps after
+  have_own_ids w table steps after performs =
+      let (run, are, leads, isolated) = are_isolated w table steps after performs in (run, are, leads, each_has_own_ids w table run after leads)

@@ -1,0 +1,2 @@
+-- The log of a client is what was put.
+pub mod LogLaws

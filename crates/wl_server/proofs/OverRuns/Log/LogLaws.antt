@@ -1,0 +1,179 @@
+-- That no message is lost, and none is sent that was not put: an induction over base moves.
+use Rattle.std.proofs.Common.{◌≡◌, ℕ, true, List, [], ◌∷◌, ◌++◌, Option, Some, Result, refl, sym, ap, subst, ◌∙◌}
+use Rattle.std.specs.Prelude.{MatchOption}
+use Rattle.wl_wire.specs.declared.error.IoFault.{IoFault}
+use Rattle.wl_wire.specs.Message.{WireMessage}
+use Rattle.wl_wire.specs.Table.{InterfaceRow}
+use Rattle.wl_link.specs.Exchange.{Queue, Sending, nothing, IsWithinOffer}
+use Rattle.wl_link.specs.Exchange as queue
+use Rattle.wl_link.specs.Kept.{LosesNothing}
+use Rattle.wl_link.proofs.Calls.KeptLaws.{flush_kept, gone-taken}
+use Rattle.wl_link.specs.Link.{LinkState, IsFresh}
+use Rattle.wl_link.proofs.Readings.LogLaws.{kept_still, kept_then, puts_kept}
+use Rattle.wl_link.specs.Puts.{Said, messages_of}
+use Rattle.wl_link.specs.Runs.{RunEntry}
+use Rattle.wl_link.specs.Sides.{spelled_all}
+use Rattle.wl_link.proofs.Streams.StreamLaws.{spelled_all-append}
+use Rattle.wl_server.specs.declared.runs.step.Reply.{Reply}
+use Rattle.wl_server.specs.declared.runs.step.Step.{Step}
+use Rattle.wl_server.proofs.OverRuns.Moves.BaseMoves.{Doings, Goes, Moves, born, cleaned, closed, doings_of, ended, flushed, followed, found, found_none, handed_by, handed_out, joined, notes_taken, opens, putting, received, relinked, remembered, sending, stayed, taken_out, told, unfelt, went, within, wrote}
+use Rattle.wl_server.proofs.OverRuns.Moves.BaseMovesLaw.{call_goes}
+use Rattle.wl_server.specs.Deeds.{log_of, sends_of}
+use Rattle.wl_server.proofs.OverRuns.Moves.DoingsLaws.{done_both}
+use Rattle.wl_server.specs.Globals.{Offer, new_offer}
+use Rattle.wl_server.specs.Ids.{ClientParts}
+use Rattle.wl_server.proofs.OverRuns.Alone.IsolationLaw.{are_isolated, is_isolated}
+use Rattle.wl_server.specs.Logged.{EachLogIsSpelled, HaveSpelledLogs, LogIsSpelled, WaitsFor}
+use Rattle.wl_server.proofs.OverRuns.Alone.OwnRuns.{AreMine, are_mine}
+use Rattle.wl_server.specs.Part.{Part}
+use Rattle.wl_server.specs.PartStep.{World}
+use Rattle.wl_server.specs.Runs.{Alone, Leads, Own, Performs, begun, history, mine, offer_over}
+use Rattle.wl_server.specs.Server.{Seen, ServerState, new_server, seen}
+use Rattle.wl_server.specs.Steps.{Entry, offer_after}
+
+messages_both : (said others : List Said) → messages_of (said ++ others) ≡ messages_of said ++ messages_of others
+messages_both [] others = refl
+messages_both (s ∷ said) others = ap (λ (ms : List WireMessage). s.message ∷ ms) (messages_both said others)
+
+-- the spelling of messages that were put
+abbrev spelled_log : List Said → Queue
+spelled_log put = spelled_all (messages_of put)
+
+spelled_both : (put others : List Said) → spelled_log (put ++ others) ≡ queue.joined (spelled_log put) (spelled_log others)
+spelled_both put others = ap spelled_all (messages_both put others) ∙ spelled_all-append (messages_of put) (messages_of others)
+
+-- what is gone, followed by what waits, is what waited, followed by what was put
+module _ {U : Type 0} where
+  abbrev Keeps : Queue → Doings U → Queue → Type 0
+  Keeps before d after = LosesNothing d.sends before (spelled_log d.put) after
+
+  keeps_quiet : (a b : Queue) (d : Doings U) → d.sends ≡ [] → d.put ≡ [] → b ≡ a → Keeps a d b
+  keeps_quiet a b d no_sends no_puts same =
+      subst (λ (ms : List Said). LosesNothing d.sends a (spelled_log ms) b) (sym no_puts) (kept_still d.sends a b no_sends same)
+
+  keeps_then : (x y z : Queue) (a b : Doings U) → Keeps x a y → Keeps y b z → Keeps x (joined a b) z
+  keeps_then x y z a b first second =
+      subst (λ (q : Queue). LosesNothing (a.sends ++ b.sends) x q z) (sym (spelled_both a.put b.put))
+      (kept_then a.sends b.sends x y z (spelled_log a.put) (spelled_log b.put) first second)
+
+  keeps_so : (x y y' : Queue) (d d' : Doings U) → d' ≡ d → y' ≡ y → Keeps x d y → Keeps x d' y'
+  keeps_so x y y' d d' is same keeps =
+      subst (λ (e : Doings U). Keeps x e y') (sym is) (subst (λ (q : Queue). Keeps x d q) (sym same) keeps)
+
+module _ {T U C : Type 0} (sends : T → Queue → Result ℕ IoFault → T → Type 0) (receives : T → ℕ → Result Queue IoFault → T → Type 0)
+    (client : ClientParts) (within' : IsWithinOffer sends) where
+  abbrev out : Part T U C → Queue
+  out p = p.link.outgoing
+
+  -- a move that neither sends nor puts
+  quiet_move : (p q r : Part T U C) (d e : Doings U) → d ≡ e → q ≡ r → e.sends ≡ [] → e.put ≡ [] → out r ≡ out p → Keeps (out p) d (out q)
+  quiet_move p q r d e is same no_sends no_puts waits = keeps_so (out p) (out r) (out q) e d is (ap out same) (keeps_quiet (out p) (out r) e no_sends no_puts waits)
+
+  moves_keep : (p q : Part T U C) (d : Doings U) → Moves sends receives client p d q → Keeps (out p) d (out q)
+  moves_keep p q d (stayed is same) = quiet_move p q p d _ is same refl refl refl
+  moves_keep p q d (followed {m = m} {a = a} {b = b} first second is) =
+      keeps_so (out p) (out q) (out q) (joined a b) d is refl (keeps_then (out p) (out m) (out q) a b (moves_keep p m a first) (moves_keep m q b second))
+  moves_keep p q d (handed_out {a = a} ids moves among is) = keeps_so (out p) (out q) (out q) (record a { handed = ids }) d is refl (moves_keep p q a moves)
+  moves_keep p q d (relinked link waits stays is same) = quiet_move p q (record p { link = link }) d _ is same refl refl waits
+  moves_keep p q d (received r answer link filled is same) =
+      quiet_move p q (record p { link = link }) d _ is same refl refl (ap (λ (l : LinkState T). l.outgoing) filled.2)
+  moves_keep p q d (told messages es put answer link puts is same) =
+      keeps_so (out p) link.outgoing (out q) (putting es put) d is (ap out same) (puts_kept sends within' messages p.link link es put answer puts)
+  moves_keep p q d (flushed es answer link by is same) =
+      keeps_so (out p) link.outgoing (out q) (sending es) d is (ap out same) (flush_kept sends within' p.link link es answer by)
+  moves_keep p q d (ended reason is same) = quiet_move p q (record p { is_killed = true }) d _ is same refl refl refl
+  moves_keep p q d (born n x free ne serial is same) = quiet_move p q _ d _ is same refl refl refl
+  moves_keep p q d (found n x holds is same) = quiet_move p q p d _ is same refl refl refl
+  moves_keep p q d (found_none is same) = quiet_move p q p d _ is same refl refl refl
+  moves_keep p q d (wrote n x u holds is same) = quiet_move p q _ d _ is same refl refl refl
+  moves_keep p q d (went n x waits holds is same) = quiet_move p q _ d _ is same refl refl refl
+  moves_keep p q d (remembered n x holds registry is same) = quiet_move p q _ d _ is same refl refl refl
+  moves_keep p q d (opens action h so is same) = quiet_move p q _ d _ is same refl refl refl
+  moves_keep p q d (closed is same) = quiet_move p q _ d _ is same refl refl refl
+  moves_keep p q d (cleaned is same) = quiet_move p q _ d _ is same refl refl refl
+
+  -- ---- what is held of a client
+
+  record GoneOn (waits : Queue) (d : Doings U) (t : Seen T U C) : Type 0 where
+    after : Queue
+    waiting : WaitsFor t after
+    keeps : Keeps waits d after
+
+  waits_at : (s : Seen T U C) (p : Part T U C) (waits : Queue) → s.part ≡ Some p → WaitsFor s waits → waits ≡ out p
+  waits_at s p waits there is =
+      subst (λ (x : Option (Part T U C)). MatchOption x (Unit {0}) (λ q. waits ≡ out q)) {x = s.part} {y = Some p} there is
+
+  goes_keep : (s t : Seen T U C) (d : Doings U) (waits : Queue) → WaitsFor s waits → Goes sends receives client s d t → GoneOn waits d t
+  goes_keep s t d waits is (unfelt none same) = record {
+    after = waits;
+    waiting = subst (λ (x : Seen T U C). WaitsFor x waits) (sym same) is;
+    keeps = keeps_quiet waits waits d (ap (λ (e : Doings U). e.sends) none) (ap (λ (e : Doings U). e.put) none) refl;
+  }
+  goes_keep s t d waits is (notes_taken none same) = record {
+    after = waits;
+    waiting = subst (λ (x : Seen T U C). WaitsFor x waits) (sym same) is;
+    keeps = keeps_quiet waits waits d (ap (λ (e : Doings U). e.sends) none) (ap (λ (e : Doings U). e.put) none) refl;
+  }
+  goes_keep s t d waits is (within p q there moves same) = record {
+    after = out q;
+    waiting = subst (λ (x : Seen T U C). WaitsFor x (out q)) (sym same) refl;
+    keeps = subst (λ (x : Queue). Keeps x d (out q)) (sym (waits_at s p waits there is)) (moves_keep p q d moves);
+  }
+  goes_keep s t d waits is (taken_out p q there killed moves none noted same) = record {
+    after = out q;
+    waiting = subst (λ (x : Seen T U C). WaitsFor x (out q)) (sym same) tt;
+    keeps = subst (λ (x : Queue). Keeps x d (out q)) (sym (waits_at s p waits there is)) (moves_keep p q d moves);
+  }
+
+-- ---- the run of a client
+
+module _ {T U G C : Type 0} (w : World T G C) (within' : IsWithinOffer w.sends) (id : ClientParts) where
+  record RunKeeps (waits : Queue) (run : List (Own T U G C)) (t : Seen T U C) : Type 0 where
+    after : Queue
+    waiting : WaitsFor t after
+    keeps : Keeps waits (doings_of [] (history run)) after
+
+  run_keeps : (offer : Offer G) (s : Seen T U C) (waits : Queue) (run : List (Own T U G C)) (t : Seen T U C) → AreMine id run → WaitsFor s waits
+      → Alone w id offer s run t → RunKeeps waits run t
+  run_keeps offer s waits [] t own is same = record {
+    after = waits;
+    waiting = subst (λ (x : Seen T U C). WaitsFor x waits) (sym same) is;
+    keeps = keeps_quiet waits waits (doings_of {U = U} [] []) refl refl refl;
+  }
+  run_keeps offer s waits (e ∷ run) t own is (mid, by, alone) =
+      let first = goes_keep w.sends w.receives id within' s mid (doings_of (handed_by id e.call e.did) e.did) waits is (call_goes w id offer e.call s e.lacked e.did mid own.0 by) in
+      let rest = run_keeps (offer_after offer e.call) mid first.after run t own.1 first.waiting alone in
+      record {
+        after = rest.after;
+        waiting = rest.waiting;
+        keeps = subst (λ (es : List Sending). LosesNothing es waits (spelled_log (log_of (e.did ++ history run))) rest.after) (sym (ap (λ (d : Doings U). d.sends) (done_both e.did (history run))))
+            (subst (λ (ms : List Said). LosesNothing (sends_of e.did ++ sends_of (history run)) waits (spelled_log ms) rest.after) (sym (ap (λ (d : Doings U). d.put) (done_both e.did (history run))))
+            (keeps_then waits first.after rest.after (doings_of (handed_by id e.call e.did) e.did) (doings_of [] (history run)) first.keeps rest.keeps));
+      }
+
+  own_log : (offer : Offer G) (transport : T) (limit : Option ℕ) (link : LinkState T) (info : C) (run : List (Own T U G C)) (t : Seen T U C) → IsFresh transport limit link
+      → AreMine id run → Alone w id offer (begun link info) run t → (waits : Queue) × WaitsFor t waits × LogIsSpelled (history run) waits
+  own_log offer transport limit link info run t (l, limits, fresh) own alone =
+      let kept = run_keeps offer (begun link info) link.outgoing run t own refl alone in
+      let none : link.outgoing ≡ nothing = ap (λ (x : LinkState T). x.outgoing) fresh in
+      let from : LosesNothing (sends_of (history run)) nothing (spelled_log (log_of (history run))) kept.after =
+      subst (λ (q : Queue). LosesNothing (sends_of (history run)) q (spelled_log (log_of (history run))) kept.after) none kept.keeps in (
+        kept.after,
+        kept.waiting,
+        record {
+          bytes = from.bytes;
+          tokens = λ no_zero. ap (λ ts. ts ++ kept.after.tokens) (sym (gone-taken (sends_of (history run)) no_zero)) ∙ from.tokens;
+        },
+      )
+
+module _ {T U G C : Type 0} where
+  pub each_log : (w : World T G C) → IsWithinOffer w.sends → (table : List InterfaceRow) (run : List (Entry T U G C)) (after : ServerState T U G C)
+      → Leads w (new_server table) run after → EachLogIsSpelled run after
+  each_log w within' table run after leads id transport info earlier later e split inserts =
+      let (link, fresh, alone) = (is_isolated w table run after leads).each id transport info earlier later e split inserts in
+      own_log w within' id (offer_over (new_offer table) (earlier ++ e ∷ [])) transport (Some (offer_over (new_offer table) earlier).default_limit) link info (mine id later) (seen id after) fresh (are_mine id later) alone
+
+  pub have_logs : (w : World T G C) → IsWithinOffer w.sends → (table : List InterfaceRow) (steps : List (RunEntry (Step T U G C) (Reply T U))) (after : ServerState T U G C)
+      → Performs w (new_server table) steps after → HaveSpelledLogs w table steps after
+  have_logs w within' table steps after performs =
+      let (run, are, leads, isolated) = are_isolated w table steps after performs in (run, are, leads, each_log w within' table run after leads)

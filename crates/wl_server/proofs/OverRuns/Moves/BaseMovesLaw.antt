@@ -1,0 +1,339 @@
+-- That each call is a chain of base moves, of whatever client.
+use Rattle.std.proofs.Common.{◌≡◌, ◌⊎◌, ℕ, zero, suc, ◌<◌, Bool, true, false, cond, List, [], ◌∷◌, ◌++◌, map, Option, None, Some, is_some, Result, Ok, Err, refl, sym, ap, subst, ◌∙◌, true≢false, arith}
+use mathlib.Core.Logic.{inl, inr}
+use Rattle.std.specs.Prelude.{MatchBool, MatchOption, Contains, AllPairs, Vec}
+use Rattle.std.specs.Global.{Global}
+use Rattle.std.specs.FinMap as finmap
+use Rattle.std.proofs.lemmas.Bool.{cases_eq}
+use Rattle.wl_wire.specs.declared.error.IoFault.{IoFault}
+use Rattle.wl_wire.specs.declared.error.OutOfMemory.{OutOfMemory}
+use Rattle.wl_wire.specs.declared.interface.InterfaceId.{InterfaceId}
+use Rattle.wl_link.specs.declared.object.Object.{Object}
+use Rattle.wl_link.proofs.Calls.Branches.{either_bool, either_option}
+use Rattle.wl_link.specs.Exchange.{Queue}
+use Rattle.wl_link.specs.Link.{FlushedBy, LinkState, with_transport}
+use Rattle.wl_link.specs.Puts.{Said}
+use Rattle.wl_link.specs.Store.{held}
+use Rattle.wl_link.proofs.Ids.StoreLaws.{removed_here, removed_other, walk_of_entries}
+use Rattle.wl_server.specs.declared.error.CreateError.{CreateError}
+use Rattle.wl_server.specs.declared.error.GlobalError.{GlobalError}
+use Rattle.wl_server.specs.declared.objects.Kept.{Kept}
+use Rattle.wl_server.specs.declared.notes.Happening.{Happening}
+use Rattle.wl_server.specs.declared.notes.Note.{Note}
+use Rattle.wl_server.specs.declared.runs.step.Reply.{Reply}
+use Rattle.wl_server.specs.declared.runs.step.Step.{Step}
+use Rattle.wl_server.specs.declared.runs.step.Step.TheVariants as step
+use Rattle.wl_server.specs.HandedIds.{made_ids}
+use Rattle.wl_server.proofs.OverRuns.Moves.BaseMoves.{Doings, Goes, cleaned, doings_of, flushed, followed, handed_by, joined, leaving, left_by, left_id, nothing_done, notes_taken, noting, relinked, stayed, taken_out, unfelt, went, within}
+use Rattle.wl_server.specs.Deeds.{Deed, Noted, NoteTaken, left_if, notes_in}
+use Rattle.wl_server.proofs.OverRuns.Moves.DoingsLaws.{done, done_both, done_sends}
+use Rattle.wl_server.specs.Felt.{Cleaned, FlushedTo, FlushesLive, Hears, Stays, objects_leave}
+use Rattle.wl_server.specs.Globals.{Offer}
+use Rattle.wl_server.specs.Ids.{ClientParts, GlobalParts, IdParts, same_client}
+use Rattle.wl_server.specs.Moves.{Move, Moved}
+use Rattle.wl_server.proofs.OverRuns.Moves.MovesOfCalls.{creates_moves, data_set_moves, destroys_moves, finishes_bind_moves, finishes_moves, kills_moves, posts_moves, sends_moves, tells_comes}
+use Rattle.wl_server.proofs.OverRuns.Moves.MovesOfReadings.{next_action_moves}
+use Rattle.wl_server.proofs.OverRuns.Moves.MovesOfVerdicts.{Go, same_doings, tells_moves}
+use Rattle.wl_server.specs.Part.{Part, end_note, id_at, id_of, note_of_end, with_link}
+use Rattle.wl_server.specs.Objects.{Creates}
+use Rattle.wl_server.specs.PartStep.{Asked, Call, Changed, CleanedAs, FeelsGlobal, FeelsLoss, FlushedFor, MovedFor, NotesTaken, OfClient, OnPart, PartCall, PartStep, ReadsFor, Unfelt, WithTransport, World, around}
+use Rattle.wl_server.specs.Runs.{concerns, is_about}
+use Rattle.wl_server.specs.Server.{Seen}
+use Rattle.wl_server.specs.Telling.{core_of, tells}
+use Rattle.wl_link.specs.Identity.{HandedId}
+
+-- ---- the objects of a client that is taken out
+
+module _ {A : Type 0} where
+  contains_there : (e : ℕ × A) (es : List (ℕ × A)) (x : ℕ × A) → Contains es x → Contains (e ∷ es) x
+  contains_there e es x (k, lt, is) = (suc k, omega (arith, lt), is)
+
+  contains_or : (e : ℕ × A) (es : List (ℕ × A)) (x : ℕ × A) → Contains (e ∷ es) x → (e ≡ x) ⊎ Contains es x
+  contains_or e es x (zero, lt, is) = inl is
+  contains_or e es x (suc k, lt, is) = inr (k, omega (arith, lt), is)
+
+  pairs_rest : (e : ℕ × A) (es : List (ℕ × A)) → AllPairs (λ a b. a.0 < b.0) (e ∷ es) → AllPairs (λ a b. a.0 < b.0) es
+  pairs_rest e es pairs i j d less lt = pairs (suc i) (suc j) d (omega (arith, less)) (omega (arith, lt))
+
+  pairs_first : (e : ℕ × A) (es : List (ℕ × A)) (x : ℕ × A) → AllPairs (λ a b. a.0 < b.0) (e ∷ es) → Contains es x → e.0 < x.0
+  pairs_first e es x pairs (k, lt, is) = subst (λ (y : ℕ × A). e.0 < y.0) is (pairs zero (suc k) x (omega arith) (omega (arith, lt)))
+
+none_some : {A : Type 0} {x : A} → None ≡ Some x → ⊥
+none_some e = true≢false (sym (ap is_some e))
+
+module _ {U : Type 0} where
+  done_noted : (notes : List (Happening U)) → done (map Noted notes) ≡ noting notes
+  done_noted [] = refl
+  done_noted (h ∷ notes) = ap (λ (d : Doings U). record d { notes = h ∷ d.notes }) (done_noted notes)
+
+  done_taken : (notes : List (Happening U)) → done (map NoteTaken notes) ≡ record nothing_done { taken = notes }
+  done_taken [] = refl
+  done_taken (h ∷ notes) = ap (λ (d : Doings U). record d { taken = h ∷ d.taken }) (done_taken notes)
+
+  done_leaving : (client : ClientParts) (n : ℕ) (x : Object (Kept U)) (rest : List (Deed U))
+      → done (map Noted (note_of_end client n x) ++ (left_if (id_of (id_at client n x)) x.value.user_data ++ rest)) ≡ joined (leaving client false n x) (done rest)
+  done_leaving client n x rest = go x.value.user_data
+    where
+      go : (o : Option U) → done (map Noted (end_note (id_at client n x) o) ++ (left_if (id_of (id_at client n x)) o ++ rest))
+          ≡ joined (record nothing_done { left = left_id (id_of (id_at client n x)) o; notes = end_note (id_at client n x) o }) (done rest)
+      go None = refl
+      go (Some u) = refl
+
+module _ {T U C : Type 0} (sends : T → Queue → Result ℕ IoFault → T → Type 0) (receives : T → ℕ → Result Queue IoFault → T → Type 0)
+    (client : ClientParts) where
+  abbrev Leads : Part T U C → Doings U → Part T U C → Type 0
+  Leads p d q = Go sends receives client p d q
+
+  -- the objects of a client are these, by ascending number
+  record IsAll (p : Part T U C) (entries : List (ℕ × Object (Kept U))) : Type 0 where
+    ascending : AllPairs (λ a b. a.0 < b.0) entries
+    there : (n : ℕ) (x : Object (Kept U)) → Contains entries (n, x) → held p.store n ≡ Some x
+    all : (n : ℕ) (x : Object (Kept U)) → held p.store n ≡ Some x → Contains entries (n, x)
+
+  record Emptied (p : Part T U C) (entries : List (ℕ × Object (Kept U))) : Type 0 where
+    after : Part T U C
+    moves : Leads p (done (objects_leave client entries)) after
+    none : (n : ℕ) → held after.store n ≡ None
+    waiting : after.waiting ≡ p.waiting
+    link : after.link ≡ p.link
+
+  is_all_rest : (p : Part T U C) (e : ℕ × Object (Kept U)) (entries : List (ℕ × Object (Kept U))) → IsAll p (e ∷ entries) → IsAll (left_by client false p e.0 e.1) entries
+  is_all_rest p e entries is = record {
+    ascending = pairs_rest e entries is.ascending;
+    there = λ n x among. removed_other p.store e.0 n (λ same. later n x among same) ∙ is.there n x (contains_there e entries (n, x) among);
+    all = λ n x holds. (
+        elim (cases_eq n e.0) [
+          | inl same ↦ absurd (none_some (sym (removed_here p.store e.0 n same) ∙ holds))
+          | inr other ↦
+              elim (contains_or e entries (n, x) (is.all n x (sym (removed_other p.store e.0 n other) ∙ holds))) [
+                | inl first ↦ absurd (other (ap (λ (y : ℕ × Object (Kept U)). y.0) (sym first)))
+                | inr rest ↦ rest
+              ]
+        ]
+        );
+  }
+    where
+      later : (n : ℕ) (x : Object (Kept U)) → Contains entries (n, x) → n ≡ e.0 → ⊥
+      later n x among same = let less : e.0 < n = pairs_first e entries (n, x) is.ascending among in omega (arith, less, same)
+
+  empties : (p : Part T U C) (entries : List (ℕ × Object (Kept U))) → IsAll p entries → Emptied p entries
+  empties p [] is = record { after = p; moves = stayed refl refl; none = λ n. nothing n (held p.store n) refl; waiting = refl; link = refl }
+    where
+      nothing : (n : ℕ) (o : Option (Object (Kept U))) → held p.store n ≡ o → o ≡ None
+      nothing n None holds = refl
+      nothing n (Some x) holds = let (k, lt, at) = is.all n x holds in absurd (omega (arith, lt))
+  empties p (e ∷ entries) is =
+      let mid : Part T U C = left_by client false p e.0 e.1 in
+      let rest = empties mid entries (is_all_rest p e entries is) in
+      record {
+        after = rest.after;
+        moves = followed (went {q = mid} e.0 e.1 false (is.there e.0 e.1 (zero, omega arith, refl)) refl refl) rest.moves
+            (done_leaving client e.0 e.1 (objects_leave client entries));
+        none = rest.none;
+        waiting = rest.waiting;
+        link = rest.link;
+      }
+
+  -- ---- what each client feels
+
+  stays_moves : (p : Part T U C) (lacked : Bool) (did : List (Deed U)) (q : Part T U C) → Stays p lacked did q → Leads p (done did) q
+  stays_moves p lacked did q (no_memory, none, same) = stayed (ap done none) same
+
+  hears_moves : (p : Part T U C) (messages : List Said) (lacked : Bool) (did : List (Deed U)) (q : Part T U C) → Hears sends p messages lacked did q → Leads p (done did) q
+  hears_moves p messages lacked did q h =
+      elim (either_bool p.is_killed h) [
+        | inl s ↦ stays_moves p lacked did q s
+        | inr tells' ↦
+            tells_moves sends receives client p (tells (core_of p) messages) lacked did q (tells_comes sends receives client (core_of p) messages (λ live. refl)) tells'
+      ]
+
+  flushed_moves : (p : Part T U C) (answer : Result (Unit {0}) IoFault) (lacked : Bool) (did : List (Deed U)) (q : Part T U C) → FlushedTo sends p answer lacked did q
+      → Leads p (done did) q
+  flushed_moves p answer lacked did q (es, link, by, no_memory, did_so, same) = flushed es answer link by (ap done did_so ∙ done_sends es) same
+
+  flushes_moves : (p : Part T U C) (lacked : Bool) (did : List (Deed U)) (q : Part T U C) → FlushesLive sends p lacked did q → Leads p (done did) q
+  flushes_moves p lacked did q h =
+      elim (either_bool p.is_killed h) [
+        | inl s ↦ stays_moves p lacked did q s
+        | inr (answer, f) ↦ flushed_moves p answer lacked did q f
+      ]
+
+  transport_moves : (becomes : T → T → Type 0) (p : Part T U C) (did : List (Deed U)) (q : Part T U C) → did ≡ [] → WithTransport becomes p q → Leads p (done did) q
+  transport_moves becomes p did q none (t, b, same) = relinked (with_transport p.link t) refl refl (ap done none) same
+
+  -- ---- what is held of a client
+
+  abbrev Run : Seen T U C → Doings U → Seen T U C → Type 0
+  Run s d t = Goes sends receives client s d t
+
+  -- a step that is about this client, or about another, or that each client feels
+  on_part : (s : Seen T U C) (R : Part T U C → Part T U C → Type 0) (missing : Type 0) (lacked : Bool) (did : List (Deed U)) (t : Seen T U C) (d : Doings U)
+      → d.notes ≡ notes_in did → (did ≡ [] → missing → d ≡ nothing_done) → ((p q : Part T U C) → R p q → Leads p d q) → OnPart s R missing lacked did t → Run s d t
+  on_part s R missing lacked did t d notes nothing moves h = go s.part refl h
+    where
+      go : (o : Option (Part T U C)) → s.part ≡ o
+          → MatchOption o (missing × Unfelt s lacked did t) (λ p. (q : Part T U C) × R p q × (t ≡ record { part = Some q; made = s.made ++ notes_in did })) → Run s d t
+      go None is (m, (no_memory, none, same)) = unfelt (nothing none m) same
+      go (Some p) is (q, r, same) =
+          within p q is (moves p q r) (same ∙ ap (λ (n : List (Happening U)). record { part = Some q; made = s.made ++ n }) (sym notes))
+
+  unfelt_goes : (s : Seen T U C) (lacked : Bool) (did : List (Deed U)) (t : Seen T U C) → Unfelt s lacked did t → Run s (done did) t
+  unfelt_goes s lacked did t (no_memory, none, same) = unfelt (ap done none) same
+
+  of_client : (b : Bool) (s : Seen T U C) (R : Part T U C → Part T U C → Type 0) (missing : Type 0) (lacked : Bool) (did : List (Deed U)) (t : Seen T U C)
+      → ((p q : Part T U C) → R p q → Leads p (done did) q) → OfClient b s R missing lacked did t → Run s (done did) t
+  of_client true s R missing lacked did t moves h = on_part s R missing lacked did t (done did) refl (λ none m. ap done none) moves h
+  of_client false s R missing lacked did t moves h = unfelt_goes s lacked did t h
+
+module _ {T U G C : Type 0} (w : World T G C) (id : ClientParts) (offer : Offer G) where
+  abbrev To : Seen T U C → List (Deed U) → Seen T U C → Type 0
+  To s did t = Goes w.sends w.receives id s (done did) t
+
+  creates_goes : (target : ClientParts) (i : InterfaceId) (version : ℕ) (u : U) (r : Result IdParts CreateError) (missing : Type 0) (s : Seen T U C) (lacked l : Bool)
+      (did : List (Deed U)) (t : Seen T U C) → (missing → made_ids r ≡ [])
+      → OfClient (same_client target id) s (λ p q. (lacked ≡ l) × (did ≡ []) × Creates offer.table id p i version u r q) missing lacked did t
+      → Goes w.sends w.receives id s (doings_of (cond (same_client target id) (made_ids r) []) did) t
+  creates_goes target i version u r missing s lacked l did t none_made h = go (same_client target id) h
+    where
+      go : (b : Bool) → OfClient b s (λ p q. (lacked ≡ l) × (did ≡ []) × Creates offer.table id p i version u r q) missing lacked did t
+          → Goes w.sends w.receives id s (doings_of (cond b (made_ids r) []) did) t
+      go true h =
+          on_part w.sends w.receives id s _ missing lacked did t (doings_of (made_ids r) did) refl
+          (λ none m. ap (λ (ids : List (HandedId IdParts)). doings_of ids did) (none_made m) ∙ ap (doings_of []) none)
+          (λ p q (no_memory, none, created). subst (λ (ds : List (Deed U)). Go w.sends w.receives id p (doings_of (made_ids r) ds) q) (sym none)
+          (creates_moves w.sends w.receives id offer.table p i version u r q created)) h
+      go false (no_memory, none, same) = unfelt (ap (doings_of []) none) same
+
+  global_goes : (i : InterfaceId) (version : ℕ) (handler : G) (r : Result GlobalParts GlobalError) (s : Seen T U C) (lacked : Bool) (did : List (Deed U)) (t : Seen T U C)
+      → FeelsGlobal w id offer i version handler r s lacked did t → To s did t
+  global_goes i version handler (Ok g) s lacked did t h =
+      on_part w.sends w.receives id s _ (Unit {0}) lacked did t (done did) refl (λ none m. ap done none)
+      (λ p q heard. hears_moves w.sends w.receives id p _ lacked did q heard) h
+  global_goes i version handler (Err e) s lacked did t h = unfelt_goes w.sends w.receives id s lacked did t h
+
+  loss_goes : (g : GlobalParts) (s : Seen T U C) (lacked : Bool) (did : List (Deed U)) (t : Seen T U C) → FeelsLoss w id offer g s lacked did t → To s did t
+  loss_goes g s lacked did t h =
+      elim (either_bool _ h) [
+        | inl felt ↦
+            on_part w.sends w.receives id s _ (Unit {0}) lacked did t (done did) refl (λ none m. ap done none)
+            (λ p q heard. hears_moves w.sends w.receives id p _ lacked did q heard) felt
+        | inr other ↦ unfelt_goes w.sends w.receives id s lacked did t other
+      ]
+
+  flushed_goes : (target : Option ClientParts) (answer : Result (Unit {0}) IoFault) (s : Seen T U C) (lacked : Bool) (did : List (Deed U)) (t : Seen T U C)
+      → FlushedFor w id offer target answer s lacked did t → To s did t
+  flushed_goes None answer s lacked did t (is, h) =
+      on_part w.sends w.receives id s _ (Unit {0}) lacked did t (done did) refl (λ none m. ap done none)
+      (λ p q f. flushes_moves w.sends w.receives id p lacked did q f) h
+  flushed_goes (Some target) answer s lacked did t h =
+      of_client w.sends w.receives id (same_client target id) s _ _ lacked did t (λ p q f. flushed_moves w.sends w.receives id p answer lacked did q f) h
+
+  -- a killed client is taken out: its notes are made, its objects leave, and what waits is flushed
+  cleaned_goes : (s : Seen T U C) (p : Part T U C) → s.part ≡ Some p → (lacked : Bool) (did : List (Deed U)) (out : List T) (q : Option (Part T U C)) (t : Seen T U C)
+      → Cleaned w.sends id p lacked did out q → t ≡ record { part = q; made = s.made ++ notes_in did } → To s did t
+  cleaned_goes s p there lacked did out q t h same = go p.is_killed refl h
+    where
+      go : (b : Bool) → p.is_killed ≡ b
+          → MatchBool b
+          ((sent : List (Deed U)) × (answer : Result (Unit {0}) IoFault) × (end : Part T U C) × FlushedTo w.sends p answer lacked sent end
+          × (did ≡ map Noted p.waiting ++ (objects_leave id (finmap.entries p.store.objects) ++ sent))
+          × (out ≡ end.link.transport ∷ []) × (q ≡ None))
+          ((lacked ≡ false) × (did ≡ map Noted p.waiting) × (out ≡ []) × (q ≡ Some (record p { waiting = [] }))) → To s did t
+      go false live (no_memory, did_so, nobody, is) =
+          within p (record p { waiting = [] }) there (cleaned (ap done did_so ∙ done_noted p.waiting) refl)
+          (same ∙ ap (λ (o : Option (Part T U C)). record { part = o; made = s.made ++ notes_in did }) is)
+      go true killed (sent, answer, end, (es, link, by, no_memory, sent_so, end_so), did_so, handed, is) =
+          let told : Part T U C = record p { waiting = [] } in
+          let walk = walk_of_entries p.store in
+          let gone = empties w.sends w.receives id told (finmap.entries p.store.objects) (record {
+            ascending = walk.ascending;
+            there = λ n x among. (walk.each n x).0 among;
+            all = λ n x holds. (walk.each n x).1 holds;
+          }) in
+          taken_out p (with_link gone.after link) there killed
+          (followed (cleaned {q = told} refl refl)
+          (followed gone.moves (flushed {q = with_link gone.after link} es answer link (subst (λ (l : LinkState T). FlushedBy w.sends l es answer link) (sym gone.link) by) refl refl) refl)
+          (ap done did_so
+          ∙ done_both (map Noted p.waiting) (objects_leave id (finmap.entries p.store.objects) ++ sent)
+          ∙ ap (λ (d : Doings U). joined d (done (objects_leave id (finmap.entries p.store.objects) ++ sent))) (done_noted p.waiting)
+          ∙ ap (joined (noting p.waiting)) (done_both (objects_leave id (finmap.entries p.store.objects)) sent
+          ∙ ap (joined (done (objects_leave id (finmap.entries p.store.objects)))) (ap done sent_so ∙ done_sends es))))
+          gone.none gone.waiting
+          (same ∙ ap (λ (o : Option (Part T U C)). record { part = o; made = s.made ++ notes_in did }) is)
+
+  cleanup_goes : (answer : Result (Vec (ClientParts × T) Global) OutOfMemory) (s : Seen T U C) (lacked : Bool) (did : List (Deed U)) (t : Seen T U C)
+      → CleanedAs w id offer answer s lacked did t → To s did t
+  cleanup_goes (Err e) s lacked did t h = unfelt_goes w.sends w.receives id s lacked did t h
+  cleanup_goes (Ok out) s lacked did t h =
+      elim (either_option s.part h) [
+        | inl (none, (nobody, u)) ↦ unfelt_goes w.sends w.receives id s lacked did t u
+        | inr (p, there, (q, c, same)) ↦ cleaned_goes s p there lacked did _ q t c same
+      ]
+
+  taken_goes : (answer : Result (Vec (Note U) Global) OutOfMemory) (s : Seen T U C) (lacked : Bool) (did : List (Deed U)) (t : Seen T U C)
+      → NotesTaken w id offer answer s lacked did t → To s did t
+  taken_goes (Err e) s lacked did t h = unfelt_goes w.sends w.receives id s lacked did t h
+  taken_goes (Ok out) s lacked did t (all, no_memory, did_so, same) = notes_taken (ap done did_so ∙ done_taken s.made) same
+
+  moved_goes : (target : ClientParts) (m : Move) (answer : Moved) (s : Seen T U C) (lacked : Bool) (did : List (Deed U)) (t : Seen T U C)
+      → MovedFor w id offer target m answer s lacked did t → To s did t
+  moved_goes target m answer s lacked did t h =
+      of_client w.sends w.receives id (same_client target id) s _ _ lacked did t
+      (λ p q (no_memory, none, with'). transport_moves w.sends w.receives id (λ x y. w.moves x m answer y) p did q none with') h
+
+  reads_goes : (target : ClientParts) (r : _) (answer : _) (r' : _) (s : Seen T U C) (lacked : Bool) (did : List (Deed U)) (t : Seen T U C)
+      → ReadsFor w id offer target r answer r' s lacked did t → To s did t
+  reads_goes target r answer r' s lacked did t h =
+      of_client w.sends w.receives id (same_client target id) s _ _ lacked did t
+      (λ p q read. next_action_moves w.sends w.receives (around w id offer) r p answer r' lacked did q read) h
+
+  abbrev Handed : Call T U G C → Seen T U C → List (Deed U) → Seen T U C → Type 0
+  Handed call s did t = Goes w.sends w.receives id s (doings_of (handed_by id call did) did) t
+
+  step_goes : (call : Step T U G C) (answer : Reply T U) (s : Seen T U C) (lacked : Bool) (did : List (Deed U)) (t : Seen T U C)
+      → is_about id call ≡ true → PartStep w id offer call answer s lacked did t → Handed (Asked call answer) s did t
+  step_goes (step.InsertClient transport info) answer s lacked did t about h = absurd (true≢false (sym about))
+  step_goes (step.SetObjectData o u) answer s lacked did t about (r, is, h) =
+      of_client w.sends w.receives id (same_client o.client id) s _ _ lacked did t
+      (λ p q (no_memory, none, set). same_doings w.sends w.receives id p q nothing_done (done did) (ap done none) (data_set_moves w.sends w.receives id p o u r q set)) h
+  step_goes (step.CreateObject target i version u) answer s lacked did t about (r, is, h) =
+      subst (λ (a : Reply T U). Handed (Asked (step.CreateObject target i version u) a) s did t) (sym is)
+      (creates_goes target i version u r _ s lacked _ did t (λ unknown. ap made_ids unknown) h)
+  step_goes (step.DestroyObject o) answer s lacked did t about (r, is, h) =
+      of_client w.sends w.receives id (same_client o.client id) s _ _ lacked did t (λ p q d. destroys_moves w.sends w.receives id p o r lacked did q d) h
+  step_goes (step.SendEvent m) answer s lacked did t about (r, is, h) =
+      of_client w.sends w.receives id (same_client m.sender_id.client id) s _ _ lacked did t (λ p q d. sends_moves w.sends w.receives id offer.table p _ r lacked did q d) h
+  step_goes (step.PostError o code text) answer s lacked did t about (is, h) =
+      of_client w.sends w.receives id (same_client o.client id) s _ _ lacked did t (λ p q d. posts_moves w.sends w.receives id offer.table p o _ _ lacked did q d) h
+  step_goes (step.KillClient target reason) answer s lacked did t about (is, h) =
+      of_client w.sends w.receives id (same_client target id) s _ _ lacked did t (λ p q (no_memory, k). kills_moves w.sends w.receives id p reason did q k) h
+  step_goes (step.CreateGlobal i version handler) answer s lacked did t about (r, is, h) = global_goes i _ handler r s lacked did t h
+  step_goes (step.DisableGlobal g) answer s lacked did t about (is, h) = loss_goes g s lacked did t h
+  step_goes (step.RemoveGlobal g) answer s lacked did t about (is, h) = loss_goes g s lacked did t h
+  step_goes (step.Flush target) answer s lacked did t about (r, is, h) = flushed_goes target r s lacked did t h
+  step_goes (step.SetDefaultMaxBufferSize limit) answer s lacked did t about (is, h) = unfelt_goes w.sends w.receives id s lacked did t h
+  step_goes (step.SetClientMaxBufferSize target limit) answer s lacked did t about (is, h) =
+      of_client w.sends w.receives id (same_client target id) s _ _ lacked did t
+      (λ p q (no_memory, none, (link, (l, limits, set), same)). relinked link (ap (λ (k : LinkState T). k.outgoing) set) (ap (λ (k : LinkState T). k.outgoing_capacity) set) (ap done none) same) h
+  step_goes (step.NextAction target) answer s lacked did t about (r, left, is, h) = reads_goes target _ _ left s lacked did t h
+  step_goes (step.NextActionWithin target reading) answer s lacked did t about (r, left, is, h) = reads_goes target reading _ left s lacked did t h
+  step_goes (step.FinishRequest target u) answer s lacked did t about (r, is, h) =
+      of_client w.sends w.receives id (same_client target id) s _ _ lacked did t (λ p q f. finishes_moves w.sends w.receives id p u r lacked did q f) h
+  step_goes (step.FinishBind target u) answer s lacked did t about (r, is, h) =
+      of_client w.sends w.receives id (same_client target id) s _ _ lacked did t (λ p q f. finishes_bind_moves w.sends w.receives id p u r lacked did q f) h
+  step_goes step.Cleanup answer s lacked did t about (r, is, h) = cleanup_goes r s lacked did t h
+  step_goes step.TakeNotes answer s lacked did t about (r, is, h) = taken_goes r s lacked did t h
+  step_goes (step.Arrive target bytes tokens) answer s lacked did t about (r, is, h) = moved_goes target _ _ s lacked did t h
+  step_goes (step.ArriveFault target f) answer s lacked did t about (r, is, h) = moved_goes target _ _ s lacked did t h
+  step_goes (step.Accept target n) answer s lacked did t about (r, is, h) = moved_goes target _ _ s lacked did t h
+  step_goes (step.AcceptFault target f) answer s lacked did t about (r, is, h) = moved_goes target _ _ s lacked did t h
+  step_goes (step.TakeSent target) answer s lacked did t about (r, is, h) = moved_goes target _ _ s lacked did t h
+
+  -- Over a call that is about a client, or about none, what is held of the client goes over base moves, which make the
+  -- deeds of the call and hand out its ids.
+  pub call_goes : (call : Call T U G C) (s : Seen T U C) (lacked : Bool) (did : List (Deed U)) (t : Seen T U C)
+      → concerns id call ≡ true → PartCall w id offer call s lacked did t → Handed call s did t
+  call_goes (Asked call answer) s lacked did t about h = step_goes call answer s lacked did t about h
+  call_goes (Changed target t') s lacked did t about h =
+      of_client w.sends w.receives id (same_client target id) s _ _ lacked did t
+      (λ p q (no_memory, none, with'). transport_moves w.sends w.receives id (λ x y. y ≡ t') p did q none with') h

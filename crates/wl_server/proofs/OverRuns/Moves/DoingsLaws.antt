@@ -1,0 +1,198 @@
+-- How what is done adds up: over moves one behind another, and over deeds.
+use Rattle.std.proofs.Common.{◌≡◌, List, [], ◌∷◌, ◌++◌, Option, None, Some, Result, map, refl, sym, ap, ◌∙◌, append-nil, append_assoc}
+use Rattle.wl_wire.specs.declared.error.IoFault.{IoFault}
+use Rattle.wl_link.specs.Exchange.{Queue, Sending}
+use Rattle.wl_link.specs.Puts.{Said}
+use Rattle.wl_link.specs.Reader.{Given, HandedOut, Queued, Received, Handled, Unread, Turn, put_and_gave}
+use Rattle.wl_server.specs.declared.notes.DisconnectReason.{DisconnectReason}
+use Rattle.wl_server.specs.HandedIds.{action_ids}
+use Rattle.wl_server.specs.Deeds.{came_in}
+use Rattle.wl_server.proofs.OverRuns.Moves.BaseMoves.{Doings, acted_in, all_action_ids, doings_of, joined, nothing_done, noting, putting, sending}
+use Rattle.wl_server.specs.Deeds.{Acted, Came, Deed, Handed, Left, Noted, NoteTaken, Put, Remembered, Sent, notes_in, sends_of}
+use Rattle.wl_server.specs.Reading.{exchanges_in}
+use Rattle.wl_server.specs.Telling.{Core, Did, Stops, Told, deeds_in, deeds_of, end_deeds}
+use Rattle.wl_link.specs.Identity.{HandedId}
+use Rattle.wl_server.specs.Ids.{IdParts}
+
+ids_both : (acted others : List Handed) → all_action_ids (acted ++ others) ≡ all_action_ids acted ++ all_action_ids others
+ids_both [] others = refl
+ids_both (h ∷ acted) others =
+    ap (λ (ids : List (HandedId IdParts)). action_ids h ++ ids) (ids_both acted others)
+    ∙ sym (append_assoc (action_ids h) (all_action_ids acted) (all_action_ids others))
+
+passes : {A : Type 0} (xs ys : List A) → xs ≡ [] → xs ++ ys ≡ ys ++ xs
+passes xs ys none = ap (λ l. l ++ ys) none ∙ sym (append-nil ys) ∙ ap (λ l. ys ++ l) (sym none)
+
+module _ {U : Type 0} where
+  -- ---- moves one behind another
+
+  pub joined_assoc : (a b c : Doings U) → joined (joined a b) c ≡ joined a (joined b c)
+  joined_assoc a b c = λ i. record {
+    handed = append_assoc a.handed b.handed c.handed i;
+    sends = append_assoc a.sends b.sends c.sends i;
+    came = append_assoc a.came b.came c.came i;
+    put = append_assoc a.put b.put c.put i;
+    registries = append_assoc a.registries b.registries c.registries i;
+    left = append_assoc a.left b.left c.left i;
+    notes = append_assoc a.notes b.notes c.notes i;
+    acted = append_assoc a.acted b.acted c.acted i;
+    taken = append_assoc a.taken b.taken c.taken i;
+  }
+
+  pub joined_none : (a : Doings U) → joined a nothing_done ≡ a
+  joined_none a = λ i. record {
+    handed = append-nil a.handed i;
+    sends = append-nil a.sends i;
+    came = append-nil a.came i;
+    put = append-nil a.put i;
+    registries = append-nil a.registries i;
+    left = append-nil a.left i;
+    notes = append-nil a.notes i;
+    acted = append-nil a.acted i;
+    taken = append-nil a.taken i;
+  }
+
+  -- sends and receives are of kinds of their own
+  abbrev pub exchanging : List Sending → List (Result Queue IoFault) → Doings U
+  exchanging es rs = record nothing_done { sends = es; came = rs }
+
+  -- nothing that was sent or received is among it
+  abbrev pub IsQuiet : List (Deed U) → Type 0
+  IsQuiet did = (sends_of did ≡ []) × (came_in did ≡ [])
+
+  exchanges_pass : (es : List Sending) (rs : List (Result Queue IoFault)) (d : Doings U) → d.sends ≡ [] → d.came ≡ []
+      → joined d (exchanging es rs) ≡ joined (exchanging es rs) d
+  exchanges_pass es rs d no_sends none_came = λ i. record {
+    handed = append-nil d.handed i;
+    sends = passes d.sends es no_sends i;
+    came = passes d.came rs none_came i;
+    put = append-nil d.put i;
+    registries = append-nil d.registries i;
+    left = append-nil d.left i;
+    notes = append-nil d.notes i;
+    acted = append-nil d.acted i;
+    taken = append-nil d.taken i;
+  }
+
+  -- ---- deeds
+
+  -- what deeds come to: the ids that they hand out are those of actions
+  abbrev pub done : List (Deed U) → Doings U
+  done did = doings_of (all_action_ids (acted_in did)) did
+
+  doings_both : (ids others : List (HandedId IdParts)) (a b : List (Deed U)) → doings_of (ids ++ others) (a ++ b) ≡ joined (doings_of ids a) (doings_of others b)
+  doings_both ids others [] b = refl
+  doings_both ids others (Sent e ∷ a) b = ap (λ (d : Doings U). record d { sends = e ∷ d.sends }) (doings_both ids others a b)
+  doings_both ids others (Came r ∷ a) b = ap (λ (d : Doings U). record d { came = r ∷ d.came }) (doings_both ids others a b)
+  doings_both ids others (Put m ∷ a) b = ap (λ (d : Doings U). record d { put = m ∷ d.put }) (doings_both ids others a b)
+  doings_both ids others (Remembered r ∷ a) b = ap (λ (d : Doings U). record d { registries = r ∷ d.registries }) (doings_both ids others a b)
+  doings_both ids others (Left id ∷ a) b = ap (λ (d : Doings U). record d { left = id ∷ d.left }) (doings_both ids others a b)
+  doings_both ids others (Noted h ∷ a) b = ap (λ (d : Doings U). record d { notes = h ∷ d.notes }) (doings_both ids others a b)
+  doings_both ids others (Acted h ∷ a) b = ap (λ (d : Doings U). record d { acted = h ∷ d.acted }) (doings_both ids others a b)
+  doings_both ids others (NoteTaken h ∷ a) b = ap (λ (d : Doings U). record d { taken = h ∷ d.taken }) (doings_both ids others a b)
+
+  acted_both : (a b : List (Deed U)) → acted_in (a ++ b) ≡ acted_in a ++ acted_in b
+  acted_both a b = ap (λ (d : Doings U). d.acted) (doings_both [] [] a b)
+
+  pub done_both : (a b : List (Deed U)) → done (a ++ b) ≡ joined (done a) (done b)
+  done_both a b =
+      ap (λ (ids : List (HandedId IdParts)). doings_of ids (a ++ b)) (ap all_action_ids (acted_both a b) ∙ ids_both (acted_in a) (acted_in b))
+      ∙ doings_both (all_action_ids (acted_in a)) (all_action_ids (acted_in b)) a b
+
+  pub done_sends : (es : List Sending) → done (map Sent es) ≡ sending es
+  done_sends [] = refl
+  done_sends (e ∷ es) = ap (λ (d : Doings U). record d { sends = e ∷ d.sends }) (done_sends es)
+
+  pub done_puts : (put : List Said) → done (map Put put) ≡ putting [] put
+  done_puts [] = refl
+  done_puts (m ∷ put) = ap (λ (d : Doings U). record d { put = m ∷ d.put }) (done_puts put)
+
+  pub done_end : (o : Option DisconnectReason) → done (end_deeds o) ≡ noting (notes_in (end_deeds o))
+  done_end None = refl
+  done_end (Some reason) = refl
+
+  -- the exchanges of a reading
+  pub done_turns : (turns : List Turn) → (es : List Sending) × (rs : List (Result Queue IoFault)) × (done (exchanges_in turns) ≡ exchanging es rs)
+  done_turns [] = ([], [], refl)
+  done_turns (Received r ∷ turns) =
+      let (es, rs, is) = done_turns turns in (es, r ∷ rs, ap (λ (d : Doings U). record d { came = r ∷ d.came }) is)
+  done_turns (Handled es ∷ turns) =
+      let (fs, rs, is) = done_turns turns in (
+        es ++ fs,
+        rs,
+        done_both (map Sent es) (exchanges_in turns) ∙ ap (λ (d : Doings U). joined d (done (exchanges_in turns))) (done_sends es)
+            ∙ ap (λ (d : Doings U). joined (sending es) d) is,
+      )
+  done_turns (Unread es ∷ turns) =
+      let (fs, rs, is) = done_turns turns in (
+        es ++ fs,
+        rs,
+        done_both (map Sent es) (exchanges_in turns) ∙ ap (λ (d : Doings U). joined d (done (exchanges_in turns))) (done_sends es)
+            ∙ ap (λ (d : Doings U). joined (sending es) d) is,
+      )
+
+  -- ---- what is given
+
+  -- the deeds among what is handed out
+  abbrev pub told_deeds : List (Told U) → List (Deed U)
+  told_deeds events = deeds_in (map HandedOut events)
+
+  pub deeds_both : (gave others : List (Given (Told U))) → deeds_in (gave ++ others) ≡ deeds_in gave ++ deeds_in others
+  deeds_both [] others = refl
+  deeds_both (Queued m ∷ gave) others = ap (λ (did : List (Deed U)). Put m ∷ did) (deeds_both gave others)
+  deeds_both (HandedOut (Did d) ∷ gave) others = ap (λ (did : List (Deed U)). d ∷ did) (deeds_both gave others)
+  deeds_both (HandedOut (Stops f) ∷ gave) others = deeds_both gave others
+
+  deeds_queued : (put : List Said) → deeds_in {U = U} (map Queued put) ≡ map Put put
+  deeds_queued [] = refl
+  deeds_queued (m ∷ put) = ap (λ (did : List (Deed U)). Put m ∷ did) (deeds_queued put)
+
+  pub deeds_given : (put : List Said) (events : List (Told U)) → deeds_in (put_and_gave put events) ≡ map Put put ++ told_deeds events
+  deeds_given put events =
+      deeds_both (map Queued put) (map HandedOut events) ∙ ap (λ (did : List (Deed U)). did ++ told_deeds events) (deeds_queued put)
+
+  -- ---- the deeds of a verdict, and of a reading
+
+  module _ {C : Type 0} where
+    abbrev pub end_of : Core U C → Doings U
+    end_of c = noting (notes_in (end_deeds c.ended))
+
+    pub deeds_done : (exchanges : List (Deed U)) (gave : List (Given (Told U))) (c : Core U C)
+        → done (deeds_of exchanges gave c) ≡ joined (done exchanges) (joined (done (deeds_in gave)) (end_of c))
+    deeds_done exchanges gave c =
+        done_both exchanges (deeds_in gave ++ end_deeds c.ended)
+        ∙ ap (joined (done exchanges)) (done_both (deeds_in gave) (end_deeds c.ended) ∙ ap (joined (done (deeds_in gave))) (done_end c.ended))
+
+    -- a verdict's, with what it put and what it gave
+    pub verdict_done : (es : List Sending) (put : List Said) (made : List (Deed U)) (gave : List (Given (Told U))) (c : Core U C) → deeds_in gave ≡ map Put put ++ made
+        → done (deeds_of (map Sent es) gave c) ≡ joined (putting es put) (joined (done made) (end_of c))
+    verdict_done es put made gave c is =
+        deeds_done (map Sent es) gave c
+        ∙ ap (λ (d : Doings U). joined d (joined (done (deeds_in gave)) (end_of c))) (done_sends es)
+        ∙ ap (λ (d : Doings U). joined (sending es) (joined d (end_of c)))
+        (ap done is ∙ done_both (map Put put) made ∙ ap (λ (d : Doings U). joined d (done made)) (done_puts put))
+        ∙ ap (joined (sending es)) (joined_assoc (putting [] put) (done made) (end_of c))
+        ∙ sym (joined_assoc (sending es) (putting [] put) (joined (done made) (end_of c)))
+        ∙ ap (λ (l : List Sending). joined (putting l put) (joined (done made) (end_of c))) (append-nil es)
+
+    -- what a turn sent and gave, where it killed nobody, and then what the turns behind it did
+    pub turns_done : (es : List Sending) (turns : List Turn) (first others : List (Given (Told U))) (c : Core U C) → IsQuiet (deeds_in first)
+        → joined (joined (sending es) (done (deeds_in first))) (done (deeds_of (exchanges_in turns) others c))
+        ≡ done (deeds_of (map Sent es ++ exchanges_in turns) (first ++ others) c)
+    turns_done es turns first others c quiet =
+        let (fs, rs, exchanged) = done_turns turns in
+        let S : Doings U = sending es in
+        let A : Doings U = done (deeds_in first) in
+        let X : Doings U = done (exchanges_in turns) in
+        let B : Doings U = done (deeds_in others) in
+        let E : Doings U = end_of c in
+        let passed : joined A X ≡ joined X A =
+        ap (joined A) exchanged ∙ exchanges_pass fs rs A quiet.0 quiet.1 ∙ ap (λ (d : Doings U). joined d A) (sym exchanged) in
+        ap (joined (joined S A)) (deeds_done (exchanges_in turns) others c)
+        ∙ joined_assoc S A (joined X (joined B E))
+        ∙ ap (joined S) (sym (joined_assoc A X (joined B E)) ∙ ap (λ (d : Doings U). joined d (joined B E)) passed ∙ joined_assoc X A (joined B E))
+        ∙ sym (joined_assoc S X (joined A (joined B E)))
+        ∙ ap (λ (d : Doings U). joined d (joined A (joined B E))) (ap (λ (d : Doings U). joined d X) (sym (done_sends es)) ∙ sym (done_both (map Sent es) (exchanges_in turns)))
+        ∙ ap (joined (done (map Sent es ++ exchanges_in turns)))
+        (sym (joined_assoc A B E) ∙ ap (λ (d : Doings U). joined d E) (sym (done_both (deeds_in first) (deeds_in others)) ∙ ap done (sym (deeds_both first others))))
+        ∙ sym (deeds_done (map Sent es ++ exchanges_in turns) (first ++ others) c)

@@ -1,0 +1,478 @@
+-- That what a program does with one client is a chain of base moves.
+use Rattle.std.proofs.Common.{◌≡◌, ◌≢◌, ℕ, ◌≤◌, Bool, true, false, not, cond, eqb, List, [], ◌∷◌, ◌++◌, map, Option, None, Some, is_some, Result, Ok, Err, MatchResult, refl, sym, ap, subst, ◌∙◌, append-nil, true≢false, arith}
+use mathlib.Core.Logic.{inl, inr}
+use Rattle.std.specs.Prelude.{slice_get, is_ok}
+use Rattle.std.proofs.lemmas.Bool.{eqb-true}
+use Rattle.std.proofs.lemmas.Option.{same_Some}
+use Rattle.wl_wire.specs.declared.error.IoFault.{IoFault}
+use Rattle.wl_wire.specs.declared.error.IoFault.TheVariants as fault
+use Rattle.wl_wire.specs.declared.interface.InterfaceId.{InterfaceId}
+use Rattle.wl_wire.specs.Asked.{event_row, matches}
+use Rattle.wl_wire.specs.Table.{InterfaceRow, MessageRow}
+use Rattle.wl_link.specs.declared.object.Object.{Object}
+use Rattle.wl_link.proofs.Calls.Branches.{either_bool, either_option}
+use Rattle.wl_link.specs.Exchange.{Queue, Sending}
+use Rattle.wl_link.specs.Identity.{Id, named_in}
+use Rattle.wl_link.specs.Link.{LinkState, WroteBy}
+use Rattle.wl_link.specs.Puts.{PutsOut, Said}
+use Rattle.wl_link.specs.Reader.{Verdict}
+use Rattle.wl_link.specs.Refusals.{first_refusal, when}
+use Rattle.wl_link.specs.Store.{Store, held, removed, server_range}
+use Rattle.wl_link.proofs.Ids.StoreLaws.{removed_here, rewritten_other}
+use Rattle.wl_server.specs.declared.reading.action.OpenAction.TheVariants as opened
+use Rattle.wl_server.specs.declared.error.CreateError.{CreateError}
+use Rattle.wl_server.specs.declared.error.DestroyError.{DestroyError}
+use Rattle.wl_server.specs.declared.error.EventError.{EventError}
+use Rattle.wl_server.specs.declared.error.EventError.TheVariants as refused
+use Rattle.wl_server.specs.declared.error.FinishError.{FinishError}
+use Rattle.wl_server.specs.declared.error.FinishRefused.{FinishRefused}
+use Rattle.wl_server.specs.declared.error.InvalidId.{InvalidId}
+use Rattle.wl_server.specs.declared.objects.Kept.{Kept}
+use Rattle.wl_server.specs.declared.notes.DisconnectReason.{DisconnectReason}
+use Rattle.wl_server.specs.declared.notes.DisconnectReason.TheVariants.{ConnectionClosed, ProtocolError as BrokeProtocol}
+use Rattle.wl_server.specs.HandedIds.{made_ids}
+use Rattle.wl_server.proofs.OverRuns.Moves.BaseMoves.{Doings, born, closed as shut, followed, handing, joined, leaving as leaves, left_id, nothing_done, noting, putting, sending, stayed, told, went, wrote}
+use Rattle.wl_server.specs.Deeds.{Deed, Noted, Sent, left_if}
+use Rattle.wl_server.proofs.OverRuns.Moves.DoingsLaws.{IsQuiet, done, done_both, done_end, done_sends, joined_none, told_deeds}
+use Rattle.wl_server.specs.Errors.{PostsError, error_of, posts}
+use Rattle.wl_server.specs.Events.{SendsEvent, SendsGranted, SentAs, SessionMessage, argument_faults, checked_row, checked_sender, ends_closed, ends_sender, event_check, granted, said, wire_message}
+use Rattle.wl_server.specs.Finish.{FinishesBind, FinishesRequest, Refuses, closed, closes, data_given, ended_by, ending, ends, ends_request, refusal, store_with_data}
+use Rattle.wl_server.specs.Ids.{ClientParts, IdParts}
+use Rattle.wl_server.proofs.OverRuns.Moves.MovesOfVerdicts.{Comes, Go, IsCalm, Lands, at, ends_killed, lands_at, lands_not, lands_then, same_doings, tells_moves}
+use Rattle.wl_server.specs.Objects.{Creates, DataSet, Destroys, destroyable, destroys, leaving, new_object, without, without_noted}
+use Rattle.wl_server.specs.Part.{Part, end_note, id_at, id_of, last_possible_serial, named, note_of_end, serial_of, with_link, with_user_data}
+use Rattle.wl_server.specs.Telling.{Core, Did, Kills, Tells, Told, closed_down, core_of, killed, tells}
+
+-- ---- what an id names
+
+none_some : {A : Type 0} {x : A} → None ≡ Some x → ⊥
+none_some e = true≢false (sym (ap is_some e))
+
+module _ {U : Type 0} where
+  pub named_held : (store : Store (Kept U)) (id : IdParts) (x : Object (Kept U)) → named store id ≡ Some x → held store id.number ≡ Some x
+  named_held store id x e = go (eqb id.number 0) (held store id.number) e
+    where
+      one : (c : Bool) (y : Object (Kept U)) → cond c (Some y) None ≡ Some x → Some y ≡ Some x
+      one true y e = e
+      one false y e = absurd (none_some e)
+
+      go : (b : Bool) (o : Option (Object (Kept U))) → cond b None (named_in serial_of (id_of id) o) ≡ Some x → o ≡ Some x
+      go true o e = absurd (none_some e)
+      go false None e = absurd (none_some e)
+      go false (Some y) e = one (eqb y.value.serial id.serial) y e
+
+  pub named_serial : (store : Store (Kept U)) (id : IdParts) (x : Object (Kept U)) → named store id ≡ Some x → x.value.serial ≡ id.serial
+  named_serial store id x e = go (eqb id.number 0) (held store id.number) e
+    where
+      one : (c : Bool) (y : Object (Kept U)) → eqb y.value.serial id.serial ≡ c → cond c (Some y) None ≡ Some x → x.value.serial ≡ id.serial
+      one true y is e = ap (λ (o : Object (Kept U)). o.value.serial) (sym (same_Some y x e)) ∙ eqb-true y.value.serial id.serial is
+      one false y is e = absurd (none_some e)
+
+      go : (b : Bool) (o : Option (Object (Kept U))) → cond b None (named_in serial_of (id_of id) o) ≡ Some x → x.value.serial ≡ id.serial
+      go true o e = absurd (none_some e)
+      go false None e = absurd (none_some e)
+      go false (Some y) e = one (eqb y.value.serial id.serial) y refl e
+
+  -- the id of the object that an id names has its number and serial
+  named_id : (client : ClientParts) (store : Store (Kept U)) (id : IdParts) (x : Object (Kept U)) → named store id ≡ Some x → id_of (id_at client id.number x) ≡ id_of id
+  named_id client store id x e = ap (λ (s : ℕ). record { number = id.number; serial = s }) (named_serial store id x e)
+
+  -- where its number holds none, an id names none
+  gone_named : (store : Store (Kept U)) (id : IdParts) → held store id.number ≡ None → is_some (named store id) ≡ false
+  gone_named store id e = go (eqb id.number 0)
+    where
+      go : (b : Bool) → is_some (cond b None (named_in serial_of (id_of id) (held store id.number))) ≡ false
+      go true = refl
+      go false = ap (λ o. is_some (named_in serial_of (id_of id) o)) e
+
+  done_left : (id : Id) (u : Option U) → done (left_if id u) ≡ record nothing_done { left = left_id id u }
+  done_left id None = refl
+  done_left id (Some u) = refl
+
+  told_left : (id : Id) (u : Option U) → told_deeds (map Did (left_if id u)) ≡ left_if id u
+  told_left id None = refl
+  told_left id (Some u) = refl
+
+  quiet_left : (id : Id) (u : Option U) → IsQuiet (left_if id u)
+  quiet_left id None = (refl, refl)
+  quiet_left id (Some u) = (refl, refl)
+
+not_zero : (n : ℕ) → server_range.first ≤ n → n ≢ 0
+not_zero n least zero = omega (arith, least, zero)
+
+module _ {U : Type 0} where
+  -- what a check grants is the object that the id names
+  pub granted_named : (client : ClientParts) (store : Store (Kept U)) (table : List InterfaceRow) (m : SessionMessage) (g : Object (Kept U) × Bool) → event_check client store table m ≡ Ok g
+      → named store m.sender ≡ Some g.0
+  granted_named client store table m g e = go (named store m.sender) e
+    where
+      fault_free : (x : Object (Kept U)) (row : MessageRow) (o : Option EventError) → granted client store x row o ≡ Ok g → x ≡ g.0
+      fault_free x row None is = ap (λ (r : Result (Object (Kept U) × Bool) EventError). of_result r) is
+        where
+          of_result : Result (Object (Kept U) × Bool) EventError → Object (Kept U)
+          of_result (Ok h) = h.0
+          of_result (Err e) = x
+      fault_free x row (Some e) is = absurd (true≢false (sym (ap is_ok is)))
+
+      by_row : (x : Object (Kept U)) (row : Option MessageRow) → checked_row client store x row m ≡ Ok g → x ≡ g.0
+      by_row x None is = absurd (true≢false (sym (ap is_ok is)))
+      by_row x (Some row) is =
+          fault_free x row
+          (first_refusal (when (not (matches row.signature m.args)) refused.BadSignature ∷ argument_faults client store row row.signature row.arg_interfaces m.args)) is
+
+      go : (o : Option (Object (Kept U))) → checked_sender client store table o m ≡ Ok g → o ≡ Some g.0
+      go None is = absurd (true≢false (sym (ap is_ok is)))
+      go (Some x) is = ap Some (by_row x (event_row table x.interface m.opcode) is)
+
+  -- data given to another object leave a free number free
+  still_gone : (store : Store (Kept U)) (n : ℕ) (created : Option IdParts) (u : Option U) → held store n ≡ None → held (store_with_data store created u) n ≡ None
+  still_gone store n None u free = free
+  still_gone store n (Some id) None free = free
+  still_gone store n (Some id) (Some u) free = go (named store id) refl
+    where
+      go : (o : Option (Object (Kept U))) → named store id ≡ o → held (data_given store id.number o u) n ≡ None
+      go None e = free
+      go (Some x) e =
+          rewritten_other store id.number (with_user_data u x) n (λ same. none_some (sym free ∙ ap (held store) same ∙ named_held store id x e)) ∙ free
+
+  pub ended_named : (store : Store (Kept U)) (id : IdParts) (b : Bool) (x : Object (Kept U)) → ended_by store id b ≡ Some x → named store id ≡ Some x
+  ended_named store id true x e = e
+  ended_named store id false x e = absurd (none_some e)
+
+module _ {T : Type 0} (sends : T → Queue → Result ℕ IoFault → T → Type 0) where
+  -- one message is put
+  put_one : (m : SessionMessage) (before after : LinkState T) (es : List Sending) → WroteBy sends before (wire_message m) es (Ok tt) after
+      → PutsOut sends before (said m ∷ []) es (said m ∷ []) (Ok tt) after
+  put_one m before after es by = (es, Ok tt, after, inl by, ([], [], sym (append-nil es), refl, (refl, refl, refl, refl)))
+
+  put_none : (m : SessionMessage) (before after : LinkState T) (es : List Sending) (f : IoFault) → WroteBy sends before (wire_message m) es (Err f) after
+      → PutsOut sends before (said m ∷ []) es [] (Err f) after
+  put_none m before after es f by = (es, Err f, after, inl by, (refl, refl, refl, refl))
+
+module _ {T U C : Type 0} (sends : T → Queue → Result ℕ IoFault → T → Type 0) (receives : T → ℕ → Result Queue IoFault → T → Type 0)
+    (client : ClientParts) where
+  abbrev Move : Part T U C → Doings U → Part T U C → Type 0
+  Move p d q = Go sends receives client p d q
+
+  abbrev Come : Core U C → Verdict (Core U C) (Told U) → Type 0
+  Come c v = Comes sends receives client c v
+
+  abbrev Lead : Core U C → List (Deed U) → Core U C → Type 0
+  Lead c made e = Lands sends receives client c made e
+
+  abbrev Calm : Core U C → Type 0
+  Calm c = IsCalm sends receives client c
+
+  calm_core : (p : Part T U C) → Calm (core_of p)
+  calm_core p live = refl
+
+  -- a call that does nothing
+  stays : (p : Part T U C) (did : List (Deed U)) (q : Part T U C) → did ≡ [] → q ≡ p → Move p (done did) q
+  stays p did q none same = stayed (ap done none) same
+
+  -- ---- data, and new objects
+
+  pub data_set_moves : (p : Part T U C) (id : IdParts) (u : U) (answer : Result (Unit {0}) InvalidId) (q : Part T U C) → DataSet p id u answer q → Move p nothing_done q
+  data_set_moves p id u answer q h =
+      elim (either_option (named p.store id) h) [
+        | inl (none, (is, same)) ↦ stayed refl same
+        | inr (x, some, (is, same)) ↦ wrote id.number x u (named_held p.store id x some) refl same
+      ]
+
+  pub creates_moves : (table : List InterfaceRow) (p : Part T U C) (i : InterfaceId) (version : ℕ) (u : U) (answer : Result IdParts CreateError) (q : Part T U C)
+      → Creates table client p i version u answer q → Move p (handing (made_ids answer)) q
+  creates_moves table p i version u answer q h =
+      elim (either_option (slice_get table i.0) h) [
+        | inl (unknown, (is, same)) ↦ refuses is same
+        | inr (row, known, inl (full, is, same)) ↦ refuses is same
+        | inr (row, known, inr (n, least, g)) ↦
+            elim (either_bool (eqb p.last_serial last_possible_serial) g) [
+              | inl (is, same) ↦ refuses is same
+              | inr (inr (is, unused, same)) ↦ refuses is same
+              | inr (inl (is, same)) ↦
+                  born n (new_object p i version u) least.absent (not_zero n least.within) refl (ap (λ (r : Result IdParts CreateError). handing (made_ids r)) is) same
+            ]
+      ]
+    where
+      refuses : {e : CreateError} → answer ≡ Err e → q ≡ p → Move p (handing (made_ids answer)) q
+      refuses is same = stayed (ap (λ (r : Result IdParts CreateError). handing (made_ids r)) is) same
+
+  -- ---- an object that leaves
+
+  -- its note waits for the next cleanup
+  without_lead : (c : Core U C) (id : IdParts) (x : Object (Kept U)) → Calm c → named c.store id ≡ Some x
+      → Lead c (left_if (id_of id) x.value.user_data) (without_noted client c id.number x)
+  without_lead c id x calm is =
+      lands_at sends receives client c (left_if (id_of id) x.value.user_data) (without_noted client c id.number x) calm refl
+      (λ l. went id.number x true (named_held c.store id x is)
+      (done_left (id_of id) x.value.user_data ∙ ap (λ (i : Id). record nothing_done { left = left_id i x.value.user_data }) (sym (named_id client c.store id x is))) refl)
+
+  -- and the deed stands among what is handed out, where it is gone
+  leaving_told : (id : IdParts) (u : Option U) (store : Store (Kept U)) (e : Core U C) → e.store ≡ removed store id.number → told_deeds (leaving id u e) ≡ left_if (id_of id) u
+  leaving_told id u store e same =
+      ap (λ (b : Bool). told_deeds (cond b [] (map Did (left_if (id_of id) u))))
+      (gone_named e.store id (ap (λ (s : Store (Kept U)). held s id.number) same ∙ removed_here store id.number id.number refl))
+      ∙ told_left (id_of id) u
+
+  leaving_kept : (id : IdParts) (u : Option U) (c : Core U C) (x : Object (Kept U)) → named c.store id ≡ Some x → told_deeds (leaving id u c) ≡ []
+  leaving_kept id u c x is = ap (λ (o : Option (Object (Kept U))). told_deeds (cond (is_some o) [] (map Did (left_if (id_of id) u)))) is
+
+  destroys_comes : (c : Core U C) (id : IdParts) (x : Object (Kept U)) → Calm c → named c.store id ≡ Some x → Come c (destroys client c id x)
+  destroys_comes c id x calm is = record {
+    made = left_if (id_of id) x.value.user_data;
+    lands = without_lead c id x calm is;
+    events = λ e same. leaving_told id x.value.user_data c.store e same;
+    quiet = quiet_left (id_of id) x.value.user_data;
+    last = inl refl;
+    starved = inr (refl, leaving_kept id x.value.user_data c x is);
+  }
+
+  destroyable_named : (p : Part T U C) (id : IdParts) (x : Object (Kept U)) → destroyable p id ≡ Some x → named p.store id ≡ Some x
+  destroyable_named p id x e = go (eqb id.number 1) e
+    where
+      go : (b : Bool) → cond b None (named p.store id) ≡ Some x → named p.store id ≡ Some x
+      go true e = absurd (none_some e)
+      go false e = e
+
+  pub destroys_moves : (p : Part T U C) (id : IdParts) (answer : Result (Unit {0}) DestroyError) (lacked : Bool) (did : List (Deed U)) (q : Part T U C)
+      → Destroys sends client p id answer lacked did q → Move p (done did) q
+  destroys_moves p id answer lacked did q h =
+      elim (either_option (destroyable p id) h) [
+        | inl (none, (is, no_memory, nothing, same)) ↦ stays p did q nothing same
+        | inr (x, some, (is, tells')) ↦
+            tells_moves sends receives client p (destroys client (core_of p) id x) lacked did q
+            (destroys_comes (core_of p) id x (calm_core p) (destroyable_named p id x some)) tells'
+      ]
+
+  -- ---- messages alone, errors, the end of a client
+
+  pub tells_comes : (c : Core U C) (messages : List Said) → Calm c → Come c (tells c messages)
+  tells_comes c messages calm = record {
+    made = [];
+    lands = lands_not sends receives client c calm;
+    events = λ e same. refl;
+    quiet = (refl, refl);
+    last = inl refl;
+    starved = inl refl;
+  }
+
+  posts_comes : (table : List InterfaceRow) (c : Core U C) (id : IdParts) (code : ℕ) (text : List ℕ) → Calm c → Come c (posts table c id code text)
+  posts_comes table c id code text calm = record {
+    made = [];
+    lands = lands_not sends receives client c calm;
+    events = λ e same. refl;
+    quiet = (refl, refl);
+    last = inr (BrokeProtocol (error_of table id code text), refl);
+    starved = inl refl;
+  }
+
+  pub posts_moves : (table : List InterfaceRow) (p : Part T U C) (id : IdParts) (code : ℕ) (text : List ℕ) (lacked : Bool) (did : List (Deed U)) (q : Part T U C)
+      → PostsError sends table p id code text lacked did q → Move p (done did) q
+  posts_moves table p id code text lacked did q h =
+      elim (either_bool (eqb id.number 0) h) [
+        | inl (no_memory, none, same) ↦ stays p did q none same
+        | inr tells' ↦
+            tells_moves sends receives client p (posts table (core_of p) id code text) lacked did q
+            (posts_comes table (core_of p) id code text (calm_core p)) tells'
+      ]
+
+  pub kills_moves : (p : Part T U C) (reason : DisconnectReason) (did : List (Deed U)) (q : Part T U C) → Kills p reason did q → Move p (done did) q
+  kills_moves p reason did q (is, same) =
+      let ends = ends_killed sends receives client (core_of p) reason (calm_core p) in
+      subst (λ (e : Part T U C). Move p (done did) e) (sym same)
+      (same_doings sends receives client p (record p { is_killed = true }) (noting ends.notes) (done did)
+      (ap done is ∙ done_end (killed (core_of p) reason).ended ∙ ap noting ends.so) (ends.moves p.link))
+
+  -- ---- an event
+
+  module _ (m : SessionMessage) (sender : Object (Kept U)) where
+    ends_sender_comes : (c : Core U C) (b : Bool) → Calm c → named c.store m.sender ≡ Some sender → Come c (ends_sender client c m sender b)
+    ends_sender_comes c false calm is = tells_comes c [] calm
+    ends_sender_comes c true calm is = record {
+      made = left_if (id_of m.sender) sender.value.user_data;
+      lands = without_lead c m.sender sender calm is;
+      events = λ e same. leaving_told m.sender sender.value.user_data c.store e same;
+      quiet = quiet_left (id_of m.sender) sender.value.user_data;
+      last = inl refl;
+      starved = inl refl;
+    }
+
+    -- the client is closed down, and its sender ends all the same
+    ends_closed_comes : (c : Core U C) (b : Bool) → Calm c → named c.store m.sender ≡ Some sender → Come c (ends_closed client c m sender b)
+    ends_closed_comes c false calm is = record {
+      made = [];
+      lands = lands_then sends receives client c c (closed_down c) [] (lands_not sends receives client c calm) (ends_killed sends receives client c ConnectionClosed calm);
+      events = λ e same. refl;
+      quiet = (refl, refl);
+      last = inl refl;
+      starved = inl refl;
+    }
+    ends_closed_comes c true calm is = record {
+      made = left_if (id_of m.sender) sender.value.user_data;
+      lands = lands_then sends receives client c (without_noted client c m.sender.number sender) (closed_down (without_noted client c m.sender.number sender))
+          (left_if (id_of m.sender) sender.value.user_data) (without_lead c m.sender sender calm is)
+          (ends_killed sends receives client (without_noted client c m.sender.number sender) ConnectionClosed calm);
+      events = λ e same. leaving_told m.sender sender.value.user_data c.store e same;
+      quiet = quiet_left (id_of m.sender) sender.value.user_data;
+      last = inl refl;
+      starved = inl refl;
+    }
+
+    module _ (p : Part T U C) (b : Bool) (es : List Sending) (link : LinkState T) (answer : Result (Unit {0}) EventError) (lacked : Bool) (rest did : List (Deed U)) (q : Part T U C)
+        (is : named p.store m.sender ≡ Some sender) (did_so : did ≡ map Sent es ++ rest) where
+      sent_first : done did ≡ joined (sending es) (done rest)
+      sent_first = ap done did_so ∙ done_both (map Sent es) rest ∙ ap (λ (d : Doings U). joined d (done rest)) (done_sends es)
+
+      broken_moves : (f : IoFault) → WroteBy sends p.link (wire_message m) es (Err f) link
+          → Tells sends (ends_closed client (core_of p) m sender b) link lacked rest q → Move p (done did) q
+      broken_moves f by tells' =
+          followed (told {p = p} {q = with_link p link} (said m ∷ []) es [] (Err f) link (put_none sends m p.link link es f by) refl refl)
+          (tells_moves sends receives client (with_link p link) (ends_closed client (core_of p) m sender b) lacked rest q (ends_closed_comes (core_of p) b (calm_core p) is) tells')
+          sent_first
+
+      sent_moves : (w : Result (Unit {0}) IoFault) → WroteBy sends p.link (wire_message m) es w link → SentAs sends client p m sender b w link answer lacked rest q
+          → Move p (done did) q
+      sent_moves (Ok u) by (more, tells', is_ok', rest_so) =
+          followed (told {p = p} {q = with_link p link} (said m ∷ []) es (said m ∷ []) (Ok tt) link (put_one sends m p.link link es by) refl refl)
+          (tells_moves sends receives client (with_link p link) (ends_sender client (core_of p) m sender b) lacked more q (ends_sender_comes (core_of p) b (calm_core p) is) tells')
+          (sent_first ∙ ap (λ (ds : List (Deed U)). joined (sending es) (done ds)) rest_so
+          ∙ ap (λ (l : List Sending). joined (putting l (said m ∷ [])) (done more)) refl)
+      sent_moves (Err fault.OutOfMemory) by (is_err, no_memory, none, same) =
+          told (said m ∷ []) es [] (Err fault.OutOfMemory) link (put_none sends m p.link link es fault.OutOfMemory by)
+          (sent_first ∙ ap (λ (ds : List (Deed U)). joined (sending es) (done ds)) none ∙ ap (λ (l : List Sending). sending {U = U} l) (append-nil es)) same
+      sent_moves (Err fault.WouldBlock) by (tells', is_ok') = broken_moves fault.WouldBlock by tells'
+      sent_moves (Err fault.Pipe) by (tells', is_ok') = broken_moves fault.Pipe by tells'
+      sent_moves (Err fault.TooBig) by (tells', is_ok') = broken_moves fault.TooBig by tells'
+      sent_moves (Err fault.Proto) by (tells', is_ok') = broken_moves fault.Proto by tells'
+      sent_moves (Err fault.InvalidInput) by (tells', is_ok') = broken_moves fault.InvalidInput by tells'
+      sent_moves (Err (fault.Other n)) by (tells', is_ok') = broken_moves (fault.Other n) by tells'
+
+  sends_granted : (p : Part T U C) (m : SessionMessage) (sender : Object (Kept U)) (b : Bool) (answer : Result (Unit {0}) EventError) (lacked : Bool) (did : List (Deed U))
+      (q : Part T U C) → named p.store m.sender ≡ Some sender → SendsGranted sends client p m sender b answer lacked did q → Move p (done did) q
+  sends_granted p m sender b answer lacked did q is (inl (asks, is_err, no_memory, none, same)) = stays p did q none same
+  sends_granted p m sender b answer lacked did q is (inr (es, rest, w, link, by, sent, did_so)) =
+      sent_moves m sender p b es link answer lacked rest did q is did_so w by sent
+
+  pub sends_moves : (table : List InterfaceRow) (p : Part T U C) (m : SessionMessage) (answer : Result (Unit {0}) EventError) (lacked : Bool) (did : List (Deed U)) (q : Part T U C)
+      → SendsEvent sends client table p m answer lacked did q → Move p (done did) q
+  sends_moves table p m answer lacked did q h =
+      elim (either_bool p.is_killed h) [
+        | inl (is, no_memory, none, same) ↦ stays p did q none same
+        | inr g ↦ checked (event_check client p.store table m) refl g
+      ]
+    where
+      checked : (r : Result (Object (Kept U) × Bool) EventError) → event_check client p.store table m ≡ r
+          → MatchResult r (λ g. SendsGranted sends client p m g.0 g.1 answer lacked did q)
+          (λ e. (answer ≡ Err e) × (lacked ≡ false) × (did ≡ []) × (q ≡ p)) → Move p (done did) q
+      checked (Ok g) is h = sends_granted p m g.0 g.1 answer lacked did q (granted_named client p.store table m g is) h
+      checked (Err e) is (is_err, no_memory, none, same) = stays p did q none same
+
+  -- ---- the end of an action
+
+  -- the object that the action made gets the data, if it is still kept
+  data_moves : (p : Part T U C) (created : Option IdParts) (u : Option U) → Move p nothing_done (record p { store = store_with_data p.store created u })
+  data_moves p None u = stayed refl refl
+  data_moves p (Some id) None = stayed refl refl
+  data_moves p (Some id) (Some u) = go (named p.store id) refl
+    where
+      go : (o : Option (Object (Kept U))) → named p.store id ≡ o → Move p nothing_done (record p { store = data_given p.store id.number o u })
+      go None e = stayed refl refl
+      go (Some x) e = wrote id.number x u (named_held p.store id x e) refl refl
+
+  closes_moves : (p : Part T U C) (created : Option IdParts) (u : Option U) → Move p nothing_done (record p { action = None; store = store_with_data p.store created u })
+  closes_moves p created u = followed (data_moves p created u) (shut refl refl) refl
+
+  closes_comes : (c : Core U C) (created : Option IdParts) (u : Option U) → Calm c → Come c (closes c created u)
+  closes_comes c created u calm = record {
+    made = [];
+    lands = lands_at sends receives client c [] (closed c created u) calm refl (λ l. closes_moves (at sends receives client c l) created u);
+    events = λ e same. refl;
+    quiet = (refl, refl);
+    last = inl refl;
+    starved = inl refl;
+  }
+
+  -- the sender of a request, which leaves: it is noted at once
+  module _ (c : Core U C) (id : IdParts) (x : Object (Kept U)) (created : Option IdParts) (u : Option U) (calm : Calm c) (is : named c.store id ≡ Some x) where
+    abbrev ended_deeds : List (Deed U)
+    ended_deeds = map Noted (note_of_end client id.number x) ++ left_if (id_of id) x.value.user_data
+
+    done_ended : done ended_deeds ≡ leaves client false id.number x
+    done_ended = go x.value.user_data
+      where
+        go : (o : Option U) → done (map Noted (end_note (id_at client id.number x) o) ++ left_if (id_of id) o)
+            ≡ record nothing_done { left = left_id (id_of (id_at client id.number x)) o; notes = end_note (id_at client id.number x) o }
+        go None = refl
+        go (Some v) = ap (λ (i : Id). record nothing_done { left = i ∷ []; notes = end_note (id_at client id.number x) (Some v) }) (sym (named_id client c.store id x is))
+
+    told_ended : told_deeds (map Did ended_deeds) ≡ ended_deeds
+    told_ended = go x.value.user_data
+      where
+        go : (o : Option U) → told_deeds (map Did (map Noted (end_note (id_at client id.number x) o) ++ left_if (id_of id) o))
+            ≡ map Noted (end_note (id_at client id.number x) o) ++ left_if (id_of id) o
+        go None = refl
+        go (Some v) = refl
+
+    quiet_ended : IsQuiet ended_deeds
+    quiet_ended = go x.value.user_data
+      where
+        go : (o : Option U) → IsQuiet (map Noted (end_note (id_at client id.number x) o) ++ left_if (id_of id) o)
+        go None = (refl, refl)
+        go (Some v) = (refl, refl)
+
+    ending_told : (e : Core U C) → e.store ≡ store_with_data (removed c.store id.number) created u → told_deeds (ending client id x e) ≡ ended_deeds
+    ending_told e same =
+        ap (λ (b : Bool). told_deeds (cond b [] (map Did ended_deeds)))
+        (gone_named e.store id
+        (ap (λ (s : Store (Kept U)). held s id.number) same
+        ∙ still_gone (removed c.store id.number) id.number created u (removed_here c.store id.number id.number refl)))
+        ∙ told_ended
+
+    ends_some_comes : Come c (ends client c id (Some x) created u)
+    ends_some_comes = record {
+      made = ended_deeds;
+      lands = lands_at sends receives client c ended_deeds (closed (without c id.number x) created u) calm refl
+          (λ l. followed (went {q = at sends receives client (without c id.number x) l} id.number x false (named_held c.store id x is) refl refl)
+          (closes_moves (at sends receives client (without c id.number x) l) created u)
+          (done_ended ∙ sym (joined_none (leaves client false id.number x))));
+      events = λ e same. ending_told e same;
+      quiet = quiet_ended;
+      last = inl refl;
+      starved = inr (refl, ap (λ (o : Option (Object (Kept U))). told_deeds (cond (is_some o) [] (map Did ended_deeds))) is);
+    }
+
+  ends_comes : (c : Core U C) (id : IdParts) (o : Option (Object (Kept U))) (created : Option IdParts) (u : Option U) → Calm c
+      → ((x : Object (Kept U)) → o ≡ Some x → named c.store id ≡ Some x) → Come c (ends client c id o created u)
+  ends_comes c id None created u calm is = closes_comes c created u calm
+  ends_comes c id (Some x) created u calm is = ends_some_comes c id x created u calm (is x refl)
+
+  refuses_moves : {D : Type 0} (p : Part T U C) (d : D) (e : FinishError) (answer : Result (Unit {0}) (FinishRefused D)) (lacked : Bool) (did : List (Deed U)) (q : Part T U C)
+      → Refuses p d e answer lacked did q → Move p (done did) q
+  refuses_moves p d e answer lacked did q (is, no_memory, none, same) = stays p did q none same
+
+  pub finishes_moves : (p : Part T U C) (u : Option U) (answer : Result (Unit {0}) (FinishRefused (Option U))) (lacked : Bool) (did : List (Deed U)) (q : Part T U C)
+      → FinishesRequest sends client p u answer lacked did q → Move p (done did) q
+  finishes_moves p u answer lacked did q h =
+      elim (either_option p.action h) [
+        | inl (none, refuses) ↦ refuses_moves p u _ answer lacked did q refuses
+        | inr (opened.Bind object, is, refuses) ↦ refuses_moves p u _ answer lacked did q refuses
+        | inr (opened.Request sender b created, is, g) ↦
+            elim (either_option (refusal p.is_killed created u) g) [
+              | inr (e, why, refuses) ↦ refuses_moves p u e answer lacked did q refuses
+              | inl (none, (is', tells')) ↦
+                  tells_moves sends receives client p (ends_request client (core_of p) sender b created u) lacked did q
+                  (ends_comes (core_of p) sender (ended_by p.store sender b) created u (calm_core p) (λ x e. ended_named p.store sender b x e)) tells'
+            ]
+      ]
+
+  pub finishes_bind_moves : (p : Part T U C) (u : U) (answer : Result (Unit {0}) (FinishRefused U)) (lacked : Bool) (did : List (Deed U)) (q : Part T U C)
+      → FinishesBind p u answer lacked did q → Move p (done did) q
+  finishes_bind_moves p u answer lacked did q h =
+      elim (either_option p.action h) [
+        | inl (none, refuses) ↦ refuses_moves p u _ answer lacked did q refuses
+        | inr (opened.Request sender b created, is, refuses) ↦ refuses_moves p u _ answer lacked did q refuses
+        | inr (opened.Bind object, is, (is', no_memory, none, same)) ↦
+            subst (λ (e : Part T U C). Move p (done did) e) (sym same)
+            (same_doings sends receives client p (record p { action = None; store = store_with_data p.store (Some object) (Some u) }) nothing_done (done did) (ap done none)
+            (closes_moves p (Some object) (Some u)))
+      ]

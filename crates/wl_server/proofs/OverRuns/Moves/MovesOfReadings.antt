@@ -1,0 +1,206 @@
+-- That a reading is a chain of base moves, over the reader's turns.
+use Rattle.std.proofs.Common.{◌≡◌, ◌⊎◌, ℕ, Bool, true, false, not, ◌&&◌, List, [], ◌∷◌, ◌++◌, map, Option, None, Some, is_none, Result, Ok, Err, refl, sym, ap, subst, ◌∙◌, append-nil, true≢false}
+use mathlib.Core.Logic.{inl, inr}
+use Rattle.std.specs.Prelude.{MatchBool, length, nat_le}
+use Rattle.wl_wire.specs.declared.argument.ArgumentType.{ArgumentType}
+use Rattle.wl_wire.specs.declared.error.IoFault.{IoFault}
+use Rattle.wl_wire.specs.declared.error.IoFault.TheVariants as fault
+use Rattle.wl_wire.specs.declared.error.MessageParseError.{MessageParseError}
+use Rattle.wl_wire.specs.declared.error.MessageParseError.TheVariants as errors
+use Rattle.wl_wire.specs.Message.{WireMessage}
+use Rattle.wl_wire.specs.Parse.{opcode_of, sender_of}
+use Rattle.wl_link.proofs.Calls.Branches.{either_bool, either_option, either_result}
+use Rattle.wl_link.specs.Exchange.{Queue, Sending}
+use Rattle.wl_link.proofs.Readings.HoldingLaws.{read_stays}
+use Rattle.wl_link.specs.Link.{LinkState, ReadFound, ReadOne, count_of, counted_answer}
+use Rattle.wl_link.specs.Puts.{Said}
+use Rattle.wl_link.specs.Reader.{CarriesOut, Given, Gives, Handled, Reads, Received, Stops, Turn, Unread, Verdict, behind, with_link, ReaderState}
+use Rattle.wl_server.specs.declared.reading.action.Reading.{Reading}
+use Rattle.wl_server.specs.declared.error.ActionError.{ActionError}
+use Rattle.wl_server.specs.declared.notes.DisconnectReason.TheVariants.{ConnectionClosed}
+use Rattle.wl_server.specs.declared.notes.Happening.{Happening}
+use Rattle.wl_server.proofs.OverRuns.Moves.BaseMoves.{Doings, followed, joined, noting, putting, received, receiving, relinked, sending, stayed}
+use Rattle.wl_server.specs.Deeds.{Came, Deed, Handed, Put, Sent, notes_in}
+use Rattle.wl_server.proofs.OverRuns.Moves.DoingsLaws.{IsQuiet, deeds_done, done, done_both, done_puts, done_sends, end_of, joined_none, turns_done, verdict_done}
+use Rattle.wl_server.proofs.OverRuns.Moves.MovesOfRequests.{handles_comes, malformed_comes}
+use Rattle.wl_server.proofs.OverRuns.Moves.MovesOfVerdicts.{Comes, Ends, Go, IsCalm, carried, ends_killed, ends_not, notes_at_end, same_doings}
+use Rattle.wl_server.specs.Part.{Part}
+use Rattle.wl_server.specs.Reading.{Around, NextAction, exchanges_in, faulted, reads_on, server}
+use Rattle.wl_server.specs.Telling.{Core, Told, deeds_in, deeds_of, end_deeds, part_of, reader_part}
+
+module _ {T : Type 0} where
+  -- a message that is read leaves what waits to be sent
+  found_waits : (found : Option (List ArgumentType)) (before after : LinkState T) (answer : Result WireMessage MessageParseError) → ReadFound found before answer after
+      → after.outgoing ≡ before.outgoing
+  found_waits None before after answer h = ap (λ (l : LinkState T). l.outgoing) h.1
+  found_waits (Some signature) before after (Ok m) h = ap (λ (l : LinkState T). l.outgoing) h.1
+  found_waits (Some signature) before after (Err e) h = ap (λ (l : LinkState T). l.outgoing) h.2
+
+  read_waits : (looks_up : ℕ → ℕ → Option (List ArgumentType) → Type 0) (before after : LinkState T) (answer : Result WireMessage MessageParseError)
+      → ReadOne looks_up before answer after → after.outgoing ≡ before.outgoing
+  read_waits looks_up before after answer h = go (nat_le 8 (length before.incoming.bytes)) h
+    where
+      go : (b : Bool)
+          → MatchBool b ((found : Option (List ArgumentType)) × looks_up (sender_of before.incoming.bytes) (opcode_of before.incoming.bytes) found × ReadFound found before answer after)
+          ((answer ≡ Err errors.MissingData) × (after ≡ before)) → after.outgoing ≡ before.outgoing
+      go true (found, up, so) = found_waits found before after answer so
+      go false (is, same) = ap (λ (l : LinkState T). l.outgoing) same
+
+both : (a b : Bool) → (a && b) ≡ true → (a ≡ true) × (b ≡ true)
+both true b e = (refl, e)
+both false b e = absurd (true≢false (sym e))
+
+not_true : (b : Bool) → not b ≡ true → b ≡ false
+not_true false e = refl
+not_true true e = absurd (true≢false (sym e))
+
+module _ {U : Type 0} where
+  quiet_given : (put : List Said) (made : List (Deed U)) (gave : List (Given (Told U))) → deeds_in gave ≡ map Put put ++ made → IsQuiet made → IsQuiet (deeds_in gave)
+  quiet_given put made gave is quiet = (
+    ap (λ (d : Doings U). d.sends) all ∙ quiet.0,
+    ap (λ (d : Doings U). d.came) all ∙ quiet.1,
+  )
+    where
+      all : done (deeds_in gave) ≡ joined (putting [] put) (done made)
+      all = ap done is ∙ done_both (map Put put) made ∙ ap (λ (d : Doings U). joined d (done made)) (done_puts put)
+
+module _ {U C : Type 0} where
+  -- a client that is read is live
+  live_of : (c : Core U C) → reads_on c ≡ true → c.is_killed ≡ false
+  live_of c on = not_true c.is_killed (both (not c.is_killed) (is_none c.action) on).0
+
+module _ {T U G C : Type 0} (sends : T → Queue → Result ℕ IoFault → T → Type 0) (receives : T → ℕ → Result Queue IoFault → T → Type 0)
+    (a : Around G C) where
+  abbrev Step : Part T U C → Doings U → Part T U C → Type 0
+  Step p d q = Go sends receives a.client p d q
+
+  abbrev Calm : Core U C → Type 0
+  Calm c = IsCalm sends receives a.client c
+
+  -- a turn: bytes are read, and a verdict carried out
+  turn_moves : (before : ReaderState T (Core U C)) (link : LinkState T) (v : Verdict (Core U C) (Told U)) → link.outgoing ≡ before.link.outgoing
+      → link.outgoing_capacity ≡ before.link.outgoing_capacity → Comes sends receives a.client before.core v → Calm before.core → (es : List Sending) (first : List (Given (Told U))) (lacked : Bool) (mid : ReaderState T (Core U C))
+      → CarriesOut sends (server a) v link es first lacked mid
+      → before.core.ended ≡ None
+      → Step (part_of before) (done (deeds_of (map Sent es) first mid.core)) (part_of mid) × Calm mid.core × IsQuiet (deeds_in first)
+  turn_moves before link v waits stays comes calm es first lacked mid by none =
+      let c = carried sends receives a.client (server a) (λ d f. refl) before.core v comes calm link es first lacked mid by in
+      let so : notes_at_end sends receives a.client mid.core ≡ c.notes =
+      c.so ∙ ap (λ (o : Option _). notes_in (end_deeds {U = U} o) ++ c.notes) none in (
+        followed (relinked link waits stays refl refl) c.moves
+            (verdict_done es c.put c.made first mid.core c.deeds
+            ∙ ap (λ (n : List (Happening U)). joined (putting es c.put) (joined (done c.made) (noting n))) so),
+        c.calm,
+        quiet_given c.put c.made first c.deeds c.quiet,
+      )
+
+  -- a receive that failed ends the client, or leaves it
+  faulted_ends : (c : Core U C) (f : IoFault) → Calm c → Ends sends receives a.client c (faulted c f)
+  faulted_ends c fault.WouldBlock calm = ends_not sends receives a.client c calm
+  faulted_ends c fault.OutOfMemory calm = ends_not sends receives a.client c calm
+  faulted_ends c fault.Pipe calm = ends_killed sends receives a.client c ConnectionClosed calm
+  faulted_ends c fault.TooBig calm = ends_killed sends receives a.client c ConnectionClosed calm
+  faulted_ends c fault.Proto calm = ends_killed sends receives a.client c ConnectionClosed calm
+  faulted_ends c fault.InvalidInput calm = ends_killed sends receives a.client c ConnectionClosed calm
+  faulted_ends c (fault.Other n) calm = ends_killed sends receives a.client c ConnectionClosed calm
+
+  pub gave_none : (left : ℕ) (mid : ReaderState T (Core U C)) (rest : Gives (Told U)) → Stops sends (server a) left mid rest → rest.gave ≡ []
+  gave_none left mid rest ends =
+      elim (either_bool (reads_on mid.core) ends) [
+        | inl (inl h) ↦ ap (λ (o : Gives (Told U)). o.gave) h.2
+        | inl (inr (inl h)) ↦ ap (λ (o : Gives (Told U)). o.gave) h.1
+        | inl (inr (inr (lacks, (n, one, is)))) ↦ ap (λ (o : Gives (Told U)). o.gave) is
+        | inr is ↦ ap (λ (o : Gives (Told U)). o.gave) is
+      ]
+
+  -- nothing more was read, or the client was read on
+  over_or_on : (left : ℕ) (mid after : ReaderState T (Core U C)) (turns : List Turn) (rest : Gives (Told U)) → Reads sends (server a) receives left mid turns rest after
+      → ((turns ≡ []) × (after ≡ mid) × (rest.gave ≡ [])) ⊎ (reads_on mid.core ≡ true)
+  over_or_on left mid after [] rest (same, ends) = inl (refl, same, gave_none left mid rest ends)
+  over_or_on left mid after (Received r ∷ turns) rest h = inr h.0
+  over_or_on left mid after (Handled es ∷ turns) rest h = inr h.0
+  over_or_on left mid after (Unread es ∷ turns) rest h = inr h.0
+
+  abbrev Read : ReaderState T (Core U C) → List Turn → Gives (Told U) → ReaderState T (Core U C) → Type 0
+  Read before turns out after = Step (part_of before) (done (deeds_of (exchanges_in turns) out.gave after.core)) (part_of after)
+
+  -- a turn, and then the rest
+  then_moves : (left : ℕ) (before mid after : ReaderState T (Core U C)) (es : List Sending) (turns : List Turn) (first : List (Given (Told U))) (lacked : Bool)
+      (rest out : Gives (Told U)) → out ≡ behind first lacked rest
+      → Step (part_of before) (done (deeds_of (map Sent es) first mid.core)) (part_of mid) × Calm mid.core × IsQuiet (deeds_in first)
+      → Reads sends (server a) receives left mid turns rest after
+      → (mid.core.ended ≡ None → Calm mid.core → Read mid turns rest after)
+      → Step (part_of before) (done (deeds_of (map Sent es ++ exchanges_in turns) out.gave after.core)) (part_of after)
+  then_moves left before mid after es turns first lacked rest out split (turn, calm, quiet) reads more =
+      subst (λ (o : Gives (Told U)). Step (part_of before) (done (deeds_of (map Sent es ++ exchanges_in turns) o.gave after.core)) (part_of after)) (sym split)
+      (elim (over_or_on left mid after turns rest reads) [
+        | inl (none, same, nothing) ↦
+            subst (λ (e : ReaderState T (Core U C)). Step (part_of before) (done (deeds_of (map Sent es ++ exchanges_in turns) (first ++ rest.gave) e.core)) (part_of e)) (sym same)
+            (subst (λ (ts : List Turn). Step (part_of before) (done (deeds_of (map Sent es ++ exchanges_in ts) (first ++ rest.gave) mid.core)) (part_of mid)) (sym none)
+            (subst (λ (g : List (Given (Told U))). Step (part_of before) (done (deeds_of (map Sent es ++ []) (first ++ g) mid.core)) (part_of mid)) (sym nothing)
+            (subst (λ (g : List (Given (Told U))). Step (part_of before) (done (deeds_of (map Sent es ++ []) g mid.core)) (part_of mid)) (sym (append-nil first))
+            (subst (λ (xs : List (Deed U)). Step (part_of before) (done (deeds_of xs first mid.core)) (part_of mid)) (sym (append-nil (map Sent es))) turn))))
+        | inr on ↦
+            let none : mid.core.ended ≡ None = calm (live_of mid.core on) in
+            followed
+            (same_doings sends receives a.client (part_of before) (part_of mid) (done (deeds_of (map Sent es) first mid.core)) (joined (sending es) (done (deeds_in first)))
+            (sym (deeds_done (map Sent es) first mid.core
+            ∙ ap (λ (d : Doings U). joined d (joined (done (deeds_in first)) (end_of mid.core))) (done_sends es)
+            ∙ ap (λ (o : Option _). joined (sending es) (joined (done (deeds_in first)) (noting (notes_in (end_deeds {U = U} o))))) none
+            ∙ ap (joined (sending es)) (joined_none (done (deeds_in first)))))
+            turn)
+            (more none calm)
+            (sym (turns_done es turns first rest.gave after.core quiet))
+      ])
+
+  pub reads_moves : (left : ℕ) (before : ReaderState T (Core U C)) (turns : List Turn) (out : Gives (Told U)) (after : ReaderState T (Core U C))
+      → before.core.ended ≡ None → Calm before.core → Reads sends (server a) receives left before turns out after → Read before turns out after
+  reads_moves left before [] out after none calm (same, ends) =
+      subst (λ (e : ReaderState T (Core U C)). Step (part_of before) (done (deeds_of [] out.gave e.core)) (part_of e)) (sym same)
+      (stayed
+      (ap (λ (g : List (Given (Told U))). done (deeds_of [] g before.core)) (gave_none left before out ends)
+      ∙ ap (λ (o : Option _). done (end_deeds {U = U} o)) none) refl)
+  reads_moves left before (Received r ∷ turns) out after none calm (on, lacks, (n, is, (link, filled, room, h))) =
+      elim (either_result (counted_answer (count_of r)) h) [
+        | inl (u, more) ↦
+            followed (received r (counted_answer (count_of r)) link filled refl refl)
+            (reads_moves n (with_link before link) turns out after none calm more) refl
+        | inr (f, (over, stopped, same)) ↦
+            let ends = faulted_ends before.core f calm in
+            let end : ReaderState T (Core U C) = record { core = faulted before.core f; link = link } in
+            let so : notes_at_end sends receives a.client end.core ≡ ends.notes =
+            ends.so ∙ ap (λ (o : Option _). notes_in (end_deeds {U = U} o) ++ ends.notes) none in
+            subst (λ (e : ReaderState T (Core U C)). Step (part_of before) (done (deeds_of (Came r ∷ exchanges_in turns) out.gave e.core)) (part_of e)) (sym same)
+            (subst (λ (ts : List Turn). Step (part_of before) (done (deeds_of (Came r ∷ exchanges_in ts) out.gave end.core)) (part_of end)) (sym over)
+            (subst (λ (o : Gives (Told U)). Step (part_of before) (done (deeds_of (Came r ∷ []) o.gave end.core)) (part_of end)) (sym stopped)
+            (followed (received r (counted_answer (count_of r)) link filled refl refl) (ends.moves link)
+            (deeds_done (Came r ∷ []) [] end.core ∙ ap (λ (n : List (Happening U)). joined (receiving r) (noting n)) so))))
+      ]
+  reads_moves left before (Handled es ∷ turns) out after none calm (on, (v, link, first, lacked, mid, rest, (m, read, is), by, split, more)) =
+      then_moves left before mid after es turns first lacked rest out split
+      (turn_moves before link v (read_waits (λ sender opcode found. found ≡ (server a).signature before.core sender opcode) before.link link (Ok m) read)
+      (read_stays (λ sender opcode found. found ≡ (server a).signature before.core sender opcode) before.link link m read)
+      (subst (λ (w : Verdict (Core U C) (Told U)). Comes sends receives a.client before.core w) (sym is) (handles_comes sends receives a before.core m calm)) calm es first lacked mid by none)
+      more (λ no_end calm'. reads_moves left mid turns rest after no_end calm' more)
+  reads_moves left before (Unread es ∷ turns) out after none calm (on, (v, link, first, lacked, mid, rest, (read, same, is), by, split, more)) =
+      then_moves left before mid after es turns first lacked rest out split
+      (turn_moves before link v (ap (λ (l : LinkState T). l.outgoing) same) (ap (λ (l : LinkState T). l.outgoing_capacity) same)
+      (subst (λ (w : Verdict (Core U C) (Told U)). Comes sends receives a.client before.core w) (sym is) (malformed_comes sends receives a before.core calm)) calm es first lacked mid by none)
+      more (λ no_end calm'. reads_moves left mid turns rest after no_end calm' more)
+
+  -- ---- a reading
+
+  pub next_action_moves : (r : Reading) (p : Part T U C) (answer : Result Handed ActionError) (r' : Reading) (lacked : Bool) (did : List (Deed U)) (q : Part T U C)
+      → NextAction sends receives a r p answer r' lacked did q → Step p (done did) q
+  next_action_moves r p answer r' lacked did q h =
+      elim (either_option p.action h) [
+        | inr (action, is_open, (is, same, no_memory, none, stays)) ↦ stayed (ap done none) stays
+        | inl (not_open, g) ↦
+            elim (either_bool p.is_killed g) [
+              | inl (is, same, no_memory, none, stays) ↦ stayed (ap done none) stays
+              | inr (turns, out, end, reads, is, same, no_memory, did_so, after) ↦
+                  subst (λ (e : Part T U C). Step p (done did) e) (sym after)
+                  (subst (λ (ds : List (Deed U)). Step p (done ds) (part_of end)) (sym did_so)
+                  (reads_moves r.turns_left (reader_part p) turns out end refl (λ live. refl) reads))
+            ]
+      ]

@@ -1,0 +1,354 @@
+-- That what a request comes to is a chain of base moves.
+use Rattle.std.proofs.Common.{◌≡◌, ◌≢◌, ◌⊎◌, ℕ, Bool, true, false, not, ◌&&◌, cond, eqb, List, [], ◌∷◌, ◌++◌, map, Option, None, Some, is_some, Result, Ok, Err, refl, sym, ap, subst, ◌∙◌, append-nil, true≢false}
+use mathlib.Core.Logic.{inl, inr}
+use Rattle.std.specs.Prelude.{nat_lt, if◌then◌else◌}
+use Rattle.wl_wire.specs.declared.argument.Argument.{Argument}
+use Rattle.wl_wire.specs.declared.argument.Argument.TheVariants as arg
+use Rattle.wl_wire.specs.declared.argument.Token.{Token}
+use Rattle.wl_wire.specs.declared.error.IoFault.{IoFault}
+use Rattle.wl_wire.specs.declared.error.IoFault.TheVariants as fault
+use Rattle.wl_wire.specs.declared.interface.InterfaceId.{InterfaceId}
+use Rattle.wl_wire.specs.Argument.{WireArgument}
+use Rattle.wl_wire.specs.Asked.{fits, next_interface}
+use Rattle.wl_wire.specs.Message.{WireMessage}
+use Rattle.wl_wire.specs.Table.{MessageRow, callback_id, name_of, registry_id}
+use Rattle.wl_link.specs.declared.object.Object.{Object}
+use Rattle.wl_link.specs.Exchange.{Queue}
+use Rattle.wl_link.specs.Identity.{Objects, Found, HandedId, New, argument_ids}
+use Rattle.wl_link.specs.Link.{LinkState}
+use Rattle.wl_link.specs.Puts.{Said}
+use Rattle.wl_link.specs.Reader.{Verdict}
+use Rattle.wl_link.specs.Store.{held, is_free, is_server_number}
+use Rattle.wl_link.proofs.Ids.StoreLaws.{stored_here}
+use Rattle.wl_server.specs.declared.reading.action.OpenAction.{OpenAction}
+use Rattle.wl_server.specs.declared.reading.action.OpenAction.TheVariants as opened
+use Rattle.wl_server.specs.declared.objects.Kept.{Kept}
+use Rattle.wl_server.specs.declared.globals.KeptGlobal.{KeptGlobal}
+use Rattle.wl_server.specs.declared.notes.DisconnectReason.TheVariants.{ConnectionClosed, ProtocolError as BrokeProtocol}
+use Rattle.wl_server.specs.declared.notes.Happening.{Happening}
+use Rattle.wl_server.specs.declared.reading.response.RequestFault.TheVariants as wrong
+use Rattle.wl_server.proofs.OverRuns.Ids.AmongLaws.{among_both, among_first, among_later}
+use Rattle.wl_server.specs.HandedIds.{created_ids}
+use Rattle.wl_server.specs.Deeds.{IsAmong, Acted, Deed, Handed, Remembered}
+use Rattle.wl_server.proofs.OverRuns.Moves.BaseMoves.{Doings, all_action_ids, born, followed, found, found_none, handed_out, handing, nothing_done, opens, remembered, stayed, went}
+use Rattle.wl_server.specs.Deeds as deeds
+use Rattle.wl_server.proofs.OverRuns.Moves.DoingsLaws.{IsQuiet, done, told_deeds}
+use Rattle.wl_server.specs.Errors.{error_of, fault_text, since_text}
+use Rattle.wl_server.specs.Globals.{global_at}
+use Rattle.wl_server.specs.Ids.{IdParts}
+use Rattle.wl_server.proofs.OverRuns.Moves.MovesOfVerdicts.{Comes, Go, IsCalm, Lands, at, ends_killed, lands_at, lands_not, lands_then}
+use Rattle.wl_server.specs.Part.{Part, display_of, id_at, last_possible_serial, null_id}
+use Rattle.wl_server.specs.Reading.{Around, binds, breaks, converted, garbled, hands_out, new_at, other_request, registers, replies, server, stops_if, synced, syncs, with_registry}
+use Rattle.wl_server.proofs.OverRuns.Announced.RequestCases.{request_case}
+use Rattle.wl_server.specs.Requests.{Converted, Converting, Outcome, Whole, Wrong, allows_null, convert, convert_one, going_on, is_valid_new, kinds_after, made_id, made_object, object_found, start, with_made, with_new_argument, with_object_argument}
+use Rattle.wl_server.specs.Telling.{Core, Did, Stops, Told, closed_down, objects_in, with_objects}
+use Rattle.wl_link.proofs.Ids.HandedIds.{argument_ids_both}
+
+none_some : {A : Type 0} {x : A} → None ≡ Some x → ⊥
+none_some e = true≢false (sym (ap is_some e))
+
+not_some : {A : Type 0} (o : Option A) (b : Bool) → (not (is_some o) && b) ≡ true → o ≡ None
+not_some None b e = refl
+not_some (Some x) b e = absurd (true≢false (sym e))
+
+both : (a b : Bool) → (a && b) ≡ true → (a ≡ true) × (b ≡ true)
+both true b e = (refl, e)
+both false b e = absurd (true≢false (sym e))
+
+-- a number that a client may use holds none, and is not 0
+pub valid_new : {U : Type 0} (o : Objects (Kept U)) (n : ℕ) → is_valid_new o n ≡ true → (held o.store n ≡ None) × (n ≢ 0)
+valid_new o n valid =
+    let free = (both (is_free o.store n) (not (eqb o.last_serial last_possible_serial)) (both (not (is_server_number n)) _ valid).1).0 in (
+      not_some (held o.store n) _ free,
+      λ zero. true≢false (sym (both (nat_lt 0 n) _ (both (not (is_some (held o.store n))) _ free).1).0 ∙ ap (nat_lt 0) zero),
+    )
+
+module _ {T U G C : Type 0} (sends : T → Queue → Result ℕ IoFault → T → Type 0) (receives : T → ℕ → Result Queue IoFault → T → Type 0)
+    (a : Around G C) where
+  abbrev Move : Part T U C → Doings U → Part T U C → Type 0
+  Move p d q = Go sends receives a.client p d q
+
+  abbrev place : Core U C → LinkState T → Part T U C
+  place c l = at sends receives a.client c l
+
+  abbrev IsQuietCore : Core U C → Type 0
+  IsQuietCore c = IsCalm sends receives a.client c
+
+  abbrev pub Lead : Core U C → List (Deed U) → Core U C → Type 0
+  Lead c made e = Lands sends receives a.client c made e
+
+  abbrev pub Come : Core U C → Verdict (Core U C) (Told U) → Type 0
+  Come c v = Comes sends receives a.client c v
+
+  -- the ids that came up are not handed out
+  dropped : (p q : Part T U C) (ids : List (HandedId IdParts)) → Move p (handing ids) q → Move p nothing_done q
+  dropped p q ids go = handed_out [] go (λ id among. absurd among) refl
+
+  -- ---- the arguments of a request
+
+  module _ (c : Core U C) (version : ℕ) where
+    -- from some objects to others, over any link
+    abbrev Over : Objects (Kept U) → List (HandedId IdParts) → Objects (Kept U) → Type 0
+    Over o ids o' = (l : LinkState T) → Move (place (with_objects c o) l) (handing ids) (place (with_objects c o') l)
+
+    -- what an argument became
+    abbrev One : Converting U → Converted U → Type 0
+    One d (Ok next) =
+        Over d.objects (argument_ids (next.0 ∷ [])) next.1.objects
+        × ((id : HandedId IdParts) → IsAmong (created_ids next.1.created) id → IsAmong (created_ids d.created) id ⊎ IsAmong (argument_ids (next.0 ∷ [])) id)
+    One d (Err wrong) = Unit {0}
+
+    makes_object : (o : Objects (Kept U)) (n : ℕ) (i : InterfaceId) → is_valid_new o n ≡ true → Over o (New (made_id a.client o n i) ∷ []) (with_made o n i version)
+    makes_object o n i valid l = born n (made_object o i version) (valid_new o n valid).0 (valid_new o n valid).1 refl refl refl
+
+    still : (o : Objects (Kept U)) → Over o [] o
+    still o l = stayed refl refl
+
+    converts_found : (d : Converting U) (asked : InterfaceId) (n : ℕ) (x : Option (Object (Kept U))) → held d.objects.store n ≡ x
+        → One d (with_object_argument d (object_found a.client asked n x))
+    converts_found d asked n None e = tt
+    converts_found d asked n (Some x) e = go (fits asked x.interface)
+      where
+        go : (b : Bool) → One d (with_object_argument d (cond b (Ok (id_at a.client n x)) (Err (wrong.WrongInterface n asked x.interface))))
+        go true = (λ l. found n x e refl refl, λ id among. inl among)
+        go false = tt
+
+    converts_object : (d : Converting U) (null : Bool) (asked : InterfaceId) (n : ℕ) (b : Bool)
+        → One d (with_object_argument d (cond b (cond null (Ok (null_id a.client)) (Err wrong.NullObject)) (object_found a.client asked n (held d.objects.store n))))
+    converts_object d null asked n false = converts_found d asked n (held d.objects.store n) refl
+    converts_object d true asked n true = (λ l. found_none refl refl, λ id among. inl among)
+    converts_object d false asked n true = tt
+
+    converts_new : (d : Converting U) (n : ℕ) (child : Option InterfaceId) → One d (with_new_argument a.client version d n child)
+    converts_new d n None = tt
+    converts_new d n (Some i) = go (is_valid_new d.objects n) refl
+      where
+        go : (b : Bool) → is_valid_new d.objects n ≡ b
+            → One d (cond b
+            (Ok (
+              arg.NewId (made_id a.client d.objects n i),
+              record {
+                objects = with_made d.objects n i version;
+                kinds = kinds_after d.kinds;
+                asked = d.asked;
+                child = None;
+                created = Some (made_id a.client d.objects n i);
+              },
+            ))
+            (Err (wrong.InvalidNewId n)))
+        go true valid = (makes_object d.objects n i valid, λ id among. inr among)
+        go false valid = tt
+
+    converts_one : (d : Converting U) (x : WireArgument) → One d (convert_one a.client version d x)
+    converts_one d (arg.Int z) = (still d.objects, λ id among. inl among)
+    converts_one d (arg.Uint n) = (still d.objects, λ id among. inl among)
+    converts_one d (arg.Fixed z) = (still d.objects, λ id among. inl among)
+    converts_one d (arg.Str text) = (still d.objects, λ id among. inl among)
+    converts_one d (arg.Object n) = converts_object d (allows_null d.kinds) (next_interface d.asked) n (eqb n 0)
+    converts_one d (arg.NewId n) = converts_new d n d.child
+    converts_one d (arg.Array bytes) = (still d.objects, λ id among. inl among)
+    converts_one d (arg.Fd token) = (still d.objects, λ id among. inl among)
+
+    -- what the arguments came to so far, and what they came to
+    abbrev SoFar : Objects (Kept U) → Converting U → List (Argument IdParts Token) → Type 0
+    SoFar o d args = Over o (argument_ids args) d.objects × ((id : HandedId IdParts) → IsAmong (created_ids d.created) id → IsAmong (argument_ids args) id)
+
+    abbrev Came : Objects (Kept U) → Outcome U → Type 0
+    Came o (Whole d args) = SoFar o d args
+    Came o (Wrong w objects) = Over o [] objects
+
+    goes_on : (o : Objects (Kept U)) (d : Converting U) (done : List (Argument IdParts Token)) (args : List WireArgument)
+        → ((next : Converting U) (more : List (Argument IdParts Token)) → SoFar o next more → Came o (convert a.client version next more args))
+        → (r : Converted U) → One d r → SoFar o d done
+        → Came o (going_on r d.objects (λ b next. convert a.client version next (done ++ b ∷ []) args))
+    goes_on o d done args rest (Ok next) (one, more) (moved, among) =
+        rest next.1 (done ++ next.0 ∷ []) (
+          λ l. subst (λ (ids : List (HandedId IdParts)). Move (place (with_objects c o) l) (handing ids) (place (with_objects c next.1.objects) l)) (sym (argument_ids_both done (next.0 ∷ [])))
+              (followed (moved l) (one l) refl),
+          λ id is. subst (λ (ids : List (HandedId IdParts)). IsAmong ids id) (sym (argument_ids_both done (next.0 ∷ [])))
+              (elim (more id is) [
+                | inl old ↦ among_first (argument_ids done) (argument_ids (next.0 ∷ [])) id (among id old)
+                | inr new ↦ among_later (argument_ids done) (argument_ids (next.0 ∷ [])) id new
+              ]),
+        )
+    goes_on o d done args rest (Err w) one (moved, among) = λ l. dropped (place (with_objects c o) l) (place (with_objects c d.objects) l) (argument_ids done) (moved l)
+
+    converts : (o : Objects (Kept U)) (d : Converting U) (done : List (Argument IdParts Token)) (args : List WireArgument) → SoFar o d done
+        → Came o (convert a.client version d done args)
+    converts o d done [] so = so
+    converts o d done (x ∷ args) so =
+        goes_on o d done args (λ next more so-far. converts o next more args so-far) (convert_one a.client version d x) (converts_one d x) so
+
+  -- ---- forms of a verdict
+
+  told_stops : (c : Core U C) → told_deeds (stops_if c) ≡ []
+  told_stops c = go c.is_killed
+    where
+      go : (b : Bool) → told_deeds {U = U} (if b then Stops fault.Pipe ∷ [] else []) ≡ []
+      go true = refl
+      go false = refl
+
+  told_did : (did : List (Deed U)) (c : Core U C) → told_deeds (map Did did ++ stops_if c) ≡ did
+  told_did [] c = told_stops c
+  told_did (d ∷ did) c = ap (λ (ds : List (Deed U)). d ∷ ds) (told_did did c)
+
+  garbled_comes : (c : Core U C) → IsQuietCore c → Come c (garbled c)
+  garbled_comes c calm = record {
+    made = [];
+    lands = lands_then sends receives a.client c c (closed_down c) [] (lands_not sends receives a.client c calm) (ends_killed sends receives a.client c ConnectionClosed calm);
+    events = λ e same. refl;
+    quiet = (refl, refl);
+    last = inl refl;
+    starved = inl refl;
+  }
+
+  breaks_comes : (c m : Core U C) (code : ℕ) (text : List ℕ) → Lead c [] m → Come c (breaks a m code text)
+  breaks_comes c m code text lead = record {
+    made = [];
+    lands = lead;
+    events = λ e same. refl;
+    quiet = (refl, refl);
+    last = inr (BrokeProtocol (error_of a.table (display_of a.client) code text), refl);
+    starved = inl refl;
+  }
+
+  breaks_here : (c : Core U C) (code : ℕ) (text : List ℕ) → IsQuietCore c → Come c (breaks a c code text)
+  breaks_here c code text calm = breaks_comes c c code text (lands_not sends receives a.client c calm)
+
+  replies_comes : (c m : Core U C) (puts : List Said) (did : List (Deed U)) → Lead c did m → IsQuiet did → Come c (replies m puts did)
+  replies_comes c m puts did lead quiet = record {
+    made = did;
+    lands = lead;
+    events = λ e same. told_did did e;
+    quiet = quiet;
+    last = inl refl;
+    starved = inl refl;
+  }
+
+  hands_out_comes : (c m : Core U C) (action : OpenAction) (h : Handed) → Lead c (Acted h ∷ []) (record m { action = Some action }) → Come c (hands_out m action h)
+  hands_out_comes c m action h lead = record {
+    made = Acted h ∷ [];
+    lands = lead;
+    events = λ e same. refl;
+    quiet = (refl, refl);
+    last = inl refl;
+    starved = inl refl;
+  }
+
+  -- ---- requests to a display and to a registry
+
+  syncs_comes : (c : Core U C) (n : ℕ) → IsQuietCore c → is_valid_new (objects_in c) n ≡ true → Come c (syncs a c n)
+  syncs_comes c n calm valid =
+      replies_comes c (synced a c n) _ [] (lands_at sends receives a.client c [] (synced a c n) calm refl moves) (refl, refl)
+    where
+      made : Core U C
+      made = with_objects c (with_made (objects_in c) n callback_id 1)
+
+      x : Object (Kept U)
+      x = made_object (objects_in c) callback_id 1
+
+      moves : (l : LinkState T) → Move (place c l) nothing_done (place (synced a c n) l)
+      moves l =
+          followed
+          (dropped (place c l) (place made l) (New (made_id a.client (objects_in c) n callback_id) ∷ []) (makes_object c 1 (objects_in c) n callback_id valid l))
+          (went n x true (stored_here c.store n x n refl) refl (went_so l)) refl
+        where
+          went_so : (l : LinkState T) → place (synced a c n) l ≡ record (place made l) { store = (synced a c n).store; waiting = c.waiting ++ [] }
+          went_so l = ap (λ (w : List (Happening U)). record (place (synced a c n) l) { waiting = w }) (sym (append-nil c.waiting))
+
+  registers_comes : (c : Core U C) (n : ℕ) → IsQuietCore c → is_valid_new (objects_in c) n ≡ true → Come c (registers a c n)
+  registers_comes c n calm valid =
+      replies_comes c (with_registry a c n) _ (Remembered (new_at a c n) ∷ [])
+      (lands_at sends receives a.client c (Remembered (new_at a c n) ∷ []) (with_registry a c n) calm refl moves) (refl, refl)
+    where
+      made : Core U C
+      made = with_objects c (with_made (objects_in c) n registry_id 1)
+
+      x : Object (Kept U)
+      x = made_object (objects_in c) registry_id 1
+
+      moves : (l : LinkState T) → Move (place c l) (done (Remembered (new_at a c n) ∷ [])) (place (with_registry a c n) l)
+      moves l =
+          followed
+          (dropped (place c l) (place made l) (New (made_id a.client (objects_in c) n registry_id) ∷ []) (makes_object c 1 (objects_in c) n registry_id valid l))
+          (remembered n x (stored_here c.store n x n refl) refl refl refl) refl
+
+  binds_comes : (c : Core U C) (g version n : ℕ) (x : Object (KeptGlobal G)) → IsQuietCore c → is_valid_new (objects_in c) n ≡ true → Come c (binds a c g version n x)
+  binds_comes c g version n x calm valid =
+      hands_out_comes c made (opened.Bind id) h
+      (lands_at sends receives a.client c (Acted h ∷ []) (record made { action = Some (opened.Bind id) }) calm refl
+      (λ l. followed (makes_object c version (objects_in c) n x.interface valid l) (opens (opened.Bind id) h refl refl refl) refl))
+    where
+      id : IdParts
+      id = made_id a.client (objects_in c) n x.interface
+
+      made : Core U C
+      made = with_objects c (with_made (objects_in c) n x.interface version)
+
+      h : Handed
+      h = deeds.Bind (global_at g x) id
+
+  -- ---- other requests
+
+  module _ (c : Core U C) (m : WireMessage) (receiver : Object (Kept U)) (row : MessageRow) (calm : IsQuietCore c) (holds : held c.store m.sender ≡ Some receiver)
+      (other : eqb receiver.interface.0 registry_id.0 ≡ false) where
+    -- the action is opened, its sender's id is made, and then those of its arguments
+    hands_out_converted : (d : Converting U) (args : List (Argument IdParts Token))
+        → ((e : Core U C) → SoFar e receiver.version (objects_in c) d args)
+        → Come c (converted a c m receiver row (Whole d args))
+    hands_out_converted d args so =
+        hands_out_comes c (with_objects c d.objects) action h
+        (lands_at sends receives a.client c (Acted h ∷ []) (record (with_objects c d.objects) { action = Some action }) calm refl
+        (λ l. handed_out (all_action_ids (h ∷ []))
+        (followed (opens {p = place c l} {q = place opening l} action h ((receiver, holds, refl, other), refl, refl, refl) refl refl)
+        (followed (found {p = place opening l} {q = place opening l} m.sender receiver holds refl refl) ((so opening).0 l) refl) refl)
+        all_among refl))
+      where
+        id : IdParts
+        id = id_at a.client m.sender receiver
+
+        action : OpenAction
+        action = opened.Request id row.is_destructor d.created
+
+        h : Handed
+        h = deeds.Request id m.opcode args row.is_destructor d.created
+
+        opening : Core U C
+        opening = record c { action = Some action }
+
+        all_among : (i : HandedId IdParts) → IsAmong ((Found id ∷ (argument_ids args ++ created_ids d.created)) ++ []) i → IsAmong (Found id ∷ argument_ids args) i
+        all_among i among =
+            elim (among_both (Found id ∷ (argument_ids args ++ created_ids d.created)) [] i among) [
+              | inr none ↦ absurd none
+              | inl (inl is) ↦ inl is
+              | inl (inr more) ↦ inr (elim (among_both (argument_ids args) (created_ids d.created) i more) [ inl old ↦ old | inr new ↦ (so c).1 i new ])
+            ]
+
+    converted_comes : (outcome : Outcome U) → ((e : Core U C) → Came e receiver.version (objects_in c) outcome)
+        → Come c (converted a c m receiver row outcome)
+    converted_comes (Wrong w objects) came =
+        breaks_comes c (with_objects c objects) 0 (fault_text a.table receiver.interface row w)
+        (lands_at sends receives a.client c [] (with_objects c objects) calm refl (came c))
+    converted_comes (Whole d args) came = hands_out_converted d args came
+
+    other_comes : Come c (other_request a c m receiver row)
+    other_comes = go (nat_lt receiver.version row.since)
+      where
+        go : (b : Bool) → Come c (cond b
+            (breaks a c 1 (since_text m.opcode receiver.version row.since (name_of a.table receiver.interface.0) m.sender))
+            (converted a c m receiver row (convert a.client receiver.version (start (objects_in c) row) [] m.args)))
+        go true = breaks_here c 1 _ calm
+        go false =
+            converted_comes (convert a.client receiver.version (start (objects_in c) row) [] m.args)
+            (λ e. converts e receiver.version (objects_in c) (start (objects_in c) row) [] m.args (still e receiver.version (objects_in c), λ id among. among))
+
+  -- ---- a message
+
+  pub handles_comes : (c : Core U C) (m : WireMessage) → IsQuietCore c → Come c ((server a).handles c m)
+  handles_comes c m calm =
+      request_case a c (Come c) (garbled_comes c calm) (λ code text. breaks_here c code text calm) (λ n valid. syncs_comes c n calm valid)
+      (λ n valid. registers_comes c n calm valid) (λ g version n x valid. binds_comes c g version n x calm valid) m
+      (λ receiver row holds other. other_comes c m receiver row calm holds other)
+
+  pub malformed_comes : (c : Core U C) → IsQuietCore c → Come c ((server a).malformed c)
+  malformed_comes c calm = garbled_comes c calm

@@ -1,0 +1,232 @@
+-- That a verdict that is carried out is a chain of base moves.
+use Rattle.std.proofs.Common.{◌≡◌, ◌⊎◌, ℕ, Bool, true, false, List, [], ◌∷◌, ◌++◌, map, Option, None, Some, Result, Ok, Err, refl, sym, ap, subst, ◌∙◌, append-nil, append_assoc, true≢false}
+use mathlib.Core.Logic.{inl, inr}
+use Rattle.std.specs.Prelude.{if◌then◌else◌}
+use Rattle.wl_wire.specs.declared.error.IoFault.{IoFault}
+use Rattle.wl_wire.specs.declared.error.IoFault.TheVariants as fault
+use Rattle.wl_link.specs.Exchange.{Queue, Sending}
+use Rattle.wl_link.specs.Link.{LinkState}
+use Rattle.wl_link.specs.Puts.{FlushesOut, Said}
+use Rattle.wl_link.specs.Reader.{CarriesOut, Given, Reader, Verdict, came_to}
+use Rattle.wl_link.specs.Reader.{ReaderState}
+use Rattle.wl_server.specs.declared.notes.DisconnectReason.{DisconnectReason}
+use Rattle.wl_server.specs.declared.notes.DisconnectReason.TheVariants.{ConnectionClosed}
+use Rattle.wl_server.specs.declared.notes.Happening.{Happening}
+use Rattle.wl_server.specs.declared.notes.Happening.TheVariants.{Disconnected}
+use Rattle.wl_server.proofs.OverRuns.Moves.BaseMoves.{Doings, Moves, ended, end_notes, flushed, followed, joined, nothing_done, noting, putting, sending, stayed, told}
+use Rattle.wl_server.specs.Deeds.{Deed, Put, notes_in}
+use Rattle.wl_server.proofs.OverRuns.Moves.DoingsLaws.{IsQuiet, deeds_given, done, joined_assoc, joined_none, told_deeds, verdict_done}
+use Rattle.wl_server.specs.Ids.{ClientParts}
+use Rattle.wl_server.specs.Part.{Part}
+use Rattle.wl_server.specs.Telling.{Core, Finish, Tells, Told, closed_down, core_of, deeds_in, end_deeds, killed, part_of, speaker}
+
+module _ {T U C : Type 0} (sends : T → Queue → Result ℕ IoFault → T → Type 0) (receives : T → ℕ → Result Queue IoFault → T → Type 0)
+    (client : ClientParts) where
+  abbrev pub Go : Part T U C → Doings U → Part T U C → Type 0
+  Go p d q = Moves sends receives client p d q
+
+  -- a core over a link
+  abbrev pub at : Core U C → LinkState T → Part T U C
+  at c link = part_of (record { core = c; link = link })
+
+  pub same_doings : (p q : Part T U C) (d e : Doings U) → e ≡ d → Go p d q → Go p e q
+  same_doings p q d e is go = subst (λ (x : Doings U). Go p x q) (sym is) go
+
+  -- ---- the end of a client
+
+  -- a client that is live has no end yet
+  abbrev pub IsCalm : Core U C → Type 0
+  IsCalm c = c.is_killed ≡ false → c.ended ≡ None
+
+  abbrev pub notes_at_end : Core U C → List (Happening U)
+  notes_at_end c = notes_in (end_deeds c.ended)
+
+  -- from one core to another a client may be killed, and else nothing
+  pub record Ends (c e : Core U C) : Type 0 where
+    pub notes : List (Happening U)
+    pub moves : (l : LinkState T) → Go (at c l) (noting notes) (at e l)
+    pub so : notes_at_end e ≡ notes_at_end c ++ notes
+    pub calm : IsCalm e
+    pub store : e.store ≡ c.store
+
+  pub ends_not : (c : Core U C) → IsCalm c → Ends c c
+  ends_not c calm = record { notes = []; moves = λ l. stayed refl refl; so = sym (append-nil (notes_at_end c)); calm = calm; store = refl }
+
+  pub ends_killed : (c : Core U C) (reason : DisconnectReason) → IsCalm c → Ends c (killed c reason)
+  ends_killed c reason calm = record {
+    notes = end_notes c.is_killed reason;
+    moves = λ l. ended reason refl refl;
+    so = go c.is_killed refl;
+    calm = λ live. absurd (true≢false live);
+    store = refl;
+  }
+    where
+      go : (b : Bool) → c.is_killed ≡ b
+          → notes_in (end_deeds {U = U} (if b then c.ended else Some reason)) ≡ notes_at_end c ++ end_notes b reason
+      go true is = sym (append-nil (notes_at_end c))
+      go false is = ap (λ (o : Option DisconnectReason). notes_in (end_deeds {U = U} o) ++ Disconnected reason ∷ []) (sym (calm is))
+
+  ends_then : (a b c : Core U C) → Ends a b → Ends b c → Ends a c
+  ends_then a b c first second = record {
+    notes = first.notes ++ second.notes;
+    moves = λ l. followed (first.moves l) (second.moves l) refl;
+    so = second.so ∙ ap (λ (n : List (Happening U)). n ++ second.notes) first.so ∙ append_assoc (notes_at_end a) first.notes second.notes;
+    calm = second.calm;
+    store = second.store ∙ first.store;
+  }
+
+  -- ---- what a core comes to
+
+  -- with these deeds, which put nothing, and then perhaps the end of the client
+  pub record Lands (c : Core U C) (made : List (Deed U)) (e : Core U C) : Type 0 where
+    pub notes : List (Happening U)
+    pub moves : (l : LinkState T) → Go (at c l) (joined (done made) (noting notes)) (at e l)
+    pub so : notes_at_end e ≡ notes_at_end c ++ notes
+    pub calm : IsCalm e
+
+  pub lands_at : (c : Core U C) (made : List (Deed U)) (e : Core U C) → IsCalm e → e.ended ≡ c.ended → ((l : LinkState T) → Go (at c l) (done made) (at e l))
+      → Lands c made e
+  lands_at c made e calm same moves = record {
+    notes = [];
+    moves = λ l. same_doings (at c l) (at e l) (done made) (joined (done made) nothing_done) (joined_none (done made)) (moves l);
+    so = ap (λ (o : Option DisconnectReason). notes_in (end_deeds {U = U} o)) same ∙ sym (append-nil (notes_at_end c));
+    calm = calm;
+  }
+
+  pub lands_not : (c : Core U C) → IsCalm c → Lands c [] c
+  lands_not c calm = lands_at c [] c calm refl (λ l. stayed refl refl)
+
+  pub lands_then : (c m e : Core U C) (made : List (Deed U)) → Lands c made m → Ends m e → Lands c made e
+  lands_then c m e made first second = record {
+    notes = first.notes ++ second.notes;
+    moves = λ l. followed (first.moves l) (second.moves l) (sym (joined_assoc (done made) (noting first.notes) (noting second.notes)));
+    so = second.so ∙ ap (λ (n : List (Happening U)). n ++ second.notes) first.so ∙ append_assoc (notes_at_end c) first.notes second.notes;
+    calm = second.calm;
+  }
+
+  -- ---- a verdict
+
+  -- what a verdict on a core comes to, for whatever the messages came to
+  pub record Comes (c : Core U C) (v : Verdict (Core U C) (Told U)) : Type 0 where
+    pub made : List (Deed U)
+    pub lands : Lands c made v.core
+    pub events : (e : Core U C) → e.store ≡ v.core.store → told_deeds (v.events e) ≡ made
+    pub quiet : IsQuiet made
+    pub last : (v.last ≡ (λ d. d)) ⊎ ((reason : DisconnectReason) × (v.last ≡ (λ d. killed d reason)))
+    pub starved : (v.starved ≡ closed_down v.core) ⊎ ((v.starved ≡ c) × (told_deeds (v.events c) ≡ []))
+
+  -- what it landed at, with what it handed out
+  record Landed (c : Core U C) (v : Verdict (Core U C) (Told U)) (e : Core U C) : Type 0 where
+    made : List (Deed U)
+    lands : Lands c made e
+    events : told_deeds (v.events e) ≡ made
+    quiet : IsQuiet made
+
+  module _ (c : Core U C) (v : Verdict (Core U C) (Told U)) (comes : Comes c v) (calm : IsCalm c) where
+    landed_by : (e : Core U C) → Ends v.core e → Landed c v e
+    landed_by e ends = record {
+      made = comes.made;
+      lands = lands_then c v.core e comes.made comes.lands ends;
+      events = comes.events e ends.store;
+      quiet = comes.quiet;
+    }
+
+    last_of : (e : Core U C) → Ends v.core e → Ends v.core (v.last e)
+    last_of e ends =
+        elim comes.last [
+          | inl is ↦ subst (λ (f : Core U C → Core U C). Ends v.core (f e)) (sym is) ends
+          | inr (reason, is) ↦
+              subst (λ (f : Core U C → Core U C). Ends v.core (f e)) (sym is) (ends_then v.core e (killed e reason) ends (ends_killed e reason ends.calm))
+        ]
+
+    starved_at : Landed c v v.starved
+    starved_at =
+        elim comes.starved [
+          | inl is ↦ subst (λ (e : Core U C). Landed c v e) (sym is) (landed_by (closed_down v.core) (ends_killed v.core ConnectionClosed comes.lands.calm))
+          | inr (is, none) ↦
+              subst (λ (e : Core U C). Landed c v e) (sym is) (record { made = []; lands = lands_not c calm; events = none; quiet = (refl, refl) })
+        ]
+
+    module _ (reader : Reader (Core U C) (Told U) (Finish U)) (breaks : (d : Core U C) (f : IoFault) → reader.broken d f ≡ closed_down d) where
+      broken_at : (f : IoFault) → Landed c v (v.last (reader.broken v.core f))
+      broken_at f =
+          landed_by (v.last (reader.broken v.core f))
+          (last_of (reader.broken v.core f)
+          (subst (λ (e : Core U C). Ends v.core e) (sym (breaks v.core f)) (ends_killed v.core ConnectionClosed comes.lands.calm)))
+
+      landed : (wrote : Result (Unit {0}) IoFault) → Landed c v (came_to reader v wrote)
+      landed (Ok u) = landed_by (v.last v.core) (last_of v.core (ends_not v.core comes.lands.calm))
+      landed (Err fault.OutOfMemory) = starved_at
+      landed (Err fault.WouldBlock) = broken_at fault.WouldBlock
+      landed (Err fault.Pipe) = broken_at fault.Pipe
+      landed (Err fault.TooBig) = broken_at fault.TooBig
+      landed (Err fault.Proto) = broken_at fault.Proto
+      landed (Err fault.InvalidInput) = broken_at fault.InvalidInput
+      landed (Err (fault.Other n)) = broken_at (fault.Other n)
+
+  -- what a verdict came to that was carried out over a link
+  pub record Carried (c : Core U C) (link : LinkState T) (es : List Sending) (gave : List (Given (Told U))) (after : ReaderState T (Core U C)) : Type 0 where
+    pub put : List Said
+    pub made : List (Deed U)
+    pub notes : List (Happening U)
+    pub moves : Go (at c link) (joined (putting es put) (joined (done made) (noting notes))) (part_of after)
+    pub deeds : deeds_in gave ≡ map Put put ++ made
+    pub so : notes_at_end after.core ≡ notes_at_end c ++ notes
+    pub calm : IsCalm after.core
+    pub quiet : IsQuiet made
+
+  flushes : (c : Core U C) (b : Bool) (before after : LinkState T) (es : List Sending) (lacked : Bool) → FlushesOut sends b before es lacked after
+      → Go (at c before) (sending es) (at c after)
+  flushes c true before after es lacked (answer, by, is) = flushed es answer after by refl refl
+  flushes c false before after es lacked (none, same, is) = stayed (ap (λ (l : List Sending). sending {U = U} l) none) (ap (at c) same)
+
+  module _ (reader : Reader (Core U C) (Told U) (Finish U)) (breaks : (d : Core U C) (f : IoFault) → reader.broken d f ≡ closed_down d) where
+    pub carried : (c : Core U C) (v : Verdict (Core U C) (Told U)) → Comes c v → IsCalm c → (link : LinkState T) (es : List Sending) (gave : List (Given (Told U)))
+        (refused : Bool) (after : ReaderState T (Core U C)) → CarriesOut sends reader v link es gave refused after → Carried c link es gave after
+    carried c v comes calm link es gave refused after (inl (first, others, put, wrote, mid, lacked, puts, flushed_so, sent, core, given, is)) =
+        let land = landed c v comes calm reader breaks wrote in
+        let end : Part T U C = at (came_to reader v wrote) after.link in
+        let spoken : Go (at c link) (putting es put) (at c after.link) =
+        followed (told v.puts first put wrote mid puts refl refl) (flushes c v.flushes mid after.link others lacked flushed_so)
+        (ap (λ (l : List Sending). putting {U = U} l put) sent ∙ ap (λ (l : List Said). putting {U = U} (first ++ others) l) (sym (append-nil put))) in
+        record {
+          put = put;
+          made = land.made;
+          notes = land.lands.notes;
+          moves = subst (λ (e : Core U C). Go (at c link) (joined (putting es put) (joined (done land.made) (noting land.lands.notes))) (at e after.link)) (sym core)
+              (followed spoken (land.lands.moves after.link) refl);
+          deeds = ap deeds_in given ∙ deeds_given put (v.events (came_to reader v wrote)) ∙ ap (λ (did : List (Deed U)). map Put put ++ did) land.events;
+          so = ap notes_at_end core ∙ land.lands.so;
+          calm = subst (λ (e : Core U C). IsCalm e) (sym core) land.lands.calm;
+          quiet = land.quiet;
+        }
+    carried c v comes calm link es gave refused after (inr (asks, is, none, given, same)) =
+        let land = starved_at c v comes calm in
+        record {
+          put = [];
+          made = land.made;
+          notes = land.lands.notes;
+          moves = subst (λ (e : ReaderState T (Core U C)). Go (at c link) (joined (putting es []) (joined (done land.made) (noting land.lands.notes))) (part_of e)) (sym same)
+              (subst (λ (l : List Sending). Go (at c link) (joined (putting l []) (joined (done land.made) (noting land.lands.notes))) (at v.starved link)) (sym none)
+              (land.lands.moves link));
+          deeds = ap deeds_in given ∙ land.events;
+          so = ap (λ (e : ReaderState T (Core U C)). notes_at_end e.core) same ∙ land.lands.so;
+          calm = subst (λ (e : ReaderState T (Core U C)). IsCalm e.core) (sym same) land.lands.calm;
+          quiet = land.quiet;
+        }
+
+  -- ---- what is told to a client
+
+  calm_core : (p : Part T U C) → IsCalm (core_of p)
+  calm_core p live = refl
+
+  -- a verdict on a client's part, and its deeds
+  pub tells_moves : (p : Part T U C) (v : Verdict (Core U C) (Told U)) (refused : Bool) (did : List (Deed U)) (after : Part T U C) → Comes (core_of p) v
+      → Tells sends v p.link refused did after → Go p (done did) after
+  tells_moves p v refused did after comes (es, gave, end, by, is, same) =
+      let c = carried speaker (λ d f. refl) (core_of p) v comes (calm_core p) p.link es gave refused end by in
+      subst (λ (q : Part T U C). Go p (done did) q) (sym same)
+      (same_doings p (part_of end) (joined (putting es c.put) (joined (done c.made) (noting c.notes))) (done did)
+      (ap done is ∙ verdict_done es c.put c.made gave end.core c.deeds
+      ∙ ap (λ (n : List (Happening U)). joined (putting es c.put) (joined (done c.made) (noting n))) c.so)
+      c.moves)

@@ -1,0 +1,3 @@
+-- Each object that leaves with user data is noted once.
+pub mod NotedLaws
+pub mod NotedSoon

@@ -1,0 +1,314 @@
+-- That each object that left is noted once, and each client that was killed: an induction over base moves.
+use Rattle.std.proofs.Common.{◌≡◌, ℕ, ◌+◌, ◌≤◌, Bool, true, false, List, [], ◌∷◌, ◌++◌, append-nil, append_assoc, Option, None, Some, Result, refl, sym, ap, subst, ◌∙◌, arith}
+use Rattle.std.specs.Prelude.{IsPermutation, if◌then◌else◌}
+use Rattle.std.proofs.lemmas.List.Sorted.{IsPermutation-append_comm, IsPermutation-append_left, IsPermutation-append_right, IsPermutation-refl, IsPermutation-trans}
+use Rattle.wl_wire.specs.declared.error.IoFault.{IoFault}
+use Rattle.wl_wire.specs.Table.{InterfaceRow}
+use Rattle.wl_link.specs.declared.object.Object.{Object}
+use Rattle.wl_link.specs.Exchange.{Queue}
+use Rattle.wl_link.specs.Identity.{Id}
+use Rattle.wl_link.specs.Link.{LinkState}
+use Rattle.wl_link.specs.Runs.{RunEntry}
+use Rattle.wl_server.specs.declared.objects.Kept.{Kept}
+use Rattle.wl_server.specs.declared.notes.DisconnectReason.{DisconnectReason}
+use Rattle.wl_server.specs.declared.notes.Happening.{Happening}
+use Rattle.wl_server.specs.declared.notes.Happening.TheVariants.{Destroyed, Disconnected, Initialized}
+use Rattle.wl_server.specs.declared.runs.step.Reply.{Reply}
+use Rattle.wl_server.specs.declared.runs.step.Step.{Step}
+use Rattle.wl_server.proofs.OverRuns.Moves.BaseMoves.{Doings, Goes, Moves, born, cleaned, closed, doings_of, end_notes, ended, flushed, followed, found, found_none, handed_by, handed_out, joined, left_id, notes_taken, opens, received, relinked, remembered, stayed, taken_out, told, unfelt, went, within, wrote}
+use Rattle.wl_server.proofs.OverRuns.Moves.BaseMovesLaw.{call_goes}
+use Rattle.wl_server.proofs.OverRuns.Ids.ChangeLaws.{moves_take}
+use Rattle.wl_server.specs.Deeds.{left_in, taken_in}
+use Rattle.wl_server.proofs.OverRuns.Moves.DoingsLaws.{done_both}
+use Rattle.wl_server.specs.Globals.{Offer, new_offer}
+use Rattle.wl_server.specs.Identified.{HasOwnIds, waiting_of}
+use Rattle.wl_server.proofs.OverRuns.Ids.IdentityLaws.{own_ids}
+use Rattle.wl_server.specs.Ids.{ClientParts, IdParts}
+use Rattle.wl_server.proofs.OverRuns.Alone.IsolationLaw.{are_isolated, is_isolated}
+use Rattle.wl_server.specs.NotedOnce.{EachIsNoted, HaveNotes, NotesEach, destroyed_in, ended_times, ends_in, one_if}
+use Rattle.wl_server.proofs.OverRuns.Alone.OwnRuns.{AreMine, are_mine}
+use Rattle.wl_server.specs.Part.{Part, end_note, id_at, id_of, note_of_end}
+use Rattle.wl_server.specs.PartStep.{World}
+use Rattle.wl_server.specs.Runs.{Alone, Leads, Own, Performs, begun, history, mine, offer_over}
+use Rattle.wl_server.specs.Server.{Seen, ServerState, new_server, seen}
+use Rattle.wl_server.specs.Steps.{Entry, offer_after}
+
+-- ---- lists of notes
+
+destroyed_end : (U : Type 0) (b : Bool) (reason : DisconnectReason) → destroyed_in {U = U} (end_notes b reason) ≡ []
+destroyed_end U true reason = refl
+destroyed_end U false reason = refl
+
+ends_end : (U : Type 0) (b : Bool) (reason : DisconnectReason) → ends_in {U = U} (end_notes b reason) + one_if b ≡ 1
+ends_end U true reason = refl
+ends_end U false reason = refl
+
+module _ {U : Type 0} where
+  destroyed_both : (a b : List (Happening U)) → destroyed_in (a ++ b) ≡ destroyed_in a ++ destroyed_in b
+  destroyed_both [] b = refl
+  destroyed_both (Destroyed o u ∷ a) b = ap (λ (l : List Id). id_of o ∷ l) (destroyed_both a b)
+  destroyed_both (Initialized ∷ a) b = destroyed_both a b
+  destroyed_both (Disconnected reason ∷ a) b = destroyed_both a b
+
+  ends_both : (a b : List (Happening U)) → ends_in (a ++ b) ≡ ends_in a + ends_in b
+  ends_both [] b = omega arith
+  ends_both (Destroyed o u ∷ a) b = ends_both a b
+  ends_both (Initialized ∷ a) b = ends_both a b
+  ends_both (Disconnected reason ∷ a) b = let more = ends_both a b in omega (arith, more)
+
+  -- the note of an object is of that, if it had user data, and tells of no end
+  destroyed_note : (o : IdParts) (u : Option U) → destroyed_in (end_note o u) ≡ left_id (id_of o) u
+  destroyed_note o None = refl
+  destroyed_note o (Some u) = refl
+
+  ends_note : (o : IdParts) (u : Option U) → ends_in (end_note o u) ≡ 0
+  ends_note o None = refl
+  ends_note o (Some u) = refl
+
+same_permuted : {A : Type 0} (xs ys : List A) → ys ≡ xs → IsPermutation xs ys
+same_permuted xs ys same = subst (λ (l : List _). IsPermutation xs l) (sym same) (IsPermutation-refl xs)
+
+-- what waits and leaves first, and then what leaves more
+permuted_then : {A : Type 0} (x a n m b k z : List A) → IsPermutation (x ++ a) (n ++ m) → IsPermutation (m ++ b) (k ++ z) → IsPermutation (x ++ (a ++ b)) ((n ++ k) ++ z)
+permuted_then x a n m b k z first second =
+    subst (λ (l : List _). IsPermutation l ((n ++ k) ++ z)) (append_assoc x a b)
+    (subst (λ (l : List _). IsPermutation ((x ++ a) ++ b) l) (sym (append_assoc n k z))
+    (IsPermutation-trans ((x ++ a) ++ b) (n ++ (m ++ b)) (n ++ (k ++ z))
+    (subst (λ (l : List _). IsPermutation ((x ++ a) ++ b) l) (append_assoc n m b) (IsPermutation-append_left b (x ++ a) (n ++ m) first))
+    (IsPermutation-append_right n (m ++ b) (k ++ z) second)))
+
+-- ---- moves
+
+module _ {T U C : Type 0} (sends : T → Queue → Result ℕ IoFault → T → Type 0) (receives : T → ℕ → Result Queue IoFault → T → Type 0)
+    (client : ClientParts) where
+  -- what waited and what leaves is what is noted and what waits; and the client's end is noted where it is killed
+  record Noting (p : Part T U C) (d : Doings U) (q : Part T U C) : Type 0 where
+    objects : IsPermutation (destroyed_in p.waiting ++ d.left) (destroyed_in d.notes ++ destroyed_in q.waiting)
+    ends : ends_in d.notes + one_if p.is_killed ≡ one_if q.is_killed
+    none : ends_in q.waiting ≡ 0
+
+  quiet : (p q r : Part T U C) (d e : Doings U) → ends_in p.waiting ≡ 0 → d ≡ e → q ≡ r → e.left ≡ [] → e.notes ≡ [] → r.waiting ≡ p.waiting → r.is_killed ≡ p.is_killed
+      → Noting p d q
+  quiet p q r d e none is same no_left no_notes waits killed =
+      subst (λ (x : Doings U). Noting p x q) (sym is)
+      (subst (λ (x : Part T U C). Noting p e x) (sym same)
+      (record {
+        objects = same_permuted (destroyed_in p.waiting ++ e.left) (destroyed_in e.notes ++ destroyed_in r.waiting)
+            (ap (λ (n : List (Happening U)). destroyed_in n ++ destroyed_in r.waiting) no_notes ∙ ap destroyed_in waits
+            ∙ sym (append-nil (destroyed_in p.waiting)) ∙ ap (λ (l : List Id). destroyed_in p.waiting ++ l) (sym no_left));
+        ends = (
+            let nobody : ends_in e.notes ≡ 0 = ap ends_in no_notes in let still : one_if r.is_killed ≡ one_if p.is_killed = ap one_if killed in
+            omega (arith, nobody, still)
+            );
+        none = ap ends_in waits ∙ none;
+      }))
+
+  noting_then : (p m q : Part T U C) (a b : Doings U) → Noting p a m → Noting m b q → Noting p (joined a b) q
+  noting_then p m q a b first second = record {
+    objects = subst (λ (l : List Id). IsPermutation (destroyed_in p.waiting ++ (a.left ++ b.left)) (l ++ destroyed_in q.waiting)) (sym (destroyed_both a.notes b.notes))
+        (permuted_then (destroyed_in p.waiting) a.left (destroyed_in a.notes) (destroyed_in m.waiting) b.left (destroyed_in b.notes) (destroyed_in q.waiting)
+        first.objects second.objects);
+    ends = (let both = ends_both a.notes b.notes in let one = first.ends in let two = second.ends in omega (arith, both, one, two));
+    none = second.none;
+  }
+
+  went_noting : (p q : Part T U C) (d : Doings U) (n : ℕ) (x : Object (Kept U)) (waits : Bool) → ends_in p.waiting ≡ 0
+      → d.left ≡ left_id (id_of (id_at client n x)) x.value.user_data → d.notes ≡ (if waits then [] else note_of_end client n x)
+      → q.waiting ≡ (if waits then p.waiting ++ note_of_end client n x else p.waiting) → q.is_killed ≡ p.is_killed → Noting p d q
+  went_noting p q d n x true none left notes waits killed =
+      let note : List (Happening U) = note_of_end client n x in
+      let id : Id = id_of (id_at client n x) in record {
+        objects = same_permuted (destroyed_in p.waiting ++ d.left) (destroyed_in d.notes ++ destroyed_in q.waiting)
+            (ap (λ (l : List (Happening U)). destroyed_in l ++ destroyed_in q.waiting) notes ∙ ap destroyed_in waits ∙ destroyed_both p.waiting note
+            ∙ ap (λ (l : List Id). destroyed_in p.waiting ++ l) (destroyed_note (id_at client n x) x.value.user_data ∙ sym left));
+        ends = (
+            let nobody : ends_in d.notes ≡ 0 = ap ends_in notes in let still : one_if q.is_killed ≡ one_if p.is_killed = ap one_if killed in
+            omega (arith, nobody, still)
+            );
+        none = (
+            let all : ends_in q.waiting ≡ ends_in p.waiting + ends_in note = ap ends_in waits ∙ ends_both p.waiting note in
+            let nobody = ends_note (id_at client n x) x.value.user_data in omega (arith, all, nobody, none)
+            );
+      }
+  went_noting p q d n x false none left notes waits killed =
+      let note : List (Happening U) = note_of_end client n x in record {
+        objects = subst (λ (l : List Id). IsPermutation (destroyed_in p.waiting ++ d.left) (l ++ destroyed_in q.waiting))
+            (left ∙ sym (destroyed_note (id_at client n x) x.value.user_data) ∙ ap destroyed_in (sym notes))
+            (subst (λ (l : List (Happening U)). IsPermutation (destroyed_in p.waiting ++ d.left) (d.left ++ destroyed_in l)) (sym waits)
+            (IsPermutation-append_comm (destroyed_in p.waiting) d.left));
+        ends = (
+            let nobody : ends_in d.notes ≡ 0 = ap ends_in notes ∙ ends_note (id_at client n x) x.value.user_data in
+            let still : one_if q.is_killed ≡ one_if p.is_killed = ap one_if killed in omega (arith, nobody, still)
+            );
+        none = ap ends_in waits ∙ none;
+      }
+
+  moves_note : (p q : Part T U C) (d : Doings U) → ends_in p.waiting ≡ 0 → Moves sends receives client p d q → Noting p d q
+  moves_note p q d none (stayed is same) = quiet p q p d _ none is same refl refl refl refl
+  moves_note p q d none (followed {m = m} {a = a} {b = b} first second is) =
+      let one = moves_note p m a none first in
+      subst (λ (x : Doings U). Noting p x q) (sym is) (noting_then p m q a b one (moves_note m q b one.none second))
+  moves_note p q d none (handed_out {a = a} ids moves among is) =
+      let one = moves_note p q a none moves in
+      subst (λ (x : Doings U). Noting p x q) (sym is) (record { objects = one.objects; ends = one.ends; none = one.none })
+  moves_note p q d none (relinked link waits stays is same) = quiet p q (record p { link = link }) d _ none is same refl refl refl refl
+  moves_note p q d none (received r answer link filled is same) = quiet p q (record p { link = link }) d _ none is same refl refl refl refl
+  moves_note p q d none (told messages es put answer link puts is same) = quiet p q (record p { link = link }) d _ none is same refl refl refl refl
+  moves_note p q d none (flushed es answer link by is same) = quiet p q (record p { link = link }) d _ none is same refl refl refl refl
+  moves_note p q d none (ended reason is same) =
+      subst (λ (x : Part T U C). Noting p d x) (sym same)
+      (record {
+        objects = same_permuted (destroyed_in p.waiting ++ d.left) (destroyed_in d.notes ++ destroyed_in p.waiting)
+            (ap (λ (x : Doings U). destroyed_in x.notes ++ destroyed_in p.waiting) is
+            ∙ ap (λ (l : List Id). l ++ destroyed_in p.waiting) (destroyed_end U p.is_killed reason)
+            ∙ sym (append-nil (destroyed_in p.waiting)) ∙ ap (λ (x : Doings U). destroyed_in p.waiting ++ x.left) (sym is));
+        ends = ap (λ (x : Doings U). ends_in x.notes + one_if p.is_killed) is ∙ ends_end U p.is_killed reason;
+        none = none;
+      })
+  moves_note p q d none (born n x free ne serial is same) = quiet p q _ d _ none is same refl refl refl refl
+  moves_note p q d none (found n x holds is same) = quiet p q p d _ none is same refl refl refl refl
+  moves_note p q d none (found_none is same) = quiet p q p d _ none is same refl refl refl refl
+  moves_note p q d none (wrote n x u holds is same) = quiet p q _ d _ none is same refl refl refl refl
+  moves_note p q d none (went n x waits holds is same) =
+      went_noting p q d n x waits none (ap (λ (y : Doings U). y.left) is) (ap (λ (y : Doings U). y.notes) is) (ap (λ (y : Part T U C). y.waiting) same)
+      (ap (λ (y : Part T U C). y.is_killed) same)
+  moves_note p q d none (remembered n x holds registry is same) = quiet p q _ d _ none is same refl refl refl refl
+  moves_note p q d none (opens action h so is same) = quiet p q _ d _ none is same refl refl refl refl
+  moves_note p q d none (closed is same) = quiet p q _ d _ none is same refl refl refl refl
+  moves_note p q d none (cleaned is same) =
+      subst (λ (y : Doings U). Noting p y q) (sym is)
+      (subst (λ (y : Part T U C). Noting p (record (doings_of [] []) { notes = p.waiting }) y) (sym same)
+      (record {
+        objects = IsPermutation-refl (destroyed_in p.waiting ++ []);
+        ends = omega (arith, none);
+        none = refl;
+      }))
+
+  -- ---- what is held of a client
+
+  abbrev held_notes : Seen T U C → List Id
+  held_notes s = destroyed_in s.made ++ destroyed_in (waiting_of s.part)
+
+  record SeenNoting (s : Seen T U C) (d : Doings U) (t : Seen T U C) : Type 0 where
+    objects : IsPermutation (held_notes s ++ d.left) (destroyed_in d.taken ++ held_notes t)
+    ends : (ends_in d.taken + ends_in t.made) + ended_times s.part ≡ ends_in s.made + ended_times t.part
+    none : ends_in (waiting_of t.part) ≡ 0
+
+  unfelt_notes : (s : Seen T U C) → ends_in (waiting_of s.part) ≡ 0 → SeenNoting s (doings_of [] []) s
+  unfelt_notes s none = record { objects = same_permuted (held_notes s ++ []) (held_notes s) (sym (append-nil (held_notes s))); ends = omega arith; none = none }
+
+  taken_notes : (s : Seen T U C) → ends_in (waiting_of s.part) ≡ 0 → SeenNoting s (record (doings_of [] []) { taken = s.made }) (record { part = s.part; made = [] })
+  taken_notes s none = record {
+    objects = same_permuted (held_notes s ++ []) (held_notes s) (sym (append-nil (held_notes s)));
+    ends = omega arith;
+    none = none;
+  }
+
+  -- the notes of moves stand behind those that were made
+  behind_made : (made : List (Happening U)) (p q : Part T U C) (d : Doings U) → Noting p d q
+      → IsPermutation ((destroyed_in made ++ destroyed_in p.waiting) ++ d.left) (destroyed_in (made ++ d.notes) ++ destroyed_in q.waiting)
+  behind_made made p q d noting =
+      subst (λ (l : List Id). IsPermutation ((destroyed_in made ++ destroyed_in p.waiting) ++ d.left) (l ++ destroyed_in q.waiting)) (sym (destroyed_both made d.notes))
+      (subst (λ (l : List Id). IsPermutation l ((destroyed_in made ++ destroyed_in d.notes) ++ destroyed_in q.waiting)) (sym (append_assoc (destroyed_in made) (destroyed_in p.waiting) d.left))
+      (subst (λ (l : List Id). IsPermutation (destroyed_in made ++ (destroyed_in p.waiting ++ d.left)) l) (sym (append_assoc (destroyed_in made) (destroyed_in d.notes) (destroyed_in q.waiting)))
+      (IsPermutation-append_right (destroyed_in made) (destroyed_in p.waiting ++ d.left) (destroyed_in d.notes ++ destroyed_in q.waiting) noting.objects)))
+
+  within_notes : (made : List (Happening U)) (p q : Part T U C) (d : Doings U) → ends_in p.waiting ≡ 0 → d.taken ≡ [] → Moves sends receives client p d q
+      → SeenNoting (record { part = Some p; made = made }) d (record { part = Some q; made = made ++ d.notes })
+  within_notes made p q d none no_taken moves =
+      let noting = moves_note p q d none moves in record {
+        objects = subst (λ (l : List (Happening U)). IsPermutation ((destroyed_in made ++ destroyed_in p.waiting) ++ d.left) (destroyed_in l ++ (destroyed_in (made ++ d.notes) ++ destroyed_in q.waiting)))
+            (sym no_taken) (behind_made made p q d noting);
+        ends = (
+            let both = ends_both made d.notes in let one = noting.ends in let nobody : ends_in d.taken ≡ 0 = ap ends_in no_taken in
+            omega (arith, both, one, nobody)
+            );
+        none = noting.none;
+      }
+
+  out_notes : (made : List (Happening U)) (p q : Part T U C) (d : Doings U) → ends_in p.waiting ≡ 0 → d.taken ≡ [] → p.is_killed ≡ true → q.waiting ≡ []
+      → Moves sends receives client p d q → SeenNoting (record { part = Some p; made = made }) d (record { part = None; made = made ++ d.notes })
+  out_notes made p q d none no_taken killed nothing moves =
+      let noting = moves_note p q d none moves in record {
+        objects = subst (λ (l : List (Happening U)). IsPermutation ((destroyed_in made ++ destroyed_in p.waiting) ++ d.left) (destroyed_in l ++ (destroyed_in (made ++ d.notes) ++ [])))
+            (sym no_taken)
+            (subst (λ (l : List (Happening U)). IsPermutation ((destroyed_in made ++ destroyed_in p.waiting) ++ d.left) (destroyed_in (made ++ d.notes) ++ destroyed_in l)) nothing
+            (behind_made made p q d noting));
+        ends = (
+            let both = ends_both made d.notes in let one = noting.ends in let nobody : ends_in d.taken ≡ 0 = ap ends_in no_taken in
+            let was : one_if p.is_killed ≡ 1 = ap one_if killed in let most = at_most q.is_killed in
+            omega (arith, both, one, nobody, was, most)
+            );
+        none = refl;
+      }
+    where
+      at_most : (b : Bool) → one_if b ≤ 1
+      at_most true = omega arith
+      at_most false = omega arith
+
+  goes_note : (s t : Seen T U C) (d : Doings U) → ends_in (waiting_of s.part) ≡ 0 → Goes sends receives client s d t → SeenNoting s d t
+  goes_note s t d none (unfelt is same) =
+      subst (λ (x : Doings U). SeenNoting s x t) (sym is) (subst (λ (x : Seen T U C). SeenNoting s (doings_of [] []) x) (sym same) (unfelt_notes s none))
+  goes_note s t d none (notes_taken is same) =
+      subst (λ (x : Doings U). SeenNoting s x t) (sym is)
+      (subst (λ (x : Seen T U C). SeenNoting s (record (doings_of [] []) { taken = s.made }) x) (sym same) (taken_notes s none))
+  goes_note s t d none (within p q there moves same) =
+      subst (λ (x : Seen T U C). SeenNoting s d x) (sym same)
+      (subst (λ (x : Option (Part T U C)). SeenNoting (record { part = x; made = s.made }) d (record { part = Some q; made = s.made ++ d.notes })) (sym there)
+      (within_notes s.made p q d (sym (ap (λ (x : Option (Part T U C)). ends_in (waiting_of x)) there) ∙ none) (moves_take sends receives client p q d moves) moves))
+  goes_note s t d none (taken_out p q there killed moves empty nothing same) =
+      subst (λ (x : Seen T U C). SeenNoting s d x) (sym same)
+      (subst (λ (x : Option (Part T U C)). SeenNoting (record { part = x; made = s.made }) d (record { part = None; made = s.made ++ d.notes })) (sym there)
+      (out_notes s.made p q d (sym (ap (λ (x : Option (Part T U C)). ends_in (waiting_of x)) there) ∙ none) (moves_take sends receives client p q d moves) killed nothing moves))
+
+-- ---- the run of a client
+
+module _ {T U G C : Type 0} (w : World T G C) (id : ClientParts) where
+  run_notes : (offer : Offer G) (s : Seen T U C) (run : List (Own T U G C)) (t : Seen T U C) → AreMine id run → ends_in (waiting_of s.part) ≡ 0
+      → Alone w id offer s run t → SeenNoting w.sends w.receives id s (doings_of [] (history run)) t
+  run_notes offer s [] t own none same =
+      subst (λ (x : Seen T U C). SeenNoting w.sends w.receives id s (doings_of [] []) x) (sym same) (unfelt_notes w.sends w.receives id s none)
+  run_notes offer s (e ∷ run) t own none (mid, by, alone) =
+      let first = goes_note w.sends w.receives id s mid (doings_of (handed_by id e.call e.did) e.did) none (call_goes w id offer e.call s e.lacked e.did mid own.0 by) in
+      let rest = run_notes (offer_after offer e.call) mid run t own.1 first.none alone in
+      let all = done_both e.did (history run) in
+      let left : left_in (e.did ++ history run) ≡ left_in e.did ++ left_in (history run) = ap (λ (d : Doings U). d.left) all in
+      let taken : taken_in (e.did ++ history run) ≡ taken_in e.did ++ taken_in (history run) = ap (λ (d : Doings U). d.taken) all in
+      record {
+        objects = subst (λ (l : List Id). IsPermutation (held_notes w.sends w.receives id s ++ l) (destroyed_in (taken_in (e.did ++ history run)) ++ held_notes w.sends w.receives id t)) (sym left)
+            (subst (λ (l : List Id). IsPermutation (held_notes w.sends w.receives id s ++ (left_in e.did ++ left_in (history run))) (l ++ held_notes w.sends w.receives id t))
+            (sym (ap destroyed_in taken ∙ destroyed_both (taken_in e.did) (taken_in (history run))))
+            (permuted_then (held_notes w.sends w.receives id s) (left_in e.did) (destroyed_in (taken_in e.did)) (held_notes w.sends w.receives id mid) (left_in (history run))
+            (destroyed_in (taken_in (history run))) (held_notes w.sends w.receives id t) first.objects rest.objects));
+        ends = (
+            let both = ap ends_in taken ∙ ends_both (taken_in e.did) (taken_in (history run)) in let one = first.ends in let two = rest.ends in
+            omega (arith, both, one, two)
+            );
+        none = rest.none;
+      }
+
+  own_notes : (offer : Offer G) (link : LinkState T) (info : C) (run : List (Own T U G C)) (t : Seen T U C) → AreMine id run → HasOwnIds w id offer (begun link info) run t
+      → Alone w id offer (begun link info) run t → NotesEach (history run) t
+  own_notes offer link info run t own ids alone =
+      let notes = run_notes offer (begun link info) run t own refl alone in
+      record {
+        destroyed = subst (λ (l : List Id). IsPermutation (left_in (history run)) l)
+            (ap (λ (l : List Id). destroyed_in (taken_in (history run)) ++ l) (sym (destroyed_both t.made (waiting_of t.part)))
+            ∙ sym (destroyed_both (taken_in (history run)) (t.made ++ waiting_of t.part)))
+            notes.objects;
+        once = ids.once;
+        disconnected = (let both = ends_both (taken_in (history run)) t.made in let ends = notes.ends in omega (arith, both, ends));
+      }
+
+module _ {T U G C : Type 0} where
+  pub each_is_noted : (w : World T G C) (table : List InterfaceRow) (run : List (Entry T U G C)) (after : ServerState T U G C) → Leads w (new_server table) run after
+      → EachIsNoted run after
+  each_is_noted w table run after leads id transport info earlier later e split inserts =
+      let (link, fresh, alone) = (is_isolated w table run after leads).each id transport info earlier later e split inserts in
+      let offer : Offer G = offer_over (new_offer table) (earlier ++ e ∷ []) in
+      own_notes w id offer link info (mine id later) (seen id after) (are_mine id later) (own_ids w id offer link info (mine id later) (seen id after) (are_mine id later) alone) alone
+
+  pub have_notes : (w : World T G C) (table : List InterfaceRow) (steps : List (RunEntry (Step T U G C) (Reply T U))) (after : ServerState T U G C)
+      → Performs w (new_server table) steps after → HaveNotes w table steps after
+  have_notes w table steps after performs =
+      let (run, are, leads, isolated) = are_isolated w table steps after performs in (run, are, leads, each_is_noted w table run after leads)

@@ -1,0 +1,13 @@
+-- Where memory is not refused there is one outcome.
+pub mod Determined
+pub mod ExchangeLaws
+pub mod NumberLaws
+pub mod PartOutcome
+pub mod OutcomeLaws
+pub mod OfferLaws
+pub mod RunOutcome
+pub mod MoveLaws
+pub mod ShareLaws
+pub mod WholeLaws
+pub mod WholeRuns
+pub mod LookupLaws

@@ -1,0 +1,86 @@
+-- That a server answers of itself what is the same to its program: no answer tells servers apart that are the same to it.
+use Rattle.std.proofs.Common.{◌≡◌, ◌⊎◌, ℕ, zero, suc, ◌+◌, true, false, List, [], ◌∷◌, ◌++◌, Option, None, Some, is_some, refl, sym, ap, ap₂, ◌∙◌, true≢false, arith}
+use Rattle.std.specs.Prelude.{◌==◌, map, option_map}
+use Rattle.std.specs.FinMap as finmap
+use Rattle.std.proofs.lemmas.Bool.{cases_Bool, eqb-true}
+use Rattle.std.proofs.lemmas.Option.{same_Some}
+use mathlib.Core.Logic.{inl, inr}
+use Rattle.wl_link.specs.Store.{held}
+use Rattle.wl_server.specs.Globals.{Offer, global_of}
+use Rattle.wl_server.specs.Ids.{ClientParts, IdParts}
+use Rattle.wl_server.specs.Lookups.{and_then, client_of, global_info_of, id_if, id_if_stored, info_at, live_from, name_if, object_of}
+use Rattle.wl_server.specs.Part.{Part, id_at, named}
+use Rattle.wl_server.specs.Server.{Seen, ServerState, Stored, if_serial, stored_at}
+use Rattle.wl_server.proofs.OverRuns.Outcome.WholeLaws.{found}
+use Rattle.wl_server.specs.WholeOutcome.{AnswersAlike, SameServer}
+
+module _ {T U C : Type 0} where
+  -- the live clients by slot, of lists that tell the same at each slot
+  live_one : (slot : ℕ) (xs ys : List (Option (Stored T U C)))
+      → ((k n : ℕ) → n ≡ slot + k → id_if_stored n (stored_at k xs) ≡ id_if_stored n (stored_at k ys)) → live_from slot xs ≡ live_from slot ys
+  live_one slot [] [] same = refl
+  live_one slot [] (y ∷ ys) same =
+      ap₂ (λ (a b : List ClientParts). a ++ b) (same zero slot (omega arith)) (live_one (slot + 1) [] ys (λ k n is. same (suc k) n (omega (arith, is))))
+  live_one slot (x ∷ xs) [] same =
+      ap₂ (λ (a b : List ClientParts). a ++ b) (same zero slot (omega arith)) (live_one (slot + 1) xs [] (λ k n is. same (suc k) n (omega (arith, is))))
+  live_one slot (x ∷ xs) (y ∷ ys) same =
+      ap₂ (λ (a b : List ClientParts). a ++ b) (same zero slot (omega arith)) (live_one (slot + 1) xs ys (λ k n is. same (suc k) n (omega (arith, is))))
+
+  abbrev part_at : Option (Stored T U C) → Option (Part T U C)
+  part_at c = option_map (λ z. z.part) c
+
+  none_or_some : (x : Stored T U C) (o : Option (Part T U C)) → Some x.part ≡ o → o ≡ None → ⊥
+  none_or_some x o is none = true≢false (ap is_some is ∙ ap is_some none)
+
+  -- two clients of one slot that are the same to all ids have one serial and one part
+  stored_one : (n : ℕ) (x y : Stored T U C) → part_at (if_serial x.serial (Some x)) ≡ part_at (if_serial x.serial (Some y)) → id_if_stored n (Some x) ≡ id_if_stored n (Some y)
+  stored_one n x y same = at (cases_Bool (y.serial == x.serial))
+    where
+      here : part_at (if_serial x.serial (Some x)) ≡ Some x.part
+      here = ap part_at (found x (Some x) refl)
+
+      at : ((y.serial == x.serial) ≡ true) ⊎ ((y.serial == x.serial) ≡ false) → id_if_stored n (Some x) ≡ id_if_stored n (Some y)
+      at (inr other) = absurd (none_or_some x (part_at (if_serial x.serial (Some y))) (sym here ∙ same) (rw other refl))
+      at (inl is) =
+          let there : part_at (if_serial x.serial (Some y)) ≡ Some y.part = rw is refl in
+          let part : x.part ≡ y.part = same_Some x.part y.part (sym here ∙ same ∙ there) in
+          let serial : x.serial ≡ y.serial = sym (eqb-true y.serial x.serial is) in
+          ap₂ (λ (m : ℕ) (p : Part T U C). id_if_stored n (Some (record { serial = m; part = p; made = x.made }))) serial part
+
+module _ {T U G C : Type 0} (s t : ServerState T U G C) (same : SameServer s t) where
+  slot_one : (k n : ℕ) (a b : Option (Stored T U C)) → stored_at k s.clients ≡ a → stored_at k t.clients ≡ b → id_if_stored n a ≡ id_if_stored n b
+  slot_one k n None None is is' = refl
+  slot_one k n (Some x) b is is' =
+      let id : ClientParts = record { slot = k; serial = x.serial } in
+      at b (sym (ap (λ z. part_at (if_serial x.serial z)) is) ∙ ap (λ (z : Seen T U C). z.part) (same.each id) ∙ ap (λ z. part_at (if_serial x.serial z)) is')
+    where
+      at : (b : Option (Stored T U C)) → part_at (if_serial x.serial (Some x)) ≡ part_at (if_serial x.serial b) → id_if_stored n (Some x) ≡ id_if_stored n b
+      at (Some y) parts = stored_one n x y parts
+      at None parts = absurd (none_or_some x None (sym (ap part_at (found x (Some x) refl)) ∙ parts) refl)
+  slot_one k n None (Some y) is is' =
+      let id : ClientParts = record { slot = k; serial = y.serial } in
+      let parts : part_at (if_serial y.serial (Some y)) ≡ part_at (if_serial y.serial None)
+      = sym (ap (λ z. part_at (if_serial y.serial z)) is') ∙ sym (ap (λ (z : Seen T U C). z.part) (same.each id)) ∙ ap (λ z. part_at (if_serial y.serial z)) is in
+      absurd (none_or_some y None (sym (ap part_at (found y (Some y) refl)) ∙ parts) refl)
+
+  client_one : (id : ClientParts) → client_of s id ≡ client_of t id
+  client_one id = ap (λ (z : Seen T U C). z.part) (same.each id)
+
+  object_one : (id : IdParts) → object_of s id ≡ object_of t id
+  object_one id = ap (λ (c : Option (Part T U C)). and_then c (λ p. named p.store id)) (client_one id.client)
+
+  pub answers_alike : AnswersAlike s t
+  answers_alike = record {
+    object_info = λ id. ap (λ o. option_map (info_at id.number) o) (object_one id);
+    client = λ id. ap (λ (c : Option (Part T U C)). option_map (λ p. id.client) c) (client_one id.client);
+    client_data = λ id. ap (λ (c : Option (Part T U C)). option_map (λ p. p.info) c) (client_one id);
+    object_data = λ id. ap (λ o. and_then o (λ x. x.value.user_data)) (object_one id);
+    transport = λ id. ap (λ (c : Option (Part T U C)). option_map (λ p. p.link.transport) c) (client_one id);
+    for_number = λ id i n. ap (λ (c : Option (Part T U C)). and_then c (λ p. and_then (held p.store n) (id_if id i n))) (client_one id);
+    clients = live_one 0 s.clients t.clients (λ k n is. slot_one k n (stored_at k s.clients) (stored_at k t.clients) refl refl);
+    objects = λ id. ap (λ (c : Option (Part T U C)). option_map (λ p. map (λ e. id_at id e.0 e.1) (finmap.entries p.store.objects)) c) (client_one id);
+    global_info = λ id. ap (λ (o : Offer G). option_map global_info_of (global_of o.globals id)) same.offer;
+    handler = λ id. ap (λ (o : Offer G). option_map (λ x. x.value.handler) (global_of o.globals id)) same.offer;
+    name = λ views id client.
+        ap₂ (λ (o : Offer G) (c : Option (Part T U C)). and_then c (λ p. and_then (global_of o.globals id) (name_if views client p.info id.name))) same.offer (client_one client);
+  }

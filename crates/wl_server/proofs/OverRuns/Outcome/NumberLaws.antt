@@ -1,0 +1,99 @@
+-- That the numbers which are given out have one outcome: those of globals and of clients.
+use Rattle.std.proofs.Common.{◌≡◌, ◌≢◌, ℕ, ◌<◌, Option, None, is_some, Result, Ok, Err, refl, sym, ap, ◌∙◌, true≢false, arith}
+use Rattle.std.specs.Prelude.{IsSome, List, nat_le, slice_get}
+use mathlib.Core.Logic.{inl, inr}
+use Rattle.std.proofs.lemmas.Bool.{cases_order}
+use Rattle.wl_wire.specs.declared.interface.InterfaceId.{InterfaceId}
+use Rattle.wl_wire.specs.Table.{InterfaceRow}
+use Rattle.wl_link.proofs.Calls.Branches.{both_bool, both_option}
+use Rattle.wl_link.proofs.Calls.NumberLaws.{full_not_absent, least_absent_one}
+use Rattle.wl_server.specs.declared.error.GlobalError.{GlobalError}
+use Rattle.wl_server.specs.declared.error.GlobalError.TheVariants as global
+use Rattle.wl_server.specs.declared.error.InsertClientError.{InsertClientError}
+use Rattle.wl_server.specs.declared.error.InsertClientError.TheVariants as insert
+use Rattle.wl_server.specs.Globals.{Globals, CreatesGlobal, CreatesNext, IsNextGlobal, LacksName, name_range}
+use Rattle.wl_server.specs.Ids.{ClientParts, GlobalParts}
+use Rattle.wl_server.specs.Server.{Stored, stored_at}
+use Rattle.wl_server.specs.Steps.{InsertsNext, IsLeastFree, IsNextClient, LacksSlot}
+
+-- ---- globals
+
+global_is : (a b : GlobalParts) → a.name ≡ b.name → a.serial ≡ b.serial → a ≡ b
+global_is a b names serials =
+    let with_name : ℕ → GlobalParts = λ n. record { name = n; serial = a.serial } in
+    let with_serial : ℕ → GlobalParts = λ n. record { name = b.name; serial = n } in
+    ap with_name names ∙ ap with_serial serials
+
+module _ {G : Type 0} (globals : Globals G) where
+  next_global_one : (a b : GlobalParts) → IsNextGlobal globals a → IsNextGlobal globals b → a ≡ b
+  next_global_one a b (least, left, next) (least', left', next') =
+      global_is a b (least_absent_one name_range globals.store a.name b.name least least') (next ∙ sym next')
+
+  next_not_lacked : (a : GlobalParts) → IsNextGlobal globals a → LacksName globals → ⊥
+  next_not_lacked a (least, left, next) (inl full) = full_not_absent name_range globals.store a.name full least
+  next_not_lacked a (least, left, next) (inr last) = omega (arith, left, last)
+
+  creates_next_one : (a b : Result GlobalParts GlobalError) → a ≢ Err global.OutOfMemory → b ≢ Err global.OutOfMemory → CreatesNext globals a → CreatesNext globals b → a ≡ b
+  creates_next_one (Ok a) (Ok b) ok ok' h g = ap (λ (z : GlobalParts). let r : Result GlobalParts GlobalError = Ok z in r) (next_global_one a b h g)
+  creates_next_one (Ok a) (Err global.Full) ok ok' h g = absurd (next_not_lacked a h g)
+  creates_next_one (Err global.Full) (Ok b) ok ok' h g = absurd (next_not_lacked b g h)
+  creates_next_one (Err global.Full) (Err global.Full) ok ok' h g = refl
+  creates_next_one (Err global.OutOfMemory) b ok ok' h g = absurd (ok refl)
+  creates_next_one a (Err global.OutOfMemory) ok ok' h g = absurd (ok' refl)
+  creates_next_one (Err global.UnknownInterface) b ok ok' h g = absurd h
+  creates_next_one (Err global.VersionTooHigh) b ok ok' h g = absurd h
+  creates_next_one a (Err global.UnknownInterface) ok ok' h g = absurd g
+  creates_next_one a (Err global.VersionTooHigh) ok ok' h g = absurd g
+
+  -- the answer to the creation of a global
+  pub creates_global_one : (table : List InterfaceRow) (i : InterfaceId) (version : ℕ) (a b : Result GlobalParts GlobalError)
+      → a ≢ Err global.OutOfMemory → b ≢ Err global.OutOfMemory → CreatesGlobal table globals i version a → CreatesGlobal table globals i version b → a ≡ b
+  creates_global_one table i version a b ok ok' h g =
+      elim (both_option (slice_get table i.0) h g) [
+        | inl (none, is, is') ↦ is ∙ sym is'
+        | inr (row, some, p, q) ↦
+            elim (both_bool (nat_le version row.version) p q) [
+              | inl (next, next') ↦ creates_next_one a b ok ok' next next'
+              | inr (is, is') ↦ is ∙ sym is'
+            ]
+      ]
+
+-- ---- clients
+
+pub client_is : (a b : ClientParts) → a.slot ≡ b.slot → a.serial ≡ b.serial → a ≡ b
+client_is a b slots serials =
+    let with_slot : ℕ → ClientParts = λ n. record { slot = n; serial = a.serial } in
+    let with_serial : ℕ → ClientParts = λ n. record { slot = b.slot; serial = n } in
+    ap with_slot slots ∙ ap with_serial serials
+
+module _ {T U C : Type 0} (last : ℕ) (clients : List (Option (Stored T U C))) where
+  some_not_none : {A : Type 0} (o : Option A) → IsSome o → o ≡ None → ⊥
+  some_not_none o some none = true≢false (sym some ∙ ap is_some none)
+
+  not_less_free : (n m : ℕ) → IsLeastFree clients n → IsLeastFree clients m → n < m → ⊥
+  not_less_free n m one other less = some_not_none (stored_at n clients) (other.least n less) one.free
+
+  least_free_one : (n m : ℕ) → IsLeastFree clients n → IsLeastFree clients m → n ≡ m
+  least_free_one n m one other =
+      elim (cases_order n m) [
+        | inl same ↦ same
+        | inr (inl less) ↦ absurd (not_less_free n m one other less)
+        | inr (inr less) ↦ absurd (not_less_free m n other one less)
+      ]
+
+  pub next_client_one : (a b : ClientParts) → IsNextClient last clients a → IsNextClient last clients b → a ≡ b
+  next_client_one a b (least, left, next) (least', left', next') = client_is a b (least_free_one a.slot b.slot least least') (next ∙ sym next')
+
+  next_not_full : (a : ClientParts) → IsNextClient last clients a → LacksSlot last clients → ⊥
+  next_not_full a (least, left, next) (inl full) = some_not_none (stored_at a.slot clients) (full a.slot least.below) least.free
+  next_not_full a (least, left, next) (inr spent) = omega (arith, left, spent)
+
+  -- the answer to the insertion of a client
+  pub inserts_next_one : (a b : Result ClientParts InsertClientError) → a ≢ Err insert.OutOfMemory → b ≢ Err insert.OutOfMemory
+      → InsertsNext last clients a → InsertsNext last clients b → a ≡ b
+  inserts_next_one (Ok a) (Ok b) ok ok' h g = ap (λ (z : ClientParts). let r : Result ClientParts InsertClientError = Ok z in r) (next_client_one a b h g)
+  inserts_next_one (Ok a) (Err insert.Full) ok ok' h g = absurd (next_not_full a h g)
+  inserts_next_one (Err insert.Full) (Ok b) ok ok' h g = absurd (next_not_full b g h)
+  inserts_next_one (Err insert.Full) (Err insert.Full) ok ok' h g = refl
+  inserts_next_one (Err insert.OutOfMemory) b ok ok' h g = absurd (ok refl)
+  inserts_next_one a (Err insert.OutOfMemory) ok ok' h g = absurd (ok' refl)

@@ -1,0 +1,174 @@
+-- That the offer after a run has one outcome: the shared calls determine it.
+use Rattle.std.proofs.Common.{◌≡◌, ◌≢◌, Bool, true, false, List, [], ◌∷◌, Result, Err, refl, sym, ap, subst, ◌∙◌, true≢false}
+use Rattle.std.specs.Prelude.{if◌then◌else◌}
+use Rattle.wl_server.specs.declared.error.GlobalError.{GlobalError}
+use Rattle.wl_server.specs.declared.error.GlobalError.TheVariants as global
+use Rattle.wl_server.specs.declared.runs.step.Reply.{Reply}
+use Rattle.wl_server.specs.declared.runs.step.Reply.TheVariants as reply
+use Rattle.wl_server.specs.declared.runs.step.Step.{Step}
+use Rattle.wl_server.specs.declared.runs.step.Step.TheVariants as step
+use Rattle.wl_server.specs.Deeds.{Deed}
+use Rattle.wl_server.specs.Events.{session_content}
+use Rattle.wl_server.specs.Globals.{Offer, new_offer}
+use Rattle.wl_server.specs.Ids.{ClientParts, GlobalParts}
+use Rattle.wl_server.proofs.OverRuns.Alone.IsolationLaw.{offer_of_other, offer_run}
+use Rattle.wl_server.proofs.OverRuns.Outcome.NumberLaws.{creates_global_one}
+use Rattle.wl_server.specs.Outcome.{AreAmple, AreNumbered, AreOwn, ArrivesSame, OffersHaveOneOutcome, SameCall, SameStep, SameSteps, SendsSame, SharedAnswer, SharedSame}
+use Rattle.wl_server.specs.PartStep.{Asked, Call, Changed, PartCall, PartStep, World}
+use Rattle.wl_server.specs.Runs.{Leads, Own, concerns, is_about, mine, offer_over, own_of}
+use Rattle.wl_server.specs.Server.{Seen, ServerState, new_server}
+use Rattle.wl_server.specs.Steps.{Entry, NumbersGlobal, lacks_growth, offer_after}
+
+module _ {T U G C : Type 0} where
+  -- ---- a call
+
+  -- the offer after two calls of one step, where they are answered alike
+  pub offer_one : (offer : Offer G) (s : Step T U G C) (p q : Reply T U) → SharedSame s p q → offer_after offer (Asked s p) ≡ offer_after offer (Asked s q)
+  offer_one offer (step.CreateGlobal i version handler) p q shared = ap (λ (z : Reply T U). offer_after {C = C} offer (Asked (step.CreateGlobal i version handler) z)) shared
+  offer_one offer s p q shared = refl
+
+  -- what a step leaves of the offer, another leaves that is the same
+  pub offer_as : (offer : Offer G) (s s' : Step T U G C) (q : Reply T U) → SameStep s s' → offer_after offer (Asked s q) ≡ offer_after offer (Asked s' q)
+  offer_as offer (step.SendEvent m) s' q same = at s' same
+    where
+      at : (s' : Step T U G C) → SendsSame (session_content m) s' → offer ≡ offer_after offer (Asked s' q)
+      at (step.SendEvent m') same = refl
+      at s' same = absurd same
+  offer_as offer (step.Arrive target bytes tokens) s' q same = at s' same
+    where
+      at : (s' : Step T U G C) → ArrivesSame target (record { bytes = bytes.items; tokens = tokens.items }) s' → offer ≡ offer_after offer (Asked s' q)
+      at (step.Arrive target' bytes' tokens') same = refl
+      at s' same = absurd same
+  offer_as offer s s' q same = ap (λ (z : Step T U G C). offer_after offer (Asked z q)) same
+
+  -- and so it is of the numbering of globals
+  pub numbers_as : (offer : Offer G) (s s' : Step T U G C) (q : Reply T U) → SameStep s s' → NumbersGlobal offer (Asked s' q) → NumbersGlobal offer (Asked s q)
+  numbers_as offer (step.SendEvent m) s' q same n = tt
+  numbers_as offer (step.Arrive target bytes tokens) s' q same n = tt
+  numbers_as offer s s' q same n = subst (λ (z : Step T U G C). NumbersGlobal offer (Asked z q)) (sym same) n
+
+  -- the creation of a global is answered as one
+  abbrev pub Answered : Call T U G C → Type 0
+  Answered (Asked (step.CreateGlobal _ _ _) answer) = (r : Result GlobalParts GlobalError) × (answer ≡ reply.CreateGlobal r)
+  Answered _ = Unit {0}
+
+  pub answered_step : (w : World T G C) (id : ClientParts) (offer : Offer G) (s : Step T U G C) (answer : Reply T U) (before : Seen T U C) (lacked : Bool) (did : List (Deed U))
+      (after : Seen T U C) → PartStep w id offer s answer before lacked did after → Answered (Asked s answer)
+  answered_step w id offer (step.CreateGlobal i version handler) answer before lacked did after (r, is, h) = (r, is)
+  answered_step w id offer s answer before lacked did after h = tt
+
+  pub answered_call : (w : World T G C) (id : ClientParts) (offer : Offer G) (call : Call T U G C) (before : Seen T U C) (lacked : Bool) (did : List (Deed U)) (after : Seen T U C)
+      → PartCall w id offer call before lacked did after → Answered call
+  answered_call w id offer (Asked s answer) before lacked did after h = answered_step w id offer s answer before lacked did after h
+  answered_call w id offer (Changed target t) before lacked did after h = tt
+
+  module _ (id : ClientParts) (offer : Offer G) where
+    abbrev Ample : Step T U G C → Reply T U → Type 0
+    Ample s answer = lacks_growth (Asked s answer) ≡ false
+
+    -- a want of memory for a global is told by its answer
+    created_allowed : (s : Step T U G C) (r : Result GlobalParts GlobalError) → Ample s (reply.CreateGlobal r) → r ≢ Err global.OutOfMemory
+    created_allowed s r ample is =
+        let refused = subst (λ z. Ample s (reply.CreateGlobal z)) is ample in
+        true≢false refused
+
+    -- a client's own calls and the shared ones are answered alike, where their answers tell what all clients share
+    pub shared_same : (s : Step T U G C) (p q : Reply T U) → is_about id s ≡ true → Ample s p → Ample s q → NumbersGlobal offer (Asked s p) → NumbersGlobal offer (Asked s q)
+        → Answered (Asked s p) → Answered (Asked s q) → SharedSame s p q
+    shared_same (step.InsertClient transport info) p q own ample ample' n n' h g = absurd (true≢false (sym own))
+    shared_same (step.CreateGlobal i version handler) p q own ample ample' n n' (r, is) (r', is') =
+        let s : Step T U G C = step.CreateGlobal i version handler in
+        let numbers = subst (λ (z : Reply T U). NumbersGlobal offer (Asked s z)) is n in
+        let numbers' = subst (λ (z : Reply T U). NumbersGlobal offer (Asked s z)) is' n' in
+        let one = creates_global_one offer.globals offer.table i version r r' (created_allowed s r (subst (λ z. Ample s z) is ample)) (created_allowed s r' (subst (λ z. Ample s z) is' ample'))
+        numbers numbers' in
+        is ∙ ap (λ (z : Result GlobalParts GlobalError). let a : Reply T U = reply.CreateGlobal z in a) one ∙ sym is'
+    shared_same s p q own ample ample' n n' h g = tt
+
+    answered_as : (s s' : Step T U G C) (q : Reply T U) → SameStep s s' → Answered (Asked s' q) → Answered (Asked s q)
+    answered_as (step.SendEvent m) s' q same h = tt
+    answered_as (step.Arrive target bytes tokens) s' q same h = tt
+    answered_as s s' q same h = subst (λ (z : Step T U G C). Answered (Asked z q)) (sym same) h
+
+    -- so it is of calls: they are answered alike, and leave one offer
+    pub shared_call : (call call' : Call T U G C) → SameCall call call' → concerns id call ≡ true → lacks_growth call ≡ false → lacks_growth call' ≡ false
+        → NumbersGlobal offer call → NumbersGlobal offer call' → Answered call → Answered call' → SharedAnswer call call' × (offer_after offer call ≡ offer_after offer call')
+    shared_call (Asked s p) (Asked s' q) same own ample ample' n n' h g =
+        let shared = shared_same s p q own ample ample' n (numbers_as offer s s' q same n') h (answered_as s s' q same g) in
+        (shared, offer_one offer s p q shared ∙ offer_as offer s s' q same)
+    shared_call (Changed target t) (Changed target' t') same own ample ample' n n' h g = (tt, refl)
+    shared_call (Asked s p) (Changed target t) same own ample ample' n n' h g = absurd same
+    shared_call (Changed target t) (Asked s p) same own ample ample' n n' h g = absurd same
+
+  -- ---- a run
+
+  -- the offer after the calls that one client's run has
+  abbrev own_offer : Offer G → List (Own T U G C) → Offer G
+  own_offer offer [] = offer
+  own_offer offer (e ∷ run) = own_offer (offer_after offer e.call) run
+
+  abbrev AreAnswered : List (Own T U G C) → Type 0
+  AreAnswered [] = Unit {0}
+  AreAnswered (e ∷ run) = Answered e.call × AreAnswered run
+
+  own_offer_one : (id : ClientParts) (offer : Offer G) (run run' : List (Own T U G C)) → AreOwn id run → SameSteps run run' → AreAmple run → AreAmple run'
+      → AreNumbered offer run → AreNumbered offer run' → AreAnswered run → AreAnswered run' → own_offer offer run ≡ own_offer offer run'
+  own_offer_one id offer [] [] own same ample ample' n n' h g = refl
+  own_offer_one id offer [] (f ∷ run') own same ample ample' n n' h g = absurd same
+  own_offer_one id offer (e ∷ run) [] own same ample ample' n n' h g = absurd same
+  own_offer_one id offer (e ∷ run) (f ∷ run') (own, owns) (same, others) (ample, rest) (ample', rest') (n, more) (n', more') (h, answered) (g, answered') =
+      let shared = shared_call id offer e.call f.call same own ample ample' n n' h g in
+      let numbers = subst (λ (o : Offer G). AreNumbered o run') (sym shared.1) more' in
+      own_offer_one id (offer_after offer e.call) run run' owns others rest rest' more numbers answered answered' ∙ ap (λ (o : Offer G). own_offer o run') shared.1
+
+  -- the calls that one client's run has are its own or shared
+  own_more : (id : ClientParts) (e : Entry T U G C) (run : List (Entry T U G C)) (b : Bool) → concerns id e.call ≡ b → AreOwn id (mine id run)
+      → AreOwn id (if b then (own_of id e ∷ mine id run) else mine id run)
+  own_more id e run true is own = (is, own)
+  own_more id e run false is own = own
+
+  pub mine_own : (id : ClientParts) (run : List (Entry T U G C)) → AreOwn id (mine id run)
+  mine_own id [] = tt
+  mine_own id (e ∷ run) = own_more id e run (concerns id e.call) refl (mine_own id run)
+
+  -- the globals that it creates are numbered by the offer alone
+  numbered_more : (id : ClientParts) (offer : Offer G) (e : Entry T U G C) (run : List (Entry T U G C)) (b : Bool) → concerns id e.call ≡ b → NumbersGlobal offer e.call
+      → AreNumbered (offer_after offer e.call) (mine id run) → AreNumbered offer (if b then (own_of id e ∷ mine id run) else mine id run)
+  numbered_more id offer e run true is n more = (n, more)
+  numbered_more id offer e run false is n more = subst (λ (o : Offer G). AreNumbered o (mine id run)) (offer_of_other id offer e.call is) more
+
+  pub mine_numbered : (w : World T G C) (id : ClientParts) (before after : ServerState T U G C) (run : List (Entry T U G C)) → Leads w before run after
+      → AreNumbered before.offer (mine id run)
+  mine_numbered w id before after [] same = tt
+  mine_numbered w id before after (e ∷ run) (mid, by, leads) =
+      numbered_more id before.offer e run (concerns id e.call) refl by.global
+      (subst (λ (o : Offer G). AreNumbered o (mine id run)) by.offer (mine_numbered w id mid after run leads))
+
+  answered_more : (id : ClientParts) (e : Entry T U G C) (run : List (Entry T U G C)) (b : Bool) → Answered e.call → AreAnswered (mine id run)
+      → AreAnswered (if b then (own_of id e ∷ mine id run) else mine id run)
+  answered_more id e run true h more = (h, more)
+  answered_more id e run false h more = more
+
+  mine_answered : (w : World T G C) (id : ClientParts) (before after : ServerState T U G C) (run : List (Entry T U G C)) → Leads w before run after
+      → AreAnswered (mine id run)
+  mine_answered w id before after [] same = tt
+  mine_answered w id before after (e ∷ run) (mid, by, leads) =
+      answered_more id e run (concerns id e.call) (answered_call w id before.offer e.call _ _ _ _ (by.each id)) (mine_answered w id mid after run leads)
+
+  -- the calls of others leave the offer
+  offer_more : (id : ClientParts) (offer : Offer G) (e : Entry T U G C) (run : List (Entry T U G C)) (b : Bool) → concerns id e.call ≡ b
+      → own_offer (offer_after offer e.call) (mine id run) ≡ offer_over (offer_after offer e.call) run
+      → own_offer offer (if b then (own_of id e ∷ mine id run) else mine id run) ≡ offer_over (offer_after offer e.call) run
+  offer_more id offer e run true is more = more
+  offer_more id offer e run false is more = ap (λ (o : Offer G). own_offer o (mine id run)) (sym (offer_of_other id offer e.call is)) ∙ more
+
+  mine_offer : (id : ClientParts) (offer : Offer G) (run : List (Entry T U G C)) → own_offer offer (mine id run) ≡ offer_over offer run
+  mine_offer id offer [] = refl
+  mine_offer id offer (e ∷ run) = offer_more id offer e run (concerns id e.call) refl (mine_offer id (offer_after offer e.call) run)
+
+  pub offers_one : (w : World T G C) → OffersHaveOneOutcome U w
+  offers_one w table id run run' after after' leads leads' same ample ample' =
+      offer_run w (new_server table) after run leads ∙ sym (mine_offer id (new_offer table) run)
+      ∙ own_offer_one id (new_offer table) (mine id run) (mine id run') (mine_own id run) same ample ample' (mine_numbered w id (new_server table) after run leads)
+      (mine_numbered w id (new_server table) after' run' leads') (mine_answered w id (new_server table) after run leads) (mine_answered w id (new_server table) after' run' leads')
+      ∙ mine_offer id (new_offer table) run' ∙ sym (offer_run w (new_server table) after' run' leads')

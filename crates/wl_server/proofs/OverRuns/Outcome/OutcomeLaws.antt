@@ -1,0 +1,304 @@
+-- That what a client's own calls and the shared ones lead to alone is one outcome, where memory is not refused and what a
+-- transport answers and becomes follows from its value.
+use Rattle.std.proofs.Common.{◌≡◌, ℕ, Bool, true, false, List, [], ◌∷◌, ◌++◌, Option, None, Some, Result, Ok, Err, refl, sym, ap, subst, ◌∙◌, true≢false}
+use mathlib.Core.Logic.{inl, inr}
+use Rattle.wl_wire.specs.declared.error.IoFault.{IoFault}
+use Rattle.wl_link.proofs.Calls.Branches.{both_bool, both_option}
+use Rattle.wl_link.specs.Exchange.{Queue}
+use Rattle.wl_link.specs.Link.{LinkState}
+use Rattle.wl_server.specs.declared.error.EventError.TheVariants as event
+use Rattle.wl_server.specs.declared.error.GlobalError.{GlobalError}
+use Rattle.wl_server.specs.declared.error.GlobalError.TheVariants as global
+use Rattle.wl_server.specs.declared.error.InsertClientError.{InsertClientError}
+use Rattle.wl_server.specs.declared.error.InsertClientError.TheVariants as insert
+use Rattle.wl_server.specs.declared.error.ScriptError.{ScriptError}
+use Rattle.wl_server.specs.declared.notes.Happening.TheVariants.{Initialized}
+use Rattle.wl_server.specs.declared.runs.step.Reply.{Reply}
+use Rattle.wl_server.specs.declared.runs.step.Reply.TheVariants as reply
+use Rattle.wl_server.specs.declared.runs.step.Step.{Step}
+use Rattle.wl_server.specs.declared.runs.step.Step.TheVariants as step
+use Rattle.wl_server.specs.Deeds.{Deed, notes_in}
+use Rattle.wl_server.specs.Events.{SendsEvent, SessionMessage, session_content}
+use Rattle.wl_server.specs.Globals.{Offer, global_of, is_enabled}
+use Rattle.wl_server.specs.Ids.{ClientParts, GlobalParts, same_client}
+use Rattle.wl_server.specs.Moves.{Accept, AcceptFault, Arrive, ArriveFault, Moved, TakeSent, done, taken}
+use Rattle.wl_link.proofs.Calls.NumberLaws.{fresh_one}
+use Rattle.wl_server.proofs.OverRuns.Outcome.Determined.{IsDetermined}
+use Rattle.wl_server.specs.Outcome.{ArrivesSame, SameAnswer, SameCall, SameOutcome, SameReply, SameStep, SendsSame, SharedAnswer, SharedSame}
+use Rattle.wl_server.specs.Part.{Part, fresh_part}
+use Rattle.wl_server.proofs.OverRuns.Outcome.PartOutcome.{SameEnd, SameFelt, changes_one, cleaned_one, creates_one, destroys_one, finishes_bind_one, finishes_request_one, flushed_one, flushes_live_one, hears_one, kills_one, limits_one, moves_one, next_action_one, posts_error_one, same_felt, sends_event_one, sets_one}
+use Rattle.wl_server.specs.PartStep.{Asked, Call, Changed, CleanedAs, FeelsGlobal, FeelsLoss, FlushedFor, InsertedAs, MovedFor, NotesTaken, OfClient, OnPart, PartCall, PartStep, Unfelt, World, around, share_of}
+use Rattle.wl_server.specs.Reading.{action_content, new_reading}
+use Rattle.wl_server.specs.Runs.{concerns, is_about}
+use Rattle.wl_server.specs.Server.{Seen}
+use Rattle.wl_server.specs.Steps.{lacks_growth}
+
+-- ---- replies
+
+-- a move's answer is known by what is made of it
+abbrev undone : Moved → Result (Unit {0}) ScriptError
+undone (Ok _) = Ok tt
+undone (Err e) = Err e
+
+undone_done : (r : Result (Unit {0}) ScriptError) → undone (done r) ≡ r
+undone_done (Ok u) = refl
+undone_done (Err e) = refl
+
+done_one : (a b : Result (Unit {0}) ScriptError) → done a ≡ done b → a ≡ b
+done_one a b same = sym (undone_done a) ∙ ap undone same ∙ undone_done b
+
+module _ {T U : Type 0} where
+  -- what an insertion and what a creation answers
+  abbrev inserted_in : Reply T U → Result ClientParts InsertClientError
+  inserted_in (reply.InsertClient r) = r
+  inserted_in _ = Err insert.Full
+
+  abbrev created_in : Reply T U → Result GlobalParts GlobalError
+  created_in (reply.CreateGlobal r) = r
+  created_in _ = Err global.Full
+
+  -- two replies are the same where what they are is
+  same_reply : (id : ClientParts) (p q p' q' : Reply T U) → p ≡ p' → q ≡ q' → SameReply id p' q' → SameReply id p q
+  same_reply id p q p' q' is is' same = subst (λ r. SameReply id r q) (sym is) (subst (λ r. SameReply id p' r) (sym is') same)
+
+-- ---- what is held of a client
+
+module _ {T U C : Type 0} (before : Seen T U C) (d e : List (Deed U)) (x y : Seen T U C) where
+  abbrev with_part : Option (Part T U C) → List (Deed U) → Seen T U C
+  with_part q did = record { part = q; made = before.made ++ notes_in did }
+
+  part_one : (q q' : Option (Part T U C)) → SameFelt d e q q' → x ≡ with_part q d → y ≡ with_part q' e → SameFelt d e x y
+  part_one q q' one same same' = record {
+    did = one.did;
+    after = same ∙ ap (λ (z : Option (Part T U C)). with_part z d) one.after ∙ ap (λ (z : List (Deed U)). with_part q' z) one.did ∙ sym same';
+  }
+
+  unfelt_one : Unfelt before false d x → Unfelt before false e y → SameFelt d e x y
+  unfelt_one (unlacked, did, same) (unlacked', did', same') = same_felt did did' same same'
+
+  -- a step of the part
+  on_one : {P : Type 0} (R R' : Part T U C → Part T U C → Type 0) (missing missing' : Type 0) → (missing → missing' → P)
+      → ((p q q' : Part T U C) → R p q → R' p q' → SameFelt d e q q' × P) → OnPart before R missing false d x → OnPart before R' missing' false e y
+      → SameFelt d e x y × P
+  on_one R R' missing missing' absent each h g =
+      elim (both_option before.part h g) [
+        | inl (none, (m, felt), (m', felt')) ↦ (unfelt_one felt felt', absent m m')
+        | inr (p, some, (q, by, same), (q', by', same')) ↦
+            let one = each p q q' by by' in
+            let some_one : SameFelt d e (Some q) (Some q') = record { did = one.0.did; after = ap (λ (z : Part T U C). let o : Option (Part T U C) = Some z in o) one.0.after } in
+            (part_one (Some q) (Some q') some_one same same', one.1)
+      ]
+
+  -- a step about this client or about another
+  of_one : {P : Type 0} (b : Bool) (R R' : Part T U C → Part T U C → Type 0) (missing missing' : Type 0) → (missing → missing' → P)
+      → ((p q q' : Part T U C) → R p q → R' p q' → SameFelt d e q q' × P) → OfClient b before R missing false d x → OfClient b before R' missing' false e y
+      → SameFelt d e x y × (b ≡ true → P)
+  of_one true R R' missing missing' absent each h g = let one = on_one R R' missing missing' absent each h g in (one.0, λ own. one.1)
+  of_one false R R' missing missing' absent each h g = (unfelt_one h g, λ own. absurd (true≢false (sym own)))
+
+-- the answers apart
+with_answer : {A U S : Type 0} {a b : A} {d e : List (Deed U)} {x y : S} → SameEnd a b d e x y → SameFelt d e x y × (a ≡ b)
+with_answer one = (record { did = one.did; after = one.after }, one.answer)
+
+with_none : {U S : Type 0} {d e : List (Deed U)} {x y : S} → SameFelt d e x y → SameFelt d e x y × (Unit {0})
+with_none one = (one, tt)
+
+-- ---- a step
+
+module _ {T U G C : Type 0} (w : World T G C) (known : IsDetermined w) (id : ClientParts) (offer : Offer G) (before : Seen T U C) (d e : List (Deed U)) (x y : Seen T U C) where
+  abbrev Same : Bool → Reply T U → Reply T U → Type 0
+  Same own p q = SameOutcome id own p q d e x y
+
+  abbrev Ample : Step T U G C → Reply T U → Type 0
+  Ample s answer = lacks_growth (Asked s answer) ≡ false
+
+  outcome : (own : Bool) (p q : Reply T U) → SameFelt d e x y → (own ≡ true → SameReply id p q) → Same own p q
+  outcome own p q one same = record { reply = same; deeds = one.did; held = one.after }
+
+  inserted_one : (transport : T) (info : C) (r : Result ClientParts InsertClientError) → InsertedAs w id offer transport info r before false d x
+      → InsertedAs w id offer transport info r before false e y → SameFelt d e x y
+  inserted_one transport info (Ok new) h g =
+      elim (both_bool (same_client new id) h g) [
+        | inl ((link, fresh, unlacked, did, same), (link', fresh', unlacked', did', same')) ↦ record {
+          did = did ∙ sym did';
+          after = same ∙ ap (λ (l : LinkState T). let s : Seen T U C = record { part = Some (fresh_part l info); made = before.made ++ Initialized ∷ [] } in s)
+              (fresh_one transport (Some offer.default_limit) link link' fresh fresh') ∙ sym same';
+        }
+        | inr (felt, felt') ↦ unfelt_one before d e x y felt felt'
+      ]
+  inserted_one transport info (Err f) h g = unfelt_one before d e x y h g
+
+  global_one : (i : _) (version : ℕ) (handler : G) (r : Result GlobalParts GlobalError) → FeelsGlobal w id offer i version handler r before false d x
+      → FeelsGlobal w id offer i version handler r before false e y → SameFelt d e x y
+  global_one i version handler (Ok g) h h' = (on_one before d e x y _ _ _ _ (λ _ _. tt) (λ p q q' f f'. with_none (hears_one w.sends known.sends p _ d e q q' f f')) h h').0
+  global_one i version handler (Err f) h h' = unfelt_one before d e x y h h'
+
+  loss_one : (g : GlobalParts) → FeelsLoss w id offer g before false d x → FeelsLoss w id offer g before false e y → SameFelt d e x y
+  loss_one g h h' =
+      elim (both_bool (is_enabled (global_of offer.globals g)) h h') [
+        | inl (felt, felt') ↦ (on_one before d e x y _ _ _ _ (λ _ _. tt) (λ p q q' f f'. with_none (hears_one w.sends known.sends p _ d e q q' f f')) felt felt').0
+        | inr (felt, felt') ↦ unfelt_one before d e x y felt felt'
+      ]
+
+  flushed_for_one : (target : Option ClientParts) (r r' : Result (Unit {0}) IoFault) → FlushedFor w id offer target r before false d x
+      → FlushedFor w id offer target r' before false e y → SameFelt d e x y × ((let s : Step T U G C = step.Flush target in is_about id s) ≡ true → r ≡ r')
+  flushed_for_one None r r' (is, felt) (is', felt') =
+      ((on_one before d e x y _ _ _ _ (λ _ _. tt) (λ p q q' f f'. with_none (flushes_live_one w.sends known.sends p d e q q' f f')) felt felt').0, λ own. is ∙ sym is')
+  flushed_for_one (Some target) r r' h g =
+      of_one before d e x y (same_client target id) _ _ _ _ (λ a b. a ∙ sym b) (λ p q q' f f'. with_answer (flushed_one w.sends known.sends p r r' d e q q' f f')) h g
+
+  moved_one : (target : ClientParts) (m : _) (r r' : Moved) → MovedFor w id offer target m r before false d x → MovedFor w id offer target m r' before false e y
+      → SameFelt d e x y × (same_client target id ≡ true → r ≡ r')
+  moved_one target m r r' h g =
+      of_one before d e x y (same_client target id) _ _ _ _ (λ a b. a ∙ sym b) (λ p q q' f f'. with_answer (moves_one w.moves known.moves p m r r' d e q q' f f')) h g
+
+  cleaned_as_one : (r r' : _) → Ample step.Cleanup (reply.Cleanup r)
+      → Ample step.Cleanup (reply.Cleanup r')
+      → CleanedAs w id offer r before false d x → CleanedAs w id offer r' before false e y → SameFelt d e x y × SameReply {T = T} {U = U} id (reply.Cleanup r) (reply.Cleanup r')
+  cleaned_as_one (Err f) r' ample ample' h g = absurd (true≢false ample)
+  cleaned_as_one (Ok out) (Err f) ample ample' h g = absurd (true≢false ample')
+  cleaned_as_one (Ok out) (Ok out') ample ample' h g =
+      elim (both_option before.part h g) [
+        | inl (none, (is, felt), (is', felt')) ↦ (unfelt_one before d e x y felt felt', is ∙ sym is')
+        | inr (p, some, (q, by, same), (q', by', same')) ↦
+            let one = cleaned_one w.sends known.sends id p (share_of id out.items) (share_of id out'.items) d e q q' by by' in
+            (part_one before d e x y q q' (with_answer one).0 same same', one.answer)
+      ]
+
+  notes_taken_one : (r r' : _) → Ample step.TakeNotes (reply.TakeNotes r)
+      → Ample step.TakeNotes (reply.TakeNotes r')
+      → NotesTaken w id offer r before false d x → NotesTaken w id offer r' before false e y → SameFelt d e x y × SameReply {T = T} {U = U} id (reply.TakeNotes r) (reply.TakeNotes r')
+  notes_taken_one (Err f) r' ample ample' h g = absurd (true≢false ample)
+  notes_taken_one (Ok out) (Err f) ample ample' h g = absurd (true≢false ample')
+  notes_taken_one (Ok out) (Ok out') ample ample' (is, unlacked, did, same) (is', unlacked', did', same') = (same_felt did did' same same', is ∙ sym is')
+
+  -- each step has one outcome
+  pub step_one : (s : Step T U G C) (p q : Reply T U) → Ample s p → Ample s q → SharedSame s p q
+      → PartStep w id offer s p before false d x → PartStep w id offer s q before false e y → Same (is_about id s) p q
+  step_one (step.InsertClient transport info) p q ample ample' shared (r, is, h) (r', is', g) =
+      let answers : r ≡ r' = ap inserted_in (sym is ∙ shared ∙ is') in
+      let same = subst (λ z. InsertedAs w id offer transport info z before false e y) (sym answers) g in
+      outcome false p q (inserted_one transport info r h same) (λ own. absurd (true≢false (sym own)))
+  step_one (step.SetObjectData o u) p q ample ample' shared (r, is, h) (r', is', g) =
+      let one = of_one before d e x y (same_client o.client id) _ _ _ _ (λ a b. a ∙ sym b)
+      (λ s q q' f f'. with_answer (sets_one s o u r r' d e q q' f.1 f'.1 f.2 f'.2)) h g in
+      outcome (same_client o.client id) p q one.0 (λ own. same_reply id p q _ _ is is' (ap reply.SetObjectData (one.1 own)))
+  step_one (step.CreateObject target i version u) p q ample ample' shared (r, is, h) (r', is', g) =
+      let one = of_one before d e x y (same_client target id) _ _ _ _ (λ a b. a ∙ sym b)
+      (λ s q q' f f'. with_answer (creates_one id s r r' d e q q' f.0 f'.0 f.1 f'.1 offer.table i version u f.2 f'.2)) h g in
+      outcome (same_client target id) p q one.0 (λ own. same_reply id p q _ _ is is' (ap reply.CreateObject (one.1 own)))
+  step_one (step.DestroyObject o) p q ample ample' shared (r, is, h) (r', is', g) =
+      let one = of_one before d e x y (same_client o.client id) _ _ _ _ (λ a b. a ∙ sym b)
+      (λ s q q' f f'. with_answer (destroys_one w.sends known.sends id s o r r' d e q q' f f')) h g in
+      outcome (same_client o.client id) p q one.0 (λ own. same_reply id p q _ _ is is' (ap reply.DestroyObject (one.1 own)))
+  step_one (step.SendEvent m) p q ample ample' shared (r, is, h) (r', is', g) =
+      let one = of_one before d e x y (same_client m.sender_id.client id) _ _ _ _ (λ a b. a ∙ sym b)
+      (λ s q q' f f'. with_answer (sends_event_one w.sends known.sends id s (session_content m) r r' d e q q' offer.table f f')) h g in
+      outcome (same_client m.sender_id.client id) p q one.0 (λ own. same_reply id p q _ _ is is' (ap reply.SendEvent (one.1 own)))
+  step_one (step.PostError o code text) p q ample ample' shared (is, h) (is', g) =
+      let one = of_one before d e x y (same_client o.client id) _ _ _ _ (λ _ _. tt)
+      (λ s q q' f f'. with_none (posts_error_one w.sends known.sends offer.table s o code text d e q q' f f')) h g in
+      outcome (same_client o.client id) p q one.0 (λ own. same_reply id p q reply.PostError reply.PostError is is' refl)
+  step_one (step.KillClient target reason) p q ample ample' shared (is, h) (is', g) =
+      let one = of_one before d e x y (same_client target id) _ _ _ _ (λ _ _. tt)
+      (λ s q q' f f'. with_none (kills_one s reason d e q q' f.1 f'.1)) h g in
+      outcome (same_client target id) p q one.0 (λ own. same_reply id p q reply.KillClient reply.KillClient is is' refl)
+  step_one (step.CreateGlobal i version handler) p q ample ample' shared (r, is, h) (r', is', g) =
+      let answers : r ≡ r' = ap created_in (sym is ∙ shared ∙ is') in
+      let same = subst (λ z. FeelsGlobal w id offer i version handler z before false e y) (sym answers) g in
+      outcome true p q (global_one i version handler r h same) (λ own. same_reply id p q _ _ is is' (ap reply.CreateGlobal answers))
+  step_one (step.DisableGlobal g) p q ample ample' shared (is, h) (is', h') =
+      outcome true p q (loss_one g h h') (λ own. same_reply id p q reply.DisableGlobal reply.DisableGlobal is is' refl)
+  step_one (step.RemoveGlobal g) p q ample ample' shared (is, h) (is', h') =
+      outcome true p q (loss_one g h h') (λ own. same_reply id p q reply.RemoveGlobal reply.RemoveGlobal is is' refl)
+  step_one (step.Flush target) p q ample ample' shared (r, is, h) (r', is', g) =
+      let one = flushed_for_one target r r' h g in
+      outcome (is_about {T = T} {U = U} {G = G} {C = C} id (step.Flush target)) p q one.0 (λ own. same_reply id p q _ _ is is' (ap reply.Flush (one.1 own)))
+  step_one (step.SetDefaultMaxBufferSize limit) p q ample ample' shared (is, h) (is', g) =
+      outcome true p q (unfelt_one before d e x y h g) (λ own. same_reply id p q reply.SetDefaultMaxBufferSize reply.SetDefaultMaxBufferSize is is' refl)
+  step_one (step.SetClientMaxBufferSize target limit) p q ample ample' shared (is, h) (is', g) =
+      let one = of_one before d e x y (same_client target id) _ _ _ _ (λ _ _. tt)
+      (λ s q q' f f'. with_none (limits_one s limit d e q q' f.1 f'.1 f.2 f'.2)) h g in
+      outcome (same_client target id) p q one.0 (λ own. same_reply id p q reply.SetClientMaxBufferSize reply.SetClientMaxBufferSize is is' refl)
+  step_one (step.NextAction target) p q ample ample' shared (r, left, is, h) (r', left', is', g) =
+      let one = of_one before d e x y {P = (action_content r ≡ action_content r') × (left ≡ left')} (same_client target id) _ _ _ _ (λ a b. (a.0 ∙ sym b.0, a.1 ∙ sym b.1))
+      (λ s q q' f f'. let n = next_action_one w.sends known.sends w.receives known.receives (around w id offer) new_reading s (action_content r) (action_content r') left left' d e q q' f f' in
+      let a = with_answer n.0 in (a.0, (a.1, n.1))) h g in
+      outcome (same_client target id) p q one.0 (λ own. same_reply id p q (reply.NextAction r) (reply.NextAction r') is is' (one.1 own).0)
+  step_one (step.NextActionWithin target reading) p q ample ample' shared (r, left, is, h) (r', left', is', g) =
+      let one = of_one before d e x y {P = (action_content r ≡ action_content r') × (left ≡ left')} (same_client target id) _ _ _ _ (λ a b. (a.0 ∙ sym b.0, a.1 ∙ sym b.1))
+      (λ s q q' f f'. let n = next_action_one w.sends known.sends w.receives known.receives (around w id offer) reading s (action_content r) (action_content r') left left' d e q q' f f' in
+      let a = with_answer n.0 in (a.0, (a.1, n.1))) h g in
+      outcome (same_client target id) p q one.0 (λ own. same_reply id p q (reply.NextActionWithin r left) (reply.NextActionWithin r' left') is is' (one.1 own))
+  step_one (step.FinishRequest target u) p q ample ample' shared (r, is, h) (r', is', g) =
+      let one = of_one before d e x y (same_client target id) _ _ _ _ (λ a b. a ∙ sym b)
+      (λ s q q' f f'. with_answer (finishes_request_one w.sends known.sends id s u r r' d e q q' f f')) h g in
+      outcome (same_client target id) p q one.0 (λ own. same_reply id p q _ _ is is' (ap reply.FinishRequest (one.1 own)))
+  step_one (step.FinishBind target u) p q ample ample' shared (r, is, h) (r', is', g) =
+      let one = of_one before d e x y (same_client target id) _ _ _ _ (λ a b. a ∙ sym b)
+      (λ s q q' f f'. with_answer (finishes_bind_one s u r r' d e q q' f f')) h g in
+      outcome (same_client target id) p q one.0 (λ own. same_reply id p q _ _ is is' (ap reply.FinishBind (one.1 own)))
+  step_one step.Cleanup p q ample ample' shared (r, is, h) (r', is', g) =
+      let one = cleaned_as_one r r' (subst (λ z. Ample step.Cleanup z) is ample) (subst (λ z. Ample step.Cleanup z) is' ample') h g in
+      outcome true p q one.0 (λ own. same_reply id p q (reply.Cleanup r) (reply.Cleanup r') is is' one.1)
+  step_one step.TakeNotes p q ample ample' shared (r, is, h) (r', is', g) =
+      let one = notes_taken_one r r' (subst (λ z. Ample step.TakeNotes z) is ample) (subst (λ z. Ample step.TakeNotes z) is' ample') h g in
+      outcome true p q one.0 (λ own. same_reply id p q (reply.TakeNotes r) (reply.TakeNotes r') is is' one.1)
+  step_one (step.Arrive target bytes tokens) p q ample ample' shared (r, is, h) (r', is', g) =
+      let one = moved_one target (Arrive (record { bytes = bytes.items; tokens = tokens.items })) (done r) (done r') h g in
+      outcome (same_client target id) p q one.0 (λ own. same_reply id p q _ _ is is' (ap reply.Arrive (done_one r r' (one.1 own))))
+  step_one (step.ArriveFault target f) p q ample ample' shared (r, is, h) (r', is', g) =
+      let one = moved_one target (ArriveFault f) (done r) (done r') h g in
+      outcome (same_client target id) p q one.0 (λ own. same_reply id p q _ _ is is' (ap reply.ArriveFault (done_one r r' (one.1 own))))
+  step_one (step.Accept target n) p q ample ample' shared (r, is, h) (r', is', g) =
+      let one = moved_one target (Accept n) (done r) (done r') h g in
+      outcome (same_client target id) p q one.0 (λ own. same_reply id p q _ _ is is' (ap reply.Accept (done_one r r' (one.1 own))))
+  step_one (step.AcceptFault target f) p q ample ample' shared (r, is, h) (r', is', g) =
+      let one = moved_one target (AcceptFault f) (done r) (done r') h g in
+      outcome (same_client target id) p q one.0 (λ own. same_reply id p q _ _ is is' (ap reply.AcceptFault (done_one r r' (one.1 own))))
+  step_one (step.TakeSent target) p q ample ample' shared (r, is, h) (r', is', g) =
+      let one = moved_one target TakeSent (taken r) (taken r') h g in
+      outcome (same_client target id) p q one.0 (λ own. same_reply id p q (reply.TakeSent r) (reply.TakeSent r') is is' (one.1 own))
+
+  -- what a step does, another does that is the same
+  pub part_as : (s s' : Step T U G C) (q : Reply T U) → SameStep s s' → PartStep w id offer s' q before false e y → PartStep w id offer s q before false e y
+  part_as (step.SendEvent m) s' q same h = at s' same h
+    where
+      at : (s' : Step T U G C) → SendsSame (session_content m) s' → PartStep w id offer s' q before false e y → PartStep w id offer (step.SendEvent m) q before false e y
+      at (step.SendEvent m') same h =
+          subst (λ (c : SessionMessage). (r : _) × (q ≡ reply.SendEvent r)
+          × OfClient (same_client c.sender.client id) before (λ s t. SendsEvent w.sends id offer.table s c r false e t) (r ≡ Err event.InvalidId) false e y) (sym same) h
+      at s' same h = absurd same
+  part_as (step.Arrive target bytes tokens) s' q same h = at s' same h
+    where
+      at : (s' : Step T U G C) → ArrivesSame target (record { bytes = bytes.items; tokens = tokens.items }) s' → PartStep w id offer s' q before false e y
+          → PartStep w id offer (step.Arrive target bytes tokens) q before false e y
+      at (step.Arrive target' bytes' tokens') (same, chunks) h =
+          let chunk = subst (λ (c : Queue). (r : _) × (q ≡ reply.Arrive r) × MovedFor w id offer target' (Arrive c) (done r) before false e y) (sym chunks) h in
+          subst (λ (t : ClientParts). (r : _) × (q ≡ reply.Arrive r)
+          × MovedFor w id offer t (Arrive (record { bytes = bytes.items; tokens = tokens.items })) (done r) before false e y) (sym same) chunk
+      at s' same h = absurd same
+  part_as s s' q same h = subst (λ (z : Step T U G C). PartStep w id offer z q before false e y) (sym same) h
+
+  -- a want of memory for what a call makes of its own is told by its reply
+  pub growth_one : (s s' : Step T U G C) (q : Reply T U) → Ample s' q → Ample s q
+  growth_one s s' q ample = ample
+
+  pub same_step_one : (s s' : Step T U G C) (p q : Reply T U) → SameStep s s' → Ample s p → Ample s' q → SharedSame s p q
+      → PartStep w id offer s p before false d x → PartStep w id offer s' q before false e y → Same (is_about id s) p q
+  same_step_one s s' p q same ample ample' shared h g = step_one s p q ample (growth_one s s' q ample') shared h (part_as s s' q same g)
+
+  -- so has each call
+  pub call_one : (call call' : Call T U G C) → SameCall call call' → lacks_growth call ≡ false → lacks_growth call' ≡ false → SharedAnswer call call'
+      → PartCall w id offer call before false d x → PartCall w id offer call' before false e y
+      → (concerns id call ≡ true → SameAnswer id call call') × SameFelt d e x y
+  call_one (Asked s p) (Asked s' q) same ample ample' shared h g =
+      let one = same_step_one s s' p q same ample ample' shared h g in
+      (one.reply, record { did = one.deeds; after = one.held })
+  call_one (Changed target t) (Changed target' t') (same, same_value) ample ample' shared h g =
+      let there = subst (λ z. PartCall w id offer (Changed z t') before false e y) (sym same) g in
+      let here = subst (λ z. PartCall w id offer (Changed target z) before false e y) (sym same_value) there in
+      let one = of_one before d e x y (same_client target id) _ _ _ _ (λ _ _. tt) (λ s q q' f f'. with_none (changes_one s t d e q q' f.1 f'.1 f.2 f'.2)) h here in
+      (λ own. tt, one.0)
+  call_one (Asked s p) (Changed target t) same ample ample' shared h g = absurd same
+  call_one (Changed target t) (Asked s p) same ample ample' shared h g = absurd same

@@ -1,0 +1,331 @@
+-- That each call on what is one client's has one outcome, where memory is not refused to it.
+use Rattle.std.proofs.Common.{◌≡◌, ◌≢◌, ℕ, Bool, true, false, List, [], ◌∷◌, ◌++◌, map, Option, Some, Result, Ok, Err, sym, ap, subst, ◌∙◌, true≢false}
+use Rattle.std.specs.Prelude.{◌==◌, MatchBool, slice_get}
+use Rattle.std.specs.FinMap as finmap
+use mathlib.Core.Logic.{inl, inr}
+use Rattle.wl_wire.specs.declared.error.IoFault.{IoFault}
+use Rattle.wl_wire.specs.declared.error.IoFault.TheVariants as fault
+use Rattle.wl_wire.specs.declared.interface.InterfaceId.{InterfaceId}
+use Rattle.wl_wire.specs.Table.{InterfaceRow}
+use Rattle.wl_link.specs.declared.object.Object.{Object}
+use Rattle.wl_link.proofs.Calls.Branches.{both_bool, both_option, both_result}
+use Rattle.wl_link.specs.Exchange.{Queue, Sending, IsFunction, IsReceiveFunction}
+use Rattle.wl_link.specs.Link.{LinkState, LimitSet, with_transport}
+use Rattle.wl_link.proofs.Calls.OneLaws.{one_flush_lem, one_write_lem}
+use Rattle.wl_link.specs.Puts.{Said}
+use Rattle.wl_link.proofs.Readings.PutsLaws.{not_lacked}
+use Rattle.wl_link.specs.Reader.{Given, Gives, Turn, Verdict, handled_in, ReaderState}
+use Rattle.wl_link.proofs.Readings.ReaderLaws.{reads_one}
+use Rattle.wl_link.proofs.Readings.ServedLaws.{carries_one}
+use Rattle.wl_link.specs.Store.{server_range}
+use Rattle.wl_server.specs.declared.reading.action.OpenAction.{OpenAction}
+use Rattle.wl_server.specs.declared.reading.action.OpenAction.TheVariants as opened
+use Rattle.wl_server.specs.declared.reading.action.Reading.{Reading}
+use Rattle.wl_server.specs.declared.error.ActionError.{ActionError}
+use Rattle.wl_server.specs.declared.error.CreateError.{CreateError}
+use Rattle.wl_server.specs.declared.error.CreateError.TheVariants as create
+use Rattle.wl_server.specs.declared.error.DestroyError.{DestroyError}
+use Rattle.wl_server.specs.declared.error.EventError.{EventError}
+use Rattle.wl_server.specs.declared.error.FinishRefused.{FinishRefused}
+use Rattle.wl_server.specs.declared.error.InvalidId.{InvalidId}
+use Rattle.wl_server.specs.declared.objects.Kept.{Kept}
+use Rattle.wl_server.specs.declared.notes.DisconnectReason.{DisconnectReason}
+use Rattle.wl_server.specs.Deeds.{Deed, Handed, Noted, Put, Sent}
+use Rattle.wl_server.specs.Errors.{PostsError, posts}
+use Rattle.wl_server.specs.Events.{SendsEvent, SendsGranted, SentAs, SessionMessage, ends_closed, ends_sender, event_check, said, wire_message}
+use Rattle.wl_server.proofs.OverRuns.Outcome.ExchangeLaws.{carries_sends, reads_turns}
+use Rattle.wl_server.specs.Felt.{Cleaned, FlushedTo, FlushesLive, Hears, objects_leave}
+use Rattle.wl_server.specs.Finish.{EndsRequest, FinishesBind, FinishesOpen, FinishesOpenBind, FinishesRequest, ends_request, refusal}
+use Rattle.wl_server.specs.Ids.{ClientParts, IdParts}
+use Rattle.wl_server.specs.Moves.{Move, Moved}
+use Rattle.wl_link.proofs.Calls.NumberLaws.{full_not_absent, least_absent_one, limit_set_one}
+use Rattle.wl_server.specs.Objects.{Creates, CreatesAt, DataSet, Destroys, destroyable, destroys, new_object}
+use Rattle.wl_server.proofs.OverRuns.Outcome.Determined.{IsMoveFunction}
+use Rattle.wl_server.specs.Part.{Part, last_possible_serial, named, with_link}
+use Rattle.wl_server.specs.PartStep.{WithTransport, lacks_create, lacks_move}
+use Rattle.wl_server.specs.Reading.{Around, NextAction, ReadsTo, answered, exchanges_in, read_on, server}
+use Rattle.wl_server.specs.Telling.{Core, Kills, Tells, Told, core_of, deeds_of, part_of, reader_part, speaker, tells}
+
+-- ---- what two outcomes share
+
+-- the deeds and the values of two outcomes are the same
+pub record SameFelt {U S : Type 0} (d e : List (Deed U)) (x y : S) : Type 0 where
+  pub did : d ≡ e
+  pub after : x ≡ y
+
+-- and so are the answers
+pub record SameEnd {A U S : Type 0} (a b : A) (d e : List (Deed U)) (x y : S) : Type 0 where
+  pub answer : a ≡ b
+  pub did : d ≡ e
+  pub after : x ≡ y
+
+pub same_felt : {U S : Type 0} {d e f : List (Deed U)} {x y z : S} → d ≡ f → e ≡ f → x ≡ z → y ≡ z → SameFelt d e x y
+same_felt did did' same same' = record { did = did ∙ sym did'; after = same ∙ sym same' }
+
+pub same_end : {A U S : Type 0} {a b c : A} {d e f : List (Deed U)} {x y z : S} → a ≡ c → b ≡ c → d ≡ f → e ≡ f → x ≡ z → y ≡ z → SameEnd a b d e x y
+same_end is is' did did' same same' = record { answer = is ∙ sym is'; did = did ∙ sym did'; after = same ∙ sym same' }
+
+pub answered_too : {A U S : Type 0} {a b c : A} {d e : List (Deed U)} {x y : S} → a ≡ c → b ≡ c → SameFelt d e x y → SameEnd a b d e x y
+answered_too is is' one = record { answer = is ∙ sym is'; did = one.did; after = one.after }
+
+-- what was not refused was not
+pub not_so : (b : Bool) → false ≡ b → b ≡ true → ⊥
+not_so b unasked asked = true≢false (sym (unasked ∙ asked))
+
+module _ {T U C : Type 0} where
+  -- ---- objects
+
+  pub sets_one : (s : Part T U C) (id : IdParts) (u : U) (a b : Result (Unit {0}) InvalidId) (d e : List (Deed U)) (x y : Part T U C)
+      → d ≡ [] → e ≡ [] → DataSet s id u a x → DataSet s id u b y → SameEnd a b d e x y
+  sets_one s id u a b d e x y did did' h g =
+      elim (both_option (named s.store id) h g) [
+        | inl (none, (is, same), (is', same')) ↦ same_end is is' did did' same same'
+        | inr (o, some, (is, same), (is', same')) ↦ same_end is is' did did' same same'
+      ]
+
+  module _ (client : ClientParts) (s : Part T U C) (a b : Result IdParts CreateError) (d e : List (Deed U)) (x y : Part T U C)
+      (unlacked : false ≡ lacks_create a) (unlacked' : false ≡ lacks_create b) (did : d ≡ []) (did' : e ≡ []) where
+    creates_at_one : (n : ℕ) (o : Object (Kept U)) → CreatesAt client s n o a x → CreatesAt client s n o b y → SameEnd a b d e x y
+    creates_at_one n o (inl (is, same)) (inl (is', same')) = same_end is is' did did' same same'
+    creates_at_one n o (inr (is, first, same)) other = absurd (not_so _ unlacked (ap lacks_create is))
+    creates_at_one n o (inl (is, same)) (inr (is', first, same')) = absurd (not_so _ unlacked' (ap lacks_create is'))
+
+    -- what a creation does at its number
+    abbrev AtNumber : InterfaceId → ℕ → U → Result IdParts CreateError → Part T U C → ℕ → Type 0
+    AtNumber i version u answer after n =
+        MatchBool (s.last_serial == last_possible_serial) ((answer ≡ Err create.SerialsExhausted) × (after ≡ s))
+        (CreatesAt client s n (new_object s i version u) answer after)
+
+    pub creates_one : (table : List InterfaceRow) (i : InterfaceId) (version : ℕ) (u : U)
+        → Creates table client s i version u a x → Creates table client s i version u b y → SameEnd a b d e x y
+    creates_one table i version u h g =
+        elim (both_option (slice_get table i.0) h g) [
+          | inl (none, (is, same), (is', same')) ↦ same_end is is' did did' same same'
+          | inr (row, some, inl (full, is, same), inl (full', is', same')) ↦ same_end is is' did did' same same'
+          | inr (row, some, inl (full, is, same), inr (n, least, end)) ↦ absurd (full_not_absent server_range s.store n full least)
+          | inr (row, some, inr (n, least, end), inl (full, is, same)) ↦ absurd (full_not_absent server_range s.store n full least)
+          | inr (row, some, inr (n, least, end), inr (n', least', end')) ↦
+              let number : n' ≡ n = least_absent_one server_range s.store n' n least' least in
+              let numbered = subst (λ k. AtNumber i version u b y k) number end' in
+              elim (both_bool (s.last_serial == last_possible_serial) end numbered) [
+                | inl ((is, same), (is', same')) ↦ same_end is is' did did' same same'
+                | inr (p, q) ↦ creates_at_one n (new_object s i version u) p q
+              ]
+        ]
+
+  -- ---- a client that is killed
+
+  pub kills_one : (s : Part T U C) (reason : DisconnectReason) (d e : List (Deed U)) (x y : Part T U C) → Kills s reason d x → Kills s reason e y → SameFelt d e x y
+  kills_one s reason d e x y (did, same) (did', same') = same_felt did did' same same'
+
+  -- ---- limits and transports
+
+  abbrev Limits : Part T U C → ℕ → Part T U C → Type 0
+  Limits s limit after = (link : LinkState T) × LimitSet s.link (Some limit) link × (after ≡ with_link s link)
+
+  pub limits_one : (s : Part T U C) (limit : ℕ) (d e : List (Deed U)) (x y : Part T U C) → d ≡ [] → e ≡ [] → Limits s limit x → Limits s limit y → SameFelt d e x y
+  limits_one s limit d e x y did did' (link, set, same) (link', set', same') = record {
+    did = did ∙ sym did';
+    after = same ∙ ap (λ (l : LinkState T). with_link s l) (limit_set_one s.link (Some limit) link link' set set') ∙ sym same';
+  }
+
+  pub changes_one : (s : Part T U C) (t : T) (d e : List (Deed U)) (x y : Part T U C) → d ≡ [] → e ≡ []
+      → WithTransport (λ _ t'. t' ≡ t) s x → WithTransport (λ _ t'. t' ≡ t) s y → SameFelt d e x y
+  changes_one s t d e x y did did' (to, is, same) (to', is', same') = record {
+    did = did ∙ sym did';
+    after = same ∙ ap (λ (z : T). with_link s (with_transport s.link z)) (is ∙ sym is') ∙ sym same';
+  }
+
+  pub moves_one : (moves : T → Move → Moved → T → Type 0) → IsMoveFunction moves → (s : Part T U C) (m : Move) (a b : Moved) (d e : List (Deed U)) (x y : Part T U C)
+      → (false ≡ lacks_move a) × (d ≡ []) × WithTransport (λ t t'. moves t m a t') s x → (false ≡ lacks_move b) × (e ≡ []) × WithTransport (λ t t'. moves t m b t') s y
+      → SameEnd a b d e x y
+  moves_one moves function s m a b d e x y (unlacked, did, (t, moved, same)) (unlacked', did', (t', moved', same')) =
+      let one = function s.link.transport m a b t t' moved moved' (sym unlacked) (sym unlacked') in record {
+        answer = one.0;
+        did = did ∙ sym did';
+        after = same ∙ ap (λ (z : T). with_link s (with_transport s.link z)) one.1 ∙ sym same';
+      }
+
+  -- ---- the end of a bind
+
+  pub finishes_bind_one : (s : Part T U C) (u : U) (a b : Result (Unit {0}) (FinishRefused U)) (d e : List (Deed U)) (x y : Part T U C)
+      → FinishesBind s u a false d x → FinishesBind s u b false e y → SameEnd a b d e x y
+  finishes_bind_one s u a b d e x y h g =
+      elim (both_option s.action h g) [
+        | inl (none, (is, unlacked, did, same), (is', unlacked', did', same')) ↦ same_end is is' did did' same same'
+        | inr (action, some, p, q) ↦ at action p q
+      ]
+    where
+      at : (action : OpenAction) → FinishesOpenBind s action u a false d x → FinishesOpenBind s action u b false e y → SameEnd a b d e x y
+      at (opened.Request _ _ _) (is, unlacked, did, same) (is', unlacked', did', same') = same_end is is' did did' same same'
+      at (opened.Bind object) (is, unlacked, did, same) (is', unlacked', did', same') = same_end is is' did did' same same'
+
+  module _ (sends : T → Queue → Result ℕ IoFault → T → Type 0) (function : IsFunction sends) where
+    -- ---- what is told
+
+    pub tells_one : (v : Verdict (Core U C) (Told U)) (link : LinkState T) (d e : List (Deed U)) (x y : Part T U C)
+        → Tells sends v link false d x → Tells sends v link false e y → SameFelt d e x y
+    tells_one v link d e x y (es, gave, end, carried, did, same) (fs, gave', end', carried', did', same') =
+        let one = carries_one sends function speaker v link end end' es fs gave gave' carried carried' in
+        let sent = carries_sends sends function speaker v link end end' es fs gave gave' carried carried' in record {
+          did = did ∙ ap (λ (z : List Sending). deeds_of (map Sent z) gave end.core) sent
+              ∙ ap (λ (z : List (Given (Told U))). deeds_of (map Sent fs) z end.core) one.gave
+              ∙ ap (λ (z : ReaderState T (Core U C)). deeds_of (map Sent fs) gave' z.core) one.after ∙ sym did';
+          after = same ∙ ap part_of one.after ∙ sym same';
+        }
+
+    pub destroys_one : (client : ClientParts) (s : Part T U C) (id : IdParts) (a b : Result (Unit {0}) DestroyError) (d e : List (Deed U)) (x y : Part T U C)
+        → Destroys sends client s id a false d x → Destroys sends client s id b false e y → SameEnd a b d e x y
+    destroys_one client s id a b d e x y h g =
+        elim (both_option (destroyable s id) h g) [
+          | inl (none, (is, unlacked, did, same), (is', unlacked', did', same')) ↦ same_end is is' did did' same same'
+          | inr (o, some, (is, told), (is', told')) ↦ answered_too is is' (tells_one (destroys client (core_of s) id o) s.link d e x y told told')
+        ]
+
+    pub posts_error_one : (table : List InterfaceRow) (s : Part T U C) (id : IdParts) (code : ℕ) (text : List ℕ) (d e : List (Deed U)) (x y : Part T U C)
+        → PostsError sends table s id code text false d x → PostsError sends table s id code text false e y → SameFelt d e x y
+    posts_error_one table s id code text d e x y h g =
+        elim (both_bool (id.number == 0) h g) [
+          | inl ((unlacked, did, same), (unlacked', did', same')) ↦ same_felt did did' same same'
+          | inr (told, told') ↦ tells_one (posts table (core_of s) id code text) s.link d e x y told told'
+        ]
+
+    pub hears_one : (s : Part T U C) (messages : List Said) (d e : List (Deed U)) (x y : Part T U C)
+        → Hears sends s messages false d x → Hears sends s messages false e y → SameFelt d e x y
+    hears_one s messages d e x y h g =
+        elim (both_bool s.is_killed h g) [
+          | inl ((unlacked, did, same), (unlacked', did', same')) ↦ same_felt did did' same same'
+          | inr (told, told') ↦ tells_one (tells (core_of s) messages) s.link d e x y told told'
+        ]
+
+    -- ---- flushes
+
+    pub flushed_one : (s : Part T U C) (a b : Result (Unit {0}) IoFault) (d e : List (Deed U)) (x y : Part T U C)
+        → FlushedTo sends s a false d x → FlushedTo sends s b false e y → SameEnd a b d e x y
+    flushed_one s a b d e x y (es, link, by, unlacked, did, same) (fs, link', by', unlacked', did', same') =
+        let one = one_flush_lem sends function s.link link link' es fs a b by by' (not_lacked a (sym unlacked)) (not_lacked b (sym unlacked')) in record {
+          answer = one.answer;
+          did = did ∙ ap (λ (z : List Sending). let sent : List (Deed U) = map Sent z in sent) one.sends ∙ sym did';
+          after = same ∙ ap (λ (l : LinkState T). with_link s l) one.after ∙ sym same';
+        }
+
+    pub flushes_live_one : (s : Part T U C) (d e : List (Deed U)) (x y : Part T U C) → FlushesLive sends s false d x → FlushesLive sends s false e y → SameFelt d e x y
+    flushes_live_one s d e x y h g =
+        elim (both_bool s.is_killed h g) [
+          | inl ((unlacked, did, same), (unlacked', did', same')) ↦ same_felt did did' same same'
+          | inr ((a, p), (b, q)) ↦ let one = flushed_one s a b d e x y p q in record { did = one.did; after = one.after }
+        ]
+
+    -- ---- a cleanup
+
+    pub cleaned_one : (client : ClientParts) (s : Part T U C) (out others : List T) (d e : List (Deed U)) (x y : Option (Part T U C))
+        → Cleaned sends client s false d out x → Cleaned sends client s false e others y → SameEnd out others d e x y
+    cleaned_one client s out others d e x y h g =
+        elim (both_bool s.is_killed h g) [
+          | inl ((sent, a, end, flushed, did, is, same), (sent', b, end', flushed', did', is', same')) ↦
+              let one = flushed_one s a b sent sent' end end' flushed flushed' in record {
+                answer = is ∙ ap (λ (p : Part T U C). p.link.transport ∷ []) one.after ∙ sym is';
+                did = did ∙ ap (λ (z : List (Deed U)). map Noted s.waiting ++ (objects_leave client (finmap.entries s.store.objects) ++ z)) one.did ∙ sym did';
+                after = same ∙ sym same';
+              }
+          | inr ((unlacked, did, is, same), (unlacked', did', is', same')) ↦ same_end is is' did did' same same'
+        ]
+
+    -- ---- an event
+
+    module _ (client : ClientParts) (s : Part T U C) (m : SessionMessage) (a b : Result (Unit {0}) EventError) (d e : List (Deed U)) (x y : Part T U C) where
+      sent_as_one : (sender : Object (Kept U)) (ends : Bool) (wrote : Result (Unit {0}) IoFault) (link : LinkState T) (rest rest' : List (Deed U))
+          → SentAs sends client s m sender ends wrote link a false rest x → SentAs sends client s m sender ends wrote link b false rest' y → SameEnd a b rest rest' x y
+      sent_as_one sender ends (Ok u) link rest rest' (more, told, is, did) (more', told', is', did') =
+          let one = tells_one (ends_sender client (core_of s) m sender ends) link more more' x y told told' in record {
+            answer = is ∙ sym is';
+            did = did ∙ ap (λ (z : List (Deed U)). Put (said m) ∷ z) one.did ∙ sym did';
+            after = one.after;
+          }
+      sent_as_one sender ends (Err fault.OutOfMemory) link rest rest' h g = absurd (true≢false (sym h.1))
+      sent_as_one sender ends (Err other) link rest rest' h g =
+          answered_too h.1 g.1 (tells_one (ends_closed client (core_of s) m sender ends) link rest rest' x y h.0 g.0)
+
+      wrote_allowed : (sender : Object (Kept U)) (ends : Bool) (wrote : Result (Unit {0}) IoFault) (link : LinkState T) (answer : Result (Unit {0}) EventError) (rest : List (Deed U))
+          (after : Part T U C) → SentAs sends client s m sender ends wrote link answer false rest after → wrote ≢ Err fault.OutOfMemory
+      wrote_allowed sender ends wrote link answer rest after sent is =
+          let refused = subst (λ z. SentAs sends client s m sender ends z link answer false rest after) is sent in
+          true≢false (sym refused.1)
+
+      sends_granted_one : (sender : Object (Kept U)) (ends : Bool) → SendsGranted sends client s m sender ends a false d x → SendsGranted sends client s m sender ends b false e y
+          → SameEnd a b d e x y
+      sends_granted_one sender ends (inl (asks, is, lacked, did, same)) other = absurd (true≢false (sym lacked))
+      sends_granted_one sender ends (inr h) (inl (asks, is, lacked, did, same)) = absurd (true≢false (sym lacked))
+      sends_granted_one sender ends (inr (es, rest, w, link, by, sent, did)) (inr (fs, rest', w', link', by', sent', did')) =
+          let same = one_write_lem sends function (wire_message m) link link' es fs w w' (wrote_allowed sender ends w link a rest x sent) (wrote_allowed sender ends w' link' b rest' y sent')
+          s.link by by' in
+          let answered = subst (λ z. SentAs sends client s m sender ends z link' b false rest' y) (sym same.answer) sent' in
+          let linked = subst (λ l. SentAs sends client s m sender ends w l b false rest' y) (sym same.after) answered in
+          let one = sent_as_one sender ends w link rest rest' sent linked in record {
+            answer = one.answer;
+            did = did ∙ ap (λ (z : List Sending). map Sent z ++ rest) same.sends ∙ ap (λ (z : List (Deed U)). map Sent fs ++ z) one.did ∙ sym did';
+            after = one.after;
+          }
+
+      pub sends_event_one : (table : List InterfaceRow) → SendsEvent sends client table s m a false d x → SendsEvent sends client table s m b false e y → SameEnd a b d e x y
+      sends_event_one table h g =
+          elim (both_bool s.is_killed h g) [
+            | inl ((is, unlacked, did, same), (is', unlacked', did', same')) ↦ same_end is is' did did' same same'
+            | inr (p, q) ↦
+                elim (both_result (event_check client s.store table m) p q) [
+                  | inl (granted, sent, sent') ↦ sends_granted_one granted.0 granted.1 sent sent'
+                  | inr (f, (is, unlacked, did, same), (is', unlacked', did', same')) ↦ same_end is is' did did' same same'
+                ]
+          ]
+
+    -- ---- the end of a request
+
+    module _ (client : ClientParts) (s : Part T U C) (u : Option U) (a b : Result (Unit {0}) (FinishRefused (Option U))) (d e : List (Deed U)) (x y : Part T U C) where
+      ends_one : (sender : IdParts) (is_destructor : Bool) (created : Option IdParts) → EndsRequest sends client s sender is_destructor created u a false d x
+          → EndsRequest sends client s sender is_destructor created u b false e y → SameEnd a b d e x y
+      ends_one sender is_destructor created (is, told) (is', told') =
+          answered_too is is' (tells_one (ends_request client (core_of s) sender is_destructor created u) s.link d e x y told told')
+
+      finishes_open_one : (action : OpenAction) → FinishesOpen sends client s action u a false d x → FinishesOpen sends client s action u b false e y → SameEnd a b d e x y
+      finishes_open_one (opened.Bind object) (is, unlacked, did, same) (is', unlacked', did', same') = same_end is is' did did' same same'
+      finishes_open_one (opened.Request sender is_destructor created) h g =
+          elim (both_option (refusal s.is_killed created u) h g) [
+            | inl (none, end, end') ↦ ends_one sender is_destructor created end end'
+            | inr (f, some, (is, unlacked, did, same), (is', unlacked', did', same')) ↦ same_end is is' did did' same same'
+          ]
+
+      pub finishes_request_one : FinishesRequest sends client s u a false d x → FinishesRequest sends client s u b false e y → SameEnd a b d e x y
+      finishes_request_one h g =
+          elim (both_option s.action h g) [
+            | inl (none, (is, unlacked, did, same), (is', unlacked', did', same')) ↦ same_end is is' did did' same same'
+            | inr (action, some, p, q) ↦ finishes_open_one action p q
+          ]
+
+    -- ---- a reading
+
+    module _ {G : Type 0} (receives : T → ℕ → Result Queue IoFault → T → Type 0) (receives_function : IsReceiveFunction receives) (around : Around G C) (r : Reading) (s : Part T U C)
+        (a b : Result Handed ActionError) (left left' : Reading) (d e : List (Deed U)) (x y : Part T U C) where
+      reads_to_one : ReadsTo sends receives around r s a left false d x → ReadsTo sends receives around r s b left' false e y → SameEnd a b d e x y × (left ≡ left')
+      reads_to_one (turns, out, end, reads, is, rest, unlacked, did, same) (turns', out', end', reads', is', rest', unlacked', did', same') =
+          let one = reads_one sends function receives receives_function (server around) r.turns_left (reader_part s) end end' turns turns' out out' (sym unlacked) (sym unlacked') reads reads' in
+          let went = reads_turns sends function (server around) receives receives_function r.turns_left (reader_part s) end end' turns turns' out out' (sym unlacked) (sym unlacked') reads reads' in (
+            record {
+              answer = is ∙ ap (λ (o : Gives (Told U)). answered o.stopped o.gave) one.out ∙ sym is';
+              did = did ∙ ap (λ (z : List Turn). deeds_of (exchanges_in z) out.gave end.core) went
+                  ∙ ap (λ (o : Gives (Told U)). deeds_of (exchanges_in turns') o.gave end.core) one.out
+                  ∙ ap (λ (z : ReaderState T (Core U C)). deeds_of (exchanges_in turns') out'.gave z.core) one.after ∙ sym did';
+              after = same ∙ ap part_of one.after ∙ sym same';
+            },
+            rest ∙ ap (λ (o : Gives (Told U)). read_on r o.left (handled_in turns)) one.out ∙ ap (λ (z : List Turn). read_on r out'.left (handled_in z)) went ∙ sym rest',
+          )
+
+      pub next_action_one : NextAction sends receives around r s a left false d x → NextAction sends receives around r s b left' false e y → SameEnd a b d e x y × (left ≡ left')
+      next_action_one h g =
+          elim (both_option s.action h g) [
+            | inr (action, some, (is, rest, unlacked, did, same), (is', rest', unlacked', did', same')) ↦ (same_end is is' did did' same same', rest ∙ sym rest')
+            | inl (none, p, q) ↦
+                elim (both_bool s.is_killed p q) [
+                  | inl ((is, rest, unlacked, did, same), (is', rest', unlacked', did', same')) ↦ (same_end is is' did did' same same', rest ∙ sym rest')
+                  | inr (reads, reads') ↦ reads_to_one reads reads'
+                ]
+          ]

@@ -1,0 +1,66 @@
+-- That the runs of one client have one outcome, where they are of the same steps, and so it is whatever other clients do.
+use Rattle.std.proofs.Common.{◌≡◌, Bool, List, [], ◌∷◌, ◌++◌, Some, refl, sym, ap, subst, ◌∙◌}
+use Rattle.wl_wire.specs.Table.{InterfaceRow}
+use Rattle.wl_link.specs.Link.{LinkState, IsFresh}
+use Rattle.wl_server.specs.Globals.{Offer, new_offer}
+use Rattle.wl_server.specs.Ids.{ClientParts}
+use Rattle.wl_server.proofs.OverRuns.Alone.IsolationLaw.{each_alone, offer_over_one, offer_run, split_run}
+use Rattle.wl_link.proofs.Calls.NumberLaws.{fresh_one}
+use Rattle.wl_server.proofs.OverRuns.Outcome.OfferLaws.{answered_call, mine_numbered, mine_own, shared_call}
+use Rattle.wl_server.proofs.OverRuns.Outcome.Determined.{IsDetermined}
+use Rattle.wl_server.specs.Outcome.{AreNumbered, AreOwn, ClientsHaveOneOutcome, HasMemory, InsertsAs, SameRun, SameSteps}
+use Rattle.wl_server.proofs.OverRuns.Outcome.OutcomeLaws.{call_one}
+use Rattle.wl_server.specs.PartStep.{Call, PartCall, World}
+use Rattle.wl_server.specs.Runs.{Alone, Leads, Own, begun, mine, offer_over}
+use Rattle.wl_server.specs.Server.{Seen, ServerState, new_server, seen}
+use Rattle.wl_server.specs.Steps.{Entry, offer_after}
+
+module _ {T U G C : Type 0} where
+  -- ---- the runs of one client
+
+  pub alone_one : (w : World T G C) → IsDetermined w → (id : ClientParts) (offer : Offer G) (before x y : Seen T U C) (run run' : List (Own T U G C))
+      → AreOwn id run → SameSteps run run' → HasMemory run → HasMemory run' → AreNumbered offer run → AreNumbered offer run'
+      → Alone w id offer before run x → Alone w id offer before run' y → SameRun id run run' × (x ≡ y)
+  alone_one w known id offer before x y [] [] own same ample ample' n n' h g = (tt, h ∙ sym g)
+  alone_one w known id offer before x y [] (f ∷ run') own same ample ample' n n' h g = absurd same
+  alone_one w known id offer before x y (e ∷ run) [] own same ample ample' n n' h g = absurd same
+  alone_one w known id offer before x y (e ∷ run) (f ∷ run') (own, owns) (same, others) (unlacked, ample, rest) (unlacked', ample', rest') (n, more) (n', more') (mid, by, alone) (mid', by', alone') =
+      let first = subst (λ (b : Bool). PartCall w id offer e.call before b e.did mid) unlacked by in
+      let first' = subst (λ (b : Bool). PartCall w id offer f.call before b f.did mid') unlacked' by' in
+      let shared = shared_call id offer e.call f.call same own ample ample' n n' (answered_call w id offer e.call _ _ _ _ first) (answered_call w id offer f.call _ _ _ _ first') in
+      let one = call_one w known id offer before e.did f.did mid mid' e.call f.call same ample ample' shared.0 first first' in
+      let numbers = subst (λ (o : Offer G). AreNumbered o run') (sym shared.1) more' in
+      let offered = subst (λ (o : Offer G). Alone w id o mid' run' y) (sym shared.1) alone' in
+      let joined = subst (λ (s : Seen T U C). Alone w id (offer_after offer e.call) s run' y) (sym one.1.after) offered in
+      let later = alone_one w known id (offer_after offer e.call) mid x y run run' owns others rest rest' more numbers alone joined in
+      ((one.0 own, one.1.did, later.0), later.1)
+
+  -- ---- whatever other clients do
+
+  -- from its insertion on
+  later_numbered : (w : World T G C) (table : List InterfaceRow) (id : ClientParts) (earlier later : List (Entry T U G C)) (e : Entry T U G C) (after : ServerState T U G C)
+      → Leads w (new_server table) (earlier ++ e ∷ later) after → AreNumbered (offer_over (new_offer table) (earlier ++ e ∷ [])) (mine id later)
+  later_numbered w table id earlier later e after leads =
+      let (mid, first, (next, by, rest)) = split_run w (new_server table) after earlier (e ∷ later) leads in
+      subst (λ (o : Offer G). AreNumbered o (mine id later))
+      (by.offer ∙ ap (λ (o : Offer G). offer_after o e.call) (offer_run w (new_server table) mid earlier first)
+      ∙ sym (offer_over_one (new_server {T = T} {U = U} {C = C} table).offer earlier e)) (mine_numbered w id next after later rest)
+
+  -- the insertion of a client leaves the offer
+  inserted_offer : (offer : Offer G) (id : ClientParts) (transport : T) (info : C) (earlier : List (Entry T U G C)) (e : Entry T U G C) → InsertsAs id transport info e
+      → offer_over offer (earlier ++ e ∷ []) ≡ offer_over offer earlier
+  inserted_offer offer id transport info earlier e inserts = offer_over_one offer earlier e ∙ ap (λ (c : Call T U G C). offer_after (offer_over offer earlier) c) inserts
+
+  pub client_one : (w : World T G C) → IsDetermined w → ClientsHaveOneOutcome U w
+  client_one w known table id transport info earlier later earlier' later' e e' after after' leads leads' inserts inserts' offers same ample ample' =
+      let (link, fresh, alone) = each_alone w table (earlier ++ e ∷ later) after leads id transport info earlier later e refl inserts in
+      let (link', fresh', alone') = each_alone w table (earlier' ++ e' ∷ later') after' leads' id transport info earlier' later' e' refl inserts' in
+      let offered : offer_over (new_offer table) (earlier' ++ e' ∷ []) ≡ offer_over (new_offer table) (earlier ++ e ∷ [])
+      = inserted_offer (new_offer table) id transport info earlier' e' inserts' ∙ sym offers ∙ sym (inserted_offer (new_offer table) id transport info earlier e inserts) in
+      let fresh_there = subst (λ (o : Offer G). IsFresh transport (Some o.default_limit) link') (sym offers) fresh' in
+      let links : link' ≡ link = fresh_one transport (Some (offer_over (new_offer table) earlier).default_limit) link' link fresh_there fresh in
+      let begun_there = subst (λ (l : LinkState T). Alone w id (offer_over (new_offer table) (earlier' ++ e' ∷ [])) (begun l info) (mine id later') (seen id after')) links alone' in
+      let alone_there = subst (λ (o : Offer G). Alone w id o (begun link info) (mine id later') (seen id after')) offered begun_there in
+      let numbers = subst (λ (o : Offer G). AreNumbered o (mine id later')) offered (later_numbered w table id earlier' later' e' after' leads') in
+      alone_one w known id (offer_over (new_offer table) (earlier ++ e ∷ [])) (begun link info) (seen id after) (seen id after') (mine id later) (mine id later')
+      (mine_own id later) same ample ample' (later_numbered w table id earlier later e after leads) numbers alone alone_there

@@ -1,0 +1,108 @@
+-- What a cleanup hands out is determined by the share that each client has in it.
+use Rattle.std.proofs.Common.{◌≡◌, ℕ, zero, suc, ◌<◌, ◌⊎◌, Bool, true, false, List, [], ◌∷◌, length, refl, sym, ap, subst, ◌∙◌, true≢false, arith}
+use Rattle.std.specs.Prelude.{◌==◌, ◌&&◌, slice_index_or}
+use mathlib.Core.Logic.{inl, inr}
+use Rattle.std.proofs.lemmas.Bool.{cases_Bool, cases_order, eqb-true}
+use Rattle.wl_server.specs.Ids.{ClientParts, same_client}
+use Rattle.wl_server.proofs.OverRuns.Alone.IsolationLaw.{same_self, same_serial}
+use Rattle.wl_server.proofs.OverRuns.Outcome.NumberLaws.{client_is}
+use Rattle.wl_server.specs.PartStep.{share_of}
+use Rattle.wl_server.specs.Steps.{RiseBySlot}
+
+-- ---- ids
+
+same_slot : (a b : ClientParts) → same_client a b ≡ true → a.slot ≡ b.slot
+same_slot a b same = at (a.slot == b.slot) refl same
+  where
+    at : (t : Bool) → (a.slot == b.slot) ≡ t → (t && (a.serial == b.serial)) ≡ true → a.slot ≡ b.slot
+    at true is same = eqb-true a.slot b.slot is
+    at false is same = absurd (true≢false (sym same))
+
+pub same_client_is : (a b : ClientParts) → same_client a b ≡ true → a ≡ b
+same_client_is a b same = client_is a b (same_slot a b same) (same_serial a b same)
+
+-- ---- lists
+
+-- each stands above that slot
+abbrev Above : {T : Type 0} → ℕ → List (ClientParts × T) → Type 0
+Above {T = T} slot out = (j : ℕ) (d : ClientParts × T) → j < length out → slot < (slice_index_or out j d).0.slot
+
+module _ {T : Type 0} where
+  rest_rises : (e : ClientParts × T) (rest : List (ClientParts × T)) → RiseBySlot (e ∷ rest) → RiseBySlot rest
+  rest_rises e rest rises i j d less within = rises (suc i) (suc j) d (omega (arith, less)) (omega (arith, within))
+
+  rest_above : (e : ClientParts × T) (rest : List (ClientParts × T)) → RiseBySlot (e ∷ rest) → Above e.0.slot rest
+  rest_above e rest rises j d within = rises zero (suc j) d (omega arith) (omega (arith, within))
+
+  all_above : (slot : ℕ) (e : ClientParts × T) (rest : List (ClientParts × T)) → slot < e.0.slot → RiseBySlot (e ∷ rest) → Above slot (e ∷ rest)
+  all_above slot e rest less rises zero d within = less
+  all_above slot e rest less rises (suc j) d within = let above = rest_above e rest rises j d (omega (arith, within)) in omega (arith, less, above)
+
+  -- the share of a client at the front
+  share_first : (id : ClientParts) (e : ClientParts × T) (rest : List (ClientParts × T)) → same_client e.0 id ≡ true → share_of id (e ∷ rest) ≡ e.1 ∷ share_of id rest
+  share_first id e rest is = rw is refl
+
+  share_later : (id : ClientParts) (e : ClientParts × T) (rest : List (ClientParts × T)) → same_client e.0 id ≡ false → share_of id (e ∷ rest) ≡ share_of id rest
+  share_later id e rest is = rw is refl
+
+  -- none where all stand above its slot
+  none_above : (id : ClientParts) (out : List (ClientParts × T)) → Above id.slot out → share_of id out ≡ []
+  none_above id [] above = refl
+  none_above id (e ∷ rest) above = at (none_above id rest (λ j d within. above (suc j) d (omega (arith, within)))) (cases_Bool (same_client e.0 id))
+    where
+      at : share_of id rest ≡ [] → (same_client e.0 id ≡ true) ⊎ (same_client e.0 id ≡ false) → share_of id (e ∷ rest) ≡ []
+      at none (inl same) = let slots = same_slot e.0 id same in let more = above zero e (omega arith) in absurd (omega (arith, slots, more))
+      at none (inr other) = share_later id e rest other ∙ none
+
+  none_first : (x : T) (xs : List T) → x ∷ xs ≡ [] → ⊥
+  none_first x xs is = cc
+
+  -- a client at the front has a share
+  has_share : (e : ClientParts × T) (rest : List (ClientParts × T)) → share_of e.0 (e ∷ rest) ≡ [] → ⊥
+  has_share e rest none = none_first e.1 (share_of e.0 rest) (sym (share_first e.0 e rest (same_self e.0)) ∙ none)
+
+  module _ (e f : ClientParts × T) (rest rest' : List (ClientParts × T)) (shares : (id : ClientParts) → share_of id (e ∷ rest) ≡ share_of id (f ∷ rest'))
+      (rises : RiseBySlot (e ∷ rest)) (rises' : RiseBySlot (f ∷ rest')) (later : ((id : ClientParts) → share_of id rest ≡ share_of id rest') → rest ≡ rest') where
+    -- two fronts of one client are the same, and so are the shares behind them
+    same_front : same_client f.0 e.0 ≡ true → e ≡ f
+    same_front same =
+        let firsts : e.1 ∷ share_of e.0 rest ≡ f.1 ∷ share_of e.0 rest'
+        = sym (share_first e.0 e rest (same_self e.0)) ∙ shares e.0 ∙ share_first e.0 f rest' same in
+        let values : e.1 ≡ f.1 = cc in
+        ap (λ (i : ClientParts). let z : ClientParts × T = (i, e.1) in z) (sym (same_client_is f.0 e.0 same)) ∙ ap (λ (t : T). let z : ClientParts × T = (f.0, t) in z) values
+
+    same_behind : (id : ClientParts) → e ≡ f → (same_client e.0 id ≡ true) ⊎ (same_client e.0 id ≡ false) → share_of id rest ≡ share_of id rest'
+    same_behind id first (inl same) =
+        let same' : same_client f.0 id ≡ true = ap (λ (z : ClientParts × T). same_client z.0 id) (sym first) ∙ same in
+        let is : e.1 ∷ share_of id rest ≡ f.1 ∷ share_of id rest' = sym (share_first id e rest same) ∙ shares id ∙ share_first id f rest' same' in
+        cc
+    same_behind id first (inr other) =
+        let other' : same_client f.0 id ≡ false = ap (λ (z : ClientParts × T). same_client z.0 id) (sym first) ∙ other in
+        sym (share_later id e rest other) ∙ shares id ∙ share_later id f rest' other'
+
+    found : same_client f.0 e.0 ≡ true → e ∷ rest ≡ f ∷ rest'
+    found same =
+        let first = same_front same in
+        ap (λ (z : ClientParts × T). z ∷ rest) first ∙ ap (λ (z : List (ClientParts × T)). f ∷ z) (later (λ id. same_behind id first (cases_Bool (same_client e.0 id))))
+
+    one_slot : e.0.slot ≡ f.0.slot → (same_client f.0 e.0 ≡ true) ⊎ (same_client f.0 e.0 ≡ false) → e ∷ rest ≡ f ∷ rest'
+    one_slot slots (inl same) = found same
+    one_slot slots (inr other) =
+        let above : Above e.0.slot rest' = subst (λ (n : ℕ). Above n rest') (sym slots) (rest_above f rest' rises') in
+        absurd (has_share e rest (shares e.0 ∙ share_later e.0 f rest' other ∙ none_above e.0 rest' above))
+
+    fronts : e ∷ rest ≡ f ∷ rest'
+    fronts =
+        elim (cases_order e.0.slot f.0.slot) [
+          | inl slots ↦ one_slot slots (cases_Bool (same_client f.0 e.0))
+          | inr (inl less) ↦ absurd (has_share e rest (shares e.0 ∙ none_above e.0 (f ∷ rest') (all_above e.0.slot f rest' less rises')))
+          | inr (inr less) ↦ absurd (has_share f rest' (sym (shares f.0) ∙ none_above f.0 (e ∷ rest) (all_above f.0.slot e rest less rises)))
+        ]
+
+  -- the shares determine the list
+  pub shares_one : (out out' : List (ClientParts × T)) → RiseBySlot out → RiseBySlot out' → ((id : ClientParts) → share_of id out ≡ share_of id out') → out ≡ out'
+  shares_one [] [] rises rises' shares = refl
+  shares_one [] (f ∷ rest') rises rises' shares = absurd (has_share f rest' (sym (shares f.0)))
+  shares_one (e ∷ rest) [] rises rises' shares = absurd (has_share e rest (shares e.0))
+  shares_one (e ∷ rest) (f ∷ rest') rises rises' shares =
+      fronts e f rest rest' shares rises rises' (λ same. shares_one rest rest' (rest_rises e rest rises) (rest_rises f rest' rises') same)

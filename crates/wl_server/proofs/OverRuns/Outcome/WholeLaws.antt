@@ -1,0 +1,164 @@
+-- What is the same to each client is the same to the program: the slots that are free, whether memory was refused, and
+-- replies.
+use Rattle.std.proofs.Common.{◌≡◌, ℕ, Bool, true, false, List, Option, None, Some, is_some, Result, Ok, Err, refl, sym, ap, subst, ◌∙◌, true≢false}
+use Rattle.std.specs.Prelude.{option_map}
+use Rattle.std.proofs.lemmas.Bool.{eq-eqb}
+use mathlib.Core.Logic.{inl, inr}
+use Rattle.wl_server.specs.declared.error.InsertClientError.{InsertClientError}
+use Rattle.wl_server.specs.declared.error.InsertClientError.TheVariants as insert
+use Rattle.wl_server.specs.declared.runs.step.Reply.{Reply}
+use Rattle.wl_server.specs.declared.runs.step.Reply.TheVariants as reply
+use Rattle.wl_server.specs.declared.runs.step.Step.{Step}
+use Rattle.wl_server.specs.declared.runs.step.Step.TheVariants as step
+use Rattle.wl_server.specs.Deeds.{Deed}
+use Rattle.wl_server.specs.Globals.{Offer}
+use Rattle.wl_server.specs.Ids.{ClientParts}
+use Rattle.wl_server.proofs.OverRuns.Alone.IsolationLaw.{same_self}
+use Rattle.wl_server.specs.Outcome.{SameReply, SharedSame}
+use Rattle.wl_server.specs.PartStep.{Asked, PartStep, World}
+use Rattle.wl_server.specs.Runs.{is_about}
+use Rattle.wl_server.specs.Server.{Seen, ServerState, Stored, client_at, if_serial, seen, stored_at}
+use Rattle.wl_server.proofs.OverRuns.Outcome.ShareLaws.{shares_one}
+use Rattle.wl_server.specs.Steps.{Entry, InsertsNext, IsLeastFree, IsRefused, RisesBySlot, lacks_growth}
+use Rattle.wl_server.specs.WholeOutcome.{SameServer, WholeReply}
+
+is_none_by : {A : Type 0} (o : Option A) → is_some o ≡ false → o ≡ None
+is_none_by None is = refl
+is_none_by (Some x) is = absurd (true≢false is)
+
+not_true : (b : Bool) → (b ≡ true → ⊥) → b ≡ false
+not_true true never = absurd (never refl)
+not_true false never = refl
+
+-- ---- slots
+
+module _ {T U C : Type 0} where
+  -- as many slots are free
+  abbrev SameSlots : List (Option (Stored T U C)) → List (Option (Stored T U C)) → Type 0
+  SameSlots clients others = (k : ℕ) → is_some (stored_at k clients) ≡ is_some (stored_at k others)
+
+  free_there : (clients others : List (Option (Stored T U C))) → SameSlots clients others → (n : ℕ) → IsLeastFree clients n → IsLeastFree others n
+  free_there clients others same n least = record {
+    below = least.below;
+    free = is_none_by (stored_at n others) (sym (same n) ∙ ap is_some least.free);
+    least = λ k less. sym (same k) ∙ least.least k less;
+  }
+
+  pub inserts_there : (last : ℕ) (clients others : List (Option (Stored T U C))) → SameSlots clients others → (r : Result ClientParts InsertClientError)
+      → InsertsNext last clients r → InsertsNext last others r
+  inserts_there last clients others same (Ok id) (least, left, next) = (free_there clients others same id.slot least, left, next)
+  inserts_there last clients others same (Err insert.Full) (inl full) = inl (λ k within. sym (same k) ∙ full k within)
+  inserts_there last clients others same (Err insert.Full) (inr spent) = inr spent
+  inserts_there last clients others same (Err insert.OutOfMemory) (id, (least, left, next)) = (id, (free_there clients others same id.slot least, left, next))
+
+  abbrev has_part : Option (Stored T U C) → Bool
+  has_part c = is_some (option_map (λ z. z.part) c)
+
+  pub found : (st : Stored T U C) (o : Option (Stored T U C)) → o ≡ Some st → if_serial st.serial o ≡ Some st
+  found st o is = ap (λ (z : Option (Stored T U C)). if_serial st.serial z) is ∙ (rw (eq-eqb st.serial st.serial refl) refl)
+
+module _ {T U G C : Type 0} where
+  slot_same : (s t : ServerState T U G C) → ((id : ClientParts) → seen id s ≡ seen id t) → (k : ℕ) (a b : Option (Stored T U C)) → stored_at k s.clients ≡ a
+      → stored_at k t.clients ≡ b → is_some a ≡ is_some b
+  slot_same s t each k None None is is' = refl
+  slot_same s t each k (Some x) (Some y) is is' = refl
+  slot_same s t each k (Some x) None is is' =
+      let id : ClientParts = record { slot = k; serial = x.serial } in
+      let here : client_at id s.clients ≡ Some x = found x (stored_at k s.clients) is in
+      let there : client_at id t.clients ≡ None = ap (λ (z : Option (Stored T U C)). if_serial x.serial z) is' in
+      absurd (true≢false (sym (ap has_part here) ∙ ap (λ (z : Seen T U C). is_some z.part) (each id) ∙ ap has_part there))
+  slot_same s t each k None (Some y) is is' =
+      let id : ClientParts = record { slot = k; serial = y.serial } in
+      let here : client_at id s.clients ≡ None = ap (λ (z : Option (Stored T U C)). if_serial y.serial z) is in
+      let there : client_at id t.clients ≡ Some y = found y (stored_at k t.clients) is' in
+      absurd (true≢false (sym (ap has_part there) ∙ sym (ap (λ (z : Seen T U C). is_some z.part) (each id)) ∙ ap has_part here))
+
+  -- servers of which the same is held have the same slots free
+  pub slots_same : (s t : ServerState T U G C) → SameServer s t → SameSlots s.clients t.clients
+  slots_same s t same k = slot_same s t same.each k (stored_at k s.clients) (stored_at k t.clients) refl refl
+
+  -- ---- memory
+
+  -- where memory was not refused, it was refused neither for what a call makes of its own nor to any client
+  pub ample_by : (e : Entry T U G C) → IsRefused e → e.refused ≡ false → (lacks_growth e.call ≡ false) × ((id : ClientParts) → e.lacks id ≡ false)
+  ample_by e tells none = (
+    not_true (lacks_growth e.call) (λ lacks. true≢false (sym (tells.1 (inl lacks)) ∙ none)),
+    λ id. not_true (e.lacks id) (λ lacks. true≢false (sym (tells.1 (inr (id, lacks))) ∙ none)),
+  )
+
+-- ---- replies
+
+module _ {T U : Type 0} where
+  -- two replies are the same where what they are is
+  same_whole : (p q p' q' : Reply T U) → p ≡ p' → q ≡ q' → WholeReply p' q' → WholeReply p q
+  same_whole p q p' q' is is' same = subst (λ r. WholeReply r q) (sym is) (subst (λ r. WholeReply p' r) (sym is') same)
+
+  same_here : (id : ClientParts) (p q p' q' : Reply T U) → p ≡ p' → q ≡ q' → SameReply id p q → SameReply id p' q'
+  same_here id p q p' q' is is' same = subst (λ r. SameReply id r q') is (subst (λ r. SameReply id p r) is' same)
+
+module _ {T U G C : Type 0} (w : World T G C) (any : ClientParts) (offer : Offer G) (before : Seen T U C) (d e : List (Deed U)) (x y : Seen T U C) where
+  abbrev Ample : Step T U G C → Reply T U → Type 0
+  Ample s answer = lacks_growth (Asked s answer) ≡ false
+
+  abbrev Rises : Step T U G C → Reply T U → Type 0
+  Rises s answer = RisesBySlot (Asked s answer)
+
+  cleanup_one : (r r' : _) → Ample step.Cleanup (reply.Cleanup r) → Ample step.Cleanup (reply.Cleanup r') → Rises step.Cleanup (reply.Cleanup r) → Rises step.Cleanup (reply.Cleanup r')
+      → ((id : ClientParts) → SameReply {T = T} {U = U} id (reply.Cleanup r) (reply.Cleanup r')) → WholeReply {T = T} {U = U} (reply.Cleanup r) (reply.Cleanup r')
+  cleanup_one (Err f) r' ample ample' rises rises' same = absurd (true≢false ample)
+  cleanup_one (Ok out) (Err f) ample ample' rises rises' same = absurd (true≢false ample')
+  cleanup_one (Ok out) (Ok out') ample ample' rises rises' same = shares_one out.items out'.items rises rises' same
+
+  -- replies that are the same to each client whose step it is are the same to the program
+  pub whole_one : (s : Step T U G C) (p q : Reply T U) → ((id : ClientParts) → is_about id s ≡ true → SameReply id p q) → SharedSame s p q
+      → Ample s p → Ample s q → Rises s p → Rises s q → PartStep w any offer s p before false d x → PartStep w any offer s q before false e y → WholeReply p q
+  whole_one (step.InsertClient transport info) p q one shared ample ample' rises rises' (r, is, h) (r', is', g) =
+      same_whole p q (reply.InsertClient r) (reply.InsertClient r') is is' (λ id. sym is ∙ shared ∙ is')
+  whole_one (step.SetObjectData o u) p q one shared ample ample' rises rises' (r, is, h) (r', is', g) =
+      same_whole p q (reply.SetObjectData r) (reply.SetObjectData r') is is' (let here = same_here o.client p q _ _ is is' (one o.client (same_self o.client)) in λ id. here)
+  whole_one (step.CreateObject target i version u) p q one shared ample ample' rises rises' (r, is, h) (r', is', g) =
+      same_whole p q (reply.CreateObject r) (reply.CreateObject r') is is' (let here = same_here target p q _ _ is is' (one target (same_self target)) in λ id. here)
+  whole_one (step.DestroyObject o) p q one shared ample ample' rises rises' (r, is, h) (r', is', g) =
+      same_whole p q (reply.DestroyObject r) (reply.DestroyObject r') is is' (let here = same_here o.client p q _ _ is is' (one o.client (same_self o.client)) in λ id. here)
+  whole_one (step.SendEvent m) p q one shared ample ample' rises rises' (r, is, h) (r', is', g) =
+      same_whole p q (reply.SendEvent r) (reply.SendEvent r') is is'
+      (let here = same_here m.sender_id.client p q _ _ is is' (one m.sender_id.client (same_self m.sender_id.client)) in λ id. here)
+  whole_one (step.PostError o code text) p q one shared ample ample' rises rises' (is, h) (is', g) = same_whole p q reply.PostError reply.PostError is is' (λ id. refl)
+  whole_one (step.KillClient target reason) p q one shared ample ample' rises rises' (is, h) (is', g) = same_whole p q reply.KillClient reply.KillClient is is' (λ id. refl)
+  whole_one (step.CreateGlobal i version handler) p q one shared ample ample' rises rises' (r, is, h) (r', is', g) =
+      same_whole p q (reply.CreateGlobal r) (reply.CreateGlobal r') is is' (λ id. sym is ∙ shared ∙ is')
+  whole_one (step.DisableGlobal g) p q one shared ample ample' rises rises' (is, h) (is', h') = same_whole p q reply.DisableGlobal reply.DisableGlobal is is' (λ id. refl)
+  whole_one (step.RemoveGlobal g) p q one shared ample ample' rises rises' (is, h) (is', h') = same_whole p q reply.RemoveGlobal reply.RemoveGlobal is is' (λ id. refl)
+  whole_one (step.Flush None) p q one shared ample ample' rises rises' (r, is, h) (r', is', g) =
+      same_whole p q (reply.Flush r) (reply.Flush r') is is' (let here = same_here any p q _ _ is is' (one any refl) in λ id. here)
+  whole_one (step.Flush (Some target)) p q one shared ample ample' rises rises' (r, is, h) (r', is', g) =
+      same_whole p q (reply.Flush r) (reply.Flush r') is is' (let here = same_here target p q _ _ is is' (one target (same_self target)) in λ id. here)
+  whole_one (step.SetDefaultMaxBufferSize limit) p q one shared ample ample' rises rises' (is, h) (is', g) =
+      same_whole p q reply.SetDefaultMaxBufferSize reply.SetDefaultMaxBufferSize is is' (λ id. refl)
+  whole_one (step.SetClientMaxBufferSize target limit) p q one shared ample ample' rises rises' (is, h) (is', g) =
+      same_whole p q reply.SetClientMaxBufferSize reply.SetClientMaxBufferSize is is' (λ id. refl)
+  whole_one (step.NextAction target) p q one shared ample ample' rises rises' (r, left, is, h) (r', left', is', g) =
+      same_whole p q (reply.NextAction r) (reply.NextAction r') is is' (let here = same_here target p q (reply.NextAction r) (reply.NextAction r') is is' (one target (same_self target)) in λ id. here)
+  whole_one (step.NextActionWithin target reading) p q one shared ample ample' rises rises' (r, left, is, h) (r', left', is', g) =
+      same_whole p q (reply.NextActionWithin r left) (reply.NextActionWithin r' left') is is'
+      (let here = same_here target p q (reply.NextActionWithin r left) (reply.NextActionWithin r' left') is is' (one target (same_self target)) in λ id. here)
+  whole_one (step.FinishRequest target u) p q one shared ample ample' rises rises' (r, is, h) (r', is', g) =
+      same_whole p q (reply.FinishRequest r) (reply.FinishRequest r') is is' (let here = same_here target p q _ _ is is' (one target (same_self target)) in λ id. here)
+  whole_one (step.FinishBind target u) p q one shared ample ample' rises rises' (r, is, h) (r', is', g) =
+      same_whole p q (reply.FinishBind r) (reply.FinishBind r') is is' (let here = same_here target p q _ _ is is' (one target (same_self target)) in λ id. here)
+  whole_one step.Cleanup p q one shared ample ample' rises rises' (r, is, h) (r', is', g) =
+      same_whole p q (reply.Cleanup r) (reply.Cleanup r') is is'
+      (cleanup_one r r' (subst (λ z. Ample step.Cleanup z) is ample) (subst (λ z. Ample step.Cleanup z) is' ample') (subst (λ z. Rises step.Cleanup z) is rises)
+      (subst (λ z. Rises step.Cleanup z) is' rises') (λ id. same_here id p q (reply.Cleanup r) (reply.Cleanup r') is is' (one id refl)))
+  whole_one step.TakeNotes p q one shared ample ample' rises rises' (r, is, h) (r', is', g) =
+      same_whole p q (reply.TakeNotes r) (reply.TakeNotes r') is is' (λ id. same_here id p q (reply.TakeNotes r) (reply.TakeNotes r') is is' (one id refl))
+  whole_one (step.Arrive target bytes tokens) p q one shared ample ample' rises rises' (r, is, h) (r', is', g) =
+      same_whole p q (reply.Arrive r) (reply.Arrive r') is is' (let here = same_here target p q _ _ is is' (one target (same_self target)) in λ id. here)
+  whole_one (step.ArriveFault target f) p q one shared ample ample' rises rises' (r, is, h) (r', is', g) =
+      same_whole p q (reply.ArriveFault r) (reply.ArriveFault r') is is' (let here = same_here target p q _ _ is is' (one target (same_self target)) in λ id. here)
+  whole_one (step.Accept target n) p q one shared ample ample' rises rises' (r, is, h) (r', is', g) =
+      same_whole p q (reply.Accept r) (reply.Accept r') is is' (let here = same_here target p q _ _ is is' (one target (same_self target)) in λ id. here)
+  whole_one (step.AcceptFault target f) p q one shared ample ample' rises rises' (r, is, h) (r', is', g) =
+      same_whole p q (reply.AcceptFault r) (reply.AcceptFault r') is is' (let here = same_here target p q _ _ is is' (one target (same_self target)) in λ id. here)
+  whole_one (step.TakeSent target) p q one shared ample ample' rises rises' (r, is, h) (r', is', g) =
+      same_whole p q (reply.TakeSent r) (reply.TakeSent r') is is' (let here = same_here target p q (reply.TakeSent r) (reply.TakeSent r') is is' (one target (same_self target)) in λ id. here)

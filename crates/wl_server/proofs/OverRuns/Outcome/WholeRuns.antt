@@ -1,0 +1,179 @@
+-- That each call of a server has one outcome, where memory is not refused, and so each run of calls: up to what no program
+-- finds.
+use Rattle.std.proofs.Common.{◌≡◌, ◌≢◌, ℕ, ◌+◌, Bool, false, List, [], ◌∷◌, Result, Err, refl, sym, ap, subst, ◌∙◌, true≢false, arith}
+use Rattle.wl_server.specs.declared.error.InsertClientError.{InsertClientError}
+use Rattle.wl_server.specs.declared.error.InsertClientError.TheVariants as insert
+use Rattle.wl_server.specs.declared.runs.step.Reply.{Reply}
+use Rattle.wl_server.specs.declared.runs.step.Reply.TheVariants as reply
+use Rattle.wl_server.specs.declared.runs.step.Step.{Step}
+use Rattle.wl_server.specs.declared.runs.step.Step.TheVariants as step
+use Rattle.wl_server.specs.Deeds.{Deed}
+use Rattle.wl_server.specs.Events.{session_content}
+use Rattle.wl_server.specs.Globals.{Offer}
+use Rattle.wl_server.specs.Ids.{ClientParts}
+use Rattle.wl_server.proofs.OverRuns.Outcome.NumberLaws.{inserts_next_one}
+use Rattle.wl_server.proofs.OverRuns.Outcome.Determined.{IsDetermined}
+use Rattle.wl_server.specs.Outcome.{ArrivesSame, SameCall, SameStep, SendsSame, SharedAnswer, SharedSame}
+use Rattle.wl_server.proofs.OverRuns.Outcome.OutcomeLaws.{call_one, part_as}
+use Rattle.wl_server.proofs.OverRuns.Outcome.PartOutcome.{SameFelt}
+use Rattle.wl_server.specs.PartStep.{Asked, Call, Changed, PartCall, PartStep, World}
+use Rattle.wl_server.proofs.OverRuns.Outcome.OfferLaws.{answered_step, numbers_as, offer_as, offer_one, shared_same}
+use Rattle.wl_server.specs.Server.{Seen, ServerState, seen}
+use Rattle.wl_server.specs.Steps.{Entry, InsertsNext, NumbersClient, NumbersGlobal, OneStep, RisesBySlot, inserted_by, lacks_growth, offer_after}
+use Rattle.wl_server.proofs.OverRuns.Outcome.WholeLaws.{ample_by, inserts_there, slots_same, whole_one}
+use Rattle.wl_server.specs.WholeOutcome.{PerformancesHaveOneOutcome, RunsHaveOneOutcome, SameServer, WholeAnswer, WholeReply}
+
+module _ {T U G C : Type 0} where
+  -- ---- what a call counts and numbers, by its step and its answer
+
+  -- how many clients a step inserts
+  inserted_one : (s : Step T U G C) (p q : Reply T U) → SharedSame s p q → inserted_by (Asked s p) ≡ inserted_by (Asked s q)
+  inserted_one (step.InsertClient transport info) p q shared = ap (λ (z : Reply T U). inserted_by {G = G} (Asked (step.InsertClient transport info) z)) shared
+  inserted_one s p q shared = refl
+
+  inserted_as : (s s' : Step T U G C) (q : Reply T U) → SameStep s s' → inserted_by (Asked s q) ≡ inserted_by (Asked s' q)
+  inserted_as (step.SendEvent m) s' q same = at s' same
+    where
+      at : (s' : Step T U G C) → SendsSame (session_content m) s' → 0 ≡ inserted_by (Asked s' q)
+      at (step.SendEvent m') same = refl
+      at s' same = absurd same
+  inserted_as (step.Arrive target bytes tokens) s' q same = at s' same
+    where
+      at : (s' : Step T U G C) → ArrivesSame target (record { bytes = bytes.items; tokens = tokens.items }) s' → 0 ≡ inserted_by (Asked s' q)
+      at (step.Arrive target' bytes' tokens') same = refl
+      at s' same = absurd same
+  inserted_as s s' q same = ap (λ (z : Step T U G C). inserted_by (Asked z q)) same
+
+  clients_as : (before : ServerState T U G C) (s s' : Step T U G C) (q : Reply T U) → SameStep s s' → NumbersClient before (Asked s' q) → NumbersClient before (Asked s q)
+  clients_as before (step.SendEvent m) s' q same n = tt
+  clients_as before (step.Arrive target bytes tokens) s' q same n = tt
+  clients_as before s s' q same n = subst (λ (z : Step T U G C). NumbersClient before (Asked z q)) (sym same) n
+
+  rises_as : (s s' : Step T U G C) (q : Reply T U) → SameStep s s' → RisesBySlot (Asked s' q) → RisesBySlot (Asked s q)
+  rises_as (step.SendEvent m) s' q same n = tt
+  rises_as (step.Arrive target bytes tokens) s' q same n = tt
+  rises_as s s' q same n = subst (λ (z : Step T U G C). RisesBySlot (Asked z q)) (sym same) n
+
+  call_offer : (offer : Offer G) (call call' : Call T U G C) → SameCall call call' → SharedAnswer call call' → offer_after offer call ≡ offer_after offer call'
+  call_offer offer (Asked s p) (Asked s' q) same shared = offer_one offer s p q shared ∙ offer_as offer s s' q same
+  call_offer offer (Changed target t) (Changed target' t') same shared = refl
+  call_offer offer (Asked s p) (Changed target t) same shared = absurd same
+  call_offer offer (Changed target t) (Asked s p) same shared = absurd same
+
+  call_inserted : (call call' : Call T U G C) → SameCall call call' → SharedAnswer call call' → inserted_by call ≡ inserted_by call'
+  call_inserted (Asked s p) (Asked s' q) same shared = inserted_one s p q shared ∙ inserted_as s s' q same
+  call_inserted (Changed target t) (Changed target' t') same shared = refl
+  call_inserted (Asked s p) (Changed target t) same shared = absurd same
+  call_inserted (Changed target t) (Asked s p) same shared = absurd same
+
+  -- ---- a call
+
+  module _ (w : World T G C) (known : IsDetermined w) (s t : ServerState T U G C) (same_server : SameServer s t) (d e : ClientParts → List (Deed U)) (x y : ClientParts → Seen T U C) where
+    abbrev Ample : Step T U G C → Reply T U → Type 0
+    Ample step answer = lacks_growth (Asked step answer) ≡ false
+
+    inserted_allowed : (step : Step T U G C) (r : Result ClientParts InsertClientError) → Ample step (reply.InsertClient r) → r ≢ Err insert.OutOfMemory
+    inserted_allowed step r ample is =
+        let refused = subst (λ z. Ample step (reply.InsertClient z)) is ample in
+        true≢false refused
+
+    -- what is shared determines the answers that tell it
+    whole_shared : (any : ClientParts) (k : Step T U G C) (p q : Reply T U) → Ample k p → Ample k q → NumbersClient s (Asked k p) → NumbersClient t (Asked k q)
+        → NumbersGlobal s.offer (Asked k p) → NumbersGlobal s.offer (Asked k q) → PartStep w any s.offer k p (seen any s) false (d any) (x any)
+        → PartStep w any s.offer k q (seen any s) false (e any) (y any) → SharedSame k p q
+    whole_shared any (step.InsertClient transport info) p q ample ample' c c' n n' (r, is, h) (r', is', g) =
+        let k : Step T U G C = step.InsertClient transport info in
+        let here = subst (λ (z : Reply T U). NumbersClient s (Asked k z)) is c in
+        let there = subst (λ (z : Reply T U). NumbersClient t (Asked k z)) is' c' in
+        let last = subst (λ (l : ℕ). InsertsNext l t.clients r') (sym same_server.last) there in
+        let back = inserts_there s.last_client t.clients s.clients (λ j. sym (slots_same s t same_server j)) r' last in
+        let one = inserts_next_one s.last_client s.clients r r' (inserted_allowed k r (subst (λ z. Ample k z) is ample)) (inserted_allowed k r' (subst (λ z. Ample k z) is' ample')) here back in
+        is ∙ ap (λ (z : Result ClientParts InsertClientError). let a : Reply T U = reply.InsertClient z in a) one ∙ sym is'
+    whole_shared any (step.CreateGlobal i version handler) p q ample ample' c c' n n' h g =
+        let k : Step T U G C = step.CreateGlobal i version handler in
+        shared_same any s.offer k p q refl ample ample' n n' (answered_step w any s.offer k p _ _ _ _ h) (answered_step w any s.offer k q _ _ _ _ g)
+    whole_shared any k p q ample ample' c c' n n' h g = tt
+
+    call_whole : (call call' : Call T U G C) → SameCall call call' → lacks_growth call ≡ false → lacks_growth call' ≡ false → NumbersClient s call → NumbersClient t call'
+        → NumbersGlobal s.offer call → NumbersGlobal s.offer call' → RisesBySlot call → RisesBySlot call'
+        → ((id : ClientParts) → PartCall w id s.offer call (seen id s) false (d id) (x id)) → ((id : ClientParts) → PartCall w id s.offer call' (seen id s) false (e id) (y id))
+        → WholeAnswer call call' × SharedAnswer call call' × ((id : ClientParts) → SameFelt (d id) (e id) (x id) (y id))
+    call_whole (Asked k p) (Asked k' q) same ample ample' c c' n n' rises rises' h g =
+        let any : ClientParts = record { slot = 0; serial = 0 } in
+        let there = part_as w known any s.offer (seen any s) (d any) (e any) (x any) (y any) k k' q same (g any) in
+        let shared = whole_shared any k p q ample ample' c (clients_as t k k' q same c') n (numbers_as s.offer k k' q same n') (h any) there in (
+          whole_one w any s.offer (seen any s) (d any) (e any) (x any) (y any) k p q
+              (λ id own. (call_one w known id s.offer (seen id s) (d id) (e id) (x id) (y id) (Asked k p) (Asked k' q) same ample ample' shared (h id) (g id)).0 own)
+              shared ample ample' rises (rises_as k k' q same rises') (h any) there,
+          shared,
+          λ id. (call_one w known id s.offer (seen id s) (d id) (e id) (x id) (y id) (Asked k p) (Asked k' q) same ample ample' shared (h id) (g id)).1,
+        )
+    call_whole (Changed target v) (Changed target' v') same ample ample' c c' n n' rises rises' h g =
+        (tt, tt, λ id. (call_one w known id s.offer (seen id s) (d id) (e id) (x id) (y id) (Changed target v) (Changed target' v') same ample ample' tt (h id) (g id)).1)
+    call_whole (Asked k p) (Changed target v) same ample ample' c c' n n' rises rises' h g = absurd same
+    call_whole (Changed target v) (Asked k p) same ample ample' c c' n n' rises rises' h g = absurd same
+
+  -- each call has one outcome
+  pub entry_one : (w : World T G C) → IsDetermined w → (s t x y : ServerState T U G C) (e f : Entry T U G C) → SameServer s t → SameCall e.call f.call
+      → e.refused ≡ false → f.refused ≡ false → OneStep w s e x → OneStep w t f y
+      → WholeAnswer e.call f.call × ((id : ClientParts) → e.did id ≡ f.did id) × SameServer x y
+  entry_one w known s t x y e f same same_call none none' by by' =
+      let ample = ample_by e by.refused none in
+      let ample' = ample_by f by'.refused none' in
+      let here : (id : ClientParts) → PartCall w id s.offer e.call (seen id s) false (e.did id) (seen id x)
+      = λ id. subst (λ (b : Bool). PartCall w id s.offer e.call (seen id s) b (e.did id) (seen id x)) (ample.1 id) (by.each id) in
+      let there : (id : ClientParts) → PartCall w id s.offer f.call (seen id s) false (f.did id) (seen id y)
+      = λ id. subst (λ (o : Offer G). PartCall w id o f.call (seen id s) false (f.did id) (seen id y)) (sym same.offer)
+      (subst (λ (z : Seen T U C). PartCall w id t.offer f.call z false (f.did id) (seen id y)) (sym (same.each id))
+      (subst (λ (b : Bool). PartCall w id t.offer f.call (seen id t) b (f.did id) (seen id y)) (ample'.1 id) (by'.each id))) in
+      let numbers = subst (λ (o : Offer G). NumbersGlobal o f.call) (sym same.offer) by'.global in
+      let one = call_whole w known s t same (λ id. e.did id) (λ id. f.did id) (λ id. seen id x) (λ id. seen id y) e.call f.call same_call ample.0 ample'.0 by.client by'.client
+      by.global numbers by.order by'.order here there in (
+        one.0,
+        λ id. (one.2 id).did,
+        record {
+          offer = by.offer ∙ call_offer s.offer e.call f.call same_call one.1 ∙ ap (λ (o : Offer G). offer_after o f.call) same.offer ∙ sym by'.offer;
+          last = by.last ∙ ap (λ (n : ℕ). s.last_client + n) (call_inserted e.call f.call same_call one.1) ∙ ap (λ (n : ℕ). n + inserted_by f.call) same.last ∙ sym by'.last;
+          each = λ id. (one.2 id).after;
+        },
+      )
+
+  -- ---- runs
+
+  pub run_one : (w : World T G C) → IsDetermined w → RunsHaveOneOutcome U w
+  run_one w known s t x y [] [] same calls h g =
+      (tt, subst (λ (z : ServerState T U G C). SameServer z y) (sym h) (subst (λ (z : ServerState T U G C). SameServer s z) (sym g) same))
+  run_one w known s t x y [] (f ∷ run') same calls h g = absurd calls
+  run_one w known s t x y (e ∷ run) [] same calls h g = absurd calls
+  run_one w known s t x y (e ∷ run) (f ∷ run') same (call, none, none', calls) (mid, by, leads) (mid', by', leads') =
+      let one = entry_one w known s t mid mid' e f same call none none' by by' in
+      let rest = run_one w known mid mid' x y run run' one.2 calls leads leads' in
+      ((one.0, one.1, rest.0), rest.1)
+
+  -- ---- steps with their replies
+
+  same_as_itself : (k : Step T U G C) → SameStep k k
+  same_as_itself (step.SendEvent m) = refl
+  same_as_itself (step.Arrive target bytes tokens) = (refl, refl)
+  same_as_itself k = refl
+
+  asked_one : (c c' : Call T U G C) (k : Step T U G C) (p q : Reply T U) → c ≡ Asked k p → c' ≡ Asked k q → SameCall c c'
+  asked_one c c' k p q is is' =
+      subst (λ (z : Call T U G C). SameCall z c') (sym is) (subst (λ (z : Call T U G C). SameCall (Asked k p) z) (sym is') (same_as_itself k))
+
+  replied_one : (c c' : Call T U G C) (k : Step T U G C) (p q : Reply T U) → c ≡ Asked k p → c' ≡ Asked k q → WholeAnswer c c' → WholeReply p q
+  replied_one c c' k p q is is' same =
+      let here = subst (λ (z : Call T U G C). WholeAnswer z c') is same in
+      subst (λ (z : Call T U G C). WholeAnswer (Asked k p) z) is' here
+
+  pub performance_one : (w : World T G C) → IsDetermined w → PerformancesHaveOneOutcome U w
+  performance_one w known s t x y [] [] [] n n' same h g =
+      (tt, subst (λ (z : ServerState T U G C). SameServer z y) (sym h) (subst (λ (z : ServerState T U G C). SameServer s z) (sym g) same))
+  performance_one w known s t x y [] (p ∷ replies) replies' n n' same h g = absurd (omega (arith, n))
+  performance_one w known s t x y [] [] (q ∷ replies') n n' same h g = absurd (omega (arith, n'))
+  performance_one w known s t x y (k ∷ steps) [] replies' n n' same h g = absurd (omega (arith, n))
+  performance_one w known s t x y (k ∷ steps) (p ∷ replies) [] n n' same h g = absurd (omega (arith, n'))
+  performance_one w known s t x y (k ∷ steps) (p ∷ replies) (q ∷ replies') n n' same (mid, (e, call, none, by), leads) (mid', (f, call', none', by'), leads') =
+      let one = entry_one w known s t mid mid' e f same (asked_one e.call f.call k p q call call') none none' by by' in
+      let rest = performance_one w known mid mid' x y steps replies replies' (omega (arith, n)) (omega (arith, n')) one.2 leads leads' in
+      ((replied_one e.call f.call k p q call call' one.0, rest.0), rest.1)

@@ -1,0 +1,334 @@
+-- How the end of an action is a verdict that was carried out.
+use Rattle.std.proofs.Common.{◌||◌, append-nil, append_assoc, ◌&&◌, not, is_none, is_some, map, MatchResult, inl, inr, ◌≡◌, ◌∙◌, ℕ, Bool, true, false, eqb, cond, List, [], ◌∷◌, ◌++◌, Option, None, Some, Result, Ok, Err, MatchOption, refl, sym, ap, subst}
+use Rattle.std.proofs.lemmas.Bool.{false≢true}
+use Rattle.wl_wire.specs.declared.error.IoFault.{IoFault}
+use Rattle.wl_wire.specs.declared.error.IoFault.TheVariants as fault
+use Rattle.wl_wire.specs.declared.error.OutOfMemory.{OutOfMemory}
+use Rattle.wl_link.specs.declared.object.Object.{Object}
+use Rattle.wl_link.specs.Exchange.{Queue}
+use Rattle.wl_link.specs.Identity.{Id, named_in}
+use Rattle.wl_link.specs.Link.{LinkState}
+use Rattle.wl_link.specs.Puts.{lacked_memory}
+use Rattle.wl_link.specs.Reader.{came_to}
+use Rattle.wl_link.specs.Refusals.{first_refusal, when}
+use Rattle.wl_link.specs.Store.{Store, held, removed}
+use Rattle.wl_link.proofs.Ids.StoreLaws.{removed_here, rewritten_other}
+use Rattle.wl_server.specs.declared.reading.action.OpenAction.TheVariants as opened
+use Rattle.wl_server.specs.declared.error.FinishError.{FinishError}
+use Rattle.wl_server.specs.declared.error.FinishError.TheVariants as finish
+use Rattle.wl_server.specs.declared.error.FinishRefused.{FinishRefused}
+use Rattle.wl_server.specs.declared.objects.Kept.{Kept}
+use Rattle.wl_server.specs.declared.notes.DisconnectReason.TheVariants.{ConnectionClosed}
+use Rattle.wl_server.specs.declared.notes.Happening.{Happening}
+use Rattle.wl_server.specs.Inside.Carried.{IsCarried, told_notes}
+use Rattle.wl_server.specs.Inside.Client.{Does}
+use Rattle.wl_server.specs.Deeds.{Noted, left_if, notes_in}
+use Rattle.wl_server.specs.Finish.{FinishesOpen, Refuses, closed, data_given, ended_by, ending, ends, ends_request, refusal, store_with_data}
+use Rattle.wl_server.specs.Inside.Finishing.{EndsObject, EndsSender, is_memory, part_closed, part_without}
+use Rattle.wl_server.specs.Objects.{unless_refused, without}
+use Rattle.wl_server.specs.Ids.{ClientParts, IdParts}
+use Rattle.wl_server.specs.Part.{end_note, id_at, id_of, named, note_of_end, registries_without, serial_of, with_link, with_user_data, Part}
+use Rattle.wl_server.specs.Inside.Puts.{Puts}
+use Rattle.wl_server.specs.Server.{Stored}
+use Rattle.wl_server.specs.Telling.{Core, Did, Kills, killed, closed_down, core_of, deletions, end_deeds, part_of, speaker}
+use Rattle.wl_server.proofs.CallSteps.Doing.{does_quietly}
+use Rattle.wl_server.proofs.Readings.Notes.{tells_carried}
+use Rattle.wl_server.proofs.ObjectCalls.Posting.{ended, kills_is}
+use Rattle.wl_server.proofs.GlobalCalls.Putting.{puts_none}
+
+-- ---- the object that an id names
+
+chosen : {X : Type 0} (b : Bool) (y x : X) → cond b (Some y) None ≡ Some x → y ≡ x
+chosen true y x e = cc
+chosen false y x e = absurd cc
+
+none_some : {X : Type 0} {x : X} → ◌≡◌ {A = Option X} None (Some x) → ⊥
+none_some h = cc
+
+same_some : {X : Type 0} {x y : X} → Some x ≡ Some y → x ≡ y
+same_some h = cc
+
+module _ {U : Type 0} where
+  found : (id : Id) (h : Option (Object (Kept U))) (x : Object (Kept U)) → named_in serial_of id h ≡ Some x → h ≡ Some x
+  found id None x e = absurd cc
+  found id (Some y) x e = ap Some (chosen (eqb (serial_of y.value) id.serial) y x e)
+
+  not_null : (b : Bool) (id : Id) (h : Option (Object (Kept U))) (x : Object (Kept U)) → cond b None (named_in serial_of id h) ≡ Some x → h ≡ Some x
+  not_null true id h x e = absurd cc
+  not_null false id h x e = found id h x e
+
+  -- is the one at the id's number
+  named_held : (store : Store (Kept U)) (id : IdParts) (x : Object (Kept U)) → named store id ≡ Some x → held store id.number ≡ Some x
+  named_held store id x e = not_null (eqb id.number 0) (id_of id) (held store id.number) x e
+
+-- ---- its end
+
+module _ {U : Type 0} where
+  -- an object that is ended is the one that the id names
+  pub ended_named : (store : Store (Kept U)) (sender : IdParts) (x : Object (Kept U)) (is_destructor : Bool) → ended_by store sender is_destructor ≡ Some x
+      → named store sender ≡ Some x
+  ended_named store sender x true is = is
+  ended_named store sender x false is = absurd (none_some is)
+
+module _ {T U C : Type 0} (sends : T → Queue → Result ℕ IoFault → T → Type 0) (client : ClientParts) (s : Stored T U C) (sender : IdParts) (is_destructor : Bool) where
+  abbrev changed : LinkState T → Store (Kept U) → List Id → List (Happening U) → Stored T U C
+  changed link store registries made =
+      record { serial = s.serial; part = record s.part { link = link; store = store; registries = registries }; made = made }
+
+  -- of a sender that the request ends and that is kept
+  where_kept : (x : Object (Kept U)) (answer : Result (Result (Unit {0}) IoFault) OutOfMemory) (after : Stored T U C) → Some x ≡ ended_by s.part.store sender is_destructor
+      → EndsObject sends client s sender x answer after → EndsSender sends client s sender is_destructor answer after
+  where_kept x answer after ended-is ends =
+      subst (λ (o : Option (Object (Kept U))). MatchOption o ((answer ≡ Ok (Ok tt)) × (after ≡ s)) (λ x. EndsObject sends client s sender x answer after))
+      ended-is ends
+
+  -- it was taken out at its number, and noted
+  pub ends_taken : (x : Object (Kept U)) (n : ℕ) (wrote : Result (Unit {0}) IoFault) (link : LinkState T) (store : Store (Kept U)) (registries : List Id)
+      (made same_made : List (Happening U)) → Some x ≡ ended_by s.part.store sender is_destructor → n ≡ sender.number → Puts sends s.part.link (deletions n) wrote link
+      → false ≡ lacked_memory wrote → store ≡ removed s.part.store n
+      → ((y : Object (Kept U)) → held s.part.store n ≡ Some y
+      → (registries ≡ registries_without s.part.registries n y) × (made ≡ same_made ++ note_of_end client n y))
+      → same_made ≡ s.made → EndsSender sends client s sender is_destructor (Ok wrote) (changed link store registries made)
+  ends_taken x n wrote link store registries made same_made ended-is n-is puts lacks store-is left same-is =
+      let out = left x (ap (held s.part.store) n-is ∙ named_held s.part.store sender x (ended_named s.part.store sender x is_destructor (sym ended-is))) in
+      where_kept x (Ok wrote) (changed link store registries made) ended-is (
+        subst (λ (k : ℕ). Puts sends s.part.link (deletions k) wrote link) n-is puts,
+        sym lacks,
+        ap (λ (t : Store (Kept U)). changed link t registries made) (store-is ∙ ap (removed s.part.store) n-is)
+            ∙ ap (λ (r : List Id). changed link (removed s.part.store sender.number) r made) (out.0 ∙ ap (λ (k : ℕ). registries_without s.part.registries k x) n-is)
+            ∙ ap (changed link (removed s.part.store sender.number) (registries_without s.part.registries sender.number x))
+            (out.1 ∙ ap (λ (notes : List (Happening U)). notes ++ note_of_end client n x) same-is ∙ ap (λ (k : ℕ). s.made ++ note_of_end client k x) n-is),
+      )
+
+-- ---- what it leaves
+
+module _ {U : Type 0} where
+  -- a number that holds nothing is named by no id
+  unnamed : (store : Store (Kept U)) (id : IdParts) → held store id.number ≡ None → named store id ≡ None
+  unnamed store id none = at (eqb id.number 0) (held store id.number) none
+    where
+      at : (b : Bool) (h : Option (Object (Kept U))) → h ≡ None → cond b None (named_in serial_of (id_of id) h) ≡ None
+      at true h is = refl
+      at false None is = refl
+      at false (Some x) is = absurd (none_some (sym is))
+
+  -- data that an object is given make none at a number that holds none
+  still_gone : (store : Store (Kept U)) (n : ℕ) (created : Option IdParts) (u : Option U) → held store n ≡ None → held (store_with_data store created u) n ≡ None
+  still_gone store n None u gone = gone
+  still_gone store n (Some id) None gone = gone
+  still_gone store n (Some id) (Some u) gone = at (named store id) refl
+    where
+      at : (o : Option (Object (Kept U))) → named store id ≡ o → held (data_given store id.number o u) n ≡ None
+      at None is = gone
+      at (Some y) is = rewritten_other store id.number (with_user_data u y) n
+          (λ same. none_some (sym gone ∙ ap (held store) same ∙ named_held store id y is)) ∙ gone
+
+  -- an object that left is named no more, whatever data the new one was given
+  pub not_named : (store : Store (Kept U)) (sender : IdParts) (created : Option IdParts) (u : Option U)
+      → named (store_with_data (removed store sender.number) created u) sender ≡ None
+  not_named store sender created u =
+      unnamed (store_with_data (removed store sender.number) created u) sender
+      (still_gone (removed store sender.number) sender.number created u (removed_here store sender.number sender.number refl))
+
+  told_end : (i : IdParts) (id : Id) (u : Option U) → told_notes (map Did (map Noted (end_note i u) ++ left_if id u)) ≡ end_note i u
+  told_end i id None = refl
+  told_end i id (Some u) = refl
+
+  module _ {C : Type 0} (client : ClientParts) (sender : IdParts) (x : Object (Kept U)) (c : Core U C) where
+    -- the note of an object that left, and none of one that stayed
+    note_where_gone : named c.store sender ≡ None → told_notes (ending client sender x c) ≡ note_of_end client sender.number x
+    note_where_gone gone = rw gone (told_end (id_at client sender.number x) (id_of sender) x.value.user_data)
+
+    none_where_kept : (y : Object (Kept U)) → named c.store sender ≡ Some y → told_notes (ending client sender x c) ≡ []
+    none_where_kept y kept = rw kept refl
+
+-- ---- a write's answer
+
+wanted_memory : (wrote : Result (Unit {0}) IoFault) → lacked_memory wrote ≡ true → wrote ≡ Err fault.OutOfMemory
+wanted_memory (Ok u) is = absurd (false≢true is)
+wanted_memory (Err fault.WouldBlock) is = absurd (false≢true is)
+wanted_memory (Err fault.Pipe) is = absurd (false≢true is)
+wanted_memory (Err fault.TooBig) is = absurd (false≢true is)
+wanted_memory (Err fault.Proto) is = absurd (false≢true is)
+wanted_memory (Err fault.InvalidInput) is = absurd (false≢true is)
+wanted_memory (Err fault.OutOfMemory) is = refl
+wanted_memory (Err (fault.Other n)) is = absurd (false≢true is)
+
+module _ {U C : Type 0} where
+  -- the core where all was put, and where a write failed
+  abbrev closing : Core U C → Result (Unit {0}) IoFault → Core U C
+  closing c (Ok _) = c
+  closing c (Err _) = closed_down c
+
+  module _ (client : ClientParts) (c : Core U C) (id : IdParts) (x : Object (Kept U)) (created : Option IdParts) (u : Option U) where
+    came_closing : (wrote : Result (Unit {0}) IoFault) → lacked_memory wrote ≡ false
+        → closing (closed (without c id.number x) created u) wrote ≡ came_to speaker (ends client c id (Some x) created u) wrote
+    came_closing (Ok v) is = refl
+    came_closing (Err fault.WouldBlock) is = refl
+    came_closing (Err fault.Pipe) is = refl
+    came_closing (Err fault.TooBig) is = refl
+    came_closing (Err fault.Proto) is = refl
+    came_closing (Err fault.InvalidInput) is = refl
+    came_closing (Err fault.OutOfMemory) is = absurd (false≢true (sym is))
+    came_closing (Err (fault.Other n)) is = refl
+
+    closing_store : (wrote : Result (Unit {0}) IoFault)
+        → (closing (closed (without c id.number x) created u) wrote).store ≡ store_with_data (removed c.store id.number) created u
+    closing_store (Ok v) = refl
+    closing_store (Err f) = refl
+
+-- ---- the end of a request
+
+pub where_none : {X : Type 0} (o : Option X) → None ≡ o → (A : Type 0) (B : X → Type 0) → A → MatchOption o A B
+where_none None is A B h = h
+where_none (Some x) is A B h = absurd (none_some is)
+
+pub where_some : {X : Type 0} (o : Option X) (x : X) → Some x ≡ o → (A : Type 0) (B : X → Type 0) → B x → MatchOption o A B
+where_some {X} o x is A B h = subst (λ (o : Option X). MatchOption o A B) is h
+
+-- no refusal for other reasons is a want of memory
+no_memory : (a b : Bool) (e : FinishError) → first_refusal (when a finish.MissingObjectData ∷ when b finish.UnexpectedData ∷ []) ≡ Some e → is_memory e ≡ false
+no_memory true b e is = sym (ap is_memory (same_some is))
+no_memory false true e is = sym (ap is_memory (same_some is))
+no_memory false false e is = absurd (none_some is)
+
+ok_ok : (f : OutOfMemory) → ◌≡◌ {A = Result (Result (Unit {0}) IoFault) OutOfMemory} (Err f) (Ok (Ok tt)) → ⊥
+ok_ok f same = cc
+
+inner : (wrote : Result (Unit {0}) IoFault) → ◌≡◌ {A = Result (Result (Unit {0}) IoFault) OutOfMemory} (Ok wrote) (Ok (Ok tt)) → wrote ≡ Ok tt
+inner wrote same = cc
+
+module _ {T U C : Type 0} (sends : T → Queue → Result ℕ IoFault → T → Type 0) (client : ClientParts) (s : Stored T U C) (sender : IdParts) (is_destructor : Bool)
+    (created : Option IdParts) (u : Option U) where
+  abbrev noting : Part T U C → List (Happening U) → Stored T U C
+  noting p notes = record { serial = s.serial; part = p; made = s.made ++ notes }
+
+  -- the action is closed
+  abbrev finished : Stored T U C → Stored T U C
+  finished mid = record mid { part = part_closed mid.part created u }
+
+  abbrev ReachedBy : Option (Object (Kept U)) → Bool → Stored T U C → Type 0
+  ReachedBy o refused after = IsCarried sends (ends client (core_of s.part) sender o created u) s refused after
+
+  abbrev with_notes : Part T U C → List (Happening U) → Stored T U C
+  with_notes p made = record { serial = s.serial; part = p; made = made }
+
+  -- nothing is noted
+  quietly : (p : Part T U C) (notes : List (Happening U)) → notes ≡ [] → with_notes p s.made ≡ noting p (notes ++ [])
+  quietly p notes none = ap (with_notes p) (sym (append-nil s.made)) ∙ ap (λ (l : List (Happening U)). noting p (l ++ [])) (sym none)
+
+  -- the object stays where there was no memory
+  stays : (x : Object (Kept U)) (e : OutOfMemory) (after : Stored T U C) → named s.part.store sender ≡ Some x → EndsObject sends client s sender x (Err e) after
+      → ReachedBy (Some x) true after
+  stays x e after kept (inl (asks, same)) = (
+    core_of s.part,
+    s.part.link,
+    inr (asks, refl, refl, refl),
+    same ∙ quietly s.part (told_notes (ending client sender x (core_of s.part))) (none_where_kept client sender x (core_of s.part) x kept),
+  )
+  stays x e after kept (inr (wrote, lacks, puts, is)) = (
+    core_of s.part,
+    after.part.link,
+    inl (
+      wrote,
+      after.part.link,
+      [],
+      false,
+      puts,
+      (refl, refl, refl),
+      sym (ap (came_to speaker (ends client (core_of s.part) sender (Some x) created u)) (wanted_memory wrote lacks)),
+      sym (ap (λ (b : Bool). b || false) lacks),
+    ),
+    is ∙ quietly (with_link s.part after.part.link) (told_notes (ending client sender x (core_of s.part))) (none_where_kept client sender x (core_of s.part) x kept),
+  )
+
+  -- it leaves
+  leaves : (x : Object (Kept U)) (wrote : Result (Unit {0}) IoFault) (mid after : Stored T U C) → EndsObject sends client s sender x (Ok wrote) mid
+      → MatchResult wrote (λ _. after ≡ finished mid) (λ _. Does (finished mid) (λ p did q. Kills p ConnectionClosed did q) after)
+      → ReachedBy (Some x) false after
+  leaves x wrote mid after (puts, lacks, is) tells = (
+    closing core wrote,
+    mid.part.link,
+    inl (
+      wrote,
+      mid.part.link,
+      [],
+      false,
+      puts,
+      (refl, refl, refl),
+      came_closing client (core_of s.part) sender x created u wrote lacks,
+      sym (ap (λ (b : Bool). b || false) lacks),
+    ),
+    at wrote tells ∙ ap (λ (notes : List (Happening U)). noting (part_of (record { core = closing core wrote; link = mid.part.link })) (notes ++ notes_in (end_deeds (closing core wrote).ended)))
+        (sym (note_where_gone client sender x (closing core wrote)
+        (ap (λ (store : Store (Kept U)). named store sender) (closing_store client (core_of s.part) sender x created u wrote) ∙ not_named s.part.store sender created u))),
+  )
+    where
+      core : Core U C
+      core = closed (without (core_of s.part) sender.number x) created u
+
+      note : List (Happening U)
+      note = note_of_end client sender.number x
+
+      gone : Stored T U C
+      gone = noting (part_closed (part_without s.part mid.part.link sender.number x) created u) note
+
+      finished-is : finished mid ≡ gone
+      finished-is = ap finished is
+
+      at : (wrote : Result (Unit {0}) IoFault) → MatchResult wrote (λ _. after ≡ finished mid) (λ _. Does (finished mid) (λ p did q. Kills p ConnectionClosed did q) after)
+          → after ≡ noting (part_of (record { core = closing core wrote; link = mid.part.link })) (note ++ notes_in (end_deeds (closing core wrote).ended))
+      at (Ok v) same = same ∙ finished-is ∙ ap (noting gone.part) (sym (append-nil note))
+      at (Err f) kills =
+          kills_is (finished mid) after ConnectionClosed kills ∙ ap (λ (t : Stored T U C). ended t ConnectionClosed) finished-is
+          ∙ ap (with_notes (record gone.part { is_killed = true })) (append_assoc s.made note (notes_in (end_deeds (killed (core_of gone.part) ConnectionClosed).ended)))
+
+  -- of the sender, where it is ended and kept, and else of none
+  pub ends_starved : (e : OutOfMemory) (after : Stored T U C) → EndsSender sends client s sender is_destructor (Err e) after
+      → ReachedBy (ended_by s.part.store sender is_destructor) true after
+  ends_starved e after = at (ended_by s.part.store sender is_destructor) refl
+    where
+      at : (o : Option (Object (Kept U))) → ended_by s.part.store sender is_destructor ≡ o
+          → MatchOption o ((◌≡◌ {A = Result (Result (Unit {0}) IoFault) OutOfMemory} (Err e) (Ok (Ok tt))) × (after ≡ s)) (λ x. EndsObject sends client s sender x (Err e) after)
+          → ReachedBy o true after
+      at None is h = absurd (ok_ok e h.0)
+      at (Some x) is h = stays x e after (ended_named s.part.store sender x is_destructor is) h
+
+  pub ends_done : (wrote : Result (Unit {0}) IoFault) (mid after : Stored T U C) → EndsSender sends client s sender is_destructor (Ok wrote) mid
+      → MatchResult wrote (λ _. after ≡ finished mid) (λ _. Does (finished mid) (λ p did q. Kills p ConnectionClosed did q) after)
+      → ReachedBy (ended_by s.part.store sender is_destructor) false after
+  ends_done wrote mid after = at (ended_by s.part.store sender is_destructor) refl
+    where
+      at : (o : Option (Object (Kept U))) → ended_by s.part.store sender is_destructor ≡ o
+          → MatchOption o ((◌≡◌ {A = Result (Result (Unit {0}) IoFault) OutOfMemory} (Ok wrote) (Ok (Ok tt))) × (mid ≡ s)) (λ x. EndsObject sends client s sender x (Ok wrote) mid)
+          → MatchResult wrote (λ _. after ≡ finished mid) (λ _. Does (finished mid) (λ p did q. Kills p ConnectionClosed did q) after)
+          → ReachedBy o false after
+      at None is h tells = (
+        closed (core_of s.part) created u,
+        s.part.link,
+        inl (Ok tt, s.part.link, [], false, puts_none sends s.part.link, (refl, refl, refl), refl, refl),
+        subst (λ (w : Result (Unit {0}) IoFault). MatchResult w (λ _. after ≡ finished mid) (λ _. Does (finished mid) (λ p did q. Kills p ConnectionClosed did q) after))
+            (inner wrote h.0) tells
+            ∙ ap finished h.1 ∙ quietly (part_closed s.part created u) [] refl,
+      )
+      at (Some x) is h tells = leaves x wrote mid after h tells
+
+  -- ---- a request that is finished with these data, or refused
+
+  abbrev RequestDoes : Result (Unit {0}) (FinishRefused (Option U)) → Bool → Stored T U C → Type 0
+  RequestDoes answer refused after =
+      Does s (λ p did q. FinishesOpen sends client p (opened.Request sender is_destructor created) u answer refused did q) after
+
+  pub request_ends : (answer : Result (Unit {0}) (FinishRefused (Option U))) (refused : Bool) (after : Stored T U C) → None ≡ refusal s.part.is_killed created u
+      → answer ≡ unless_refused (record { error = finish.OutOfMemory; user_data = u }) refused → ReachedBy (ended_by s.part.store sender is_destructor) refused after
+      → RequestDoes answer refused after
+  request_ends answer refused after none is reached =
+      let t = tells_carried sends (ends_request client (core_of s.part) sender is_destructor created u) s after refused reached in
+      (t.0, t.1, where_none (refusal s.part.is_killed created u) none _ (λ e. Refuses s.part u e answer refused t.0 t.1) (is, t.2), t.3)
+
+  pub request_refused : (e : FinishError) → Some e ≡ refusal s.part.is_killed created u → RequestDoes (Err (record { error = e; user_data = u })) (is_memory e) s
+  request_refused e some =
+      does_quietly s (λ p did q. FinishesOpen sends client p (opened.Request sender is_destructor created) u (Err (record { error = e; user_data = u })) (is_memory e) did q)
+      s.part
+      (where_some (refusal s.part.is_killed created u) e some _ (λ e'. Refuses s.part u e' (Err (record { error = e; user_data = u })) (is_memory e) [] s.part)
+      (refl, no_memory (is_some created && (is_none u && not s.part.is_killed)) (is_none created && is_some u) e (sym some), refl, refl))

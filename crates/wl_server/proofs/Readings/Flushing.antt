@@ -1,0 +1,28 @@
+-- What a flush of a live client comes to.
+use Rattle.std.proofs.Common.{◌≡◌, ℕ, Bool, true, false, List, [], Result, refl, sym, ap, append-nil, subst}
+use Rattle.wl_wire.specs.declared.error.IoFault.{IoFault}
+use Rattle.wl_link.proofs.Calls.Branches.{at_false, at_true}
+use Rattle.wl_link.specs.Exchange.{Queue}
+use Rattle.wl_link.specs.Puts.{lacked_memory}
+use Rattle.wl_server.specs.declared.notes.Happening.{Happening}
+use Rattle.wl_server.specs.Inside.Client.{Does}
+use Rattle.wl_server.specs.Deeds.{Deed}
+use Rattle.wl_server.specs.Felt.{FlushedTo, FlushesLive}
+use Rattle.wl_server.specs.Part.{Part}
+use Rattle.wl_server.specs.Server.{Stored}
+
+module _ {T U C : Type 0} where
+  -- what leaves the client as it is
+  pub does_nothing : (s : Stored T U C) (R : Part T U C → List (Deed U) → Part T U C → Type 0) → R s.part [] s.part → Does s R s
+  does_nothing s R stays =
+      ([], s.part, stays, ap (λ (made : List (Happening U)). let x : Stored T U C = record { serial = s.serial; part = s.part; made = made } in x) (sym (append-nil s.made)))
+
+  module _ (sends : T → Queue → Result ℕ IoFault → T → Type 0) where
+    pub killed_stays : (s : Stored T U C) → s.part.is_killed ≡ true → Does s (λ p did q. FlushesLive sends p false did q) s
+    killed_stays s killed = does_nothing s (λ p did q. FlushesLive sends p false did q) (at_true _ s.part.is_killed killed (refl, refl, refl))
+
+    pub live_flushed : (s s' : Stored T U C) (answer : Result (Unit {0}) IoFault) (lacked : Bool) → s.part.is_killed ≡ false → lacked ≡ lacked_memory answer
+        → Does s (λ p did q. FlushedTo sends p answer (lacked_memory answer) did q) s' → Does s (λ p did q. FlushesLive sends p lacked did q) s'
+    live_flushed s s' answer lacked live is (did, q, flushed, made) =
+        subst (λ (l : Bool). Does s (λ p did q. FlushesLive sends p l did q) s') (sym is)
+        (did, q, at_false _ s.part.is_killed live (answer, flushed), made)

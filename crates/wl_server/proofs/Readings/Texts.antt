@@ -1,0 +1,231 @@
+-- The texts of errors hold no zero byte, so that they can go on the wire.
+use Rattle.std.proofs.Common.{◌≡◌, ◌∙◌, ℕ, zero, suc, ◌+◌, ◌/◌, ◌%◌, Bool, true, false, ◌||◌, List, [], ◌∷◌, ◌++◌, length, take, drop, Option, None, Some, refl, sym, ap, append_assoc, arith, cond, nat_lt}
+use Rattle.std.specs.Prelude.{◌==◌, slice_get, codes}
+use Rattle.std.specs.Fmt.{decimal, digit_glyph, digits, digits_onto}
+use Rattle.std.specs.List.{list_any}
+use Rattle.std.specs.Option.{option_map_or}
+use Rattle.std.specs.Str.Lossy.{after_first_chunk, replacement_bytes, utf8_invalid_len, utf8_lossy, utf8_lossy_within, utf8_valid_len}
+use Rattle.std.proofs.lemmas.Bool.{false≢true, ne_eqb}
+use Rattle.std.proofs.lemmas.List.{take-append-drop}
+use Rattle.std.proofs.lemmas.List.Folds.{list_any-append, list_any_none}
+use Rattle.wl_wire.specs.declared.interface.InterfaceId.{InterfaceId}
+use Rattle.wl_wire.specs.declared.protocol.TableError.TheVariants as fault
+use Rattle.wl_wire.specs.Asked.{request_in, request_row}
+use Rattle.wl_wire.specs.Text.{HasNoZero}
+use Rattle.wl_server.specs.Errors.{new_id_text, since_text}
+use Rattle.wl_wire.specs.Table.{InterfaceRow, IsAcceptedTable, MessageRow, anonymous_row, callback_row, display_row, registry_row, fixed_rows, holds_zero, messages, name_of}
+use Rattle.wl_link.specs.declared.object.Object.{Object}
+use Rattle.wl_server.specs.declared.objects.Kept.{Kept}
+use Rattle.wl_server.specs.Reading.{row_in}
+
+abbrev pub IsFree : List ℕ → Type 0
+IsFree text = holds_zero text ≡ false
+
+neither : (a b : Bool) → a ≡ false → b ≡ false → (a || b) ≡ false
+neither true b h k = h
+neither false b h k = k
+
+not_first : (a b : Bool) → (a || b) ≡ false → a ≡ false
+not_first true b h = h
+not_first false b h = refl
+
+not_second : (a b : Bool) → (a || b) ≡ false → b ≡ false
+not_second true b h = absurd (false≢true (sym h))
+not_second false b h = h
+
+-- ---- pieces of a text
+
+pub free_both : (a b : List ℕ) → IsFree a → IsFree b → IsFree (a ++ b)
+free_both a b h k = list_any-append (λ byte. byte == 0) a b ∙ neither (holds_zero a) (holds_zero b) h k
+
+free_parts : (n : ℕ) (text : List ℕ) → IsFree text → (holds_zero (take n text) || holds_zero (drop n text)) ≡ false
+free_parts n text h = sym (list_any-append (λ byte. byte == 0) (take n text) (drop n text)) ∙ ap holds_zero (take-append-drop n text) ∙ h
+
+free_take : (n : ℕ) (text : List ℕ) → IsFree text → IsFree (take n text)
+free_take n text h = not_first (holds_zero (take n text)) (holds_zero (drop n text)) (free_parts n text h)
+
+free_drop : (n : ℕ) (text : List ℕ) → IsFree text → IsFree (drop n text)
+free_drop n text h = not_second (holds_zero (take n text)) (holds_zero (drop n text)) (free_parts n text h)
+
+-- ---- numbers
+
+glyph_is_no_zero : (d : ℕ) → (digit_glyph false d == 0) ≡ false
+glyph_is_no_zero d = at (nat_lt d 10)
+  where
+    at : (b : Bool) → ((cond b (48 + d) (87 + d)) == 0) ≡ false
+    at true = ne_eqb (48 + d) 0 (omega arith)
+    at false = ne_eqb (87 + d) 0 (omega arith)
+
+free_digits : (k n : ℕ) (acc : List ℕ) → IsFree acc → IsFree (digits_onto k 10 false n acc)
+free_digits zero n acc h = h
+free_digits (suc k) n acc h = at (free_digits k (n / 10) (digit_glyph false (n % 10) ∷ acc) more) (n / 10 == 0)
+  where
+    more : IsFree (digit_glyph false (n % 10) ∷ acc)
+    more = neither _ (holds_zero acc) (glyph_is_no_zero (n % 10)) h
+
+    at : IsFree (digits_onto k 10 false (n / 10) (digit_glyph false (n % 10) ∷ acc)) → (b : Bool)
+        → IsFree (cond b (digit_glyph false (n % 10) ∷ acc) (digits_onto k 10 false (n / 10) (digit_glyph false (n % 10) ∷ acc)))
+    at deeper true = more
+    at deeper false = deeper
+
+pub free_decimal : (n : ℕ) → IsFree (decimal n)
+unfolding digits
+free_decimal n = free_digits 64 n [] refl
+
+-- ---- texts of a client
+
+free_within : (k : ℕ) (bytes : List ℕ) → IsFree bytes → IsFree (utf8_lossy_within k bytes)
+free_within zero bytes h = h
+free_within (suc k) bytes h =
+    at (free_within k (after_first_chunk bytes) (free_drop (utf8_valid_len bytes + utf8_invalid_len (drop (utf8_valid_len bytes) bytes)) bytes h))
+    (utf8_valid_len bytes == length bytes)
+  where
+    at : IsFree (replacement_bytes ++ utf8_lossy_within k (after_first_chunk bytes)) → (b : Bool)
+        → IsFree (cond b bytes (take (utf8_valid_len bytes) bytes ++ (replacement_bytes ++ utf8_lossy_within k (after_first_chunk bytes))))
+    at rest true = h
+    at rest false = free_both (take (utf8_valid_len bytes) bytes) _ (free_take (utf8_valid_len bytes) bytes h) rest
+
+pub free_lossy : (bytes : List ℕ) → IsFree bytes → IsFree (utf8_lossy bytes)
+unfolding utf8_lossy
+free_lossy bytes h = free_within (length bytes) bytes h
+
+-- a string's invariant
+pub free_string : (bytes : List ℕ) → HasNoZero bytes → IsFree bytes
+free_string bytes h = list_any_none (λ byte. byte == 0) bytes (λ k d lt. ne_eqb _ 0 (h k d lt))
+
+-- ---- names
+
+-- neither the interface's name nor that of one of its messages holds a zero
+abbrev has_zero : InterfaceRow → Bool
+has_zero row = holds_zero row.name || list_any (λ m. holds_zero m.name) (messages row)
+
+same_some : {X : Type 0} {x y : X} → Some x ≡ Some y → x ≡ y
+same_some h = cc
+
+none_some : {X : Type 0} {x : X} → ◌≡◌ {A = Option X} None (Some x) → ⊥
+none_some h = cc
+
+add_four : (k : ℕ) → 4 + k ≡ suc (suc (suc (suc k)))
+add_four k = omega arith
+
+-- an element of a list of which none passes
+free_of : (n : ℕ) (rows : List MessageRow) (row : MessageRow) → slice_get rows n ≡ Some row → list_any (λ m. holds_zero m.name) rows ≡ false → IsFree row.name
+free_of n [] row here h = absurd (none_some here)
+free_of zero (m ∷ rows) row here h = ap (λ (m : MessageRow). holds_zero m.name) (sym (same_some here)) ∙ not_first (holds_zero m.name) _ h
+free_of (suc n) (m ∷ rows) row here h = free_of n rows row here (not_second (holds_zero m.name) _ h)
+
+module _ (table : List InterfaceRow) (accepted : IsAcceptedTable table) where
+  split : table ≡ fixed_rows ++ drop 4 table
+  split = sym (take-append-drop 4 table) ∙ ap (λ (t : List InterfaceRow). t ++ drop 4 table) accepted.fixed
+
+  -- a fixed interface
+  is_fixed : (n : ℕ) (row fixed : InterfaceRow) → slice_get (fixed_rows ++ drop 4 table) n ≡ Some fixed → has_zero fixed ≡ false → slice_get table n ≡ Some row
+      → has_zero row ≡ false
+  is_fixed n row fixed at free here = ap has_zero (same_some (sym here ∙ ap (λ (t : List InterfaceRow). slice_get t n) split ∙ at)) ∙ free
+
+  free_rest : (k : ℕ) (row : InterfaceRow) → slice_get table (4 + k) ≡ Some row → has_zero row ≡ false
+  free_rest k row here = at (has_zero row) refl
+    where
+      at : (b : Bool) → has_zero row ≡ b → has_zero row ≡ false
+      at false is = is
+      at true is = absurd (accepted.no_fault (fault.ZeroInName k) (rw here is))
+
+  free_row : (n : ℕ) (row : InterfaceRow) → slice_get table n ≡ Some row → has_zero row ≡ false
+  free_row zero row here = is_fixed 0 row anonymous_row refl refl here
+  free_row (suc zero) row here = is_fixed 1 row display_row refl refl here
+  free_row (suc (suc zero)) row here = is_fixed 2 row registry_row refl refl here
+  free_row (suc (suc (suc zero))) row here = is_fixed 3 row callback_row refl refl here
+  free_row (suc (suc (suc (suc k)))) row here = free_rest k row (ap (slice_get table) (add_four k) ∙ here)
+
+  -- the name of the interface at a place
+  pub free_name : (n : ℕ) → IsFree (name_of table n)
+  free_name n = at (slice_get table n) refl
+    where
+      at : (o : Option InterfaceRow) → slice_get table n ≡ o → IsFree (option_map_or (λ row. row.name) o (codes "<unknown>"))
+      at None is = refl
+      at (Some row) is = not_first (holds_zero row.name) (list_any (λ m. holds_zero m.name) (messages row)) (free_row n row is)
+
+  -- the name of a request
+  pub free_request : (i : InterfaceId) (opcode : ℕ) (row : MessageRow) → request_row table i opcode ≡ Some row → IsFree row.name
+  free_request i opcode row = at (slice_get table i.0) refl
+    where
+      at : (o : Option InterfaceRow) → slice_get table i.0 ≡ o → request_in o opcode ≡ Some row → IsFree row.name
+      at None is none = absurd (none_some none)
+      at (Some interface) is there =
+          free_of opcode interface.requests row there
+          (not_first (list_any (λ m. holds_zero m.name) interface.requests) (list_any (λ m. holds_zero m.name) interface.events)
+          (sym (list_any-append (λ m. holds_zero m.name) interface.requests interface.events)
+          ∙ not_second (holds_zero interface.name) (list_any (λ m. holds_zero m.name) (messages interface)) (free_row i.0 interface is)))
+
+-- ---- texts
+
+-- a text behind a piece that computes
+behind : (piece text : List ℕ) → IsFree piece → IsFree text → IsFree (piece ++ text)
+behind piece text h k = free_both piece text h k
+
+number_then : (n : ℕ) (text : List ℕ) → IsFree text → IsFree (decimal n ++ text)
+number_then n text h = free_both (decimal n) text (free_decimal n) h
+
+dot : IsFree (codes ".")
+dot = refl
+
+pub free_new_id_text : (n : ℕ) → IsFree (new_id_text n)
+free_new_id_text n = behind (codes "Invalid new_id: ") (decimal n ++ codes ".") refl (number_then n (codes ".") dot)
+
+-- the interface's name stands there as a text
+pub free_bind_text : (name : List ℕ) (version global : ℕ) → IsFree name
+    → IsFree (codes "Invalid binding of " ++ (name ++ (codes " version " ++ (decimal version ++ (codes " for global " ++ (decimal global ++ codes "."))))))
+free_bind_text name version global free =
+    behind (codes "Invalid binding of ") (name ++ (codes " version " ++ (decimal version ++ (codes " for global " ++ (decimal global ++ codes "."))))) refl
+    (free_both name (codes " version " ++ (decimal version ++ (codes " for global " ++ (decimal global ++ codes ".")))) free
+    (behind (codes " version ") (decimal version ++ (codes " for global " ++ (decimal global ++ codes "."))) refl
+    (number_then version (codes " for global " ++ (decimal global ++ codes "."))
+    (behind (codes " for global ") (decimal global ++ codes ".") refl (number_then global (codes ".") dot)))))
+
+pub free_since_text : (opcode version since : ℕ) (interface : List ℕ) (number : ℕ) → IsFree interface → IsFree (since_text opcode version since interface number)
+free_since_text opcode version since interface number free =
+    behind (codes "invalid method ") (decimal opcode ++ (codes " (since " ++ (decimal version ++ (codes " < " ++ (decimal since ++ (codes "), object " ++ (interface ++ (codes "#" ++ decimal number)))))))) refl
+    (number_then opcode (codes " (since " ++ (decimal version ++ (codes " < " ++ (decimal since ++ (codes "), object " ++ (interface ++ (codes "#" ++ decimal number)))))))
+    (behind (codes " (since ") (decimal version ++ (codes " < " ++ (decimal since ++ (codes "), object " ++ (interface ++ (codes "#" ++ decimal number)))))) refl
+    (number_then version (codes " < " ++ (decimal since ++ (codes "), object " ++ (interface ++ (codes "#" ++ decimal number)))))
+    (behind (codes " < ") (decimal since ++ (codes "), object " ++ (interface ++ (codes "#" ++ decimal number)))) refl
+    (number_then since (codes "), object " ++ (interface ++ (codes "#" ++ decimal number)))
+    (behind (codes "), object ") (interface ++ (codes "#" ++ decimal number)) refl
+    (free_both interface (codes "#" ++ decimal number) free (behind (codes "#") (decimal number) refl (free_decimal number)))))))))
+
+pub free_unknown_text : (n : ℕ) → IsFree (codes "Unknown id: " ++ (decimal n ++ codes "."))
+free_unknown_text n = behind (codes "Unknown id: ") (decimal n ++ codes ".") refl (number_then n (codes ".") dot)
+
+-- the names of the interface, of the request, and of the interfaces asked for and got
+pub free_interface_text : (n : ℕ) (interface request asked got : List ℕ) → IsFree interface → IsFree request → IsFree asked → IsFree got
+    → IsFree (codes "Invalid object " ++ (decimal n ++ (codes " in request " ++ (interface ++ (codes "." ++ (request ++ (codes ": expected " ++ (asked ++ (codes " but got " ++ (got ++ codes "."))))))))))
+free_interface_text n interface request asked got i r a g =
+    let last = free_both got (codes ".") g dot in
+    let after_asked = free_both asked (codes " but got " ++ (got ++ codes ".")) a (behind (codes " but got ") (got ++ codes ".") refl last) in
+    let after_request = free_both request (codes ": expected " ++ (asked ++ (codes " but got " ++ (got ++ codes ".")))) r (behind (codes ": expected ") (asked ++ (codes " but got " ++ (got ++ codes "."))) refl after_asked) in
+    let named = free_both interface (codes "." ++ (request ++ (codes ": expected " ++ (asked ++ (codes " but got " ++ (got ++ codes ".")))))) i
+    (behind (codes ".") (request ++ (codes ": expected " ++ (asked ++ (codes " but got " ++ (got ++ codes "."))))) refl after_request) in
+    behind (codes "Invalid object ") (decimal n ++ (codes " in request " ++ (interface ++ (codes "." ++ (request ++ (codes ": expected " ++ (asked ++ (codes " but got " ++ (got ++ codes "."))))))))) refl
+    (number_then n (codes " in request " ++ (interface ++ (codes "." ++ (request ++ (codes ": expected " ++ (asked ++ (codes " but got " ++ (got ++ codes "."))))))))
+    (behind (codes " in request ") (interface ++ (codes "." ++ (request ++ (codes ": expected " ++ (asked ++ (codes " but got " ++ (got ++ codes "."))))))) refl named))
+
+pub free_null_text : (interface request : List ℕ) → IsFree interface → IsFree request
+    → IsFree (codes "Invalid null object in request " ++ (interface ++ (codes "." ++ (request ++ codes "."))))
+free_null_text interface request i r =
+    behind (codes "Invalid null object in request ") (interface ++ (codes "." ++ (request ++ codes "."))) refl
+    (free_both interface (codes "." ++ (request ++ codes ".")) i
+    (behind (codes ".") (request ++ codes ".") refl (free_both request (codes ".") r dot)))
+
+-- an interface's name, a dot and a request's are one name
+pub one_name : (interface request rest : List ℕ) → interface ++ (codes "." ++ (request ++ rest)) ≡ (interface ++ (codes "." ++ request)) ++ rest
+one_name interface request rest = sym (append_assoc interface (codes "." ++ request) rest)
+
+-- a name that was looked up in the table
+pub free_found : (table : List InterfaceRow) (i : InterfaceId) (name : List ℕ) → IsAcceptedTable table → name ≡ name_of table i.0 → IsFree name
+free_found table i name accepted is = ap holds_zero is ∙ free_name table accepted i.0
+
+-- the name of a request that was looked up for an object
+pub free_looked_up : {U : Type 0} (table : List InterfaceRow) (accepted : IsAcceptedTable table) (x : Option (Object (Kept U))) (opcode : ℕ) (row : MessageRow)
+    → Some row ≡ row_in table x opcode → IsFree row.name
+free_looked_up table accepted None opcode row is = absurd (none_some (sym is))
+free_looked_up table accepted (Some x) opcode row is = free_request table accepted x.interface opcode row (sym is)

@@ -1,0 +1,536 @@
+-- How turns and receives join to a reading of a client.
+use Rattle.std.proofs.Common.{◌≡◌, ◌≢◌, ◌∙◌, ℕ, suc, ◌+◌, ◌<◌, ◌≤◌, Bool, true, false, ◌&&◌, ◌||◌, not, List, [], ◌∷◌, ◌++◌, append-nil, append_assoc, length, map, Option, None, Some, is_some, is_none, option_map, Result, Ok, Err, MatchBool, MatchOption, MatchResult, refl, sym, ap, ap₂, subst, arith, true≢false}
+use mathlib.Core.Logic.{inl, inr}
+use Rattle.wl_wire.specs.declared.argument.Argument.{Argument}
+use Rattle.wl_wire.specs.declared.argument.Token.{Token}
+use Rattle.wl_wire.specs.declared.error.IoFault.{IoFault}
+use Rattle.wl_wire.specs.declared.error.IoFault.TheVariants as fault
+use Rattle.wl_wire.specs.declared.error.MessageParseError.{MessageParseError}
+use Rattle.wl_wire.specs.declared.error.MessageParseError.TheVariants as parse
+use Rattle.wl_wire.specs.Message.{WireMessage}
+use Rattle.wl_link.proofs.Calls.Branches.{at_false, at_true}
+use Rattle.wl_link.specs.Exchange.{Queue, Sending}
+use Rattle.wl_link.proofs.Streams.LengthLaws.{carries_stays}
+use Rattle.wl_link.specs.Link.{Filled, FindsRoom, LinkState, grown_capacity}
+use Rattle.wl_link.proofs.Readings.ReaderLoops.{room_found}
+use Rattle.wl_link.specs.Puts.{lacked_memory}
+use Rattle.wl_link.specs.Reader.{CarriesOut, FrontAsks, Given, Gives, Halts, Handled, Leaves, Reads, Received, Takes, Turn, Unread, Verdict, behind, handled_in, stops, ReaderState}
+use Rattle.wl_link.specs.Identity.{Id}
+use Rattle.wl_link.specs.declared.object.Object.{Object}
+use Rattle.wl_link.specs.Store.{Store, held}
+use Rattle.wl_wire.specs.Table.{MessageRow}
+use Rattle.wl_server.specs.declared.reading.action.OpenAction.{OpenAction}
+use Rattle.wl_server.specs.declared.reading.action.Reading.{Reading}
+use Rattle.wl_server.specs.declared.error.ActionError.{ActionError}
+use Rattle.wl_server.specs.declared.error.ActionError.TheVariants.{ActionOpen, Io}
+use Rattle.wl_server.specs.declared.notes.DisconnectReason.{DisconnectReason}
+use Rattle.wl_server.specs.declared.notes.Happening.{Happening}
+use Rattle.wl_server.specs.declared.notes.DisconnectReason.TheVariants.{ConnectionClosed}
+use Rattle.wl_server.specs.declared.reading.message.NoAction.{NoAction}
+use Rattle.wl_server.specs.declared.objects.Kept.{Kept}
+use Rattle.wl_server.specs.declared.reading.response.Response.{Response}
+use Rattle.wl_server.specs.Inside.Client.{Does}
+use Rattle.wl_server.specs.Ids.{IdParts}
+use Rattle.wl_server.specs.Inside.Responses.{core_with, response_to}
+use Rattle.wl_server.specs.Deeds.{Deed, Handed, Sent, notes_in}
+use Rattle.wl_server.specs.Part.{Part}
+use Rattle.wl_server.specs.Reading.{Around, action_in, NextAction, ReadsNone, ReadsTo, answered, exchanges_in, faulted, read_on, reads_on, request, request_to, row_asks, row_in, server}
+use Rattle.wl_server.specs.Server.{Stored}
+use Rattle.wl_server.specs.Telling.{Core, Kills, Told, core_of, deeds_in, deeds_of, end_deeds, part_of, reader_part}
+use Rattle.wl_server.specs.Inside.Turns.{Acts, Ended, EndsAs, Fills, Goes, GoesOn, HasNoNote, IsHandled, IsSilent, LacksIn, LacksMore, Live, NotTaken, ReadsIn, Turned, Turns, answer_of, counted, linked, refused_of, stored_as}
+use Rattle.wl_server.proofs.Readings.Handling.{from_there}
+use Rattle.wl_server.proofs.Readings.Notes.{notes_append, notes_of_sends}
+use Rattle.wl_server.proofs.ObjectCalls.Posting.{kills_is}
+
+abbrev most : ℕ
+most = 0xFFFFFFFFFFFFFFFF
+
+counted_none : (n : ℕ) → n ≤ most → n ≡ counted n 0
+counted_none n within = omega (arith, within)
+
+counted_twice : (n a b m : ℕ) → m ≡ counted n a → counted m b ≡ counted n (a + b)
+counted_twice n a b m is = omega (arith, is)
+
+handled_append : (a b : List Turn) → handled_in (a ++ b) ≡ handled_in a + handled_in b
+handled_append [] b = omega arith
+handled_append (Received r ∷ a) b = handled_append a b
+handled_append (Unread es ∷ a) b = handled_append a b
+handled_append (Handled es ∷ a) b = let e = handled_append a b in omega (arith, e)
+
+or_false : (b : Bool) → b ≡ b || false
+or_false true = refl
+or_false false = refl
+
+module _ {U : Type 0} where
+  deeds_append : (a b : List (Given (Told U))) → deeds_in (a ++ b) ≡ deeds_in a ++ deeds_in b
+  deeds_append [] b = refl
+  deeds_append (Rattle.wl_link.specs.Reader.Queued m ∷ a) b = ap (λ (l : List (Deed U)). Rattle.wl_server.specs.Deeds.Put m ∷ l) (deeds_append a b)
+  deeds_append (Rattle.wl_link.specs.Reader.HandedOut (Rattle.wl_server.specs.Telling.Did d) ∷ a) b = ap (λ (l : List (Deed U)). d ∷ l) (deeds_append a b)
+  deeds_append (Rattle.wl_link.specs.Reader.HandedOut (Rattle.wl_server.specs.Telling.Stops f) ∷ a) b = deeds_append a b
+
+  no_note_append : (a b : List (Given (Told U))) → HasNoNote a → HasNoNote b → HasNoNote (a ++ b)
+  no_note_append a b one two =
+      ap notes_in (deeds_append a b) ∙ notes_append (deeds_in a) (deeds_in b)
+      ∙ ap (λ (l : List (Happening U)). l ++ notes_in (deeds_in b)) one ∙ two
+
+  made_none : (made : List (Happening U)) (o : Option DisconnectReason) → o ≡ None → made ++ notes_in (end_deeds {U = U} o) ≡ made
+  made_none made o is = ap (λ (r : Option DisconnectReason). made ++ notes_in (end_deeds {U = U} r)) is ∙ append-nil made
+
+module _ {T U C : Type 0} where
+  live_reads : (p : Part T U C) → Live p → reads_on (core_of p) ≡ true
+  live_reads p (live, unopened) = ap (λ (b : Bool). not b && is_none p.action) live ∙ ap (λ (o : Option OpenAction). is_none o) unopened
+
+  -- a core in which the client was not killed is that of its part
+  core_again : (end : ReaderState T (Core U C)) → end.core.ended ≡ None → reader_part (part_of end) ≡ end
+  core_again end is =
+      ap (λ (o : Option DisconnectReason). let p : ReaderState T (Core U C) = record { core = record end.core { ended = o }; link = end.link } in p) (sym is)
+
+  -- a client that lives on is as it was stored, with that part
+  stored_live : (s : Stored T U C) (p : Part T U C) → record { serial = s.serial; part = p; made = s.made } ≡ stored_as s (reader_part p)
+  stored_live s p = ap (λ (m : List (Happening U)). let x : Stored T U C = record { serial = s.serial; part = p; made = m } in x) (sym (append-nil s.made))
+
+module _ {T U G C : Type 0} (sends : T → Queue → Result ℕ IoFault → T → Type 0) (receives : T → ℕ → Result Queue IoFault → T → Type 0) (a : Around G C) where
+  -- ---- joining
+
+  pub goes_none : (s : Stored T U C) (r : Reading) → r.read ≤ most → Live s.part → Goes sends receives a s r s r
+  goes_none s r within live = record {
+    first = [];
+    gave = [];
+    leads = λ turns rest end reads. reads;
+    silent = λ rest. refl;
+    no_note = refl;
+    read = counted_none r.read within;
+    live = live;
+    serial = refl;
+    made = refl;
+  }
+
+  behind_twice : (gave more : List (Given (Told U))) (refused : Bool) (rest : Gives (Told U)) → behind gave false (behind more refused rest) ≡ behind (gave ++ more) refused rest
+  behind_twice gave more refused rest =
+      ap (λ (g : List (Given (Told U))). let o : Gives (Told U) = record rest { gave = g; refused = refused || rest.refused } in o) (sym (append_assoc gave more rest.gave))
+
+  pub goes_goes : (s m e : Stored T U C) (r q t : Reading) → Goes sends receives a s r m q → Goes sends receives a m q e t → Goes sends receives a s r e t
+  goes_goes s m e r q t one two = record {
+    first = one.first ++ two.first;
+    gave = one.gave ++ two.gave;
+    leads = λ turns rest end reads. rw (append_assoc one.first two.first turns, ← behind_twice one.gave two.gave false rest)
+        (one.leads (two.first ++ turns) (behind two.gave false rest) end (two.leads turns rest end reads));
+    silent = λ rest. ap action_in (append_assoc one.gave two.gave rest) ∙ one.silent (two.gave ++ rest) ∙ two.silent rest;
+    no_note = no_note_append one.gave two.gave one.no_note two.no_note;
+    read = two.read ∙ counted_twice r.read (handled_in one.first) (handled_in two.first) q.read one.read ∙ ap (counted r.read) (sym (handled_append one.first two.first));
+    live = two.live;
+    serial = two.serial ∙ one.serial;
+    made = two.made ∙ one.made;
+  }
+
+  pub goes_ends : (s m e : Stored T U C) (r q t : Reading) (answer : Result Handed NoAction) → Goes sends receives a s r m q → EndsAs sends receives a m q answer e t
+      → EndsAs sends receives a s r answer e t
+  goes_ends s m e r q t answer one two = record {
+    turns = one.first ++ two.turns;
+    out = behind one.gave false two.out;
+    end = two.end;
+    reads = one.leads two.turns two.out two.end two.reads;
+    answer_is = two.answer_is ∙ quiet two.out.stopped;
+    refused_is = two.refused_is;
+    left = two.left;
+    read = two.read ∙ counted_twice r.read (handled_in one.first) (handled_in two.turns) q.read one.read ∙ ap (counted r.read) (sym (handled_append one.first two.turns));
+    no_note = no_note_append one.gave two.out.gave one.no_note two.no_note;
+    after_is = two.after_is ∙ rw (one.serial, one.made) refl;
+  }
+    where
+      quiet : (o : Option IoFault) → answered o two.out.gave ≡ answered o (one.gave ++ two.out.gave)
+      quiet None = sym (one.silent two.out.gave)
+      quiet (Some f) = refl
+
+  -- ---- a message
+
+  module _ (s : Stored T U C) (r r' : Reading) (live : Live s.part) where
+    on : reads_on (core_of s.part) ≡ true
+    on = live_reads s.part live
+
+    module _ (v : Verdict (Core U C) (Told U)) (link : LinkState T) (t : List Sending → Turn)
+        (found : (m : ℕ) (es : List Sending) (first : List (Given (Told U))) (lacked : Bool) (mid : ReaderState T (Core U C)) (turns : List Turn) (rest : Gives (Told U)) (end : ReaderState T (Core U C))
+        → CarriesOut sends (server a) v link es first lacked mid → Reads sends (server a) receives m mid turns rest end
+        → Reads sends (server a) receives m (reader_part s.part) (t es ∷ turns) (behind first lacked rest) end)
+        (left : r'.turns_left ≡ r.turns_left) (read : (es : List Sending) → r'.read ≡ counted r.read (handled_in (t es ∷ []))) where
+      ends_so : (answer : Result Handed NoAction) (gave : List (Given (Told U))) (refused : Bool) (end : ReaderState T (Core U C)) (es : List Sending) (after : Stored T U C)
+          → CarriesOut sends (server a) v link es gave refused end → reads_on end.core ≡ false → answer_of answer ≡ action_in gave → refused_of answer ≡ refused
+          → HasNoNote gave → after ≡ stored_as s end → EndsAs sends receives a s r answer after r'
+      ends_so answer gave refused end es after carried off says refuses none is =
+          let rest : Gives (Told U) = stops None false r.turns_left in
+          record {
+            turns = t es ∷ [];
+            out = behind gave refused rest;
+            end = end;
+            reads = found r.turns_left es gave refused end [] rest end carried (refl, at_false (Halts sends (server a) r.turns_left end rest) (reads_on end.core) off refl);
+            answer_is = says ∙ ap action_in (sym (append-nil gave));
+            refused_is = refuses ∙ or_false refused;
+            left = left;
+            read = read es;
+            no_note = ap (λ (l : List (Given (Told U))). notes_in (deeds_in l)) (append-nil gave) ∙ none;
+            after_is = is;
+          }
+
+      goes_so : (gave : List (Given (Told U))) (refused : Bool) (end : ReaderState T (Core U C)) (es : List Sending) (after : Stored T U C)
+          → CarriesOut sends (server a) v link es gave refused end → refused ≡ false → end.core.ended ≡ None → end.core.is_killed ≡ false → end.core.action ≡ None → IsSilent gave
+          → HasNoNote gave → after ≡ stored_as s end → Goes sends receives a s r after r'
+      goes_so gave refused end es after carried calm unended alive unopened silent none is =
+          record {
+            first = t es ∷ [];
+            gave = gave;
+            leads = λ turns rest last reads. subst (λ (b : Bool). Reads sends (server a) receives r.turns_left (reader_part s.part) (t es ∷ turns) (behind gave b rest) last) calm
+                (found r.turns_left es gave refused end turns rest last carried (again turns rest last reads));
+            silent = silent;
+            no_note = none;
+            read = read es;
+            live = (ap (λ (x : Stored T U C). x.part.is_killed) is ∙ alive, ap (λ (x : Stored T U C). x.part.action) is ∙ unopened);
+            serial = ap (λ (x : Stored T U C). x.serial) is;
+            made = ap (λ (x : Stored T U C). x.made) is ∙ made_none s.made end.core.ended unended;
+          }
+        where
+          again : (turns : List Turn) (rest : Gives (Told U)) (last : ReaderState T (Core U C)) → Reads sends (server a) receives r'.turns_left (reader_part after.part) turns rest last
+              → Reads sends (server a) receives r.turns_left end turns rest last
+          again turns rest last reads =
+              let same : reader_part after.part ≡ end = ap (λ (x : Stored T U C). reader_part x.part) is ∙ core_again end unended in
+              subst (λ (n : ℕ). Reads sends (server a) receives n end turns rest last) left
+              (subst (λ (p : ReaderState T (Core U C)). Reads sends (server a) receives r'.turns_left p turns rest last) same reads)
+
+      shorter : (gave : List (Given (Told U))) (refused : Bool) (end : ReaderState T (Core U C)) (es : List Sending) (after : Stored T U C)
+          → CarriesOut sends (server a) v link es gave refused end → after ≡ stored_as s end → length link.incoming.bytes < length s.part.link.incoming.bytes
+          → length after.part.link.incoming.bytes < length s.part.link.incoming.bytes
+      shorter gave refused end es after carried is fewer =
+          let kept = carries_stays sends (server a) v link end es gave refused carried in
+          let bytes : length after.part.link.incoming.bytes ≡ length link.incoming.bytes
+          = ap (λ (x : Stored T U C). length x.part.link.incoming.bytes) is ∙ ap (λ (q : Queue). length q.bytes) kept.incoming in
+          omega (arith, bytes, fewer)
+
+      turns_so : (to : Turned) (after : Stored T U C) → IsHandled sends v (linked s link) to after → length link.incoming.bytes < length s.part.link.incoming.bytes
+          → Turns sends receives a s r to after r'
+      turns_so (Acts h) after i fewer =
+          ends_so (Ok h) i.gave i.refused i.end i.es after i.carried i.says.1 (sym i.says.2) (sym i.says.0) i.no_note i.after_is
+      turns_so GoesOn after i fewer = (
+        goes_so i.gave i.refused i.end i.es after i.carried i.says.0 i.says.1 i.says.2 i.says.3 i.says.4 i.no_note i.after_is,
+        left,
+        shorter i.gave i.refused i.end i.es after i.carried i.after_is fewer,
+      )
+      turns_so LacksMore after i fewer = absurd i.says
+      turns_so (Ended end) after i fewer =
+          ends_so (Err end) i.gave i.refused i.end i.es after i.carried i.says.1 (sym i.says.2) (sym i.says.0) i.no_note i.after_is
+
+    -- the message at the front was taken and handled
+    pub turn_handled : (v : Verdict (Core U C) (Told U)) (link : LinkState T) (to : Turned) (after : Stored T U C) → Takes sends (server a) (reader_part s.part) v link
+        → IsHandled sends v (linked s link) to after → length link.incoming.bytes < length s.part.link.incoming.bytes → r'.turns_left ≡ r.turns_left
+        → r'.read ≡ counted r.read 1 → Turns sends receives a s r to after r'
+    turn_handled v link to after taken handled fewer left read =
+        turns_so v link (λ es. Handled es)
+        (λ m es first lacked mid turns rest end carried reads. (on, (v, link, first, lacked, mid, rest, taken, carried, refl, reads))) left (λ es. read) to after handled fewer
+
+  -- malformed bytes stay, and the connection is closed
+  pub turn_unread : (s : Stored T U C) (r : Reading) (end : NoAction) (after : Stored T U C) → Live s.part → r.read ≤ most
+      → Leaves sends (server a) (reader_part s.part) ((server a).malformed (core_of s.part)) s.part.link
+      → IsHandled sends ((server a).malformed (core_of s.part)) s (Ended end) after → Turns sends receives a s r (Ended end) after r
+  turn_unread s r end after live within leaves i =
+      ends_so s r r live ((server a).malformed (core_of s.part)) s.part.link (λ es. Unread es)
+      (λ m es first lacked mid turns rest last carried reads. (on s r r live, ((server a).malformed (core_of s.part), s.part.link, first, lacked, mid, rest, leaves, carried, refl, reads)))
+      refl (λ es. counted_none r.read within) (Err end) i.gave i.refused i.end i.es after i.carried i.says.1 (sym i.says.2) (sym i.says.0) i.no_note i.after_is
+
+  -- ---- where it halts
+
+  pub halts_so : (s : Stored T U C) (r : Reading) (f : IoFault) (refused : Bool) → Live s.part → r.read ≤ most
+      → Halts sends (server a) r.turns_left (reader_part s.part) (stops (Some f) refused r.turns_left)
+      → EndsAs sends receives a s r (Err (record { fault = f; refused = refused })) s r
+  halts_so s r f refused live within halts =
+      let out : Gives (Told U) = stops (Some f) refused r.turns_left in
+      record {
+        turns = [];
+        out = out;
+        end = reader_part s.part;
+        reads = (refl, at_true (out ≡ stops None false r.turns_left) (reads_on (core_of s.part)) (live_reads s.part live) halts);
+        answer_is = refl;
+        refused_is = refl;
+        left = refl;
+        read = counted_none r.read within;
+        no_note = refl;
+        after_is = stored_live s s.part;
+      }
+
+  -- the message at the front asks for memory
+  pub front_asks : (s : Stored T U C) (r : Reading) → Live s.part → r.read ≤ most → FrontAsks sends (server a) (reader_part s.part)
+      → EndsAs sends receives a s r (Err (record { fault = fault.OutOfMemory; refused = true })) s r
+  front_asks s r live within asks = halts_so s r fault.OutOfMemory true live within (inr (inl (asks, refl)))
+
+  -- no receive is left
+  pub none_left : (s : Stored T U C) (r : Reading) → Live s.part → r.read ≤ most → LacksIn sends receives a s.part → r.turns_left ≡ 0
+      → EndsAs sends receives a s r (Err (record { fault = fault.WouldBlock; refused = false })) s r
+  none_left s r live within lacks none = halts_so s r fault.WouldBlock false live within (inl (lacks, none, refl))
+
+  -- ---- no message was taken
+
+  pub is_malformed : (s : Stored T U C) → NotTaken a.table s.part.store s.part.link parse.Malformed
+      → Leaves sends (server a) (reader_part s.part) ((server a).malformed (core_of s.part)) s.part.link
+  is_malformed s (inl read) = (read, refl, refl)
+  is_malformed s (inr (other, asks)) = absurd (never other)
+    where
+      never : ◌≡◌ {A = MessageParseError} parse.Malformed parse.OutOfMemory → ⊥
+      never same = cc
+
+  pub does_ask : (s : Stored T U C) → NotTaken a.table s.part.store s.part.link parse.OutOfMemory → FrontAsks sends (server a) (reader_part s.part)
+  does_ask s (inl read) = inr read
+  does_ask s (inr (same, (row, front, asks, there))) = inl (ap row_asks front ∙ asks, (row.signature, ap (option_map (λ r. r.signature)) front, there))
+
+  -- ---- a message was taken
+
+  -- the client as its objects are once the request was gone through
+  abbrev pub gone_through : Stored T U C → LinkState T → Store (Kept U) → ℕ → List Id → Stored T U C
+  gone_through s link store last_serial registries = record {
+    serial = s.serial;
+    part = record s.part { link = link; store = store; last_serial = last_serial; registries = registries };
+    made = s.made;
+  }
+
+  abbrev pub Responds : Stored T U C → Store (Kept U) → List Id → WireMessage → MessageRow → Store (Kept U) → ℕ → List Id → Response → List (Argument IdParts Token) → Type 0
+  Responds s store registries m row store' last_serial registries' response args =
+      (x : Object (Kept U)) (c : Core U C) → held store m.sender ≡ Some x
+      → request_to a (core_with c s.part.info store s.part.last_serial registries) m x row ≡ response_to a (core_with c s.part.info store' last_serial registries') response args
+
+  known : (m : WireMessage) (row : MessageRow) (o : Option (Object (Kept U))) → row_in a.table o m.opcode ≡ Some row → (x : Object (Kept U)) × (o ≡ Some x)
+  known m row None is = cc
+  known m row (Some x) is = (x, refl)
+
+  pub turn_taken : (s : Stored T U C) (r r' : Reading) (link : LinkState T) (m : WireMessage) (row : MessageRow) (store : Store (Kept U)) (registries : List Id)
+      (store' : Store (Kept U)) (last_serial : ℕ) (registries' : List Id) (response : Response) (args : List (Argument IdParts Token)) (to : Turned) (after : Stored T U C)
+      → Live s.part → ReadsIn a.table s.part.store s.part.link (Ok m) link → row_in a.table (held s.part.store m.sender) m.opcode ≡ Some row
+      → store ≡ s.part.store → registries ≡ s.part.registries → Responds s store registries m row store' last_serial registries' response args
+      → IsHandled sends (response_to a (core_of (gone_through s link store' last_serial registries').part) response args) (gone_through s link store' last_serial registries') to after
+      → length link.incoming.bytes < length s.part.link.incoming.bytes → r'.turns_left ≡ r.turns_left → r'.read ≡ counted r.read 1
+      → Turns sends receives a s r to after r'
+  turn_taken s r r' link m row store registries store' last_serial registries' response args to after live read is same-store same-registries responds handled fewer left count =
+      let k = known m row (held s.part.store m.sender) is in
+      let mid = gone_through s link store' last_serial registries' in
+      let v = response_to a (core_of mid.part) response args in
+      let verdict : request_to a (core_of s.part) m k.0 row ≡ v
+      = subst (λ (g : List Id). request_to a (core_with (core_of s.part) s.part.info s.part.store s.part.last_serial g) m k.0 row ≡ v) same-registries
+      (subst (λ (t : Store (Kept U)). request_to a (core_with (core_of s.part) s.part.info t s.part.last_serial registries) m k.0 row ≡ v) same-store
+      (responds k.0 (core_of s.part) (ap (λ (t : Store (Kept U)). held t m.sender) same-store ∙ k.1))) in
+      let found : v ≡ (server a).handles (core_of s.part) m = sym verdict ∙ sym (ap₂ (request a (core_of s.part) m) k.1 is) in
+      turn_handled s r r' live v link to after (m, read, found)
+      (from_there sends v (linked s link) mid after to refl refl refl handled) fewer left count
+
+  -- ---- receives
+
+  pub goes_within : (s m : Stored T U C) (r q : Reading) → Goes sends receives a s r m q → q.read ≤ most
+  goes_within s m r q g = let e = g.read in omega (arith, e)
+
+  module _ (s : Stored T U C) (r q : Reading) (live : Live s.part) (within : r.read ≤ most) (lacks : LacksIn sends receives a s.part) (left : r.turns_left ≡ suc q.turns_left)
+      (read : q.read ≡ r.read) where
+    abbrev reads_none : List Turn
+    reads_none = []
+
+    is_read : q.read ≡ counted r.read 0
+    is_read = read ∙ counted_none r.read within
+
+    -- a receive after which it goes on
+    pub fills_goes : (after : Stored T U C) → Fills receives s None after → Goes sends receives a s r after q
+    fills_goes after (inr (impossible, same), finds, is) = absurd (never impossible)
+      where
+        never : ◌≡◌ {A = Result (Unit {0}) IoFault} (Ok tt) (Err fault.OutOfMemory) → ⊥
+        never e = cc
+    fills_goes after (inl (rc, made), finds, is) = record {
+      first = Received rc ∷ [];
+      gave = [];
+      leads = λ turns rest end reads. (
+        live_reads s.part live,
+        lacks,
+        (
+          q.turns_left,
+          left,
+          (
+            after.part.link,
+            (made.0, refl, made.2),
+            room_found receives s.part.link after.part.link rc (Ok tt) made finds,
+            subst (λ (c : Result (Unit {0}) IoFault). MatchResult c (λ _. Reads sends (server a) receives q.turns_left (record { core = core_of s.part; link = after.part.link }) turns rest end)
+                (λ f. (turns ≡ []) × (behind [] false rest ≡ stops (Some f) (lacked_memory (Err f)) q.turns_left)
+                × (end ≡ record { core = faulted (core_of s.part) f; link = after.part.link }))) made.1
+                (subst (λ (x : Stored T U C). Reads sends (server a) receives q.turns_left (record { core = core_of x.part; link = x.part.link }) turns rest end) is reads),
+          ),
+        ),
+      );
+      silent = λ rest. refl;
+      no_note = refl;
+      read = is_read;
+      live = (ap (λ (x : Stored T U C). x.part.is_killed) is ∙ live.0, ap (λ (x : Stored T U C). x.part.action) is ∙ live.1);
+      serial = ap (λ (x : Stored T U C). x.serial) is;
+      made = ap (λ (x : Stored T U C). x.made) is;
+    }
+
+    -- a receive that ends it
+    pub fills_ends : (end : NoAction) (after : Stored T U C) → Fills receives s (Some end) after → EndsAs sends receives a s r (Err end) after q
+    fills_ends end after (link, inl (rc, made), finds, refused, is) =
+        let out : Gives (Told U) = stops (Some end.fault) (lacked_memory (Err end.fault)) q.turns_left in
+        let last : ReaderState T (Core U C) = record { core = faulted (core_of s.part) end.fault; link = link } in
+        record {
+          turns = Received rc ∷ [];
+          out = out;
+          end = last;
+          reads = (
+            live_reads s.part live,
+            lacks,
+            (
+              q.turns_left,
+              left,
+              (
+                link,
+                (made.0, refl, made.2),
+                room_found receives s.part.link link rc (Err end.fault) made finds,
+                subst (λ (c : Result (Unit {0}) IoFault). MatchResult c (λ _. Reads sends (server a) receives q.turns_left (record { core = core_of s.part; link = link }) [] out last)
+                    (λ f. (reads_none ≡ []) × (out ≡ stops (Some f) (lacked_memory (Err f)) q.turns_left)
+                    × (last ≡ record { core = faulted (core_of s.part) f; link = link }))) made.1 (refl, refl, refl),
+              ),
+            ),
+          );
+          answer_is = refl;
+          refused_is = refused;
+          left = refl;
+          read = is_read;
+          no_note = refl;
+          after_is = is;
+        }
+    fills_ends end after (link, inr (failed, same), finds, refused, is) =
+        let memory : end.fault ≡ fault.OutOfMemory = memory_is end.fault failed in
+        let out : Gives (Told U) = stops (Some fault.OutOfMemory) true q.turns_left in
+        record {
+          turns = [];
+          out = out;
+          end = reader_part s.part;
+          reads = (refl, at_true (out ≡ stops None false r.turns_left) (reads_on (core_of s.part)) (live_reads s.part live) (inr (inr (lacks, (q.turns_left, left, refl)))));
+          answer_is = ap (λ (f : IoFault). let r : Result Handed ActionError = Err (Io f) in r) memory;
+          refused_is = refused ∙ ap (λ (f : IoFault). lacked_memory (Err f)) memory;
+          left = refl;
+          read = is_read;
+          no_note = refl;
+          after_is = is ∙ ap (λ (f : IoFault). stored_as s (record { core = faulted (core_of s.part) f; link = link })) memory
+              ∙ ap (λ (l : LinkState T). stored_as s (record { core = core_of s.part; link = l })) same;
+        }
+      where
+        memory_is : (f : IoFault) → ◌≡◌ {A = Result (Unit {0}) IoFault} (Err f) (Err fault.OutOfMemory) → f ≡ fault.OutOfMemory
+        memory_is f is' = cc
+
+-- ---- an open action is answered first, and then that the client was killed
+
+live_as : {A : Type 0} (P Q : Type 0) (S : A → Type 0) (o : Option A) (b : Bool) → o ≡ None → b ≡ false → P → MatchOption o (MatchBool b Q P) S
+live_as P Q S None true none live p = absurd (true≢false live)
+live_as P Q S None false none live p = p
+live_as P Q S (Some x) b none live p = absurd (true≢false (ap is_some none))
+
+killed_as : {A : Type 0} (P Q : Type 0) (S : A → Type 0) (o : Option A) (b : Bool) → is_some o ≡ false → b ≡ true → Q → MatchOption o (MatchBool b Q P) S
+killed_as P Q S None true none dead q = q
+killed_as P Q S None false none dead q = absurd (true≢false (sym dead))
+killed_as P Q S (Some x) b none dead q = absurd (true≢false none)
+
+open_as : {A : Type 0} (P : Type 0) (S : A → Type 0) (o : Option A) → is_some o ≡ true → ((x : A) → S x) → MatchOption o P S
+open_as P S None some s = absurd (true≢false (sym some))
+open_as P S (Some x) some s = s x
+
+pub live_is : {A : Type 0} (o : Option A) → is_some o ≡ false → o ≡ None
+live_is None none = refl
+live_is (Some x) none = absurd (true≢false none)
+
+-- a receive is no note, nor is a send
+notes_of_exchanges : {U : Type 0} (turns : List Turn) → notes_in {U = U} (exchanges_in turns) ≡ []
+notes_of_exchanges [] = refl
+notes_of_exchanges (Received r ∷ turns) = notes_of_exchanges turns
+notes_of_exchanges {U = U} (Handled es ∷ turns) =
+    notes_append (map Sent es) (exchanges_in turns) ∙ ap (λ (l : List (Happening U)). l ++ notes_in (exchanges_in turns)) (notes_of_sends es) ∙ notes_of_exchanges turns
+notes_of_exchanges {U = U} (Unread es ∷ turns) =
+    notes_append (map Sent es) (exchanges_in turns) ∙ ap (λ (l : List (Happening U)). l ++ notes_in (exchanges_in turns)) (notes_of_sends es) ∙ notes_of_exchanges turns
+
+module _ {T U G C : Type 0} (sends : T → Queue → Result ℕ IoFault → T → Type 0) (receives : T → ℕ → Result Queue IoFault → T → Type 0) (a : Around G C)
+    (s after : Stored T U C) (r r' : Reading) where
+  abbrev pub NextDoes : Result Handed ActionError → Bool → Type 0
+  NextDoes answer refused = Does s (λ p did q. NextAction sends receives a r p answer r' refused did q) after
+
+  module _ (answer : Result Handed ActionError) (refused : Bool) (did : List (Deed U)) (q : Part T U C) where
+    abbrev Ran : Type 0
+    Ran = ReadsTo sends receives a r s.part answer r' refused did q
+
+    abbrev Refused : ActionError → Type 0
+    Refused e = ReadsNone e r s.part answer r' refused did q
+
+    next_live : Live s.part → Ran → NextAction sends receives a r s.part answer r' refused did q
+    next_live live ran = live_as Ran (Refused (Io fault.Pipe)) (λ _. Refused ActionOpen) s.part.action s.part.is_killed live.1 live.0 ran
+
+    next_killed : is_some s.part.action ≡ false → s.part.is_killed ≡ true → Refused (Io fault.Pipe) → NextAction sends receives a r s.part answer r' refused did q
+    next_killed none dead is = killed_as Ran (Refused (Io fault.Pipe)) (λ _. Refused ActionOpen) s.part.action s.part.is_killed none dead is
+
+    next_open : is_some s.part.action ≡ true → Refused ActionOpen → NextAction sends receives a r s.part answer r' refused did q
+    next_open some is = open_as (MatchBool s.part.is_killed (Refused (Io fault.Pipe)) Ran) (λ _. Refused ActionOpen) s.part.action some (λ x. is)
+
+  -- a reading that ended is what is told of one
+  pub reading_done : (answer : Result Handed NoAction) → Live s.part → EndsAs sends receives a s r answer after r' → NextDoes (answer_of answer) (refused_of answer)
+  reading_done answer live e =
+      let did : List (Deed U) = deeds_of (exchanges_in e.turns) e.out.gave e.end.core in
+      let notes : notes_in did ≡ notes_in (end_deeds {U = U} e.end.core.ended)
+      = notes_append (exchanges_in e.turns) (deeds_in e.out.gave ++ end_deeds e.end.core.ended)
+      ∙ ap (λ (l : List (Happening U)). l ++ notes_in (deeds_in e.out.gave ++ end_deeds e.end.core.ended)) (notes_of_exchanges e.turns)
+      ∙ notes_append (deeds_in e.out.gave) (end_deeds e.end.core.ended)
+      ∙ ap (λ (l : List (Happening U)). l ++ notes_in (end_deeds {U = U} e.end.core.ended)) e.no_note in
+      let reading : r' ≡ read_on r e.out.left (handled_in e.turns)
+      = ap₂ (λ (n m : ℕ). let x : Reading = record { turns_left = n; read = m } in x) e.left e.read in
+      let reads : ReadsTo sends receives a r s.part (answer_of answer) r' (refused_of answer) did (part_of e.end)
+      = (e.turns, e.out, e.end, e.reads, e.answer_is, reading, e.refused_is, refl, refl) in (
+        did,
+        part_of e.end,
+        next_live (answer_of answer) (refused_of answer) did (part_of e.end) live reads,
+        e.after_is ∙ ap (λ (l : List (Happening U)). let x : Stored T U C = record { serial = s.serial; part = part_of e.end; made = s.made ++ l } in x) (sym notes),
+      )
+
+  abbrev same_as : List (Happening U) → Stored T U C
+  same_as made = record { serial = s.serial; part = s.part; made = made }
+
+  -- nothing is read
+  pub open_done : r' ≡ r → after ≡ s → is_some s.part.action ≡ true → NextDoes (Err ActionOpen) false
+  open_done left same some =
+      ([], s.part, next_open (Err ActionOpen) false [] s.part some (refl, left, refl, refl, refl), same ∙ ap same_as (sym (append-nil s.made)))
+
+  pub killed_done : r' ≡ r → after ≡ s → is_some s.part.action ≡ false → s.part.is_killed ≡ true → NextDoes (Err (Io fault.Pipe)) false
+  killed_done left same none dead =
+      ([], s.part, next_killed (Err (Io fault.Pipe)) false [] s.part none dead (refl, left, refl, refl, refl), same ∙ ap same_as (sym (append-nil s.made)))
+
+-- a fault after which more may come
+pub fault_stays : {T U C : Type 0} (receives : T → ℕ → Result Queue IoFault → T → Type 0) (s : Stored T U C) (link : LinkState T) (f : IoFault)
+    → faulted (core_of s.part) f ≡ core_of s.part → Filled receives s.part.link (Err f) link → FindsRoom s.part.link (grown_capacity s.part.link)
+    → Fills receives s (Some (record { fault = f; refused = lacked_memory (Err f) })) (linked s link)
+fault_stays receives s link f same filled finds = (
+  link,
+  filled,
+  finds,
+  refl,
+  stored_live s (record s.part { link = link }) ∙ ap (λ (c : Core _ _). stored_as s (record { core = c; link = link })) (sym same),
+)
+
+-- a fault that kills
+pub fault_fills : {T U C : Type 0} (receives : T → ℕ → Result Queue IoFault → T → Type 0) (s after : Stored T U C) (link : LinkState T) (f : IoFault)
+    → f ≢ fault.WouldBlock → f ≢ fault.OutOfMemory → Filled receives s.part.link (Err f) link → FindsRoom s.part.link (grown_capacity s.part.link)
+    → Does (linked s link) (λ p did q. Kills p ConnectionClosed did q) after
+    → Fills receives s (Some (record { fault = f; refused = false })) after
+fault_fills receives s after link f blocks memory filled finds kills =
+    (link, filled, finds, sym (lacks_none f memory), kills_is (linked s link) after ConnectionClosed kills ∙ closes f blocks memory)
+  where
+    lacks_none : (f : IoFault) → f ≢ fault.OutOfMemory → lacked_memory (Err f) ≡ false
+    lacks_none fault.WouldBlock memory = refl
+    lacks_none fault.Pipe memory = refl
+    lacks_none fault.TooBig memory = refl
+    lacks_none fault.Proto memory = refl
+    lacks_none fault.InvalidInput memory = refl
+    lacks_none fault.OutOfMemory memory = absurd (memory refl)
+    lacks_none (fault.Other n) memory = refl
+
+    closes : (f : IoFault) → f ≢ fault.WouldBlock → f ≢ fault.OutOfMemory
+        → stored_as s (record { core = faulted (core_of s.part) fault.Pipe; link = link }) ≡ stored_as s (record { core = faulted (core_of s.part) f; link = link })
+    closes fault.WouldBlock blocks memory = absurd (blocks refl)
+    closes fault.Pipe blocks memory = refl
+    closes fault.TooBig blocks memory = refl
+    closes fault.Proto blocks memory = refl
+    closes fault.InvalidInput blocks memory = refl
+    closes fault.OutOfMemory blocks memory = absurd (memory refl)
+    closes (fault.Other n) blocks memory = refl

@@ -1,0 +1,97 @@
+-- What one outcome leaves open and what it does not: worked values.
+use Rattle.std.proofs.Common.{◌≡◌, ℕ, ◌⊎◌, inl, inr, Bool, List, [], ◌∷◌, ◌++◌, None, Result, Ok, Err, true, false, refl, sym, ap, ◌∙◌, lit<, arith, true≢false}
+use Rattle.std.specs.Prelude.{is_ok}
+use Rattle.std.proofs.lemmas.Bool.{cases_Bool}
+use Rattle.wl_wire.specs.declared.error.IoFault.{IoFault}
+use Rattle.wl_wire.specs.declared.error.IoFault.TheVariants as fault
+use Rattle.wl_link.specs.Exchange.{Queue, nothing, IsFunction}
+use Rattle.wl_server.specs.declared.notes.DisconnectReason.TheVariants.{ConnectionClosed}
+use Rattle.wl_server.specs.declared.notes.Happening.{Happening}
+use Rattle.wl_server.specs.declared.notes.Happening.TheVariants.{Initialized as WasInserted}
+use Rattle.wl_server.specs.declared.notes.Note.{Note}
+use Rattle.wl_server.specs.declared.notes.Note.TheVariants.{Disconnected, Initialized}
+use Rattle.wl_server.specs.Globals.{new_offer}
+use Rattle.wl_server.specs.Ids.{ClientParts, same_client}
+use Rattle.wl_server.specs.Server.{Seen, ServerState, notes_of}
+use Rattle.wl_server.proofs.OverRuns.Outcome.ShareLaws.{same_client_is}
+use Rattle.wl_server.specs.Steps.{RiseBySlot}
+use Rattle.wl_server.specs.WholeOutcome.{SameServer}
+use Rattle.wl_server.proofs.Worked.Messages.{table}
+
+abbrev first : ClientParts
+first = record { slot = 0; serial = 1 }
+
+abbrev second : ClientParts
+second = record { slot = 1; serial = 2 }
+
+not_both : (id : ClientParts) → same_client first id ≡ true → same_client second id ≡ true → ⊥
+not_both id one two =
+    let slots : 0 ≡ 1 = ap (λ (i : ClientParts). i.slot) (same_client_is first id one ∙ sym (same_client_is second id two)) in
+    omega (arith, slots)
+
+-- ---- the notes of two clients stand in either order
+
+abbrev noted : List (Note ℕ) → ServerState ℕ ℕ ℕ Bool
+noted notes = record { offer = new_offer table; last_client = 2; clients = []; notes = notes }
+
+abbrev one_order : List (Note ℕ)
+one_order = Initialized first ∷ Initialized second ∷ []
+
+abbrev other_order : List (Note ℕ)
+other_order = Initialized second ∷ Initialized first ∷ []
+
+either_order : (id : ClientParts) → notes_of id one_order ≡ notes_of id other_order
+either_order id = at (cases_Bool (same_client first id)) (cases_Bool (same_client second id))
+  where
+    at : (same_client first id ≡ true) ⊎ (same_client first id ≡ false) → (same_client second id ≡ true) ⊎ (same_client second id ≡ false)
+        → notes_of id one_order ≡ notes_of id other_order
+    at (inl one) (inl two) = absurd (not_both id one two)
+    at (inl one) (inr two) = rw (one, two) refl
+    at (inr one) (inl two) = rw (one, two) refl
+    at (inr one) (inr two) = rw (one, two) refl
+
+-- servers that differ in it are the same to their program
+orders_alike : SameServer (noted one_order) (noted other_order)
+orders_alike = record {
+  offer = refl;
+  last = refl;
+  each = λ id. ap (λ notes. let s : Seen ℕ ℕ Bool = record { part = None; made = notes ++ [] } in s) (either_order id);
+}
+
+-- but the notes of one client stand as they were made
+abbrev is_first : List (Happening ℕ) → Bool
+is_first (WasInserted ∷ _) = true
+is_first _ = false
+
+abbrev ended : List (Note ℕ)
+ended = Disconnected first ConnectionClosed ∷ Initialized first ∷ []
+
+abbrev begun : List (Note ℕ)
+begun = Initialized first ∷ Disconnected first ConnectionClosed ∷ []
+
+not_turned : SameServer (noted ended) (noted begun) → ⊥
+not_turned same = true≢false (sym (ap (λ (s : Seen ℕ ℕ Bool). is_first s.made) (same.each first)))
+
+-- ---- a cleanup's list
+
+-- the clients that it takes out do not stand in the other order
+abbrev descending : List (ClientParts × ℕ)
+descending = (second, 8) ∷ (first, 7) ∷ []
+
+not_descending : RiseBySlot descending → ⊥
+not_descending rises = let falls = rises 0 1 (first, 7) (lit< tt) (lit< tt) in omega (arith, falls)
+
+-- ---- a transport that chooses
+
+-- where a send may be answered by anything, there is more than one outcome
+abbrev chooses : ℕ → Queue → Result ℕ IoFault → ℕ → Type 0
+chooses before offer answer after = Unit {0}
+
+not_a_function : IsFunction chooses → ⊥
+not_a_function function = let one = function 0 nothing (Ok 0) (Err fault.Pipe) 0 0 tt tt taken broken in true≢false (ap is_ok one.0)
+  where
+    taken : ◌≡◌ {A = Result ℕ IoFault} (Ok 0) (Err fault.OutOfMemory) → ⊥
+    taken same = true≢false (ap is_ok same)
+
+    broken : ◌≡◌ {A = Result ℕ IoFault} (Err fault.Pipe) (Err fault.OutOfMemory) → ⊥
+    broken same = cc

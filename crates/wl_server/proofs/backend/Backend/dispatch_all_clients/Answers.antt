@@ -1,0 +1,21 @@
+use Rattle.std.proofs.Common.{arith}
+use Rattle.wl_server.specs.Dispatch.{answering}
+use Rattle.wl_server.specs.PartStep.{over}
+use Rattle.wl_server.proofs.Dispatches.Serving.{all_served, dispatches_all, each_begun, one_more}
+use Rattle.wl_server.proofs.backend.Backend.dispatch_all_clients.Goals as goal
+
+pub loop-client-init : goal.loop-client-init
+loop-client-init g c =
+    each_begun (over g.T.Transport.sends g.T.Transport.receives g.G.GlobalHandler.views) (answering g.H.Handler.requests g.H.Handler.binds) c.args.handler.now c.args.self.now
+    c.begin_dispatch.new.self c.begin_dispatch.ensures
+
+pub loop-client-preserved : goal.loop-client-preserved
+loop-client-preserved g c =
+    one_more (over g.T.Transport.sends g.T.Transport.receives g.G.GlobalHandler.views) (answering g.H.Handler.requests g.H.Handler.binds) c.args.clients.now c.loop-client.client-index
+    c.client-item.result c.loop-client-test.true c.client-item.is c.loop-client.invariant c.serve.ensures c.total_with-total.ensures
+
+pub returns : goal.returns
+returns g c =
+    dispatches_all (over g.T.Transport.sends g.T.Transport.receives g.G.GlobalHandler.views) (answering g.H.Handler.requests g.H.Handler.binds) c.args.self.now
+    (all_served (over g.T.Transport.sends g.T.Transport.receives g.G.GlobalHandler.views) (answering g.H.Handler.requests g.H.Handler.binds) c.args.clients.now c.loop-client.client-index
+    (omega (arith, c.loop-client-test.false)) c.loop-client.invariant) c.end_dispatch.ensures

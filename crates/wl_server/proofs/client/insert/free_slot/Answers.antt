@@ -1,0 +1,26 @@
+use Rattle.std.proofs.Common.{◌∙◌, arith, refl}
+use Rattle.std.proofs.lemmas.Option.{slice_get_read}
+use Rattle.wl_server.proofs.ObjectCalls.Inserting.{none_of, slot_of, stored_past, stored_read}
+use Rattle.wl_server.proofs.CleanupSteps.Taken.{one_more_taken, taken_less}
+use Rattle.wl_server.proofs.client.insert.free_slot.Goals as goal
+
+pub loop-slot-preserved : goal.loop-slot-preserved
+loop-slot-preserved g c =
+    let here = slice_get_read c.args.clients.now _ c.loop-slot.slot c.index-clients-slot.result refl c.loop-slot-test.true c.index-clients-slot.is in
+    record {
+      taken = one_more_taken c.args.clients.now c.loop-slot.slot c.index-clients-slot.result c.loop-slot.invariant.taken here c.if-is_none.ensures;
+      ends = refl;
+    }
+
+pub returns-then-is_none : goal.returns-then-is_none
+returns-then-is_none g c =
+    let here = slice_get_read c.args.clients.now _ c.loop-slot.slot c.index-clients-slot.result refl c.loop-slot-test.true c.index-clients-slot.is in
+    slot_of c.args.clients.now c.loop-slot.slot c.try_from.result c.ok.result
+    (stored_read c.args.clients.now c.loop-slot.slot c.index-clients-slot.result here ∙ none_of c.index-clients-slot.result c.if-is_none.ensures)
+    c.loop-slot.invariant.taken c.try_from.ensures c.ok.ensures.value
+
+pub returns : goal.returns
+returns g c =
+    slot_of c.args.clients.now _ c.try_from-2.result c.ok-2.result (stored_past c.args.clients.now _ (omega arith))
+    (taken_less _ c.loop-slot.slot c.args.clients.now (omega (arith, c.loop-slot-test.false, c.loop-slot.invariant.ends)) c.loop-slot.invariant.taken)
+    c.try_from-2.ensures c.ok-2.ensures.value

@@ -1,0 +1,22 @@
+use Rattle.std.proofs.Common.{◌≡◌, Option, List, Some, arith, subst}
+use Rattle.wl_server.specs.Inside.Client.{IsInserted}
+use Rattle.wl_server.specs.Inside.Inserting.{IsPut}
+use Rattle.wl_server.specs.Server.{Stored}
+use Rattle.wl_server.proofs.client.insert.put_new.Goals as goal
+
+moved : {T U C : Type 0} (xs ys after : List (Option (Stored T U C))) (n m : _) (s : Stored T U C) → xs ≡ ys → n ≡ m → IsPut xs n s after → IsPut ys m s after
+moved xs ys after n m s lists slots put =
+    subst (λ (k : _). IsPut ys k s after) slots (subst (λ (l : List (Option (Stored _ _ _))). IsPut l n s after) lists put)
+
+pub returns-clause-put : goal.returns-clause-put
+returns-clause-put g c = (
+  c.in_ok-client.client,
+  subst (λ n. IsInserted n c.args.transport (Some c.args.max_buffer_size) c.args.info c.in_ok-client.client) c.serial-serial.ensures c.in_ok-client.ensures,
+  moved _ _ _ _ _ _ c.in_ok-reserve_slot.ensures.items c.slot-slot.ensures c.put_at.ensures.put,
+)
+
+pub returns-clause-slots : goal.returns-clause-slots
+returns-clause-slots g c within =
+    let len = c.in_ok-reserve_slot.ensures.len in
+    let slot = c.slot-slot.type_inv in
+    c.put_at.ensures.slots (omega (arith, within, len)) slot

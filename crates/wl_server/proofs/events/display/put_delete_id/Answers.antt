@@ -1,0 +1,14 @@
+use Rattle.std.proofs.Common.{◌≡◌, false, true, nat_le, arith}
+use Rattle.wl_server.specs.Telling.{delete_message}
+use Rattle.wl_server.proofs.GlobalCalls.Putting.{puts_none, puts_one}
+use Rattle.wl_server.proofs.events.display.put_delete_id.Goals as goal
+
+pub returns-then-number-ge-SERVER_ID_LIMIT : goal.returns-then-number-ge-SERVER_ID_LIMIT
+returns-then-number-ge-SERVER_ID_LIMIT g c =
+    let server : nat_le 0xFF000000 c.args.number ≡ true = grind (arith, c.if-number-ge-SERVER_ID_LIMIT.true) in
+    rw server (puts_none g.T.Transport.sends c.args.socket.now)
+
+pub returns : goal.returns
+returns g c =
+    let client : nat_le 0xFF000000 c.args.number ≡ false = grind (arith, c.if-number-ge-SERVER_ID_LIMIT.false) in
+    rw client (puts_one g.T.Transport.sends c.args.socket.now c.put_number.new.socket (delete_message c.args.number) c.put_number.result c.put_number.ensures)

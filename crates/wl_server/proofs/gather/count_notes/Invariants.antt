@@ -1,9 +1,0 @@
-use Rattle.std.proofs.Common.{◌<◌, ◌≤◌, ◌+◌, drop}
-use Rattle.wl_server.specs.Gathering.{count_leaving}
-use Rattle.wl_server.proofs.gather.count_notes.Given as goal
-
-abbrev pub invariant-loop-place : goal.invariant-loop-place
-invariant-loop-place g l = record {
-  all : l.count < 0xFFFFFFFFFFFFFFFF → count_leaving l.waits l.clients ≤ l.count + count_leaving l.waits (drop l.place-index l.clients);
-  no_more : l.count + count_leaving l.waits (drop l.place-index l.clients) ≤ count_leaving l.waits l.clients;
-}

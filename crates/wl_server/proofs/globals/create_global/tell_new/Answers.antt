@@ -1,0 +1,24 @@
+use Rattle.std.proofs.Common.{◌≡◌, ℕ, arith, length, refl, subst}
+use Rattle.std.proofs.lemmas.Option.{slice_get-get_or}
+use Rattle.wl_server.specs.Inside.News.{HearsNew}
+use Rattle.wl_server.specs.Inside.Places.{AllFeel}
+use Rattle.wl_server.proofs.CallSteps.Feeling.{none_felt, one_more_felt}
+use Rattle.wl_server.proofs.globals.create_global.tell_new.Goals as goal
+
+pub loop-slot-init : goal.loop-slot-init
+loop-slot-init g c = record { felt = none_felt _ _; ends = refl }
+
+pub loop-slot-preserved : goal.loop-slot-preserved
+loop-slot-preserved g c =
+    let len = c.loop-slot.invariant.felt.len in
+    let here = slice_get-get_or c.loop-slot.clients c.loop-slot.slot c.index-clients-slot.result (omega (arith, c.loop-slot-test.true, len)) in
+    record {
+      felt = one_more_felt _ _ _ _ _ _ _ _ c.loop-slot.invariant.felt here c.tell_new_at-refused.ensures;
+      ends = refl;
+    }
+
+pub returns : goal.returns
+returns g c =
+    let end : c.loop-slot.slot ≡ length c.args.clients.now = omega (arith, c.loop-slot-test.false, c.loop-slot.auto.slot-end) in
+    subst (λ (n : ℕ). AllFeel (HearsNew g.T.Transport.sends g.G.GlobalHandler.views c.args.protocol.now c.args.id.now c.args.global.now) c.loop-slot.refused n c.args.clients.now
+    c.loop-slot.clients) end c.loop-slot.invariant.felt

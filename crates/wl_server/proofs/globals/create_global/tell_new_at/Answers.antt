@@ -1,0 +1,25 @@
+use Rattle.std.proofs.Common.{◌∙◌, ap, refl, sym}
+use Rattle.wl_server.specs.Globals.{Shown}
+use Rattle.wl_server.specs.Inside.News.{HearsNew}
+use Rattle.wl_server.specs.Server.{Stored}
+use Rattle.wl_server.proofs.CallSteps.Feeling.{place_felt}
+use Rattle.wl_server.proofs.Readings.Hearing.{killed_hears, seen_hears, unseen_hears}
+use Rattle.wl_server.proofs.globals.create_global.tell_new_at.Goals as goal
+
+pub returns-then-not-can_view : goal.returns-then-not-can_view
+returns-then-not-can_view g c =
+    let told : Shown = record { name = c.args.id.now.name; interface = c.args.global.now.interface; version = c.args.global.now.version } in
+    place_felt (HearsNew g.T.Transport.sends g.G.GlobalHandler.views c.args.protocol.now c.args.id.now c.args.global.now) c.args.slot _ c.from_parts-client_id.result c.in-Some.client
+    c.in-Some.client c.args.client.now _ c.in-Some.is c.from_parts-client_id.ensures (ap (λ (s : Stored _ _ _). s.serial) c.client.view_is)
+    (rw (← c.client.view_is) (unseen_hears g.T.Transport.sends c.args.protocol.now _ told _ c.if-not-client.true (sym c.can_view.ensures ∙ c.if-not-can_view.true)))
+
+pub returns-else-not-can_view : goal.returns-else-not-can_view
+returns-else-not-can_view g c =
+    let told : Shown = record { name = c.args.id.now.name; interface = c.args.global.now.interface; version = c.args.global.now.version } in
+    place_felt (HearsNew g.T.Transport.sends g.G.GlobalHandler.views c.args.protocol.now c.args.id.now c.args.global.now) c.args.slot _ c.from_parts-client_id.result c.in-Some.client
+    c.told.new.self c.args.client.now c.told.result c.in-Some.is c.from_parts-client_id.ensures (ap (λ (s : Stored _ _ _). s.serial) c.client.view_is)
+    (rw (← c.client.view_is) (seen_hears g.T.Transport.sends c.args.protocol.now _ told _ _ _ _ _ c.if-not-client.true (sym c.can_view.ensures ∙ c.if-not-can_view.false)
+    (rw (← c.deref.ensures.value, ← c.name.ensures) c.put_global_to_each-answer.ensures) c.told.ensures.refused c.told.ensures.closed))
+
+pub returns-in_default : goal.returns-in_default
+returns-in_default g c = rw c.in-Some.is (c.in-Some.client, rw (← c.client.view_is) (killed_hears _ _ _ c.if-not-client.false), refl)

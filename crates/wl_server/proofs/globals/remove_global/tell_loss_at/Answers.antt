@@ -1,0 +1,18 @@
+use Rattle.std.proofs.Common.{map, refl, subst}
+use Rattle.wl_wire.specs.Message.{WireMessage}
+use Rattle.wl_server.specs.Inside.Puts.{Puts}
+use Rattle.wl_server.specs.Telling.{by_object}
+use Rattle.wl_server.proofs.Readings.Hearing.{killed_hears, live_hears}
+use Rattle.wl_server.proofs.globals.remove_global.tell_loss_at.Goals as goal
+
+pub returns-in-Some : goal.returns-in-Some
+returns-in-Some g c = λ slot.
+    rw (c.in-Some.is, ← c.client.view_is) (
+      c.told.new.self,
+      live_hears _ _ _ _ _ _ _ c.if-not-client.true (subst (λ (m : WireMessage). Puts g.T.Transport.sends c.client.inside.socket (map (λ r. by_object r m.opcode m.args) c.client.inside.registries.items) c.put_to_each-answer.result c.put_to_each-answer.new.socket)
+          c.message_of_number-message.ensures (rw (← c.deref.ensures.value) c.put_to_each-answer.ensures)) c.told.ensures.refused c.told.ensures.closed,
+      refl,
+    )
+
+pub returns-in_default : goal.returns-in_default
+returns-in_default g c = λ slot. rw (c.in-Some.is, ← c.client.view_is) (_, killed_hears _ _ _ c.if-not-client.false, refl)

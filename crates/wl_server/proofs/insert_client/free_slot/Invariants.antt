@@ -1,9 +1,0 @@
-use Rattle.std.proofs.Common.{◌≡◌, length}
-use Rattle.wl_server.specs.Inserting.{AreTaken}
-use Rattle.wl_server.proofs.insert_client.free_slot.Given as goal
-
-abbrev pub invariant-loop-slot : goal.invariant-loop-slot
-invariant-loop-slot g l = record {
-  taken : AreTaken l.slot l.clients;
-  ends : l.slot-end ≡ length l.clients;
-}

@@ -1,0 +1,44 @@
+use Rattle.std.proofs.Common.{length, true}
+use Rattle.std.specs.Vec.{vec_capacity, vec_len}
+use Rattle.wl_server.specs.Inside.Gathering.{count_leaving}
+use Rattle.wl_server.specs.Inside.Leaving.{collected, ends_at, given_at}
+use Rattle.wl_server.proofs.CleanupSteps.Asking.{at_most, none_both, none_ends, none_of, on_err, room_of_none, some_of}
+use Rattle.wl_server.proofs.notes.cleanup.room_for.Goals as goal
+
+pub returns-then-count-eq0-clause-notes : goal.returns-then-count-eq0-clause-notes
+returns-then-count-eq0-clause-notes g c =
+    let none = none_both c.count_notes-gathered.result c.count_given-leaving.result c.saturating_add-count.result c.saturating_add-count.ensures c.if-count-eq0.true in
+    let given = none_of c.count_given-leaving.result (length (collected given_at 0 c.args.clients.now)) none.1 c.count_given-leaving.ensures.all in
+    let notes = none_of c.count_notes-gathered.result (count_leaving true c.args.clients.now) none.0 c.count_notes-gathered.ensures.all in
+    room_of_none (vec_len c.args.notes.now) (vec_capacity c.args.notes.now) (count_leaving true c.args.clients.now) (length (collected ends_at 0 c.args.clients.now))
+    notes (none_ends 0 c.args.clients.now given) c.args.notes.now.ok.1
+
+pub returns-then-count-eq0-clause-numbers : goal.returns-then-count-eq0-clause-numbers
+returns-then-count-eq0-clause-numbers g c =
+    let none = none_both c.count_notes-gathered.result c.count_given-leaving.result c.saturating_add-count.result c.saturating_add-count.ensures c.if-count-eq0.true in
+    let given = none_of c.count_given-leaving.result (length (collected given_at 0 c.args.clients.now)) none.1 c.count_given-leaving.ensures.all in
+    at_most (length (collected ends_at 0 c.args.clients.now)) (vec_capacity c.new-then-count-eq0.result) (none_ends 0 c.args.clients.now given)
+
+pub returns-then-count-eq0-clause-given : goal.returns-then-count-eq0-clause-given
+returns-then-count-eq0-clause-given g c =
+    let none = none_both c.count_notes-gathered.result c.count_given-leaving.result c.saturating_add-count.result c.saturating_add-count.ensures c.if-count-eq0.true in
+    let given = none_of c.count_given-leaving.result (length (collected given_at 0 c.args.clients.now)) none.1 c.count_given-leaving.ensures.all in
+    at_most (length (collected given_at 0 c.args.clients.now)) (vec_capacity c.new-then-count-eq0-2.result) given
+
+pub returns-in_err-numbers-clause-some : goal.returns-in_err-numbers-clause-some
+returns-in_err-numbers-clause-some g c =
+    on_err c.from_residual.result
+    (some_of c.count_notes-gathered.result c.count_given-leaving.result c.saturating_add-count.result (count_leaving true c.args.clients.now)
+    (length (collected given_at 0 c.args.clients.now)) c.saturating_add-count.ensures c.if-count-eq0.false c.count_notes-gathered.ensures.no_more c.count_given-leaving.ensures.no_more)
+
+pub returns-in_err-turns-clause-some : goal.returns-in_err-turns-clause-some
+returns-in_err-turns-clause-some g c =
+    on_err c.from_residual-in_err-turns.result
+    (some_of c.count_notes-gathered.result c.count_given-leaving.result c.saturating_add-count.result (count_leaving true c.args.clients.now)
+    (length (collected given_at 0 c.args.clients.now)) c.saturating_add-count.ensures c.if-count-eq0.false c.count_notes-gathered.ensures.no_more c.count_given-leaving.ensures.no_more)
+
+pub returns-in_err-given-clause-some : goal.returns-in_err-given-clause-some
+returns-in_err-given-clause-some g c =
+    on_err c.from_residual-in_err-given.result
+    (some_of c.count_notes-gathered.result c.count_given-leaving.result c.saturating_add-count.result (count_leaving true c.args.clients.now)
+    (length (collected given_at 0 c.args.clients.now)) c.saturating_add-count.ensures c.if-count-eq0.false c.count_notes-gathered.ensures.no_more c.count_given-leaving.ensures.no_more)

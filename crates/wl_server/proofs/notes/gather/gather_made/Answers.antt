@@ -1,0 +1,29 @@
+use Rattle.std.proofs.Common.{◌<◌, ◌≤◌, false, subst}
+use Rattle.std.specs.Vec.{vec_capacity, vec_len}
+use Rattle.wl_server.specs.Inside.Gathering.{count_leaving}
+use Rattle.wl_server.proofs.CleanupSteps.Asking.{none_leaving, none_of, on_err, positive, room_of}
+use Rattle.wl_server.proofs.notes.gather.gather_made.Goals as goal
+
+pub returns-then-count-eq0-clause-ended : goal.returns-then-count-eq0-clause-ended
+returns-then-count-eq0-clause-ended g c =
+    let all = subst (λ xs. c.count_notes-count.result < 0xFFFFFFFFFFFFFFFF → count_leaving false xs ≤ c.count_notes-count.result) c.deref.ensures.value c.count_notes-count.ensures.all in
+    none_leaving false c.args.clients.now.items
+    (none_of c.count_notes-count.result (count_leaving false c.args.clients.now.items) c.if-count-eq0.true all)
+
+pub returns-in_err-turns-clause-some : goal.returns-in_err-turns-clause-some
+returns-in_err-turns-clause-some g c =
+    let more = subst (λ xs. c.count_notes-count.result ≤ count_leaving false xs) c.deref.ensures.value c.count_notes-count.ensures.no_more in
+    on_err c.from_residual.result
+    (positive c.count_notes-count.result (count_leaving false c.args.clients.now.items) c.if-count-eq0.false more)
+
+pub returns-in_err-reserve-clause-some : goal.returns-in_err-reserve-clause-some
+returns-in_err-reserve-clause-some g c =
+    let more = subst (λ xs. c.count_notes-count.result ≤ count_leaving false xs) c.deref.ensures.value c.count_notes-count.ensures.no_more in
+    on_err c.from_residual-in_err-reserve.result
+    (positive c.count_notes-count.result (count_leaving false c.args.clients.now.items) c.if-count-eq0.false more)
+
+pub gather-requires-clause-room : goal.gather-requires-clause-room
+gather-requires-clause-room g c =
+    let all = subst (λ xs. c.count_notes-count.result < 0xFFFFFFFFFFFFFFFF → count_leaving false xs ≤ c.count_notes-count.result) c.deref.ensures.value c.count_notes-count.ensures.all in
+    room_of (vec_len c.reserve.new.self) c.count_notes-count.result (count_leaving false c.args.clients.now.items) (vec_capacity c.reserve.new.self)
+    all c.in_ok-reserve.ensures.ok c.reserve.new.self.small

@@ -1,0 +1,17 @@
+use Rattle.wl_server.proofs.CallSteps.OverScripts.{over_script}
+use Rattle.wl_server.proofs.runs.replay.Backend+Memory+U+G+C.perform_shared.Goals as goal
+
+pub returns-in-InsertClient : goal.returns-in-InsertClient
+returns-in-InsertClient g c = rw c.in-InsertClient.is (over_script g.G.GlobalHandler.views _ _ _ _ c.insert_client.ensures)
+
+pub returns-in-Flush : goal.returns-in-Flush
+returns-in-Flush g c = rw c.in-Flush.is (over_script g.G.GlobalHandler.views _ _ _ _ c.flush.ensures)
+
+pub returns-in-SetDefaultMaxBufferSize : goal.returns-in-SetDefaultMaxBufferSize
+returns-in-SetDefaultMaxBufferSize g c = rw c.in-SetDefaultMaxBufferSize.is (over_script g.G.GlobalHandler.views _ _ _ _ c.set_default_max_buffer_size.ensures)
+
+pub returns-in-Cleanup : goal.returns-in-Cleanup
+returns-in-Cleanup g c = rw c.in-Cleanup.is (over_script g.G.GlobalHandler.views _ _ _ _ c.cleanup.ensures)
+
+pub returns-in-TakeNotes : goal.returns-in-TakeNotes
+returns-in-TakeNotes g c = rw c.in-TakeNotes.is (over_script g.G.GlobalHandler.views _ _ _ _ c.take_notes.ensures)

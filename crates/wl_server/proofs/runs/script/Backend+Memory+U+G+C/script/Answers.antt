@@ -1,0 +1,73 @@
+use Rattle.std.proofs.Common.{◌≡◌, ◌∙◌, Bool, Err, Result, List, [], refl, subst, sym}
+use Rattle.wl_link.specs.Script.{Script}
+use Rattle.wl_server.specs.declared.error.ScriptError.{ScriptError}
+use Rattle.wl_server.specs.declared.error.ScriptError.TheVariants as refused
+use Rattle.wl_server.specs.declared.runs.script.ScriptCall.{ScriptCall}
+use Rattle.wl_server.specs.declared.runs.script.ScriptCall.TheVariants as call
+use Rattle.wl_server.specs.Inside.Client.{Does}
+use Rattle.wl_server.specs.Deeds.{Deed}
+use Rattle.wl_server.specs.Ids.{ClientParts, same_client}
+use Rattle.wl_server.specs.Moves.{ScriptMoves, done}
+use Rattle.wl_server.specs.PartStep.{Asked, OfClient, PartStep, WithTransport, lacks_move, over_scripts}
+use Rattle.wl_server.specs.Inside.Scripting.{Scripts, move_of, reply_to, step_of}
+use Rattle.wl_server.specs.Server.{Seen, ServerState, Stored}
+use Rattle.wl_server.proofs.CallSteps.OneClient.{IsOwn, done_at, held_by, not_stored}
+use Rattle.wl_server.proofs.CallSteps.Moved.{moved}
+use Rattle.wl_server.proofs.CallSteps.Slots.{Kind, slot_not_empty}
+use Rattle.wl_server.proofs.CleanupSteps.Taken.{slots_set}
+use Rattle.wl_server.proofs.runs.script.Backend+Memory+U+G+C.script.Goals as goal
+
+abbrev scripts : {U C : Type 0} → ScriptCall → Result (Unit {0}) ScriptError → Kind Script U C
+scripts x answer id p lacked did q = (lacked ≡ lacks_move (done answer)) × (did ≡ []) × WithTransport (λ t t'. ScriptMoves t (move_of x) (done answer) t') p q
+
+own : {T U G C : Type 0} (id : ClientParts) (x : ScriptCall) (answer : Result (Unit {0}) ScriptError)
+    → IsOwn {T = T} {U = U} {G = G} {C = C} (Asked (step_of id x) (reply_to x answer))
+own id (call.Arrive bytes tokens) answer = record { offer = λ o. refl; last = refl; client = λ b. tt; global = λ o. tt; order = tt; room = λ b. tt; growth = refl }
+own id (call.ArriveFault f) answer = record { offer = λ o. refl; last = refl; client = λ b. tt; global = λ o. tt; order = tt; room = λ b. tt; growth = refl }
+own id (call.Accept n) answer = record { offer = λ o. refl; last = refl; client = λ b. tt; global = λ o. tt; order = tt; room = λ b. tt; growth = refl }
+own id (call.AcceptFault f) answer = record { offer = λ o. refl; last = refl; client = λ b. tt; global = λ o. tt; order = tt; room = λ b. tt; growth = refl }
+
+-- the step is that of its script's call, whichever it is
+to : {U G C : Type 0} (views : _) (before : ServerState Script U G C) (target : ClientParts) (x : ScriptCall) (answer : Result (Unit {0}) ScriptError) (id : ClientParts) (lacked : Bool)
+    (did : List (Deed U)) (b a : Seen Script U C)
+    → OfClient (same_client target id) b (λ p q. scripts x answer id p lacked did q) (done answer ≡ Err refused.InvalidId) lacked did a
+    → PartStep (over_scripts views) id before.offer (step_of target x) (reply_to x answer) b lacked did a
+to views before target (call.Arrive bytes tokens) answer id lacked did b a h = (answer, refl, h)
+to views before target (call.ArriveFault f) answer id lacked did b a h = (answer, refl, h)
+to views before target (call.Accept n) answer id lacked did b a h = (answer, refl, h)
+to views before target (call.AcceptFault f) answer id lacked did b a h = (answer, refl, h)
+
+does : {U C : Type 0} (id : ClientParts) (x : ScriptCall) (before after : Stored Script U C) (answer : Result (Unit {0}) ScriptError)
+    → Does before (λ p did q. (did ≡ []) × Scripts p (move_of x) (done answer) q) after → Does before (λ p did q. scripts x answer id p (lacks_move (done answer)) did q) after
+does id x before after answer (did, q, (none, moves), is) = (did, q, (refl, none, moves), is)
+
+pub returns-then-not-is_stored : goal.returns-then-not-is_stored
+returns-then-not-is_stored g c =
+    let i = c.self.inside in
+    let before = held_by i.protocol i.globals.store i.last_global i.default_limit i.last_client i.clients.items i.notes.items in
+    rw (← c.self.view_is)
+    (not_stored (over_scripts g.G.GlobalHandler.views) before (step_of c.args.id.now c.args.call) (reply_to c.args.call (Err refused.InvalidId)) (own _ _ _) c.args.id.now
+    (scripts c.args.call (Err refused.InvalidId)) (done (Err refused.InvalidId) ≡ Err refused.InvalidId) (to g.G.GlobalHandler.views before c.args.id.now c.args.call (Err refused.InvalidId))
+    (sym c.is_stored.ensures.stored ∙ c.if-not-is_stored.true) refl)
+
+pub unreachable-requires : goal.unreachable-requires
+unreachable-requires g c =
+    slot_not_empty c.self.inside.clients.items c.args.id.now c.slot.result _ (sym c.is_stored.ensures.stored ∙ c.if-not-is_stored.false) c.slot.ensures
+    c.index_mut.ensures.value c.in-None.is
+
+pub returns : goal.returns
+returns g c =
+    let i = c.self.inside in
+    let before = held_by i.protocol i.globals.store i.last_global i.default_limit i.last_client i.clients.items i.notes.items in
+    let answer = c.make_move-answer.result in
+    rw (← c.self.view_is, c.lacks_memory-self-inside.ensures)
+    (done_at (over_scripts g.G.GlobalHandler.views) before (step_of c.args.id.now c.args.call) (reply_to c.args.call answer) (own _ _ _) c.args.id.now (scripts c.args.call answer)
+    (done answer ≡ Err refused.InvalidId) (to g.G.GlobalHandler.views before c.args.id.now c.args.call answer)
+    c.slot.result c.index_mut.result.now c.in-Some.client _ (lacks_move (done answer)) (sym c.is_stored.ensures.stored ∙ c.if-not-is_stored.false) c.slot.ensures
+    c.index_mut.ensures.value c.in-Some.is (does c.args.id.now c.args.call _ _ answer
+    (rw (← c.client.view_is)
+    (moved _ (λ t t'. ScriptMoves t (move_of c.args.call) (done answer) t') c.make_move-answer.new.script
+    (subst (λ (t : Script). ScriptMoves t (move_of c.args.call) (done answer) c.make_move-answer.new.script) c.transport_mut.ensures.value c.make_move-answer.ensures)))))
+
+pub invariant_of-self-2 : goal.invariant_of-self-2
+invariant_of-self-2 g c = slots_set _ _ _ _ _ c.self.invariant

@@ -1,0 +1,54 @@
+use Rattle.std.proofs.Common.{◌≡◌, ◌∙◌, Ok, Err, List, Result, [], false, refl, sym, ap}
+use Rattle.wl_server.specs.declared.error.InvalidId.{InvalidId}
+use Rattle.wl_server.specs.declared.runs.step.Reply.TheVariants as reply
+use Rattle.wl_server.specs.declared.runs.step.Step.TheVariants as step
+use Rattle.wl_link.specs.Exchange.{Queue}
+use Rattle.wl_link.specs.Script.{Script}
+use Rattle.wl_server.specs.Inside.Client.{Does}
+use Rattle.wl_server.specs.Ids.{ClientParts}
+use Rattle.wl_server.specs.Moves.{Moved, ScriptMoves, TakeSent, taken}
+use Rattle.wl_server.specs.PartStep.{Asked, WithTransport, lacks_move}
+use Rattle.wl_server.specs.Inside.Scripting.{Scripts}
+use Rattle.wl_server.specs.Server.{Stored}
+use Rattle.wl_server.proofs.CallSteps.OneClient.{IsOwn, done_at, not_stored}
+use Rattle.wl_server.proofs.CallSteps.Moved.{moved}
+use Rattle.wl_server.proofs.CallSteps.Slots.{Kind, slot_not_empty}
+use Rattle.wl_server.proofs.CleanupSteps.Taken.{slots_set}
+use Rattle.wl_server.proofs.runs.script.Backend+Memory+U+G+C.take_sent.Goals as goal
+
+abbrev takes : {U C : Type 0} → Moved → Kind Script U C
+takes answer id p lacked did q = (lacked ≡ lacks_move answer) × (did ≡ []) × WithTransport (λ t t'. ScriptMoves t TakeSent answer t') p q
+
+own : {T U G C : Type 0} (id : ClientParts) (answer : Result _ InvalidId) → IsOwn {T = T} {U = U} {G = G} {C = C} (Asked (step.TakeSent id) (reply.TakeSent answer))
+own id answer = record { offer = λ o. refl; last = refl; client = λ b. tt; global = λ o. tt; order = tt; room = λ b. tt; growth = refl }
+
+does : {U C : Type 0} (id : ClientParts) (before after : Stored Script U C) (answer : Moved) → lacks_move answer ≡ false
+    → Does before (λ p did q. (did ≡ []) × Scripts p TakeSent answer q) after → Does before (λ p did q. takes answer id p false did q) after
+does id before after answer calm (did, q, (none, moves), is) = (did, q, (sym calm, none, moves), is)
+
+pub returns-then-not-is_stored : goal.returns-then-not-is_stored
+returns-then-not-is_stored g c = rw (← c.self.view_is)
+    (not_stored _ _ _ _ (own _ _) c.args.id.now (takes (taken (Err _))) _ (λ i l d b a h. (_, refl, h)) (sym c.is_stored.ensures.stored ∙ c.if-not-is_stored.true) refl)
+
+pub unreachable-requires : goal.unreachable-requires
+unreachable-requires g c =
+    slot_not_empty c.self.inside.clients.items c.args.id.now c.slot.result _ (sym c.is_stored.ensures.stored ∙ c.if-not-is_stored.false) c.slot.ensures
+    c.index_mut.ensures.value c.in-None.is
+
+abbrev emptied : Script → Script
+emptied s = record s { sent = [] }
+
+pub returns : goal.returns
+returns g c =
+    let sent = c.take_sent.ensures.taken ∙ ap (λ (s : Script). s.sent) c.transport_mut.ensures.value in
+    let rest : ◌≡◌ {A = Script} c.take_sent.new.self (record c.client.inside.socket.transport { sent = [] }) = c.take_sent.ensures.rest ∙ ap emptied c.transport_mut.ensures.value in
+    rw (← c.self.view_is)
+    (done_at _ _ _ _ (own _ _) c.args.id.now (takes (taken (Ok c.take_sent.result))) _ (λ i l d b a h. (_, refl, h))
+    c.slot.result c.index_mut.result.now c.in-Some.client _ false (sym c.is_stored.ensures.stored ∙ c.if-not-is_stored.false) c.slot.ensures
+    c.index_mut.ensures.value c.in-Some.is (does c.args.id.now _ _ _ refl
+    (rw (← c.client.view_is)
+    (moved _ (λ t t'. ScriptMoves t TakeSent (taken (Ok c.take_sent.result)) t') c.take_sent.new.self
+    (ap (λ (l : List Queue). let r : Moved = Ok l in r) sent, rest)))))
+
+pub invariant_of-self-2 : goal.invariant_of-self-2
+invariant_of-self-2 g c = slots_set _ _ _ _ _ c.self.invariant

@@ -1,0 +1,216 @@
+-- What a dispatch does: the actions of a client are read, handled and ended, one after another.
+--
+-- A dispatch is a run of calls. What its turns are is said here; the calls themselves are those of `Steps`.
+use Rattle.std.specs.Prelude.{◌≡◌, ℕ, ◌+◌, ◌==◌, min, List, [], ◌∷◌, ◌++◌, Bool, false, ◌||◌, if◌then◌else◌, Option, None, Some, Result, Ok, Err}
+use Rattle.wl_wire.specs.declared.argument.Argument.{Argument}
+use Rattle.wl_wire.specs.declared.argument.Token.{Token}
+use Rattle.wl_wire.specs.declared.error.IoFault.{IoFault}
+use Rattle.wl_wire.specs.declared.error.IoFault.TheVariants as fault
+use Rattle.wl_wire.specs.Table.{InterfaceRow}
+use Rattle.wl_link.specs.Exchange.{IsWithinOffer}
+use Rattle.wl_server.specs.declared.reading.action.Action.{Action}
+use Rattle.wl_server.specs.declared.reading.action.Action.TheVariants as action
+use Rattle.wl_server.specs.declared.reading.action.Reading.{Reading}
+use Rattle.wl_server.specs.declared.error.ActionError.{ActionError}
+use Rattle.wl_server.specs.declared.error.ActionError.TheVariants.{Io, ActionOpen}
+use Rattle.wl_server.specs.declared.error.FinishError.{FinishError}
+use Rattle.wl_server.specs.declared.error.FinishError.TheVariants as finish
+use Rattle.wl_server.specs.declared.runs.step.Reply.{Reply}
+use Rattle.wl_server.specs.declared.runs.step.Reply.TheVariants as reply
+use Rattle.wl_server.specs.declared.runs.step.Step.{Step}
+use Rattle.wl_server.specs.declared.runs.step.Step.TheVariants as step
+use Rattle.wl_server.specs.Accounts.{IsAccountedFor}
+use Rattle.wl_server.specs.Backend.{BackendState}
+use Rattle.wl_server.specs.Cutting.{IsCut}
+use Rattle.wl_server.specs.Ids.{ClientParts, GlobalParts, IdParts}
+use Rattle.wl_server.specs.PartStep.{Asked, World}
+use Rattle.wl_server.specs.Reached.{AllSpare}
+use Rattle.wl_server.specs.Reading.{new_reading}
+use Rattle.wl_server.specs.Runs.{Leads}
+use Rattle.wl_server.specs.Server.{ServerState, new_server}
+use Rattle.wl_server.specs.Steps.{Entry, OneStep}
+
+-- How a handler answers: it and the backend before the call, the client, the action, the answer, and both after the call.
+pub record Answering (H T U G C : Type 0) : Type 1 where
+  pub requests : H → BackendState T U G C → ClientParts → IdParts → ℕ → List (Argument IdParts Token) → Option IdParts → Option U → H → BackendState T U G C → Type 0
+  pub binds : H → BackendState T U G C → ClientParts → GlobalParts → IdParts → U → H → BackendState T U G C → Type 0
+
+abbrev pub answering : {H T U G C : Type 0}
+    → (H → BackendState T U G C → ClientParts → IdParts → ℕ → List (Argument IdParts Token) → Option IdParts → Option U → H → BackendState T U G C → Type 0)
+    → (H → BackendState T U G C → ClientParts → GlobalParts → IdParts → U → H → BackendState T U G C → Type 0) → Answering H T U G C
+answering requests binds = record { requests = requests; binds = binds }
+
+-- ---- answers
+
+-- why the end of an action was refused, if it was
+abbrev pub refusal_in : {T U : Type 0} → Reply T U → Option FinishError
+refusal_in (reply.FinishRequest (Err r)) = Some r.error
+refusal_in (reply.FinishBind (Err r)) = Some r.error
+refusal_in _ = None
+
+-- the fault by which a dispatch ends where no action is handed out, and where the end of one is refused
+abbrev pub fault_of_reading : ActionError → IoFault
+fault_of_reading (Io f) = f
+fault_of_reading ActionOpen = fault.InvalidInput
+
+abbrev pub fault_of_end : FinishError → IoFault
+fault_of_end finish.OutOfMemory = fault.OutOfMemory
+fault_of_end _ = fault.InvalidInput
+
+-- the answer of a client's dispatch that ended by this fault, with so many requests read
+abbrev pub dispatched : IoFault → ℕ → Result ℕ IoFault
+dispatched fault.WouldBlock read = if read == 0 then Err fault.WouldBlock else Ok read
+dispatched f read = Err f
+
+-- the sum of the counts that were no faults, which stops at the greatest number
+abbrev pub total_with : ℕ → Result ℕ IoFault → ℕ
+total_with total (Ok count) = min (total + count) 0xFFFFFFFFFFFFFFFF
+total_with total (Err f) = total
+
+-- a cleanup that is refused is answered so, whatever came before
+abbrev pub behind_cleanup : {A E : Type 0} → Result A E → Result ℕ IoFault → Result ℕ IoFault
+behind_cleanup (Ok _) answer = answer
+behind_cleanup (Err _) answer = Err fault.OutOfMemory
+
+abbrev pub cleaned : {T U : Type 0} → Reply T U → Result ℕ IoFault → Result ℕ IoFault
+cleaned (reply.Cleanup r) answer = behind_cleanup r answer
+cleaned _ answer = answer
+
+module _ {H T U G C : Type 0} (w : World T G C) (answers : Answering H T U G C) (id : ClientParts) where
+  -- ---- a turn
+
+  -- the handler is called with the action, and this is to end the action, with its answer
+  abbrev pub Answers : H → BackendState T U G C → Action → Step T U G C → H → BackendState T U G C → Type 0
+  Answers h before (action.Request sender opcode args is_destructor created) end h' after =
+      (u : Option U) × answers.requests h before id sender opcode args.items created u h' after × (end ≡ step.FinishRequest id u)
+  Answers h before (action.Bind global object) end h' after =
+      (u : U) × answers.binds h before id global object u h' after × (end ≡ step.FinishBind id u)
+
+  -- An action is handled: one call of the handler, which makes these calls, and then its answer ends the action, or is
+  -- refused for this reason.
+  pub record Handles (h : H) (before : BackendState T U G C) (a : Action) (run : List (Entry T U G C)) (lacked : Bool) (why : Option FinishError)
+      (h' : H) (after : ServerState T U G C) : Type 0 where
+    pub left : BackendState T U G C
+    pub end : Step T U G C
+    pub answer : Reply T U
+    pub calls : List (Entry T U G C)
+    pub ended : Entry T U G C
+    pub answers_so : Answers h before a end h' left
+    pub leads : Leads w before.server calls left.server
+    pub spared : AllSpare id calls
+    pub ends : OneStep w left.server ended after
+    pub ended_is : ended.call ≡ Asked end answer
+    pub why_is : why ≡ refusal_in answer
+    pub run_is : run ≡ calls ++ (ended ∷ [])
+    pub lacked_is : lacked ≡ ended.refused
+
+  -- A turn: the client is read, and the action that is handed out is handled. Whether memory was refused is said of the
+  -- reading and of the action's end, and not of the handler's calls.
+  pub record Turn (h : H) (r : Reading) (before : ServerState T U G C) (run : List (Entry T U G C)) (lacked : Bool) (why : Option FinishError)
+      (h' : H) (r' : Reading) (after : ServerState T U G C) : Type 0 where
+    pub handed : Action
+    pub read : Entry T U G C
+    pub found : BackendState T U G C
+    pub rest : List (Entry T U G C)
+    pub end_lacked : Bool
+    pub reads : OneStep w before read found.server
+    pub read_is : read.call ≡ Asked (step.NextActionWithin id r) (reply.NextActionWithin (Ok handed) r')
+    pub found_is : found.refused ≡ read.refused
+    pub handles : Handles h found handed rest end_lacked why h' after
+    pub run_is : run ≡ read ∷ rest
+    pub lacked_is : lacked ≡ read.refused || end_lacked
+
+  -- turns one after another, the ends of which were accepted
+  pub data Turns : H → Reading → ServerState T U G C → List (Entry T U G C) → Bool → H → Reading → ServerState T U G C → Type 0 where
+    none : {h : H} {r : Reading} {s : ServerState T U G C} {run : List (Entry T U G C)} {lacked : Bool}
+        → run ≡ [] → lacked ≡ false → Turns h r s run lacked h r s
+    more : {h h1 h' : H} {r r1 r' : Reading} {s s1 s' : ServerState T U G C} {first next run : List (Entry T U G C)} {before now lacked : Bool}
+        → Turns h r s first before h1 r1 s1 → Turn h1 r1 s1 next now None h' r' s' → run ≡ first ++ next → lacked ≡ before || now
+        → Turns h r s run lacked h' r' s'
+
+  -- The last: the reading hands out no action, or the end of its action is refused. It ends the dispatch by this fault.
+  pub data Last (h : H) (r : Reading) (s : ServerState T U G C) (run : List (Entry T U G C)) (lacked : Bool) (f : IoFault) (h' : H) (r' : Reading)
+      (s' : ServerState T U G C) : Type 0 where
+    no_action : (e : Entry T U G C) (error : ActionError) → OneStep w s e s'
+        → e.call ≡ Asked (step.NextActionWithin id r) (reply.NextActionWithin (Err error) r') → run ≡ e ∷ [] → lacked ≡ e.refused
+        → f ≡ fault_of_reading error → h' ≡ h → Last h r s run lacked f h' r' s'
+    not_ended : (why : FinishError) → Turn h r s run lacked (Some why) h' r' s' → f ≡ fault_of_end why → Last h r s run lacked f h' r' s'
+
+  -- ---- a client
+
+  -- turns, and then the last, which ends them by this fault
+  pub record TurnsEnd (h : H) (r : Reading) (before : ServerState T U G C) (run : List (Entry T U G C)) (lacked : Bool) (f : IoFault) (h' : H)
+      (r' : Reading) (after : ServerState T U G C) : Type 0 where
+    pub handler : H
+    pub reading : Reading
+    pub mid : ServerState T U G C
+    pub first : List (Entry T U G C)
+    pub last : List (Entry T U G C)
+    pub first_lacked : Bool
+    pub last_lacked : Bool
+    pub turns : Turns h r before first first_lacked handler reading mid
+    pub end : Last handler reading mid last last_lacked f h' r' after
+    pub run_is : run ≡ first ++ last
+    pub lacked_is : lacked ≡ first_lacked || last_lacked
+
+  -- A client is served, with one new reading. The answer is that of its dispatch.
+  pub record Serves (h : H) (before : ServerState T U G C) (run : List (Entry T U G C)) (lacked : Bool) (answer : Result ℕ IoFault) (h' : H)
+      (after : ServerState T U G C) : Type 0 where
+    pub left : Reading
+    pub fault : IoFault
+    pub served : TurnsEnd h new_reading before run lacked fault h' left after
+    pub answer_is : answer ≡ dispatched fault left.read
+
+-- ---- clients one after another
+
+module _ {H T U G C : Type 0} (w : World T G C) (answers : Answering H T U G C) where
+  -- Each of the clients is served, in order, each with a reading of its own. The sum of the counts is this.
+  pub data ServesEach : List ClientParts → H → ServerState T U G C → List (Entry T U G C) → Bool → ℕ → H → ServerState T U G C → Type 0 where
+    none : {ids : List ClientParts} {h : H} {s : ServerState T U G C} {run : List (Entry T U G C)} {lacked : Bool} {total : ℕ}
+        → ids ≡ [] → run ≡ [] → lacked ≡ false → total ≡ 0 → ServesEach ids h s run lacked total h s
+    more : {earlier ids : List ClientParts} {h h1 h' : H} {s s1 s' : ServerState T U G C} {first next run : List (Entry T U G C)} {before now lacked : Bool}
+        {count total : ℕ} (id : ClientParts) (answer : Result ℕ IoFault) → ServesEach earlier h s first before count h1 s1
+        → Serves w answers id h1 s1 next now answer h' s' → ids ≡ earlier ++ (id ∷ []) → run ≡ first ++ next → lacked ≡ before || now
+        → total ≡ total_with count answer → ServesEach ids h s run lacked total h' s'
+
+-- ---- the end of a dispatch
+
+module _ {T U G C : Type 0} (w : World T G C) (before : ServerState T U G C) (calls : List (Entry T U G C)) (after : ServerState T U G C) where
+  -- a run of a new server that led to the one leads, with these calls behind it, to the other, and all that holds of it
+  abbrev pub StayAccountedFor : Type 0
+  StayAccountedFor =
+      (table : List InterfaceRow) (run : List (Entry T U G C)) → Leads w (new_server table) run before
+      → Leads w (new_server table) (run ++ calls) after × IsAccountedFor w table (run ++ calls) after
+
+  -- It does not matter to each reading and to each end of an action among these calls how bytes and tokens are cut.
+  abbrev pub AreCut : Type 0
+  AreCut =
+      (earlier later : List (Entry T U G C)) (e : Entry T U G C) (found left : ServerState T U G C) → calls ≡ earlier ++ e ∷ later
+      → Leads w before earlier found → OneStep w found e left → Leads w left later after → IsCut w found e left e.call
+
+-- A cleanup ends the dispatch. The dispatch is a run of calls, and all the laws of runs hold of it behind whatever run led
+-- to it. Whether memory was refused is said of its own calls, and not of its handler's.
+pub record EndsDispatch {T U G C : Type 0} (w : World T G C) (before : ServerState T U G C) (served : List (Entry T U G C)) (lacked : Bool)
+    (mid : ServerState T U G C) (answer result : Result ℕ IoFault) (after : BackendState T U G C) : Type 0 where
+  pub cleanup : Entry T U G C
+  pub out : Reply T U
+  pub cleans : OneStep w mid cleanup after.server
+  pub cleanup_is : cleanup.call ≡ Asked step.Cleanup out
+  pub result_is : result ≡ cleaned out answer
+  pub refused : after.refused ≡ lacked || cleanup.refused
+  pub leads : Leads w before (served ++ (cleanup ∷ [])) after.server
+  pub accounted : IsWithinOffer w.sends → StayAccountedFor w before (served ++ (cleanup ∷ [])) after.server
+  pub cut : AreCut w before (served ++ (cleanup ∷ [])) after.server
+
+module _ {H T U G C : Type 0} (w : World T G C) (answers : Answering H T U G C) where
+  -- what a dispatch of one client does
+  abbrev pub DispatchesClient : ClientParts → H → ServerState T U G C → Result ℕ IoFault → H → BackendState T U G C → Type 0
+  DispatchesClient id h before result h' after =
+      (served : List (Entry T U G C)) × (lacked : Bool) × (answer : Result ℕ IoFault) × (mid : ServerState T U G C)
+      × Serves w answers id h before served lacked answer h' mid × EndsDispatch w before served lacked mid answer result after
+
+  -- what a dispatch of several clients does: their faults are dropped
+  abbrev pub DispatchesAll : List ClientParts → H → ServerState T U G C → Result ℕ IoFault → H → BackendState T U G C → Type 0
+  DispatchesAll ids h before result h' after =
+      (served : List (Entry T U G C)) × (lacked : Bool) × (total : ℕ) × (mid : ServerState T U G C)
+      × ServesEach w answers ids h before served lacked total h' mid × EndsDispatch w before served lacked mid (Ok total) result after

@@ -1,0 +1,22 @@
+-- What the functions inside promise each other; no public clause names these.
+pub mod Conversion
+pub mod Turns
+pub mod Responses
+pub mod Client
+pub mod Puts
+pub mod Scripting
+pub mod Creation
+pub mod Destruction
+pub mod Walks
+pub mod Carried
+pub mod Inserting
+pub mod Gathering
+pub mod Leaving
+pub mod Places
+pub mod Finishing
+pub mod News
+pub mod Cleanup
+pub mod EventChecks
+pub mod Ending
+pub mod Performing
+pub mod Dispatching

@@ -1,0 +1,62 @@
+-- What the functions that go through the arguments of a request say to each other.
+use Rattle.std.specs.Prelude.{◌≡◌, ◌≢◌, ℕ, true, false, List, [], ◌∷◌, Option, None, Some, Result, Ok, Err}
+use Rattle.std.specs.List.{list_any}
+use Rattle.wl_wire.specs.declared.argument.Argument.{Argument}
+use Rattle.wl_wire.specs.declared.argument.ArgumentType.{ArgumentType}
+use Rattle.wl_wire.specs.declared.argument.Token.{Token}
+use Rattle.wl_wire.specs.declared.interface.InterfaceId.{InterfaceId}
+use Rattle.wl_wire.specs.Argument.{WireArgument, kind_of, type_of}
+use Rattle.wl_wire.specs.Table.{is_new_id}
+use Rattle.wl_link.specs.Identity.{Objects}
+use Rattle.wl_link.specs.ObjectMap.{MapState}
+use Rattle.wl_server.specs.declared.reading.arguments.Progress.{Progress}
+use Rattle.wl_server.specs.declared.objects.Kept.{Kept}
+use Rattle.wl_server.specs.declared.reading.response.RequestFault.{RequestFault}
+use Rattle.wl_server.specs.Ids.{ClientParts, IdParts}
+use Rattle.wl_server.specs.Requests.{Converting, Outcome, Whole, Wrong, convert_one, is_valid_new, kinds_after, made_id, with_made, with_new_argument}
+
+-- the argument is of the next type
+abbrev pub IsNextKind : List ArgumentType → WireArgument → Type 0
+IsNextKind [] a = ⊥
+IsNextKind (k ∷ _) a = kind_of k ≡ type_of a
+
+module _ {U : Type 0} where
+  abbrev pub objects_of_map : MapState (Kept U) → ℕ → Objects (Kept U)
+  objects_of_map map last_serial = record { store = map.store; last_serial = last_serial }
+
+  abbrev pub state : MapState (Kept U) → ℕ → Progress → Converting U
+  state map last_serial progress = record {
+    objects = objects_of_map map last_serial;
+    kinds = progress.kinds.now;
+    asked = progress.asked.now;
+    child = progress.child;
+    created = progress.created;
+  }
+
+  -- there is room for the object that the request may yet make
+  abbrev pub CanMake : Progress → MapState (Kept U) → Type 0
+  CanMake progress map = progress.child ≢ None → list_any is_new_id progress.kinds.now ≡ true → map.reserved ≡ true
+
+  -- an object is made at that number, or none may be made there and nothing is changed
+  abbrev pub Makes : ClientParts → Objects (Kept U) → InterfaceId → ℕ → ℕ → Option IdParts → Objects (Kept U) → Type 0
+  Makes client before i version n None after = (is_valid_new before n ≡ false) × (after ≡ before)
+  Makes client before i version n (Some id) after =
+      (is_valid_new before n ≡ true) × (after ≡ with_made before n i version) × (id ≡ made_id client before n i)
+
+  -- a new id became this, whose type was taken
+  abbrev pub MakesNew : ClientParts → ℕ → Converting U → ℕ → Result (Argument IdParts Token) RequestFault → Converting U → Type 0
+  MakesNew client version before n (Ok b) after =
+      with_new_argument client version before n before.child ≡ Ok (b, record after { kinds = kinds_after before.kinds })
+  MakesNew client version before n (Err wrong) after =
+      (with_new_argument client version before n before.child ≡ Err wrong) × (after.objects ≡ before.objects)
+
+  -- an argument became this
+  abbrev pub Converts : ClientParts → ℕ → Converting U → WireArgument → Result (Argument IdParts Token) RequestFault → Converting U → Type 0
+  Converts client version before a (Ok b) after = convert_one client version before a ≡ Ok (b, after)
+  Converts client version before a (Err wrong) after =
+      (convert_one client version before a ≡ Err wrong) × (after.objects ≡ before.objects)
+
+  -- the arguments were gone through to their end, and came to this
+  abbrev pub EndsWhole : Outcome U → Objects (Kept U) → Option IdParts → List (Argument IdParts Token) → Type 0
+  EndsWhole (Whole c args) objects created args' = (c.objects ≡ objects) × (c.created ≡ created) × (args ≡ args')
+  EndsWhole (Wrong _ _) objects created args' = ⊥

@@ -1,0 +1,29 @@
+-- What the functions that look at an event say to their callers.
+use Rattle.std.specs.Prelude.{◌≡◌, List, ◌∷◌, Bool, not, Option, Some, Result, Ok, Err}
+use Rattle.wl_wire.specs.declared.interface.InterfaceId.{InterfaceId}
+use Rattle.wl_wire.specs.Asked.{matches}
+use Rattle.wl_wire.specs.Table.{MessageRow}
+use Rattle.wl_link.specs.declared.object.Object.{Object}
+use Rattle.wl_link.specs.Refusals.{when}
+use Rattle.wl_link.specs.Store.{Store}
+use Rattle.wl_server.specs.declared.error.EventError.{EventError}
+use Rattle.wl_server.specs.declared.error.EventError.TheVariants as refused
+use Rattle.wl_server.specs.declared.objects.Kept.{Kept}
+use Rattle.wl_server.specs.Events.{SessionMessage, argument_faults}
+use Rattle.wl_server.specs.Ids.{ClientParts}
+
+-- why an id is refused: for what was found of it, or for the interface of its object
+abbrev pub fault_of : (InterfaceId → Bool) → Result InterfaceId EventError → Option EventError
+fault_of is_asked (Ok i) = when (not (is_asked i)) refused.WrongInterface
+fault_of is_asked (Err e) = Some e
+
+-- why an event of that row is refused for its arguments, in the order in which that is looked at
+abbrev pub refusals : {U : Type 0} → ClientParts → Store (Kept U) → MessageRow → SessionMessage → List (Option EventError)
+refusals client store row m =
+    when (not (matches row.signature m.args)) refused.BadSignature
+    ∷ argument_faults client store row row.signature row.arg_interfaces m.args
+
+-- whether an event ends its sender, or why it is refused, where that is what it is granted
+abbrev pub Decides : {U : Type 0} → Result (Object (Kept U) × Bool) EventError → Option (Object (Kept U)) → Result Bool EventError → Type 0
+Decides checked sender (Ok ends) = (x : _) × (sender ≡ Some x) × (checked ≡ Ok (x, ends))
+Decides checked sender (Err e) = checked ≡ Err e

@@ -1,0 +1,60 @@
+-- What the functions that end an action say to their callers.
+use Rattle.std.specs.Prelude.{◌≡◌, ◌⊎◌, ℕ, ◌++◌, Bool, true, false, Option, None, is_some, Result, Ok, Err, MatchOption}
+use Rattle.wl_wire.specs.declared.error.IoFault.{IoFault}
+use Rattle.wl_wire.specs.declared.error.OutOfMemory.{OutOfMemory}
+use Rattle.wl_link.specs.declared.object.Object.{Object}
+use Rattle.wl_link.specs.Exchange.{Queue}
+use Rattle.wl_link.specs.Link.{LinkState}
+use Rattle.wl_link.specs.Puts.{lacked_memory}
+use Rattle.wl_link.specs.Store.{removed}
+use Rattle.wl_server.specs.declared.error.FinishError.{FinishError}
+use Rattle.wl_server.specs.declared.error.FinishError.TheVariants as finish
+use Rattle.wl_server.specs.declared.error.FinishRefused.{FinishRefused}
+use Rattle.wl_server.specs.declared.objects.Kept.{Kept}
+use Rattle.wl_server.specs.Finish.{ended_by, store_with_data}
+use Rattle.wl_server.specs.Ids.{ClientParts, IdParts}
+use Rattle.wl_server.specs.Part.{Part, note_of_end, registries_without, with_link}
+use Rattle.wl_server.specs.Inside.Puts.{Puts}
+use Rattle.wl_server.specs.Server.{Stored}
+use Rattle.wl_server.specs.Telling.{deletions}
+
+-- whether memory was refused, by the reason and by the answer
+abbrev pub is_memory : FinishError → Bool
+is_memory finish.OutOfMemory = true
+is_memory _ = false
+
+abbrev pub lacks_finish : {D : Type 0} → Result (Unit {0}) (FinishRefused D) → Bool
+lacks_finish (Ok _) = false
+lacks_finish (Err r) = is_memory r.error
+
+module _ {T U C : Type 0} where
+  -- no action is open any more, and the object that it made has its data
+  abbrev pub part_closed : Part T U C → Option IdParts → Option U → Part T U C
+  part_closed p created u = record p { action = None; store = store_with_data p.store created u }
+
+  -- an object left, over this link
+  abbrev pub part_without : Part T U C → LinkState T → ℕ → Object (Kept U) → Part T U C
+  part_without p link n x = record p { link = link; store = removed p.store n; registries = registries_without p.registries n x }
+
+module _ {T U C : Type 0} (sends : T → Queue → Result ℕ IoFault → T → Type 0) (client : ClientParts) where
+  -- The client was told that the object's number is free, and the object left and was noted; the answer is that of the
+  -- telling, which did not want memory. Or there was none, and the object stays.
+  abbrev pub EndsObject : Stored T U C → IdParts → Object (Kept U) → Result (Result (Unit {0}) IoFault) OutOfMemory → Stored T U C → Type 0
+  EndsObject before sender x (Ok wrote) after =
+      Puts sends before.part.link (deletions sender.number) wrote after.part.link × (lacked_memory wrote ≡ false)
+      × (after ≡ record {
+        serial = before.serial;
+        part = part_without before.part after.part.link sender.number x;
+        made = before.made ++ note_of_end client sender.number x;
+      })
+  EndsObject before sender x (Err _) after =
+      ((is_some x.value.user_data ≡ true) × (after ≡ before))
+      ⊎ ((wrote : Result (Unit {0}) IoFault) × (lacked_memory wrote ≡ true)
+      × Puts sends before.part.link (deletions sender.number) wrote after.part.link
+      × (after ≡ record before { part = with_link before.part after.part.link }))
+
+  -- the same of a request that may end its sender
+  abbrev pub EndsSender : Stored T U C → IdParts → Bool → Result (Result (Unit {0}) IoFault) OutOfMemory → Stored T U C → Type 0
+  EndsSender before sender is_destructor answer after =
+      MatchOption (ended_by before.part.store sender is_destructor) ((answer ≡ Ok (Ok tt)) × (after ≡ before))
+      (λ x. EndsObject before sender x answer after)

@@ -1,0 +1,45 @@
+-- How the notes that stand with their clients are gathered.
+use Rattle.std.specs.Prelude.{◌≡◌, ℕ, ◌+◌, List, [], ◌∷◌, ◌++◌, length, map, Bool, if◌then◌else◌, Option, None, Some, option_map, slice_get}
+use Rattle.wl_server.specs.declared.notes.Happening.{Happening}
+use Rattle.wl_server.specs.declared.notes.Note.{Note}
+use Rattle.wl_server.specs.Ids.{ClientParts}
+use Rattle.wl_server.specs.Server.{Stored, client_at, note_of, notes_of}
+
+module _ {T U C : Type 0} (waits : Bool) where
+  -- the notes of the client of a slot that are gathered, in order: those that were made, and then, where they are to be,
+  -- those that wait
+  abbrev pub leaving : Option (Stored T U C) → List (Happening U)
+  leaving None = []
+  leaving (Some s) = s.made ++ (if waits then s.part.waiting else [])
+
+  -- it without them
+  abbrev pub emptied : Stored T U C → Stored T U C
+  emptied s = record { serial = s.serial; part = record s.part { waiting = if waits then [] else s.part.waiting }; made = [] }
+
+  abbrev pub all_emptied : List (Option (Stored T U C)) → List (Option (Stored T U C))
+  all_emptied clients = map (option_map emptied) clients
+
+  -- how many they are, of all clients
+  abbrev pub count_leaving : List (Option (Stored T U C)) → ℕ
+  count_leaving [] = 0
+  count_leaving (x ∷ clients) = length (leaving x) + count_leaving clients
+
+  abbrev pub notes_from : ℕ → Option (Stored T U C) → List (Happening U) → List (Note U)
+  notes_from slot None told = []
+  notes_from slot (Some s) told = map (note_of (record { slot = slot; serial = s.serial })) told
+
+  -- some of the notes of the client of a slot go behind these notes, the first ones first
+  abbrev pub MovesNotes : ℕ → Option (Stored T U C) → List (Note U) → Option (Stored T U C) → List (Note U) → Type 0
+  MovesNotes slot before notes after notes' =
+      (told : List (Happening U)) × (leaving before ≡ told ++ leaving after) × (option_map emptied after ≡ option_map emptied before)
+      × (notes' ≡ notes ++ notes_from slot before told)
+
+  -- some notes of all clients do: of each id the same is told as before
+  pub record Gathers (clients : List (Option (Stored T U C))) (notes : List (Note U)) (clients' : List (Option (Stored T U C))) (notes' : List (Note U)) : Type 0 where
+    pub rest : all_emptied clients' ≡ all_emptied clients
+    pub told : (id : ClientParts) → notes_of id notes' ++ leaving (client_at id clients') ≡ notes_of id notes ++ leaving (client_at id clients)
+    pub count : length notes' + count_leaving clients' ≡ length notes + count_leaving clients
+
+  -- no client has notes to be gathered
+  abbrev pub AllLeft : List (Option (Stored T U C)) → Type 0
+  AllLeft clients = (slot : ℕ) (x : Option (Stored T U C)) → slice_get clients slot ≡ Some x → leaving x ≡ []

@@ -1,0 +1,48 @@
+-- Which steps of a run are made by which calls.
+use Rattle.wl_server.specs.declared.runs.step.Step.{Step}
+use Rattle.wl_server.specs.declared.runs.step.Step.TheVariants as step
+
+module _ {T U G C : Type 0} where
+  -- it is about one object
+  abbrev pub IsOfObject : Step T U G C → Type 0
+  IsOfObject (step.SetObjectData o u) = Unit {0}
+  IsOfObject (step.CreateObject target i version u) = Unit {0}
+  IsOfObject (step.DestroyObject o) = Unit {0}
+  IsOfObject (step.SendEvent m) = Unit {0}
+  IsOfObject (step.PostError o code text) = Unit {0}
+  IsOfObject _ = ⊥
+
+  -- it reads of a client, or ends what was read
+  abbrev pub IsOfReading : Step T U G C → Type 0
+  IsOfReading (step.NextAction target) = Unit {0}
+  IsOfReading (step.NextActionWithin target reading) = Unit {0}
+  IsOfReading (step.FinishRequest target u) = Unit {0}
+  IsOfReading (step.FinishBind target u) = Unit {0}
+  IsOfReading _ = ⊥
+
+  -- it is about globals, or kills or limits a client
+  abbrev pub IsOfGlobals : Step T U G C → Type 0
+  IsOfGlobals (step.CreateGlobal i version handler) = Unit {0}
+  IsOfGlobals (step.DisableGlobal g) = Unit {0}
+  IsOfGlobals (step.RemoveGlobal g) = Unit {0}
+  IsOfGlobals (step.KillClient target reason) = Unit {0}
+  IsOfGlobals (step.SetClientMaxBufferSize target limit) = Unit {0}
+  IsOfGlobals _ = ⊥
+
+  -- it is about all clients, or a new one
+  abbrev pub IsOfAll : Step T U G C → Type 0
+  IsOfAll (step.InsertClient transport info) = Unit {0}
+  IsOfAll (step.Flush target) = Unit {0}
+  IsOfAll (step.SetDefaultMaxBufferSize limit) = Unit {0}
+  IsOfAll step.Cleanup = Unit {0}
+  IsOfAll step.TakeNotes = Unit {0}
+  IsOfAll _ = ⊥
+
+  -- it is a call of a transport by script
+  abbrev pub IsOfScript : Step T U G C → Type 0
+  IsOfScript (step.Arrive target bytes tokens) = Unit {0}
+  IsOfScript (step.ArriveFault target f) = Unit {0}
+  IsOfScript (step.Accept target n) = Unit {0}
+  IsOfScript (step.AcceptFault target f) = Unit {0}
+  IsOfScript (step.TakeSent target) = Unit {0}
+  IsOfScript _ = ⊥

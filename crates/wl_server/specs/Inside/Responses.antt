@@ -1,0 +1,106 @@
+-- What the functions that go through a request say to those that answer it.
+use Rattle.std.specs.Prelude.{◌≡◌, ⊤, ℕ, List, [], ◌∷◌, map, Bool, false, ◌&&◌, nat_le, nat_lt, Option, None, Some, Result, Ok, Err}
+use Rattle.std.specs.Option.{option_map_or}
+use Rattle.std.specs.Str.{bytes_eq}
+use Rattle.wl_wire.specs.declared.argument.Argument.{Argument}
+use Rattle.wl_wire.specs.declared.argument.Argument.TheVariants as arg
+use Rattle.wl_wire.specs.declared.argument.Token.{Token}
+use Rattle.wl_wire.specs.Argument.{WireArgument}
+use Rattle.wl_wire.specs.declared.error.MessageParseError.{MessageParseError}
+use Rattle.wl_wire.specs.Message.{WireMessage}
+use Rattle.wl_wire.specs.Table.{InterfaceRow, MessageRow, holds_zero, message_row, name_of}
+use Rattle.wl_link.specs.declared.object.Object.{Object}
+use Rattle.wl_link.specs.Identity.{Id}
+use Rattle.wl_link.specs.Link.{LinkState}
+use Rattle.wl_link.specs.Reader.{Verdict}
+use Rattle.wl_link.specs.Store.{Store, held}
+use Rattle.wl_server.specs.declared.reading.action.OpenAction.{OpenAction}
+use Rattle.wl_server.specs.declared.reading.action.OpenAction.TheVariants as opened
+use Rattle.wl_server.specs.declared.objects.Kept.{Kept}
+use Rattle.wl_server.specs.declared.globals.KeptGlobal.{KeptGlobal}
+use Rattle.wl_server.specs.declared.reading.registry.Bind.{Bind}
+use Rattle.wl_server.specs.declared.reading.response.Breach.{Breach}
+use Rattle.wl_server.specs.declared.reading.response.Breach.TheVariants as broke
+use Rattle.wl_server.specs.declared.reading.response.Response.{Response}
+use Rattle.wl_server.specs.declared.reading.response.Response.TheVariants as response
+use Rattle.wl_server.specs.declared.reading.message.Found.{Found}
+use Rattle.wl_server.specs.declared.reading.message.Found.TheVariants as found
+use Rattle.wl_server.specs.Deeds.{Remembered}
+use Rattle.wl_server.specs.Errors.{bind_text, fault_text, new_id_text, since_text}
+use Rattle.wl_server.specs.Globals.{is_visible, shown}
+use Rattle.wl_server.specs.Ids.{IdParts}
+use Rattle.wl_server.specs.Part.{id_of}
+use Rattle.wl_server.specs.Reading.{Around, breaks, garbled, hands_out, replies, request_to, row_in}
+use Rattle.wl_server.specs.Telling.{Core, Told, deletions, done_message, global_message}
+use Rattle.wl_server.specs.Inside.Turns.{NotTaken, ReadsIn, found_with}
+
+-- the number of the new id, where that is all
+abbrev pub only_new_id : List WireArgument → Option ℕ
+only_new_id (arg.NewId n ∷ []) = Some n
+only_new_id _ = None
+
+-- the name of a global, the name of an interface, the version and the number, where these are all
+abbrev pub bind_parts : List WireArgument → Option (ℕ × (Option (List ℕ) × (ℕ × ℕ)))
+bind_parts (arg.Uint g ∷ arg.Str name ∷ arg.Uint version ∷ arg.NewId n ∷ []) = Some (g, (name, (version, n)))
+bind_parts _ = None
+
+abbrev pub bind_of : Bind → ℕ × (Option (List ℕ) × (ℕ × ℕ))
+bind_of b = (b.global, (b.interface.now, (b.version, b.number)))
+
+-- the client of these data may bind the global so
+abbrev pub allows : {G C : Type 0} → Around G C → C → ℕ → Option (List ℕ) → ℕ → Object (KeptGlobal G) → Bool
+allows a info g None version x = false
+allows a info g (Some name) version x =
+    bytes_eq name (name_of a.table x.interface.0)
+    && (nat_lt 0 version && (nat_le version x.version && is_visible a.views a.client info g x))
+
+-- the code and the text of the error
+abbrev pub code_of : Breach → ℕ
+code_of (broke.SinceLater _ _ _ _ _) = 1
+code_of _ = 0
+
+abbrev pub text_of : List InterfaceRow → Breach → List ℕ
+text_of table (broke.InvalidNewId n) = new_id_text n
+text_of table (broke.RefusedBind g version name) = bind_text (option_map_or (λ t. t) name.now []) version g
+text_of table (broke.SinceLater opcode version since i n) = since_text opcode version since (name_of table i.0) n
+text_of table (broke.WrongArgument i desc wrong) = fault_text table i (message_row desc.now) wrong
+
+-- the name of the request that has a wrong argument holds no zero, so that its text is a string
+abbrev pub HasName : Breach → Type 0
+HasName (broke.WrongArgument i desc wrong) = holds_zero (message_row desc.now).name ≡ false
+HasName _ = ⊤
+
+abbrev pub HasNames : Response → Type 0
+HasNames (response.Breaks b) = HasName b
+HasNames _ = ⊤
+
+-- what the end of an action has to know of it
+abbrev pub opened_of : Found → OpenAction
+opened_of (found.Request sender opcode is_destructor created) = opened.Request sender is_destructor created
+opened_of (found.Bind global object) = opened.Bind object
+
+module _ {U G C : Type 0} (a : Around G C) where
+  -- what is yet to be done, as a verdict; an action is handed out with these arguments
+  abbrev pub response_to : Core U C → Response → List (Argument IdParts Token) → Verdict (Core U C) (Told U)
+  response_to c response.Garbled args = garbled c
+  response_to c (response.Breaks b) args = breaks a c (code_of b) (text_of a.table b)
+  response_to c (response.Syncs id) args = replies c (done_message (id_of id) ∷ deletions id.number) []
+  response_to c (response.Registers id) args =
+      replies c (map (global_message a.table (id_of id)) (shown a.views a.globals a.client c.info)) (Remembered (id_of id) ∷ [])
+  response_to c (response.HandsOut f) args = hands_out c (opened_of f) (found_with f args)
+
+module _ {U C : Type 0} where
+  -- a client's core with these objects and registries
+  abbrev pub core_with : Core U C → C → Store (Kept U) → ℕ → List Id → Core U C
+  core_with c info store last_serial registries = record c { info = info; store = store; last_serial = last_serial; registries = registries }
+
+module _ {T U G C : Type 0} (a : Around G C) (info : C) where
+  -- a message was taken, and gone through; or none was taken
+  abbrev pub TookRequest : Store (Kept U) → ℕ → List Id → LinkState T → Result Response MessageParseError → List (Argument IdParts Token)
+      → Store (Kept U) → ℕ → List Id → LinkState T → Type 0
+  TookRequest store last_serial registries before (Ok response) args store' last_serial' registries' after =
+      (m : WireMessage) × (row : MessageRow) × ReadsIn a.table store before (Ok m) after × (row_in a.table (held store m.sender) m.opcode ≡ Some row)
+      × ((x : Object (Kept U)) (c : Core U C) → held store m.sender ≡ Some x
+      → request_to a (core_with c info store last_serial registries) m x row ≡ response_to a (core_with c info store' last_serial' registries') response args)
+  TookRequest store last_serial registries before (Err e) args store' last_serial' registries' after =
+      (after ≡ before) × (store' ≡ store) × (last_serial' ≡ last_serial) × (registries' ≡ registries) × NotTaken a.table store before e

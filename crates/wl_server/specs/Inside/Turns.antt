@@ -1,0 +1,212 @@
+-- What the functions of a reading say to each other.
+use Rattle.std.specs.Prelude.{◌≡◌, ◌⊎◌, ◌<◌, ◌≤◌, ◌+◌, ℕ, min, length, List, [], ◌++◌, Bool, true, false, Option, None, Some, option_map, Result, Ok, Err}
+use Rattle.std.specs.Borrow.{Bor}
+use Rattle.wl_wire.specs.declared.argument.Argument.{Argument}
+use Rattle.wl_wire.specs.declared.argument.Token.{Token}
+use Rattle.wl_wire.specs.declared.error.IoFault.{IoFault}
+use Rattle.wl_wire.specs.declared.error.MessageParseError.{MessageParseError}
+use Rattle.wl_wire.specs.declared.error.MessageParseError.TheVariants as parse
+use Rattle.wl_wire.specs.declared.interface.MessageDesc.{MessageDesc}
+use Rattle.wl_wire.specs.Message.{WireMessage}
+use Rattle.wl_wire.specs.Parse.{IsThere, opcode_of, sender_of}
+use Rattle.wl_wire.specs.Table.{InterfaceRow, MessageRow, message_row}
+use Rattle.wl_link.specs.Exchange.{Queue, Sending}
+use Rattle.wl_link.specs.Link.{Filled, FindsRoom, LinkState, ReadOne, grown_capacity}
+use Rattle.wl_link.specs.Puts.{lacked_memory}
+use Rattle.wl_link.specs.Reader.{CarriesOut, Given, Gives, Lacks, Reads, Turn, Verdict, behind, handled_in}
+use Rattle.wl_link.specs.Reader.{ReaderState}
+use Rattle.wl_link.specs.Store.{Store, held}
+use Rattle.wl_server.specs.declared.reading.action.Reading.{Reading}
+use Rattle.wl_server.specs.declared.error.ActionError.{ActionError}
+use Rattle.wl_server.specs.declared.error.ActionError.TheVariants.{Io}
+use Rattle.wl_server.specs.declared.objects.Kept.{Kept}
+use Rattle.wl_server.specs.declared.reading.Surroundings.{Surroundings}
+use Rattle.wl_server.specs.declared.reading.message.Found.{Found}
+use Rattle.wl_server.specs.declared.reading.message.Found.TheVariants as found
+use Rattle.wl_server.specs.declared.reading.message.NoAction.{NoAction}
+use Rattle.wl_server.specs.declared.reading.message.TurnEnd.{TurnEnd}
+use Rattle.wl_server.specs.declared.reading.message.TurnEnd.TheVariants as came
+use Rattle.wl_server.specs.Deeds.{Bind, Handed, Request, notes_in}
+use Rattle.wl_server.specs.Ids.{ClientParts, GlobalParts, IdParts}
+use Rattle.wl_server.specs.Part.{Part, with_link}
+use Rattle.wl_server.specs.Reading.{Around, action_in, answered, faulted, reads_on, row_asks, row_in, server}
+use Rattle.wl_server.specs.Server.{Stored}
+use Rattle.wl_server.specs.Telling.{Core, Told, core_of, deeds_in, end_deeds, part_of, reader_part, speaker}
+
+-- what a reading asks beside its own client; the last serial of a global is none of that
+abbrev pub around_of : {G C : Type 0} → (G → ClientParts → C → GlobalParts → Bool) → Surroundings G → Around G C
+around_of views s = record {
+  table = s.protocol.now;
+  client = s.client;
+  globals = record { store = s.globals.now.store; last_serial = 0 };
+  views = views;
+}
+
+-- this is the sender and the opcode of the header that waits
+abbrev pub IsHeader : {T : Type 0} → LinkState T → ℕ × ℕ → Type 0
+IsHeader link header =
+    (8 ≤ length link.incoming.bytes) × (header.0 ≡ sender_of link.incoming.bytes) × (header.1 ≡ opcode_of link.incoming.bytes)
+
+-- ---- a message is taken
+
+module _ {U : Type 0} where
+  -- what the read of the message at the front answers under the signatures of a client's objects
+  abbrev pub ReadsIn : {T : Type 0} → List InterfaceRow → Store (Kept U) → LinkState T → Result WireMessage MessageParseError → LinkState T → Type 0
+  ReadsIn table store before answer after =
+      ReadOne (λ sender opcode found. found ≡ option_map (λ row. row.signature) (row_in table (held store sender) opcode)) before answer after
+
+  -- the message at the front, which is there whole, asks for memory before it is read
+  abbrev pub RequestAsks : List InterfaceRow → Store (Kept U) → Queue → Type 0
+  RequestAsks table store incoming =
+      (row : MessageRow) × (row_in table (held store (sender_of incoming.bytes)) (opcode_of incoming.bytes) ≡ Some row)
+      × (row_asks (Some row) ≡ true) × IsThere incoming.bytes row.signature incoming.tokens
+
+  -- no message was taken, for this reason
+  abbrev pub NotTaken : {T : Type 0} → List InterfaceRow → Store (Kept U) → LinkState T → MessageParseError → Type 0
+  NotTaken table store link e = ReadsIn table store link (Err e) link ⊎ ((e ≡ parse.OutOfMemory) × RequestAsks table store link.incoming)
+
+  -- the message at the front was taken, with what the table says of it; or it was not, and the link is as before
+  abbrev pub TookWith : {T : Type 0} → List InterfaceRow → Store (Kept U) → LinkState T
+      → Result (Bor MessageDesc) MessageParseError → WireMessage → LinkState T → Type 0
+  TookWith table store before (Ok desc) m after =
+      ReadsIn table store before (Ok m) after
+      × (row_in table (held store m.sender) m.opcode ≡ Some (message_row desc.now))
+  TookWith table store before (Err e) m after = (after ≡ before) × NotTaken table store before e
+
+-- ---- what a turn comes to
+
+-- the action that is handed out, with the arguments of a request
+abbrev pub found_with : Found → List (Argument IdParts Token) → Handed
+found_with (found.Request sender opcode is_destructor created) args = Request sender opcode args is_destructor created
+found_with (found.Bind global object) args = Bind global object
+
+-- with the action that it hands out
+pub data Turned : Type 0 where
+  Acts : Handed → Turned
+  GoesOn : Turned
+  LacksMore : Turned
+  Ended : NoAction → Turned
+
+abbrev pub turned : TurnEnd → List (Argument IdParts Token) → Turned
+turned (came.Acts f) args = Acts (found_with f args)
+turned came.GoesOn args = GoesOn
+turned came.Lacks args = LacksMore
+turned (came.Ends e) args = Ended e
+
+-- how a reading ended, with the action that it hands out
+abbrev pub action_of : Result Found NoAction → List (Argument IdParts Token) → Result Handed NoAction
+action_of (Ok f) args = Ok (found_with f args)
+action_of (Err e) args = Err e
+
+-- the answer of a reading, and whether memory was refused in it
+abbrev pub answer_of : Result Handed NoAction → Result Handed ActionError
+answer_of (Ok h) = Ok h
+answer_of (Err e) = Err (Io e.fault)
+
+abbrev pub refused_of : Result Handed NoAction → Bool
+refused_of (Ok h) = false
+refused_of (Err e) = e.refused
+
+-- the count of requests stops at the greatest number
+abbrev pub counted : ℕ → ℕ → ℕ
+counted read handled = min (read + handled) 0xFFFFFFFFFFFFFFFF
+
+module _ {U : Type 0} where
+  -- no action is among it, nor an end
+  abbrev pub IsSilent : List (Given (Told U)) → Type 0
+  IsSilent gave = (rest : List (Given (Told U))) → action_in (gave ++ rest) ≡ action_in rest
+
+  abbrev pub HasNoNote : List (Given (Told U)) → Type 0
+  HasNoNote gave = notes_in (deeds_in gave) ≡ []
+
+module _ {U C : Type 0} where
+  -- what was given says so much of the turn, and so does what the core came to
+  abbrev pub Says : Turned → List (Given (Told U)) → Bool → Core U C → Type 0
+  Says (Acts h) gave refused c = (refused ≡ false) × (reads_on c ≡ false) × (action_in gave ≡ Ok h)
+  Says GoesOn gave refused c = (refused ≡ false) × (c.ended ≡ None) × (c.is_killed ≡ false) × (c.action ≡ None) × IsSilent gave
+  Says LacksMore gave refused c = ⊥
+  Says (Ended end) gave refused c = (refused ≡ end.refused) × (reads_on c ≡ false) × (action_in gave ≡ Err (Io end.fault))
+
+module _ {T U C : Type 0} where
+  abbrev pub Live : Part T U C → Type 0
+  Live p = (p.is_killed ≡ false) × (p.action ≡ None)
+
+  abbrev pub linked : Stored T U C → LinkState T → Stored T U C
+  linked s link = record s { part = with_link s.part link }
+
+  -- what is stored of a client that came to this, with the note of its end
+  abbrev pub stored_as : Stored T U C → ReaderState T (Core U C) → Stored T U C
+  stored_as before end =
+      record { serial = before.serial; part = part_of end; made = before.made ++ notes_in (end_deeds end.core.ended) }
+
+  -- a verdict was carried out in a turn, which came to this
+  pub record IsHandled (sends : T → Queue → Result ℕ IoFault → T → Type 0) (v : Verdict (Core U C) (Told U)) (before : Stored T U C) (to : Turned)
+      (after : Stored T U C) : Type 0 where
+    pub es : List Sending
+    pub gave : List (Given (Told U))
+    pub refused : Bool
+    pub end : ReaderState T (Core U C)
+    pub carried : CarriesOut sends speaker v before.part.link es gave refused end
+    pub no_note : HasNoNote gave
+    pub says : Says to gave refused end.core
+    pub after_is : after ≡ stored_as before end
+
+module _ {T U G C : Type 0} (sends : T → Queue → Result ℕ IoFault → T → Type 0) (receives : T → ℕ → Result Queue IoFault → T → Type 0)
+    (a : Around G C) where
+  abbrev pub LacksIn : Part T U C → Type 0
+  LacksIn p = Lacks sends (server a) (reader_part p)
+
+  -- where what is left of a reading with so many receives may lead, the whole may, behind these turns and what they gave
+  abbrev pub Leads : ℕ → Part T U C → List Turn → List (Given (Told U)) → ℕ → Part T U C → Type 0
+  Leads left start first gave left' now =
+      (turns : List Turn) (rest : Gives (Told U)) (end : ReaderState T (Core U C)) → Reads sends (server a) receives left' (reader_part now) turns rest end
+      → Reads sends (server a) receives left (reader_part start) (first ++ turns) (behind gave false rest) end
+
+  -- a reading came so far, and goes on
+  pub record Goes (before : Stored T U C) (r : Reading) (now : Stored T U C) (r' : Reading) : Type 0 where
+    pub first : List Turn
+    pub gave : List (Given (Told U))
+    pub leads : Leads r.turns_left before.part first gave r'.turns_left now.part
+    pub silent : IsSilent gave
+    pub no_note : HasNoNote gave
+    pub read : r'.read ≡ counted r.read (handled_in first)
+    pub live : Live now.part
+    pub serial : now.serial ≡ before.serial
+    pub made : now.made ≡ before.made
+
+  -- a reading ended so
+  pub record EndsAs (before : Stored T U C) (r : Reading) (answer : Result Handed NoAction) (after : Stored T U C) (r' : Reading) : Type 0 where
+    pub turns : List Turn
+    pub out : Gives (Told U)
+    pub end : ReaderState T (Core U C)
+    pub reads : Reads sends (server a) receives r.turns_left (reader_part before.part) turns out end
+    pub answer_is : answer_of answer ≡ answered out.stopped out.gave
+    pub refused_is : refused_of answer ≡ out.refused
+    pub left : r'.turns_left ≡ out.left
+    pub read : r'.read ≡ counted r.read (handled_in turns)
+    pub no_note : HasNoNote out.gave
+    pub after_is : after ≡ stored_as before end
+
+  -- a turn of a reading
+  abbrev pub Turns : Stored T U C → Reading → Turned → Stored T U C → Reading → Type 0
+  Turns before r (Acts h) after r' = EndsAs before r (Ok h) after r'
+  Turns before r GoesOn after r' =
+      Goes before r after r' × (r'.turns_left ≡ r.turns_left) × (length after.part.link.incoming.bytes < length before.part.link.incoming.bytes)
+  Turns before r LacksMore after r' = LacksIn before.part × (after ≡ before) × (r' ≡ r)
+  Turns before r (Ended end) after r' = EndsAs before r (Err end) after r'
+
+  -- all that waits whole was handled, and that comes to this
+  abbrev pub Waited : Stored T U C → Reading → Option (Result Handed NoAction) → Stored T U C → Reading → Type 0
+  Waited before r None after r' = Goes before r after r' × (r'.turns_left ≡ r.turns_left) × LacksIn after.part
+  Waited before r (Some answer) after r' = EndsAs before r answer after r'
+
+module _ {T U C : Type 0} (receives : T → ℕ → Result Queue IoFault → T → Type 0) where
+  -- a receive was made, or there was no memory for it; and why it ends the reading, if it does
+  abbrev pub Fills : Stored T U C → Option NoAction → Stored T U C → Type 0
+  Fills before None after =
+      Filled receives before.part.link (Ok tt) after.part.link × FindsRoom before.part.link (grown_capacity before.part.link)
+      × (after ≡ linked before after.part.link)
+  Fills before (Some end) after =
+      (link : LinkState T) × Filled receives before.part.link (Err end.fault) link
+      × FindsRoom before.part.link (grown_capacity before.part.link) × (end.refused ≡ lacked_memory (Err end.fault))
+      × (after ≡ stored_as before (record { core = faulted (core_of before.part) end.fault; link = link }))

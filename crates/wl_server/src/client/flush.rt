@@ -1,0 +1,90 @@
+//! The sending of what waits.
+
+ghost use Rattle.std.specs.Prelude.{◌≡◌, ℕ, length};
+ghost use Rattle.wl_link.specs.Puts.{lacked_memory};
+ghost use Rattle.wl_server.specs.Backend.{Calls};
+ghost use Rattle.wl_server.specs.Inside.Client.{Does};
+ghost use Rattle.wl_server.specs.Felt.{FlushedTo};
+ghost use Rattle.wl_server.specs.Inside.Leaving.{Flushes};
+ghost use Rattle.wl_server.specs.PartStep.{over};
+ghost use Rattle.wl_server.specs.Inside.Places.{AllFeel, PlaceFeels};
+ghost use Rattle.wl_server.specs.declared.runs.step.Reply.TheVariants as reply;
+ghost use Rattle.wl_server.specs.declared.runs.step.Step.TheVariants as step;
+
+use crate::backend::Backend;
+use crate::client::Client;
+use crate::events::display::lacks_memory;
+use crate::globals::handler::GlobalHandler;
+use crate::ids::client_id::ClientId;
+use wl_link::Transport;
+use wl_wire::IoFault;
+
+impl<T: Transport + Drop, U: Drop, C: Drop> Client<T, U, C> {
+    /// Sends what waits for the client, as far as its transport takes it.
+    pub fn flush(&mut self) -> Result<(), IoFault>
+        ensures { Does self.old (λ p did q. FlushedTo T.sends p result (lacked_memory result) did q) self.new }
+    {
+        self.socket.flush()
+    }
+}
+
+/// Sends what waits for the client of a slot, if that is killed, or live, as it is asked for; a fault is dropped. The answer
+/// is whether memory was refused.
+fn flush_at<T: Transport + Drop, U: Drop, C: Drop>(
+    client: &mut Option<Client<T, U, C>>,
+    killed: bool,
+) -> bool
+    ensures { (slot : ℕ) → PlaceFeels (λ id p lacked did q. Flushes T.sends killed p lacked did q) slot client.old result client.new }
+{
+    match client {
+        Some(client) if client.is_killed == killed => {
+            let answer = client.flush();
+            lacks_memory(answer)
+        }
+        _ => false,
+    }
+}
+
+/// Sends what waits for each killed client, or for each live one, as it is asked for. The answer is whether memory was
+/// refused.
+pub fn flush_each<T: Transport + Drop, U: Drop, C: Drop>(
+    clients: &mut Vec<Option<Client<T, U, C>>>,
+    killed: bool,
+) -> bool
+    ensures { AllFeel (λ id p lacked did q. Flushes T.sends killed p lacked did q) result (length clients.old.items) clients.old.items clients.new.items }
+{
+    let mut refused = false;
+    for slot in 0..clients.len() {
+        refused |= flush_at(&mut clients[slot], killed);
+    }
+    refused
+}
+
+impl<T: Transport + Drop, U: Drop, G: GlobalHandler<C> + Drop, C: Drop> Backend<T, U, G, C> {
+    /// Sends what waits for the client, killed or not, as far as its transport takes it: `Ok` says that all bytes were
+    /// sent, where tokens beyond 28 for each byte still wait; or that the transport answered 0 to a send: then the rest
+    /// still waits, but for the tokens that this send was offered. After a fault what was not sent still waits. A client
+    /// that is not stored has nothing to send.
+    ///
+    /// Without a client it does so for each live one. A fault of one of them is dropped, and the answer is `Ok`.
+    pub fn flush(&mut self, client: Option<ClientId>) -> Result<(), IoFault>
+        ensures { Calls (over T.sends T.receives G.views) self.old (step.Flush client) (reply.Flush result) self.new }
+    {
+        let Some(id) = client else {
+            self.refused = flush_each(&mut self.clients, false);
+            return Ok(());
+        };
+        self.refused = false;
+        if !self.is_stored(&id) {
+            return Ok(());
+        }
+        match &mut self.clients[id.slot() as usize] {
+            Some(client) => {
+                let answer = client.flush();
+                self.refused = lacks_memory(answer);
+                answer
+            }
+            None => unreachable!(),
+        }
+    }
+}

@@ -1,0 +1,225 @@
+//! New clients.
+
+ghost use Rattle.std.specs.Prelude.{◌≡◌, ℕ, ◌<◌, ◌≤◌, None, Some, IfOk, OnErr, OnOk, IsSome, ◌∷◌, [], map, MatchOption, length, vec_capacity, vec_len};
+ghost use Rattle.std.specs.VecDeque.{deque_capacity, deque_len};
+ghost use Rattle.wl_link.specs.Link.{IsFresh};
+ghost use Rattle.wl_link.specs.Store.{empty_store, stored};
+ghost use Rattle.wl_server.specs.Backend.{Calls};
+ghost use Rattle.wl_server.specs.Inside.Client.{IsInserted};
+ghost use Rattle.wl_server.specs.Inside.Inserting.{AreTaken, IsPut};
+ghost use Rattle.wl_server.specs.Part.{display_object};
+ghost use Rattle.wl_server.specs.PartStep.{over};
+ghost use Rattle.wl_server.specs.Server.{Stored, stored_at};
+ghost use Rattle.wl_server.specs.Steps.{IsLeastFree};
+ghost use Rattle.wl_server.specs.declared.notes.Happening.TheVariants.{Initialized};
+ghost use Rattle.wl_server.specs.declared.runs.step.Reply.TheVariants as reply;
+ghost use Rattle.wl_server.specs.declared.runs.step.Step.TheVariants as step;
+
+use crate::backend::Backend;
+use crate::client::Client;
+use crate::error::InsertClientError;
+use crate::events::display::DISPLAY;
+use crate::globals::handler::GlobalHandler;
+use crate::ids::client_id::ClientId;
+use crate::notes::{Happening, NoteNumbers, next_number};
+use crate::objects::{Kept, fresh_object};
+use std::alloc::Global;
+use std::collections::VecDeque;
+use wl_link::{BufferedSocket, ObjectMap, Transport};
+use wl_wire::{OutOfMemory, WL_DISPLAY_INTERFACE};
+
+/// What a client in which nothing has happened keeps beside its link: its objects, of which the display is the only one, and the note
+/// that it was inserted, with
+/// room for that of its end.
+fn first_lists<U: Drop>(
+    alloc: Global,
+    numbers: &mut NoteNumbers,
+) -> Result<(ObjectMap<Kept<U>>, VecDeque<(u128, Happening<U>)>), OutOfMemory>
+    ensures objects { IfOk result (λ lists. lists.0.store ≡ stored empty_store 1 display_object) }
+    ensures notes { IfOk result (λ lists. map (λ m. m.1) lists.1.items ≡ Initialized ∷ []) }
+    ensures room { IfOk result (λ lists. deque_len lists.1 < deque_capacity lists.1) }
+{
+    let mut objects = ObjectMap::new(alloc);
+    let display = fresh_object(WL_DISPLAY_INTERFACE, 1, 0, None);
+    let Ok(()) = objects.insert_at(DISPLAY, display) else {
+        return Err(OutOfMemory);
+    };
+    let mut made = VecDeque::with_capacity(alloc, 2)?;
+    made.push_back_reserved((next_number(&mut numbers.made), Happening::Initialized));
+    Ok((objects, made))
+}
+
+/// The link, the objects and the notes of a client in which nothing has happened but that it was inserted.
+fn first_parts<T: Drop, U: Drop>(
+    alloc: Global,
+    transport: T,
+    max_buffer_size: usize,
+    numbers: &mut NoteNumbers,
+) -> Result<
+    (
+        BufferedSocket<T>,
+        ObjectMap<Kept<U>>,
+        VecDeque<(u128, Happening<U>)>,
+    ),
+    OutOfMemory,
+>
+    ensures link { IfOk result (λ parts. IsFresh transport (Some max_buffer_size) parts.0) }
+    ensures objects { IfOk result (λ parts. parts.1.store ≡ stored empty_store 1 display_object) }
+    ensures notes { IfOk result (λ parts. map (λ m. m.1) parts.2.items ≡ Initialized ∷ []) }
+    ensures room { IfOk result (λ parts. deque_len parts.2 < deque_capacity parts.2) }
+{
+    let (objects, made) = first_lists(alloc, numbers)?;
+    let socket = BufferedSocket::new(alloc, transport, Some(max_buffer_size))?;
+    Ok((socket, objects, made))
+}
+
+impl<T: Drop, U: Drop, C: Drop> Client<T, U, C> {
+    /// A client in which nothing has happened but that it was inserted, which is noted.
+    fn new(
+        alloc: Global,
+        serial: u64,
+        transport: T,
+        max_buffer_size: usize,
+        info: C,
+        numbers: &mut NoteNumbers,
+    ) -> Result<Self, OutOfMemory>
+        ensures { IfOk result (IsInserted serial transport (Some max_buffer_size) info) }
+    {
+        let (socket, objects, made) = first_parts(alloc, transport, max_buffer_size, numbers)?;
+        Ok(Client {
+            serial,
+            socket,
+            info,
+            objects,
+            last_serial: 0,
+            is_killed: false,
+            action: None,
+            registries: Vec::new(alloc),
+            waiting: VecDeque::new(alloc),
+            made,
+        })
+    }
+}
+
+/// Makes room for a client at the slot, which is not past the first one that was never in use.
+fn reserve_slot<T, U, C>(
+    clients: &mut Vec<Option<Client<T, U, C>>>,
+    slot: usize,
+) -> Result<(), OutOfMemory>
+    ensures items { clients.new.items ≡ clients.old.items }
+    ensures len { vec_len clients.new ≡ vec_len clients.old }
+    ensures room { OnOk result (vec_len clients.new ≤ slot → vec_len clients.new < vec_capacity clients.new) }
+{
+    if slot < clients.len() {
+        return Ok(());
+    }
+    Ok(clients.reserve(1)?)
+}
+
+/// The least slot that no client has; `None` where each has one. Those below `from` have one.
+fn free_slot<T, U, C>(clients: &[Option<Client<T, U, C>>], from: usize) -> Option<u32>
+    requires { AreTaken from clients.now }
+    ensures { MatchOption result ((k : ℕ) → k < 0x100000000 → IsSome (stored_at k clients.now)) (IsLeastFree clients.now) }
+{
+    for slot in from..clients.len() {
+        if clients[slot].is_none() {
+            return u32::try_from(slot).ok();
+        }
+    }
+    u32::try_from(clients.len()).ok()
+}
+
+/// Puts a client at a slot that there is, and that no client has.
+fn put_within<T: Drop, U: Drop, C: Drop>(
+    clients: &mut Vec<Option<Client<T, U, C>>>,
+    slot: usize,
+    client: Client<T, U, C>,
+)
+    requires { slot < vec_len clients.old }
+    ensures put { IsPut clients.old.items slot client clients.new.items }
+    ensures len { vec_len clients.new ≡ vec_len clients.old }
+{
+    clients[slot] = Some(client);
+}
+
+/// Puts a client at a slot that no client has, for which there is room.
+fn put_at<T: Drop, U: Drop, C: Drop>(
+    clients: &mut Vec<Option<Client<T, U, C>>>,
+    slot: usize,
+    client: Client<T, U, C>,
+)
+    requires within { slot ≤ vec_len clients.old }
+    requires room { vec_len clients.old ≤ slot → vec_len clients.old < vec_capacity clients.old }
+    ensures put { IsPut clients.old.items slot client clients.new.items }
+    ensures slots { vec_len clients.old ≤ 0x100000000 → slot < 0x100000000 → vec_len clients.new ≤ 0x100000000 }
+{
+    if slot < clients.len() {
+        put_within(clients, slot, client);
+    } else {
+        clients.push_reserved(Some(client));
+    }
+}
+
+/// Puts a new client at a slot that no client has, and that is not past the first one that was never in use. Where there
+/// is no memory, nothing changes.
+fn put_new<T: Drop, U: Drop, C: Drop>(
+    clients: &mut Vec<Option<Client<T, U, C>>>,
+    numbers: &mut NoteNumbers,
+    id: &ClientId,
+    transport: T,
+    max_buffer_size: usize,
+    info: C,
+) -> Result<(), OutOfMemory>
+    requires { id.now.slot ≤ length clients.old.items }
+    ensures put { IfOk result (λ _. (s : Stored T U C) × IsInserted id.now.serial transport (Some max_buffer_size) info s
+        × IsPut clients.old.items id.now.slot s clients.new.items) }
+    ensures unchanged { OnErr result (clients.new.items ≡ clients.old.items) }
+    ensures slots { vec_len clients.old ≤ 0x100000000 → vec_len clients.new ≤ 0x100000000 }
+{
+    let slot = id.slot() as usize;
+    let alloc = *clients.allocator();
+    reserve_slot(clients, slot)?;
+    let serial = id.serial();
+    let client = Client::new(alloc, serial, transport, max_buffer_size, info, numbers)?;
+    put_at(clients, slot, client);
+    Ok(())
+}
+
+impl<T: Transport + Drop, U: Drop, G: GlobalHandler<C> + Drop, C: Drop> Backend<T, U, G, C> {
+    /// Takes a new client over this transport, with the program's data of it. It keeps its display, object 1, and its
+    /// storages may grow up to the limit that new clients have. It gets the least free slot and the next serial, and that
+    /// it was inserted is noted.
+    ///
+    /// The answer is `Full` where each slot has a client or no serial is left, and else `OutOfMemory` where there is no
+    /// memory for it. Both change nothing, and the transport and the data are dropped.
+    pub fn insert_client(&mut self, transport: T, info: C) -> Result<ClientId, InsertClientError>
+        ensures { Calls (over T.sends T.receives G.views) self.old (step.InsertClient transport info) (reply.InsertClient result) self.new }
+    {
+        self.refused = false;
+        let Some(slot) = free_slot(&self.clients, self.free_from) else {
+            return Err(InsertClientError::Full);
+        };
+        if self.last_client == u64::MAX {
+            return Err(InsertClientError::Full);
+        }
+        let id = ClientId::from_parts(slot, self.last_client + 1);
+        match put_new(
+            &mut self.clients,
+            &mut self.numbers,
+            &id,
+            transport,
+            self.default_limit,
+            info,
+        ) {
+            Ok(()) => {
+                self.free_from = slot as usize + 1;
+                self.last_client += 1;
+                Ok(id)
+            }
+            Err(OutOfMemory) => {
+                self.refused = true;
+                Err(InsertClientError::OutOfMemory)
+            }
+        }
+    }
+}

@@ -1,0 +1,65 @@
+//! The end of a client.
+
+ghost use Rattle.std.specs.Prelude.{◌≡◌, MatchResult};
+ghost use Rattle.wl_link.specs.Puts.{lacked_memory};
+ghost use Rattle.wl_server.specs.Backend.{Calls};
+ghost use Rattle.wl_server.specs.Inside.Client.{Does};
+ghost use Rattle.wl_server.specs.PartStep.{over};
+ghost use Rattle.wl_server.specs.Telling.{Kills};
+ghost use Rattle.wl_server.specs.declared.notes.DisconnectReason.TheVariants.{ConnectionClosed};
+ghost use Rattle.wl_server.specs.declared.runs.step.Reply.TheVariants as reply;
+ghost use Rattle.wl_server.specs.declared.runs.step.Step.TheVariants as step;
+
+use crate::backend::Backend;
+use crate::client::Client;
+use crate::globals::handler::GlobalHandler;
+use crate::ids::client_id::ClientId;
+use crate::notes::{DisconnectReason, Happening, NoteNumbers, next_number};
+use wl_link::Transport;
+use wl_wire::IoFault;
+
+impl<T: Drop, U: Drop, C: Drop> Client<T, U, C> {
+    /// Kills the client, which is noted with its reason. A killed client stays as it is. It takes no memory.
+    pub fn kill(&mut self, numbers: &mut NoteNumbers, reason: DisconnectReason)
+        ensures { Does self.old (λ p did q. Kills p reason did q) self.new }
+    {
+        if self.is_killed {
+            return;
+        }
+        self.is_killed = true;
+        self.made.push_back_reserved((
+            next_number(&mut numbers.made),
+            Happening::Disconnected(reason),
+        ));
+    }
+
+    /// What it comes to that a write to the client was answered so: where it failed, the client is closed down. The
+    /// answer is whether memory was refused.
+    pub fn told(&mut self, numbers: &mut NoteNumbers, answer: Result<(), IoFault>) -> bool
+        ensures refused { result ≡ lacked_memory answer }
+        ensures closed { MatchResult answer (λ _. self.new ≡ self.old) (λ _. Does self.old (λ p did q. Kills p ConnectionClosed did q) self.new) }
+    {
+        let Err(fault) = answer else {
+            return false;
+        };
+        self.kill(numbers, DisconnectReason::ConnectionClosed);
+        matches!(fault, IoFault::OutOfMemory)
+    }
+}
+
+impl<T: Transport + Drop, U: Drop, G: GlobalHandler<C> + Drop, C: Drop> Backend<T, U, G, C> {
+    /// Kills the client: it is noted as disconnected, for this reason, unless it was killed before. It stays stored until
+    /// the next cleanup. An unknown client is nothing. It takes no memory.
+    pub fn kill_client(&mut self, id: &ClientId, reason: DisconnectReason)
+        ensures { Calls (over T.sends T.receives G.views) self.old (step.KillClient id.now reason) reply.KillClient self.new }
+    {
+        self.refused = false;
+        if !self.is_stored(id) {
+            return;
+        }
+        match &mut self.clients[id.slot() as usize] {
+            Some(client) => client.kill(&mut self.numbers, reason),
+            None => unreachable!(),
+        }
+    }
+}

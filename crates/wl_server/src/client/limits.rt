@@ -1,0 +1,39 @@
+//! How far the storages of clients' links may grow.
+
+ghost use Rattle.std.specs.Prelude.{◌≡◌, Some, false};
+ghost use Rattle.wl_server.specs.Backend.{Calls};
+ghost use Rattle.wl_server.specs.PartStep.{over};
+ghost use Rattle.wl_server.specs.declared.runs.step.Reply.TheVariants as reply;
+ghost use Rattle.wl_server.specs.declared.runs.step.Step.TheVariants as step;
+
+use crate::backend::Backend;
+use crate::globals::handler::GlobalHandler;
+use crate::ids::client_id::ClientId;
+use wl_link::Transport;
+
+impl<T: Transport + Drop, U: Drop, G: GlobalHandler<C> + Drop, C: Drop> Backend<T, U, G, C> {
+    /// Sets how far the storages of each client that is inserted from now on may grow, as `set_client_max_buffer_size` does
+    /// it of one.
+    pub fn set_default_max_buffer_size(&mut self, max_buffer_size: usize)
+        ensures { Calls (over T.sends T.receives G.views) self.old (step.SetDefaultMaxBufferSize max_buffer_size) reply.SetDefaultMaxBufferSize self.new }
+    {
+        self.refused = false;
+        self.default_limit = max_buffer_size;
+    }
+
+    /// Sets how far the storages of what waits to be sent to the client and to be read of it may grow, in bytes, rounded up
+    /// to a power of two of at least 4096. That of what waits to be read never grows past 65536 bytes. An unknown client is
+    /// nothing.
+    pub fn set_client_max_buffer_size(&mut self, client: &ClientId, max_buffer_size: usize)
+        ensures { Calls (over T.sends T.receives G.views) self.old (step.SetClientMaxBufferSize client.now max_buffer_size) reply.SetClientMaxBufferSize self.new }
+    {
+        self.refused = false;
+        if !self.is_stored(client) {
+            return;
+        }
+        match &mut self.clients[client.slot() as usize] {
+            Some(stored) => stored.socket.set_max_buffer_size(Some(max_buffer_size)),
+            None => unreachable!(),
+        }
+    }
+}

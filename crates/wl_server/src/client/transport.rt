@@ -1,0 +1,59 @@
+//! A client's transport, lent for writing.
+
+ghost use Rattle.std.specs.Prelude.{◌≡◌, MatchResult, None, OnOk, Some, false, option_map};
+ghost use Rattle.std.specs.Borrow.{sem};
+ghost use Rattle.wl_server.specs.Lending.{LendsTransportAt, server_over};
+ghost use Rattle.wl_server.specs.Lookups.{transport_of};
+ghost use Rattle.wl_server.specs.PartStep.{over};
+ghost use Rattle.wl_server.specs.Backend.{IsChange};
+
+use crate::backend::Backend;
+use crate::client::Client;
+use crate::error::InvalidId;
+use crate::globals::handler::GlobalHandler;
+use crate::ids::client_id::ClientId;
+use wl_link::Transport;
+
+impl<T: Drop, U: Drop, C: Drop> Client<T, U, C> {
+    ghost use Rattle.wl_server.specs.Lending.{LendsTransportOf};
+
+    /// The transport, which may be changed; all else stays as it is.
+    pub fn transport_mut(&mut self) -> &mut T
+        ensures* lends { sem 𝓛 (LendsTransportOf T.row U.row C.row self.entry result) }
+        ensures value { result.now ≡ self.old.part.link.transport }
+    {
+        self.socket.transport_mut()
+    }
+}
+
+/// The transport of the client at a place, if one is there.
+fn lent_at<T: Drop, U: Drop, C: Drop>(place: &mut Option<Client<T, U, C>>) -> Option<&mut T>
+    ensures* lends { sem 𝓛 (LendsTransportAt T.row U.row C.row place.entry result) }
+    ensures value { option_map (λ t. t.now) result ≡ option_map (λ c. c.part.link.transport) place.old }
+{
+    match place {
+        Some(client) => Some(client.transport_mut()),
+        None => None,
+    }
+}
+
+impl<T: Transport + Drop, U: Drop, G: GlobalHandler<C> + Drop, C: Drop> Backend<T, U, G, C> {
+    ghost use Rattle.wl_server.specs.Lending.{LendsServerTransport};
+
+    /// The client's transport, which may be changed; all else stays as it is, what `memory_refused` answers included.
+    /// `InvalidId` where the client is not stored.
+    pub fn transport_mut(&mut self, id: &ClientId) -> Result<&mut T, InvalidId>
+        ensures* lends { sem 𝓛 (LendsServerTransport T.row U.row G.row C.row self.entry id.now result) }
+        ensures value { MatchResult result (λ transport. transport_of self.old.server id.now ≡ Some transport.now)
+            (λ _. transport_of self.old.server id.now ≡ None) }
+        ensures step { OnOk result ((t : _) → IsChange (over T.sends T.receives G.views) self.old.server id.now t (server_over self.old.server id.now t)) }
+    {
+        if !self.is_stored(id) {
+            return Err(InvalidId);
+        }
+        match lent_at(&mut self.clients[id.slot() as usize]) {
+            Some(transport) => Ok(transport),
+            None => unreachable!(),
+        }
+    }
+}

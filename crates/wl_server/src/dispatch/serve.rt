@@ -1,0 +1,155 @@
+//! The actions of a client are read, handled by the program and ended, until no more of them waits.
+
+ghost use Rattle.std.specs.Prelude.{◌≡◌, ◌||◌, List};
+ghost use Rattle.wl_server.specs.Dispatch.{Handles, answering, dispatched, fault_of_end, fault_of_reading};
+ghost use Rattle.wl_server.specs.Inside.Dispatching.{ServesAll, ServesOnce, ServesSome};
+ghost use Rattle.wl_server.specs.PartStep.{over};
+ghost use Rattle.wl_server.specs.Steps.{Entry};
+
+use crate::backend::Backend;
+use crate::dispatch::request_handler::Handler;
+use crate::error::{ActionError, FinishError};
+use crate::globals::handler::GlobalHandler;
+use crate::ids::client_id::ClientId;
+use crate::reading::action::{Action, Reading};
+use wl_link::Transport;
+use wl_wire::IoFault;
+
+/// The fault by which a dispatch ends where no action is handed out.
+fn fault_of_reading(error: ActionError) -> IoFault
+    ensures { result ≡ fault_of_reading error }
+{
+    match error {
+        ActionError::Io(fault) => fault,
+        ActionError::ActionOpen => IoFault::InvalidInput,
+    }
+}
+
+/// The fault by which it ends where the end of an action is refused.
+fn fault_of_end(error: FinishError) -> IoFault
+    ensures { result ≡ fault_of_end error }
+{
+    match error {
+        FinishError::OutOfMemory => IoFault::OutOfMemory,
+        _ => IoFault::InvalidInput,
+    }
+}
+
+/// The answer of a dispatch that ended by this fault, with so many requests read.
+fn answer_of(fault: IoFault, read: usize) -> Result<usize, IoFault>
+    ensures { result ≡ dispatched fault read }
+{
+    match fault {
+        IoFault::WouldBlock if read > 0 => Ok(read),
+        _ => Err(fault),
+    }
+}
+
+impl<T: Transport + Drop, U: Drop, G: GlobalHandler<C> + Drop, C: Drop> Backend<T, U, G, C> {
+    /// Calls the handler with the action, and ends the action with its answer. The answer is why that is refused, if it is.
+    fn handle<H: Handler<T, U, G, C>>(
+        &mut self,
+        handler: &mut H,
+        id: &ClientId,
+        action: Action,
+    ) -> Option<FinishError>
+        ensures { (run : List (Entry T U G C)) × Handles (over T.sends T.receives G.views) (answering H.requests H.binds) id.now handler.old self.old action run self.new.refused result handler.new self.new.server }
+    {
+        match action {
+            Action::Request {
+                sender,
+                opcode,
+                args,
+                created,
+                is_destructor: _,
+            } => {
+                let user_data = handler.request(self, id, sender, opcode, args, created);
+                match self.finish_request(id, user_data) {
+                    Ok(()) => None,
+                    Err(refused) => Some(refused.error),
+                }
+            }
+            Action::Bind { global, object } => {
+                let user_data = handler.bind(self, id, global, object);
+                match self.finish_bind(id, user_data) {
+                    Ok(()) => None,
+                    Err(refused) => Some(refused.error),
+                }
+            }
+        }
+    }
+
+    /// Memory was refused before, if this says so, or in the last call.
+    pub(crate) fn keep_refused(&mut self, before: bool)
+        ensures { self.new ≡ record self.old { refused = before || self.old.refused } }
+    {
+        let mut refused = before;
+        refused |= self.refused;
+        self.refused = refused;
+    }
+
+    /// Reads the client once, and handles the action that is handed out. The answer is the fault that ends the dispatch, if
+    /// one does. Whether memory was refused is told of the calls of the whole dispatch so far.
+    fn serve_action<H: Handler<T, U, G, C>>(
+        &mut self,
+        handler: &mut H,
+        id: &ClientId,
+        reading: &mut Reading,
+    ) -> Option<IoFault>
+        ensures { ServesOnce (over T.sends T.receives G.views) (answering H.requests H.binds) id.now handler.old reading.old self.old result handler.new reading.new self.new }
+    {
+        let mut refused = self.memory_refused();
+        let action = match self.next_action_within(id, reading) {
+            Ok(action) => action,
+            Err(error) => {
+                self.keep_refused(refused);
+                return Some(fault_of_reading(error));
+            }
+        };
+        refused |= self.memory_refused();
+        let why = self.handle(handler, id, action);
+        self.keep_refused(refused);
+        match why {
+            None => None,
+            Some(error) => Some(fault_of_end(error)),
+        }
+    }
+
+    /// Reads the client and handles its actions until a receive is used up. The answer is the fault that ends the dispatch
+    /// before that, if one does.
+    fn serve_some<H: Handler<T, U, G, C>>(
+        &mut self,
+        handler: &mut H,
+        id: &ClientId,
+        reading: &mut Reading,
+    ) -> Option<IoFault>
+        ensures { ServesSome (over T.sends T.receives G.views) (answering H.requests H.binds) id.now handler.old reading.old self.old result handler.new reading.new self.new }
+    {
+        let left = reading.turns_left;
+        loop {
+            if let Some(fault) = self.serve_action(handler, id, reading) {
+                return Some(fault);
+            }
+            if reading.turns_left < left {
+                return None;
+            }
+        }
+    }
+
+    /// Reads the client and handles its actions, until none is handed out or the end of one is refused. The answer is that
+    /// of its dispatch.
+    pub(crate) fn serve<H: Handler<T, U, G, C>>(
+        &mut self,
+        handler: &mut H,
+        id: &ClientId,
+    ) -> Result<usize, IoFault>
+        ensures { ServesAll (over T.sends T.receives G.views) (answering H.requests H.binds) id.now handler.old self.old result handler.new self.new }
+    {
+        let mut reading = Reading::new();
+        loop {
+            if let Some(fault) = self.serve_some(handler, id, &mut reading) {
+                return answer_of(fault, reading.read);
+            }
+        }
+    }
+}

@@ -1,0 +1,173 @@
+//! Which events are refused, and the numbers of the ids of those that are sent.
+
+ghost use Rattle.std.specs.Prelude.{◌≡◌, Bool};
+ghost use Rattle.wl_wire.specs.declared.argument.Argument.TheVariants as arg;
+ghost use Rattle.wl_wire.specs.declared.argument.ArgumentType.TheVariants as kind;
+ghost use Rattle.wl_wire.specs.declared.interface.InterfaceId.{InterfaceId};
+ghost use Rattle.wl_wire.specs.Table.{message_row};
+ghost use Rattle.wl_link.specs.Refusals.{first_refusal};
+ghost use Rattle.wl_server.specs.Inside.EventChecks.{Decides, fault_of};
+ghost use Rattle.wl_server.specs.Events.{argument_fault, argument_faults, event_check, id_fault, session_content};
+ghost use Rattle.wl_server.specs.Part.{named};
+
+use crate::error::EventError;
+use crate::ids::client_id::ClientId;
+use crate::ids::object_id::ObjectId;
+use crate::objects::{Kept, named_in};
+use wl_link::ObjectMap;
+use wl_wire::{
+    ANONYMOUS_INTERFACE, AllowNull, Argument, ArgumentType, InterfaceId, Message, MessageDesc,
+    Numbering, OwnNumbers, Protocol, Token, check_for_signature, same_interface_or_anonymous,
+};
+
+/// The interface of the client's object that the id names, or why the id is refused.
+fn kept_interface<U: Drop>(
+    client: &ClientId,
+    objects: &ObjectMap<Kept<U>>,
+    id: &ObjectId,
+) -> Result<InterfaceId, EventError>
+    ensures { (is_asked : InterfaceId → Bool) → fault_of is_asked result ≡ id_fault client.now objects.now.store is_asked id.now }
+{
+    if id.client() != *client {
+        return Err(EventError::ForeignObject);
+    }
+    match named_in(objects, id) {
+        Some(object) => Ok(object.interface),
+        None => Err(EventError::InvalidId),
+    }
+}
+
+/// Why an object argument is refused, where the signature says this of null and the table asks for this interface.
+fn object_fault<U: Drop>(
+    client: &ClientId,
+    objects: &ObjectMap<Kept<U>>,
+    desc: &MessageDesc,
+    null: AllowNull,
+    asked: InterfaceId,
+    id: &ObjectId,
+) -> Option<EventError>
+    ensures { result ≡ argument_fault client.now objects.now.store (message_row desc.now) (kind.Object null) asked (arg.Object id.now) }
+{
+    if id.protocol_id() == 0 {
+        return match null {
+            AllowNull::Yes => None,
+            AllowNull::No => Some(EventError::NullObject),
+        };
+    }
+    match kept_interface(client, objects, id) {
+        Err(error) => Some(error),
+        Ok(interface) if same_interface_or_anonymous(asked, interface) => None,
+        Ok(_) => Some(EventError::WrongInterface),
+    }
+}
+
+/// Why the argument of a new object is refused: the table names its interface.
+fn new_id_fault<U: Drop>(
+    client: &ClientId,
+    objects: &ObjectMap<Kept<U>>,
+    desc: &MessageDesc,
+    asked: InterfaceId,
+    id: &ObjectId,
+) -> Option<EventError>
+    ensures { result ≡ argument_fault client.now objects.now.store (message_row desc.now) kind.NewId asked (arg.NewId id.now) }
+{
+    if id.protocol_id() == 0 {
+        return Some(EventError::NullNewId);
+    }
+    match (kept_interface(client, objects, id), desc.child_interface) {
+        (Err(error), _) => Some(error),
+        (Ok(interface), Some(child)) if child.0 == interface.0 => None,
+        (Ok(_), _) => Some(EventError::WrongInterface),
+    }
+}
+
+/// Why an argument of that type is refused, where the table asks for this interface next.
+fn argument_fault<U: Drop>(
+    client: &ClientId,
+    objects: &ObjectMap<Kept<U>>,
+    desc: &MessageDesc,
+    kind: ArgumentType,
+    asked: InterfaceId,
+    arg: &Argument<ObjectId, Token>,
+) -> Option<EventError>
+    ensures { result ≡ argument_fault client.now objects.now.store (message_row desc.now) kind asked arg.now }
+{
+    match (kind, arg) {
+        (ArgumentType::Object(null), Argument::Object(id)) => {
+            object_fault(client, objects, desc, null, asked, id)
+        }
+        (ArgumentType::NewId, Argument::NewId(id)) => {
+            new_id_fault(client, objects, desc, asked, id)
+        }
+        _ => None,
+    }
+}
+
+/// Why the first of the arguments that is refused is, from left to right.
+fn first_fault<U: Drop>(
+    client: &ClientId,
+    objects: &ObjectMap<Kept<U>>,
+    desc: &MessageDesc,
+    args: &[Argument<ObjectId, Token>],
+) -> Option<EventError>
+    ensures { result ≡ first_refusal (argument_faults client.now objects.now.store (message_row desc.now) desc.now.signature.items desc.now.arg_interfaces.items args.now) }
+{
+    let mut asked = desc.arg_interfaces.as_slice();
+    for (kind, arg) in desc.signature.iter().zip(args) {
+        let (next, rest) = match asked {
+            [next, rest @ ..] => (*next, rest),
+            [] => (ANONYMOUS_INTERFACE, asked),
+        };
+        if let Some(error) = argument_fault(client, objects, desc, *kind, next, arg) {
+            return Some(error);
+        }
+        if let Argument::Object(_) = arg {
+            asked = rest;
+        }
+    }
+    None
+}
+
+/// Whether the event ends its sender, or the first reason for which it is refused.
+pub fn check_event<U: Drop>(
+    protocol: &Protocol,
+    client: &ClientId,
+    objects: &ObjectMap<Kept<U>>,
+    message: &Message<ObjectId, Token>,
+) -> Result<bool, EventError>
+    ensures { Decides (event_check client.now objects.now.store protocol.now (session_content message.now))
+        (named objects.now.store message.now.sender_id) result }
+{
+    let Some(sender) = named_in(objects, &message.sender_id) else {
+        return Err(EventError::InvalidId);
+    };
+    let Some(interface) = protocol.get(sender.interface) else {
+        return Err(EventError::UnknownOpcode);
+    };
+    let Some(desc) = interface.events.get(message.opcode as usize) else {
+        return Err(EventError::UnknownOpcode);
+    };
+    let args = message.args.as_slice();
+    if !check_for_signature(&desc.signature, args) {
+        return Err(EventError::BadSignature);
+    }
+    match first_fault(client, objects, desc, args) {
+        Some(error) => Err(error),
+        None => Ok(desc.is_destructor),
+    }
+}
+
+/// The numbers that an event's ids have on the wire: each its own.
+impl Numbering<ObjectId> for OwnNumbers {
+    ghost object_number = { λ _ id. id.number };
+
+    ghost new_number = { λ _ id. id.number };
+
+    fn number_object(&self, id: &ObjectId) -> u32 {
+        id.protocol_id()
+    }
+
+    fn number_new(&self, id: &ObjectId) -> u32 {
+        id.protocol_id()
+    }
+}

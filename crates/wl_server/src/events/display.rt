@@ -1,0 +1,123 @@
+//! The messages that the server sends of itself.
+
+ghost use Rattle.std.specs.Prelude.{◌≡◌, ◌∷◌, ℕ, [], Some};
+ghost use Rattle.wl_wire.specs.declared.argument.Argument.TheVariants as arg;
+ghost use Rattle.wl_wire.specs.Message.{content};
+ghost use Rattle.wl_link.specs.Link.{Wrote};
+ghost use Rattle.wl_link.specs.Puts.{lacked_memory};
+ghost use Rattle.wl_server.specs.Inside.Puts.{Puts};
+ghost use Rattle.wl_server.specs.Telling.{deletions, done_message, error_message};
+
+use smallvec::SmallVec;
+use std::alloc::Global;
+use wl_link::{BufferedSocket, SERVER_ID_LIMIT, Transport};
+use wl_wire::{Argument, CString, IoFault, Message, Token};
+
+/// The number of the display.
+pub const DISPLAY: u32 = 1;
+
+/// The opcode of `wl_display.error`.
+const ERROR: u16 = 0;
+
+/// The opcode of `wl_callback.done`.
+const DONE: u16 = 0;
+
+/// The opcode of `wl_display.delete_id`.
+const DELETE_ID: u16 = 1;
+
+/// Whether memory was refused to a write or a flush that was answered so.
+pub fn lacks_memory(answer: Result<(), IoFault>) -> bool
+    ensures { result ≡ lacked_memory answer }
+{
+    matches!(answer, Err(IoFault::OutOfMemory))
+}
+
+/// A message whose argument is one number.
+pub fn message_of_number(
+    alloc: Global,
+    sender_id: u32,
+    opcode: u16,
+    number: u32,
+) -> Message<u32, Token>
+    ensures { content result ≡ record { sender = sender_id; opcode = opcode; args = arg.Uint number ∷ [] } }
+{
+    let mut args = SmallVec::new(alloc);
+    args.push_reserved(Argument::Uint(number));
+    Message {
+        sender_id,
+        opcode,
+        args,
+    }
+}
+
+/// Writes a message whose argument is one number.
+pub fn put_number<T: Transport>(
+    alloc: Global,
+    socket: &mut BufferedSocket<T>,
+    sender_id: u32,
+    opcode: u16,
+    number: u32,
+) -> Result<(), IoFault>
+    ensures { Wrote T.sends socket.old (record { sender = sender_id; opcode = opcode; args = arg.Uint number ∷ [] }) result socket.new }
+{
+    let message = message_of_number(alloc, sender_id, opcode, number);
+    socket.write_message(&message)
+}
+
+/// Tells a client that a number of its own is free again. Of one of the server's numbers it is told nothing.
+pub fn put_delete_id<T: Transport>(
+    alloc: Global,
+    socket: &mut BufferedSocket<T>,
+    number: u32,
+) -> Result<(), IoFault>
+    ensures { Puts T.sends socket.old (deletions number) result socket.new }
+{
+    if number >= SERVER_ID_LIMIT {
+        return Ok(());
+    }
+    put_number(alloc, socket, DISPLAY, DELETE_ID, number)
+}
+
+/// The message of an error on an object.
+fn message_of_error(alloc: Global, number: u32, code: u32, text: CString) -> Message<u32, Token>
+    ensures { content result ≡ (error_message number code text).message }
+{
+    let mut args = SmallVec::new(alloc);
+    args.push_reserved(Argument::Object(number));
+    args.push_reserved(Argument::Uint(code));
+    args.push_reserved(Argument::Str(Some(text)));
+    Message {
+        sender_id: DISPLAY,
+        opcode: ERROR,
+        args,
+    }
+}
+
+/// Tells a client of an error on the object of that number.
+pub fn put_error<T: Transport>(
+    alloc: Global,
+    socket: &mut BufferedSocket<T>,
+    number: u32,
+    code: u32,
+    text: CString,
+) -> Result<(), IoFault>
+    ensures { Puts T.sends socket.old (error_message number code text ∷ []) result socket.new }
+{
+    let message = message_of_error(alloc, number, code, text);
+    socket.write_message(&message)
+}
+
+/// Tells a client that its callback of this number is done, and that the number is free again.
+pub fn put_done<T: Transport>(
+    alloc: Global,
+    socket: &mut BufferedSocket<T>,
+    number: u32,
+) -> Result<(), IoFault>
+    ensures { (serial : ℕ) → Puts T.sends socket.old (done_message (record { number = number; serial = serial }) ∷ deletions number) result socket.new }
+{
+    let wrote = put_number(alloc, socket, number, DONE, 0);
+    if let Err(fault) = wrote {
+        return Err(fault);
+    }
+    put_delete_id(alloc, socket, number)
+}

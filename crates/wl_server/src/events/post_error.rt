@@ -1,0 +1,121 @@
+//! Errors that are posted on objects.
+
+ghost use Rattle.std.specs.Prelude.{◌≡◌, true, false};
+ghost use Rattle.wl_link.specs.Puts.{FlushesOut};
+ghost use Rattle.wl_server.specs.Backend.{Calls};
+ghost use Rattle.wl_server.specs.Inside.Carried.{IsCarried};
+ghost use Rattle.wl_server.specs.Inside.Client.{Does};
+ghost use Rattle.wl_server.specs.Errors.{error_messages, posts, PostsError};
+ghost use Rattle.wl_server.specs.Part.{with_link};
+ghost use Rattle.wl_server.specs.PartStep.{over};
+ghost use Rattle.wl_server.specs.Inside.Puts.{Puts};
+ghost use Rattle.wl_server.specs.Telling.{core_of};
+ghost use Rattle.wl_server.specs.declared.runs.step.Reply.TheVariants as reply;
+ghost use Rattle.wl_server.specs.declared.runs.step.Step.TheVariants as step;
+
+use crate::backend::Backend;
+use crate::client::Client;
+use crate::events::display::{lacks_memory, put_error};
+use crate::globals::handler::GlobalHandler;
+use crate::ids::object_id::ObjectId;
+use crate::notes::{DisconnectReason, NoteNumbers};
+use crate::objects::named_in;
+use crate::reading::texts::posted_error;
+use wl_link::Transport;
+use wl_wire::{CString, IoFault, Protocol, ProtocolError};
+
+impl<T: Transport + Drop, U: Drop, C: Drop> Client<T, U, C> {
+    /// Posts an error on an object: it is told to the client where it is not killed and the object is kept, what waits is
+    /// flushed, whatever came of that, and the client is killed for the error, or as closed where it could not be told.
+    /// Where there is no memory for the error's texts nothing is told, and the client is closed down. The answer is
+    /// whether memory was refused.
+    pub fn posts(
+        &mut self,
+        protocol: &Protocol,
+        numbers: &mut NoteNumbers,
+        id: &ObjectId,
+        code: u32,
+        text: CString,
+    ) -> bool
+        ensures { IsCarried T.sends (posts protocol.now (core_of self.old.part) id.now code text) self.old result self.new }
+    {
+        if self.is_killed {
+            return self.flush_dropped();
+        }
+        let alloc = *self.registries.allocator();
+        match posted_error(alloc, protocol, id, code, &text) {
+            Ok(error) => {
+                let wrote = self.put_posted(id, code, text);
+                let lacked = self.flush_dropped();
+                let refused = self.told(numbers, wrote);
+                self.kill(numbers, DisconnectReason::ProtocolError(error));
+                refused || lacked
+            }
+            Err(_) => self.told(numbers, Err(IoFault::OutOfMemory)),
+        }
+    }
+
+    /// Posts an error on an object, as the program asks. A null id is of none, and nothing is done. The answer is whether
+    /// memory was refused.
+    pub fn post_error(
+        &mut self,
+        protocol: &Protocol,
+        numbers: &mut NoteNumbers,
+        id: &ObjectId,
+        code: u32,
+        text: CString,
+    ) -> bool
+        ensures { Does self.old (λ p did q. PostsError T.sends protocol.now p id.now code text result did q) self.new }
+    {
+        if id.is_null() {
+            return false;
+        }
+        self.posts(protocol, numbers, id, code, text)
+    }
+
+    /// Tells the live client of an error on the object, where that is kept.
+    fn put_posted(&mut self, id: &ObjectId, code: u32, text: CString) -> Result<(), IoFault>
+        requires { self.old.part.is_killed ≡ false }
+        ensures put { Puts T.sends self.old.part.link (error_messages (core_of self.old.part) id.now code text) result self.new.part.link }
+        ensures rest { self.new ≡ record self.old { part = with_link self.old.part self.new.part.link } }
+    {
+        if named_in(&self.objects, id).is_none() {
+            return Ok(());
+        }
+        let alloc = *self.registries.allocator();
+        put_error(alloc, &mut self.socket, id.protocol_id(), code, text)
+    }
+
+    /// Flushes what waits; a fault of that is dropped. The answer is whether memory was refused.
+    fn flush_dropped(&mut self) -> bool
+        ensures flushed { (es : _) × FlushesOut T.sends true self.old.part.link es result self.new.part.link }
+        ensures rest { self.new ≡ record self.old { part = with_link self.old.part self.new.part.link } }
+    {
+        lacks_memory(self.socket.flush())
+    }
+}
+
+impl<T: Transport + Drop, U: Drop, G: GlobalHandler<C> + Drop, C: Drop> Backend<T, U, G, C> {
+    /// Posts an error on an object: its client is told of it, what waits for the client is flushed, where a fault is
+    /// dropped, and the client is killed. It is noted as disconnected for this error; or as closed where the error could
+    /// not be told, or where memory was refused for its texts: then nothing is told or flushed.
+    ///
+    /// The error is told where the client is not killed and the id names an object. An error on another object of a stored
+    /// client is told to nobody, and kills the client all the same. To a killed client nothing is told; what waits is
+    /// flushed. A null id, or one of a client that is not stored, is nothing.
+    pub fn post_error(&mut self, id: &ObjectId, code: u32, text: CString)
+        ensures { Calls (over T.sends T.receives G.views) self.old (step.PostError id.now code text) reply.PostError self.new }
+    {
+        self.refused = false;
+        let client = id.client();
+        if !self.is_stored(&client) {
+            return;
+        }
+        match &mut self.clients[client.slot() as usize] {
+            Some(client) => {
+                self.refused = client.post_error(&self.protocol, &mut self.numbers, id, code, text);
+            }
+            None => unreachable!(),
+        }
+    }
+}

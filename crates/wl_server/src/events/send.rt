@@ -1,0 +1,202 @@
+//! The sending of an event.
+
+ghost use Rattle.std.specs.Prelude.{◌≡◌, ◌<◌, ◌++◌, IfSome, OnErr, OnOk, Some, map};
+ghost use Rattle.std.specs.VecDeque.{deque_capacity, deque_len};
+ghost use Rattle.wl_link.specs.declared.object.Object.{Object};
+ghost use Rattle.wl_link.specs.Store.{held};
+ghost use Rattle.wl_server.specs.declared.objects.Kept.{Kept};
+ghost use Rattle.wl_server.specs.declared.runs.step.Reply.TheVariants as reply;
+ghost use Rattle.wl_server.specs.declared.runs.step.Step.TheVariants as step;
+ghost use Rattle.wl_server.specs.Backend.{Calls};
+ghost use Rattle.wl_server.specs.Inside.Client.{Does};
+ghost use Rattle.wl_server.specs.Inside.Ending.{notes_ending, registries_ending, store_ending, PutsEnd, TellsEnd};
+ghost use Rattle.wl_server.specs.Events.{AsksForMemory, SendsEvent, SendsGranted, session_content};
+ghost use Rattle.wl_server.specs.Part.{named};
+ghost use Rattle.wl_server.specs.PartStep.{over};
+
+use crate::backend::Backend;
+use crate::client::{Client, Registry};
+use crate::error::EventError;
+use crate::events::check::check_event;
+use crate::events::display::{lacks_memory, put_delete_id};
+use crate::globals::handler::GlobalHandler;
+use crate::ids::object_id::ObjectId;
+use crate::notes::{Happening, NoteNumbers};
+use crate::objects::{Kept, reserve_note, take_out_noted};
+use std::alloc::Global;
+use std::collections::VecDeque;
+use wl_link::{BufferedSocket, ObjectMap, Transport};
+use wl_wire::{IoFault, Message, OutOfMemory, OwnNumbers, Protocol, Token};
+
+/// Makes room for the note of the sender, where the event ends it and it has user data.
+fn make_room<U: Drop>(
+    objects: &ObjectMap<Kept<U>>,
+    waiting: &mut VecDeque<(u128, Happening<U>)>,
+    sender: &ObjectId,
+    ends: bool,
+) -> Result<(), OutOfMemory>
+    ensures items { waiting.new.items ≡ waiting.old.items }
+    ensures asked { OnErr result (IfSome (held objects.now.store sender.now.number) (λ x. AsksForMemory x ends)) }
+    ensures room { OnOk result (IfSome (held objects.now.store sender.now.number) (λ x. AsksForMemory x ends → deque_len waiting.new < deque_capacity waiting.new)) }
+{
+    if !ends {
+        return Ok(());
+    }
+    match objects.find(sender.protocol_id()) {
+        Some(object) => reserve_note(waiting, object),
+        None => Ok(()),
+    }
+}
+
+/// Takes the sender out, where the event ends it. If it had user data, its note waits for the next cleanup.
+fn end_sender<U: Drop>(
+    objects: &mut ObjectMap<Kept<U>>,
+    registries: &mut Vec<Registry>,
+    waiting: &mut VecDeque<(u128, Happening<U>)>,
+    numbers: &mut NoteNumbers,
+    sender: &ObjectId,
+    ends: bool,
+)
+    requires { IfSome (held objects.old.store sender.now.number) (λ x. AsksForMemory x ends → deque_len waiting.old < deque_capacity waiting.old) }
+    ensures store { objects.new.store ≡ store_ending ends objects.old.store sender.now.number }
+    ensures registries { IfSome (held objects.old.store sender.now.number)
+        (λ x. registries.new.items ≡ registries_ending ends registries.old.items sender.now.number x) }
+    ensures waiting { IfSome (held objects.old.store sender.now.number)
+        (λ x. map (λ w. w.1) waiting.new.items ≡ map (λ w. w.1) waiting.old.items ++ notes_ending ends sender.now.client sender.now.number x) }
+{
+    if ends {
+        take_out_noted(objects, registries, waiting, numbers, sender);
+    }
+}
+
+/// Tells the client that the number is free again, where an event was written that ends the number's object. The answer is
+/// that of the write which failed, if one did.
+fn put_end<T: Transport>(
+    alloc: Global,
+    socket: &mut BufferedSocket<T>,
+    number: u32,
+    ends: bool,
+    written: Result<(), IoFault>,
+) -> Result<(), IoFault>
+    ensures { PutsEnd T.sends socket.old number ends written result socket.new }
+{
+    written?;
+    if !ends {
+        return Ok(());
+    }
+    put_delete_id(alloc, socket, number)
+}
+
+impl<T: Transport + Drop, U: Drop, C: Drop> Client<T, U, C> {
+    /// Tells the client of the end of the number's object, where the event that was written ends it. Where the event could
+    /// not be written, or the client could not be told, it is closed down. The answer is whether memory was refused.
+    fn tell_end(
+        &mut self,
+        numbers: &mut NoteNumbers,
+        number: u32,
+        ends: bool,
+        written: Result<(), IoFault>,
+    ) -> bool
+        ensures { TellsEnd T.sends self.old number ends written result self.new }
+    {
+        let alloc = *self.waiting.allocator();
+        let answer = put_end(alloc, &mut self.socket, number, ends, written);
+        self.told(numbers, answer)
+    }
+
+    /// Writes an event that is not refused, and answers whether memory was refused, too. One that ends its sender takes it
+    /// out, also where it could not be written; without memory nothing is done.
+    fn send_granted(
+        &mut self,
+        numbers: &mut NoteNumbers,
+        message: &Message<ObjectId, Token>,
+        ends: bool,
+    ) -> (Result<(), EventError>, bool)
+        ensures { (sender : Object (Kept U)) → named self.old.part.store message.now.sender_id ≡ Some sender
+            → Does self.old (λ p did q. SendsGranted T.sends message.now.sender_id.client p (session_content message.now) sender ends result.0 result.1 did q) self.new }
+    {
+        let sender = &message.sender_id;
+        let room = make_room(&self.objects, &mut self.waiting, sender, ends);
+        if room.is_err() {
+            return (Err(EventError::OutOfMemory), true);
+        }
+        let written = self.socket.write_numbered(message, &OwnNumbers);
+        if lacks_memory(written) {
+            return (Err(EventError::OutOfMemory), true);
+        }
+        end_sender(
+            &mut self.objects,
+            &mut self.registries,
+            &mut self.waiting,
+            numbers,
+            sender,
+            ends,
+        );
+        (
+            Ok(()),
+            self.tell_end(numbers, sender.protocol_id(), ends, written),
+        )
+    }
+
+    /// Sends an event of one of the client's objects, and answers whether memory was refused, too. To a killed client
+    /// nothing is sent.
+    pub fn send_event(
+        &mut self,
+        protocol: &Protocol,
+        numbers: &mut NoteNumbers,
+        message: &Message<ObjectId, Token>,
+    ) -> (Result<(), EventError>, bool)
+        ensures { Does self.old (λ p did q. SendsEvent T.sends message.now.sender_id.client protocol.now p (session_content message.now) result.0 result.1 did q) self.new }
+    {
+        if self.is_killed {
+            return (Ok(()), false);
+        }
+        let client = message.sender_id.client();
+        match check_event(protocol, &client, &self.objects, message) {
+            Ok(ends) => self.send_granted(numbers, message, ends),
+            Err(error) => (Err(error), false),
+        }
+    }
+}
+
+impl<T: Transport + Drop, U: Drop, G: GlobalHandler<C> + Drop, C: Drop> Backend<T, U, G, C> {
+    /// Sends an event that is lent.
+    fn send_lent(&mut self, message: &Message<ObjectId, Token>) -> Result<(), EventError>
+        ensures { Calls (over T.sends T.receives G.views) self.old (step.SendEvent message.now) (reply.SendEvent result) self.new }
+    {
+        self.refused = false;
+        let id = message.sender_id.client();
+        if !self.is_stored(&id) {
+            return Err(EventError::InvalidId);
+        }
+        match &mut self.clients[id.slot() as usize] {
+            Some(client) => {
+                let (answer, lacked) = client.send_event(
+                    &self.protocol,
+                    &mut self.numbers,
+                    message,
+                );
+                self.refused = lacked;
+                answer
+            }
+            None => unreachable!(),
+        }
+    }
+
+    /// Writes the event behind what waits to be sent to its sender's client.
+    ///
+    /// The refusals are those of `EventError`, looked at in the order that is told there. To a killed client nothing is
+    /// sent, and the answer is `Ok`, whatever the event. A destructor event ends its sender: the object leaves, a note of
+    /// it waits for the next cleanup where it had user data, and where its number is one of the client's own the client is
+    /// told that this is free again.
+    ///
+    /// A refusal changes nothing, but that after `OutOfMemory` what a flush of the write sent or dropped is gone from the
+    /// link, and a storage that grew stays so. Where the write fails for another reason (`TooBig`, where the event is too
+    /// long), or the client cannot be told of the free number, the answer is `Ok` and the client is killed, as one whose
+    /// connection is closed; a sender that the event ends is gone then, too.
+    pub fn send_event(&mut self, message: Message<ObjectId, Token>) -> Result<(), EventError>
+        ensures { Calls (over T.sends T.receives G.views) self.old (step.SendEvent message) (reply.SendEvent result) self.new }
+    {
+        self.send_lent(&message)
+    }
+}

@@ -1,0 +1,141 @@
+//! The call that creates a global.
+
+ghost use Rattle.std.specs.Prelude.{◌≤◌, IfSome, length};
+ghost use Rattle.wl_link.specs.Identity.{names};
+ghost use Rattle.wl_server.specs.Backend.{Calls};
+ghost use Rattle.wl_server.specs.Globals.{global_serial};
+ghost use Rattle.wl_server.specs.Inside.News.{HearsNew};
+ghost use Rattle.wl_server.specs.PartStep.{over};
+ghost use Rattle.wl_server.specs.Inside.Places.{AllFeel, PlaceFeels};
+ghost use Rattle.wl_server.specs.declared.runs.step.Reply.TheVariants as reply;
+ghost use Rattle.wl_server.specs.declared.runs.step.Step.TheVariants as step;
+
+use crate::backend::Backend;
+use crate::client::Client;
+use crate::error::GlobalError;
+use crate::globals::announce::put_global_to_each;
+use crate::globals::handler::GlobalHandler;
+use crate::globals::{KeptGlobal, create, global_in};
+use crate::ids::client_id::ClientId;
+use crate::ids::global_id::GlobalId;
+use crate::notes::NoteNumbers;
+use wl_link::{Object, ObjectMap, Transport};
+use wl_wire::{InterfaceId, Protocol};
+
+/// Tells the client of a slot of a new global, if it is live and may see it. The answer is whether memory was refused.
+fn tell_new_at<T: Transport + Drop, U: Drop, G: GlobalHandler<C>, C: Drop>(
+    client: &mut Option<Client<T, U, C>>,
+    numbers: &mut NoteNumbers,
+    protocol: &Protocol,
+    slot: u32,
+    id: &GlobalId,
+    global: &Object<KeptGlobal<G>>,
+) -> bool
+    ensures { PlaceFeels (HearsNew T.sends G.views protocol.now id.now global.now) slot client.old result client.new }
+{
+    match client {
+        Some(client) if !client.is_killed => {
+            let client_id = ClientId::from_parts(slot, client.serial);
+            if !global.value.handler.can_view(&client_id, &client.info, id) {
+                return false;
+            }
+            let alloc = *client.registries.allocator();
+            let answer = put_global_to_each(
+                alloc,
+                &mut client.socket,
+                protocol,
+                &client.registries,
+                id.name(),
+                global.interface,
+                global.version,
+            );
+            client.told(numbers, answer)
+        }
+        _ => false,
+    }
+}
+
+/// Tells each live client that may see it of a new global. The answer is whether memory was refused.
+fn tell_new<T: Transport + Drop, U: Drop, G: GlobalHandler<C>, C: Drop>(
+    clients: &mut [Option<Client<T, U, C>>],
+    numbers: &mut NoteNumbers,
+    protocol: &Protocol,
+    id: &GlobalId,
+    global: &Object<KeptGlobal<G>>,
+) -> bool
+    requires { length clients.old ≤ 0x100000000 }
+    ensures { AllFeel (HearsNew T.sends G.views protocol.now id.now global.now) result (length clients.old) clients.old clients.new }
+{
+    let mut refused = false;
+    for slot in 0..clients.len() {
+        refused |= tell_new_at(
+            &mut clients[slot],
+            numbers,
+            protocol,
+            slot as u32,
+            id,
+            global,
+        );
+    }
+    refused
+}
+
+/// Tells each live client that may see it of the global that the id names, if there is one. The answer is whether memory
+/// was refused.
+fn tell_named<T: Transport + Drop, U: Drop, G: GlobalHandler<C> + Drop, C: Drop>(
+    clients: &mut [Option<Client<T, U, C>>],
+    numbers: &mut NoteNumbers,
+    protocol: &Protocol,
+    globals: &ObjectMap<KeptGlobal<G>>,
+    id: &GlobalId,
+) -> bool
+    requires { length clients.old ≤ 0x100000000 }
+    ensures { IfSome (names global_serial (record { number = id.now.name; serial = id.now.serial }) globals.now.store)
+        (λ global. AllFeel (HearsNew T.sends G.views protocol.now id.now global) result (length clients.old) clients.old clients.new) }
+{
+    match global_in(globals, id) {
+        Some(global) => tell_new(clients, numbers, protocol, id, global),
+        None => false,
+    }
+}
+
+impl<T: Transport + Drop, U: Drop, G: GlobalHandler<C> + Drop, C: Drop> Backend<T, U, G, C> {
+    /// Creates a global, at the least name that no other has, and tells the registries of each live client that may see it.
+    ///
+    /// Refused where the interface is not in the table, where the version is above the table's, where no name or no serial
+    /// is left, and where there is no memory for a name that was never in use: then nothing is changed. A client to which
+    /// the message cannot be written, also for want of memory, is killed, and the global is created all the same.
+    pub fn create_global(
+        &mut self,
+        interface: InterfaceId,
+        version: u32,
+        handler: G,
+    ) -> Result<GlobalId, GlobalError>
+        ensures { Calls (over T.sends T.receives G.views) self.old (step.CreateGlobal interface version handler) (reply.CreateGlobal result) self.new }
+    {
+        let created = create(
+            &self.protocol,
+            &mut self.globals,
+            &mut self.last_global,
+            interface,
+            version,
+            handler,
+        );
+        match created {
+            Ok(id) => {
+                self.refused = tell_named(
+                    &mut self.clients,
+                    &mut self.numbers,
+                    &self.protocol,
+                    &self.globals,
+                    &id,
+                );
+                Ok(id)
+            }
+            Err(error) => {
+                self.refused = matches!(error, GlobalError::OutOfMemory);
+                Err(error)
+            }
+        }
+    }
+}

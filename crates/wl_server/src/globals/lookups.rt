@@ -1,0 +1,65 @@
+//! What a server answers of its globals, without a change.
+
+ghost use Rattle.std.specs.Prelude.{◌≡◌, ℕ, MatchOption, IfOk, MatchResult, Some, option_copied};
+ghost use Rattle.wl_link.specs.Identity.{names};
+ghost use Rattle.wl_link.specs.ObjectMap.{InsertsNew};
+ghost use Rattle.wl_link.specs.Store.{held, rewritten};
+ghost use Rattle.wl_server.specs.Globals.{CreatesGlobal, as_disabled, disabled, freed, global_serial, name_range, new_global, with_created};
+ghost use Rattle.wl_server.specs.Lookups.{global_info_by, handler_of, name_for};
+
+use crate::backend::Backend;
+use crate::error::InvalidId;
+use crate::globals::global_in;
+use crate::globals::handler::GlobalHandler;
+use crate::ids::client_id::ClientId;
+use crate::ids::global_id::{GlobalId, GlobalInfo};
+
+impl<T: Drop, U: Drop, G: Drop, C: Drop> Backend<T, U, G, C> {
+    /// What the global offers, also where it is disabled. `InvalidId` where it is not kept.
+    pub fn global_info(&self, id: &GlobalId) -> Result<GlobalInfo, InvalidId>
+        ensures { MatchResult result (λ info. global_info_by self.now.server id.now ≡ Some info)
+            (λ _. global_info_by self.now.server id.now ≡ None) }
+    {
+        match global_in(&self.globals, id) {
+            Some(global) => Ok(GlobalInfo {
+                interface: global.interface,
+                version: global.version,
+                disabled: global.value.is_disabled,
+            }),
+            None => Err(InvalidId),
+        }
+    }
+
+    /// The global's handler, also where it is disabled. `InvalidId` where it is not kept.
+    pub fn get_global_handler(&self, id: &GlobalId) -> Result<&G, InvalidId>
+        ensures { MatchResult result (λ handler. handler_of self.now.server id.now ≡ Some handler.now)
+            (λ _. handler_of self.now.server id.now ≡ None) }
+    {
+        match global_in(&self.globals, id) {
+            Some(global) => Ok(&global.value.handler),
+            None => Err(InvalidId),
+        }
+    }
+}
+
+impl<T: Drop, U: Drop, G: GlobalHandler<C> + Drop, C: Drop> Backend<T, U, G, C> {
+    /// The name of the global for a client: where the client is stored and may see the global, and this is kept, disabled
+    /// or not.
+    pub fn global_name(&self, id: &GlobalId, client: &ClientId) -> Option<u32>
+        ensures { result ≡ name_for self.now.server G.views id.now client.now }
+    {
+        if !self.is_stored(client) {
+            return None;
+        }
+        let info = match &self.clients[client.slot() as usize] {
+            Some(stored) => &stored.info,
+            None => return None,
+        };
+        let global = global_in(&self.globals, id)?;
+        global
+            .value
+            .handler
+            .can_view(client, info, id)
+            .then_some(id.name())
+    }
+}

@@ -1,0 +1,101 @@
+//! The calls by which a global is announced no more.
+
+ghost use Rattle.std.specs.Prelude.{◌≡◌, ℕ, length};
+ghost use Rattle.wl_link.specs.Identity.{names};
+ghost use Rattle.wl_server.specs.Backend.{Calls};
+ghost use Rattle.wl_server.specs.Felt.{Hears, removals};
+ghost use Rattle.wl_server.specs.Globals.{global_serial, is_enabled as global_is_enabled};
+ghost use Rattle.wl_server.specs.PartStep.{over};
+ghost use Rattle.wl_server.specs.Inside.Places.{AllFeel, PlaceFeels};
+ghost use Rattle.wl_server.specs.declared.runs.step.Reply.TheVariants as reply;
+ghost use Rattle.wl_server.specs.declared.runs.step.Step.TheVariants as step;
+
+use crate::backend::Backend;
+use crate::client::Client;
+use crate::events::display::message_of_number;
+use crate::globals::announce::put_to_each;
+use crate::globals::handler::GlobalHandler;
+use crate::globals::{KeptGlobal, disable, global_in, remove};
+use crate::ids::global_id::GlobalId;
+use crate::notes::NoteNumbers;
+use wl_link::{ObjectMap, Transport};
+
+/// The opcode of `wl_registry.global_remove`.
+const GLOBAL_REMOVE: u16 = 1;
+
+/// Whether the global that the id names is announced.
+fn is_enabled<G: Drop>(globals: &ObjectMap<KeptGlobal<G>>, id: &GlobalId) -> bool
+    ensures { result ≡ global_is_enabled (names global_serial (record { number = id.now.name; serial = id.now.serial }) globals.now.store) }
+{
+    match global_in(globals, id) {
+        Some(global) => !global.value.is_disabled,
+        None => false,
+    }
+}
+
+/// Tells the client of a slot, if it is live, that the global of that name is announced no more. The answer is whether
+/// memory was refused.
+fn tell_loss_at<T: Transport + Drop, U: Drop, C: Drop>(
+    client: &mut Option<Client<T, U, C>>,
+    numbers: &mut NoteNumbers,
+    name: u32,
+) -> bool
+    ensures { (slot : ℕ) → PlaceFeels (λ id p lacked did q. Hears T.sends p (removals p name) lacked did q) slot client.old result client.new }
+{
+    match client {
+        Some(client) if !client.is_killed => {
+            let alloc = *client.registries.allocator();
+            let mut message = message_of_number(alloc, 0, GLOBAL_REMOVE, name);
+            let answer = put_to_each(&mut client.socket, &client.registries, &mut message);
+            client.told(numbers, answer)
+        }
+        _ => false,
+    }
+}
+
+/// Tells each live client that the global of that name is announced no more. The answer is whether memory was refused.
+fn tell_loss<T: Transport + Drop, U: Drop, C: Drop>(
+    clients: &mut [Option<Client<T, U, C>>],
+    numbers: &mut NoteNumbers,
+    name: u32,
+) -> bool
+    ensures { AllFeel (λ id p lacked did q. Hears T.sends p (removals p name) lacked did q) result (length clients.old) clients.old clients.new }
+{
+    let mut refused = false;
+    for slot in 0..clients.len() {
+        refused |= tell_loss_at(&mut clients[slot], numbers, name);
+    }
+    refused
+}
+
+impl<T: Transport + Drop, U: Drop, G: GlobalHandler<C> + Drop, C: Drop> Backend<T, U, G, C> {
+    /// Announces the global no more: each registry of each live client is told, whether it was told of the global or not.
+    /// The global is kept, and clients may still bind it. One that is not kept, or announced no more already, is nothing.
+    ///
+    /// A client to which the message cannot be written, also for want of memory, is killed.
+    pub fn disable_global(&mut self, id: &GlobalId)
+        ensures { Calls (over T.sends T.receives G.views) self.old (step.DisableGlobal id.now) reply.DisableGlobal self.new }
+    {
+        self.refused = false;
+        let was_enabled = is_enabled(&self.globals, id);
+        disable(&mut self.globals, id);
+        if was_enabled {
+            self.refused = tell_loss(&mut self.clients, &mut self.numbers, id.name());
+        }
+    }
+
+    /// Keeps the global no more: its name is free for another. Where it was announced, each registry of each live client is
+    /// told, as by `disable_global`. One that is not kept is nothing.
+    ///
+    /// A client to which the message cannot be written, also for want of memory, is killed.
+    pub fn remove_global(&mut self, id: &GlobalId)
+        ensures { Calls (over T.sends T.receives G.views) self.old (step.RemoveGlobal id.now) reply.RemoveGlobal self.new }
+    {
+        self.refused = false;
+        let was_enabled = is_enabled(&self.globals, id);
+        remove(&mut self.globals, id);
+        if was_enabled {
+            self.refused = tell_loss(&mut self.clients, &mut self.numbers, id.name());
+        }
+    }
+}

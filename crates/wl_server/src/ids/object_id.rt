@@ -1,0 +1,130 @@
+//! The ids of the objects of a server's clients.
+
+ghost use Rattle.std.specs.Prelude.{◌≡◌, ◌↔◌, ◌++◌, IsTrue, IfOk, codes};
+ghost use Rattle.std.specs.String.{string_bytes};
+ghost use Rattle.std.specs.Fmt.{decimal};
+ghost use Rattle.wl_wire.specs.Table.{anonymous_id, name_of};
+
+use crate::ids::client_id::ClientId;
+use std::alloc::Global;
+use std::hash::{Hash, Hasher};
+use std::marker::Model;
+use wl_wire::{ANONYMOUS_INTERFACE, InterfaceId, OutOfMemory, Protocol};
+
+/// The id of an object: its number, the serial that tells it from others of that number, its client, and its interface.
+///
+/// Ids are equal where all parts are equal; the hash leaves the interface out. An id of number 0 is null, whatever else it
+/// holds.
+#[derive(Clone, Copy, PartialEq, Eq)]
+pub struct ObjectId {
+    serial: u64,
+    client: ClientId,
+    interface: InterfaceId,
+    number: u32,
+}
+
+impl Model for ObjectId {
+    ghost use Rattle.wl_server.specs.Ids.{IdParts};
+
+    ghost Value = { IdParts };
+
+    ghost view = { λ id. record { number = id.number; serial = id.serial; client = id.client; interface = id.interface } };
+
+    ghost inverse = { λ id. record { serial = id.serial; client = id.client; interface = id.interface; number = id.number } };
+}
+
+impl Hash for ObjectId {
+    ghost use Rattle.std.specs.Prelude.{◌++◌};
+    ghost use Rattle.std.proofs.Common.{rules};
+    ghost use Rattle.std.specs.Hash as fed;
+    ghost use Rattle.std.specs.Cmp.Rules.{hashing};
+
+    ghost hash_input = { λ id. fed.u32 id.number ++ fed.u64 id.serial ++ fed.u32 id.client.slot ++ fed.u64 id.client.serial };
+
+    ghost respects_eq = { Prim.search (hashing, rules) };
+
+    fn hash<H: Hasher>(&self, state: &mut H) {
+        state.write_u32(self.number);
+        state.write_u64(self.serial);
+        state.write_u32(self.client.slot());
+        state.write_u64(self.client.serial());
+    }
+}
+
+impl ObjectId {
+    /// The id of no object: number 0, serial 0, the anonymous interface, of the client at slot 0 with serial 0.
+    pub fn null() -> Self
+        ensures { result ≡ record { number = 0; serial = 0; client = record { slot = 0; serial = 0 }; interface = anonymous_id } }
+    {
+        ObjectId {
+            serial: 0,
+            client: ClientId::from_parts(0, 0),
+            interface: ANONYMOUS_INTERFACE,
+            number: 0,
+        }
+    }
+
+    /// The id of these parts.
+    pub fn from_parts(number: u32, serial: u64, client: ClientId, interface: InterfaceId) -> Self
+        ensures { result ≡ record { number = number; serial = serial; client = client; interface = interface } }
+    {
+        ObjectId {
+            serial,
+            client,
+            interface,
+            number,
+        }
+    }
+
+    /// Whether it is the id of no object: whether its number is 0.
+    pub fn is_null(&self) -> bool
+        ensures { IsTrue result ↔ (self.now.number ≡ 0) }
+    {
+        self.number == 0
+    }
+
+    /// The client whose object it is.
+    pub fn client(&self) -> ClientId
+        ensures { result ≡ self.now.client }
+    {
+        self.client
+    }
+
+    /// Whether both are objects of the same client.
+    pub fn same_client_as(&self, other: &ObjectId) -> bool
+        ensures { IsTrue result ↔ (self.now.client ≡ other.now.client) }
+    {
+        self.client == other.client
+    }
+
+    /// The object's interface.
+    pub fn interface(&self) -> InterfaceId
+        ensures { result ≡ self.now.interface }
+    {
+        self.interface
+    }
+
+    /// The object's number in the protocol.
+    pub fn protocol_id(&self) -> u32
+        ensures { result ≡ self.now.number }
+    {
+        self.number
+    }
+
+    /// The serial, which no other object of the client has.
+    pub fn serial(&self) -> u64
+        ensures { result ≡ self.now.serial }
+    {
+        self.serial
+    }
+
+    /// The id as a text: the name of its interface, `@`, its number, and the slot of its client in brackets.
+    pub fn display(&self, alloc: Global, protocol: &Protocol) -> Result<String, OutOfMemory>
+        ensures { IfOk result (λ text. string_bytes text ≡ name_of protocol.now self.now.interface.0 ++ codes "@" ++ decimal self.now.number ++ codes "[" ++ decimal self.now.client.slot ++ codes "]") }
+    {
+        let name = protocol.name(self.interface);
+        let number = self.number;
+        let slot = self.client.slot();
+        Ok(format!(in alloc; "{name}@{number}[{slot}]")?)
+    }
+}

@@ -1,0 +1,84 @@
+//! Calls of a closure for each live client, and for each object of a client.
+
+ghost use Rattle.std.specs.Prelude.{◌≡◌, ◌≤◌, Err, MatchOption, Ok, length, option_to_list};
+ghost use Rattle.std.specs.List.{FoldsTo};
+ghost use Rattle.wl_server.specs.Lookups.{id_if_stored, live_clients, live_from, objects_of_client};
+ghost use Rattle.wl_server.specs.Inside.Walks.{ids_of};
+
+use crate::backend::Backend;
+use crate::client::Client;
+use crate::error::InvalidId;
+use crate::ids::client_id::ClientId;
+use crate::ids::object_id::ObjectId;
+use crate::objects::{Kept, id_at};
+use wl_link::ObjectMap;
+
+/// The id of the client of a slot, if there is one and it is live.
+fn live_at<T, U, C>(slot: u32, place: &Option<Client<T, U, C>>) -> Option<ClientId>
+    ensures { option_to_list result ≡ id_if_stored slot place.now }
+{
+    match place {
+        Some(client) if !client.is_killed => Some(ClientId::from_parts(slot, client.serial)),
+        _ => None,
+    }
+}
+
+/// Calls the closure with the id of each live client, by slot.
+fn visit_live<T, U, C, F: FnMut(ClientId)>(clients: &[Option<Client<T, U, C>>], mut f: F)
+    requires call { F.IsAlwaysCallable f }
+    requires slots { length clients.now ≤ 0x100000000 }
+    ensures { (last : F) × FoldsTo (λ p x q. F.step p x tt q) f (live_from 0 clients.now) last }
+{
+    let mut rest = clients;
+    let mut slot: u64 = 0;
+    while let Some((place, others)) = rest.split_first() {
+        if let Some(id) = live_at(slot as u32, place) {
+            f(id);
+        }
+        rest = others;
+        slot += 1;
+    }
+}
+
+/// Calls the closure with the id of each object of a client, by ascending number.
+fn visit_objects<U: Drop, F: FnMut(ObjectId)>(
+    client: &ClientId,
+    objects: &ObjectMap<Kept<U>>,
+    mut f: F,
+)
+    requires { F.IsAlwaysCallable f }
+    ensures { (last : F) × FoldsTo (λ p x q. F.step p x tt q) f (ids_of client.now objects.now.store) last }
+{
+    let mut all = objects.all_objects();
+    while let Some((number, object)) = all.next() {
+        f(id_at(client, number, object));
+    }
+}
+
+impl<T: Drop, U: Drop, G: Drop, C: Drop> Backend<T, U, G, C> {
+    /// Calls the closure with the id of each live client, by slot: one that was killed is left out.
+    pub fn with_all_clients<F: FnMut(ClientId)>(&self, f: F)
+        requires { F.IsAlwaysCallable f }
+        ensures { (last : F) × FoldsTo (λ p x q. F.step p x tt q) f (live_clients self.now.server) last }
+    {
+        visit_live(&self.clients, f);
+    }
+
+    /// Calls the closure with the id of each object of the client, by ascending number. `InvalidId` where the client is not
+    /// stored; then it is not called.
+    pub fn with_all_objects_for<F: FnMut(ObjectId)>(
+        &self,
+        client: &ClientId,
+        f: F,
+    ) -> Result<(), InvalidId>
+        requires { F.IsAlwaysCallable f }
+        ensures { MatchOption (objects_of_client self.now.server client.now) (result ≡ Err _)
+            (λ ids. (result ≡ Ok tt) × ((last : F) × FoldsTo (λ p x q. F.step p x tt q) f ids last)) }
+    {
+        let Some(stored) = self.client(client) else {
+            return Err(InvalidId);
+        };
+        visit_objects(client, &stored.objects, f);
+        Ok(())
+    }
+}

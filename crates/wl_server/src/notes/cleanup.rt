@@ -1,0 +1,236 @@
+//! The end of killed clients, and of what waited for a cleanup.
+
+ghost use Rattle.std.specs.Prelude.{◌≡◌, ℕ, ◌+◌, ◌++◌, ◌<◌, ◌≤◌, [], length, true, IfOk, OnErr, OnOk};
+ghost use Rattle.std.specs.Vec.{vec_capacity, vec_len};
+ghost use Rattle.wl_server.specs.Backend.{Calls};
+ghost use Rattle.wl_server.specs.Inside.Cleanup.{CleansUp};
+ghost use Rattle.wl_server.specs.Inside.Gathering.{count_leaving};
+ghost use Rattle.wl_server.specs.Inside.Leaving.{all_staying, collected, ends_at, given_at, staying};
+ghost use Rattle.wl_server.specs.PartStep.{over};
+ghost use Rattle.wl_server.specs.declared.runs.step.Reply.TheVariants as reply;
+ghost use Rattle.wl_server.specs.declared.runs.step.Step.TheVariants as step;
+
+use crate::backend::Backend;
+use crate::client::Client;
+use crate::client::flush::flush_each;
+use crate::globals::handler::GlobalHandler;
+use crate::ids::client_id::ClientId;
+use crate::notes::Note;
+use crate::notes::gather::{Turn, count_notes, gather, turns_of};
+use crate::notes::leaving::{count_ending, end_objects};
+use wl_link::Transport;
+use wl_wire::OutOfMemory;
+
+impl<T: Drop, U: Drop, C: Drop> Client<T, U, C> {
+    /// Its transport, where all else of it is given up.
+    fn into_transport(self) -> T
+        ensures { result ≡ self.part.link.transport }
+    {
+        self.socket.into_transport()
+    }
+}
+
+/// A killed client leaves its slot: its objects are noted, and its transport is given.
+fn leave_at<T: Drop, U: Drop, C: Drop>(
+    slot: u32,
+    place: &mut Option<Client<T, U, C>>,
+    numbers: &mut Vec<u32>,
+    notes: &mut Vec<Note<U>>,
+    given: &mut Vec<(ClientId, T)>,
+)
+    requires numbers { length (ends_at slot place.old) ≤ vec_capacity numbers.old }
+    requires notes { vec_len notes.old + length (ends_at slot place.old) ≤ vec_capacity notes.old }
+    requires given { vec_len given.old + length (given_at slot place.old) ≤ vec_capacity given.old }
+    ensures stays { place.new ≡ staying place.old }
+    ensures noted { notes.new.items ≡ notes.old.items ++ ends_at slot place.old }
+    ensures given { given.new.items ≡ given.old.items ++ given_at slot place.old }
+    ensures numbers_room { vec_capacity numbers.new ≡ vec_capacity numbers.old }
+    ensures notes_room { vec_capacity notes.new ≡ vec_capacity notes.old }
+    ensures given_room { vec_capacity given.new ≡ vec_capacity given.old }
+{
+    let Some(client) = place else {
+        return;
+    };
+    if !client.is_killed {
+        return;
+    }
+    let id = ClientId::from_parts(slot, client.serial);
+    end_objects(&mut client.objects, &id, numbers, notes);
+    if let Some(client) = place.take() {
+        given.push_reserved((id, client.into_transport()));
+    }
+}
+
+/// All killed clients leave, by slot.
+pub fn leave_all<T: Drop, U: Drop, C: Drop>(
+    clients: &mut Vec<Option<Client<T, U, C>>>,
+    numbers: &mut Vec<u32>,
+    notes: &mut Vec<Note<U>>,
+    given: &mut Vec<(ClientId, T)>,
+)
+    requires slots { length clients.old.items ≤ 0x100000000 }
+    requires numbers { length (collected ends_at 0 clients.old.items) ≤ vec_capacity numbers.old }
+    requires notes { vec_len notes.old + length (collected ends_at 0 clients.old.items) ≤ vec_capacity notes.old }
+    requires given { vec_len given.old + length (collected given_at 0 clients.old.items) ≤ vec_capacity given.old }
+    ensures stay { clients.new.items ≡ all_staying clients.old.items }
+    ensures noted { notes.new.items ≡ notes.old.items ++ collected ends_at 0 clients.old.items }
+    ensures given { given.new.items ≡ given.old.items ++ collected given_at 0 clients.old.items }
+{
+    for slot in 0..clients.len() {
+        leave_at(slot as u32, &mut clients[slot], numbers, notes, given);
+    }
+}
+
+/// At least how many objects of the client of a slot are noted where it leaves; the greatest number stands for more.
+fn count_ends_at<T: Drop, U: Drop, C: Drop>(client: &Option<Client<T, U, C>>) -> usize
+    ensures { (slot : ℕ) → result < 0xFFFFFFFFFFFFFFFF → length (ends_at slot client.now) ≤ result }
+{
+    match client {
+        Some(client) if client.is_killed => count_ending(&client.objects),
+        _ => 0,
+    }
+}
+
+/// The same of all clients.
+pub fn count_ends<T: Drop, U: Drop, C: Drop>(clients: &[Option<Client<T, U, C>>]) -> usize
+    ensures { result < 0xFFFFFFFFFFFFFFFF → length (collected ends_at 0 clients.now) ≤ result }
+{
+    let mut count: usize = 0;
+    for slot in 0..clients.len() {
+        count = count.saturating_add(count_ends_at(&clients[slot]));
+    }
+    count
+}
+
+/// One where the client of a slot leaves, and else nothing.
+fn count_given_at<T, U, C>(client: &Option<Client<T, U, C>>) -> usize
+    ensures { (slot : ℕ) → length (given_at slot client.now) ≡ result }
+{
+    match client {
+        Some(client) if client.is_killed => 1,
+        _ => 0,
+    }
+}
+
+/// How many clients leave; the greatest number stands for more.
+pub fn count_given<T, U, C>(clients: &[Option<Client<T, U, C>>]) -> usize
+    ensures all { result < 0xFFFFFFFFFFFFFFFF → length (collected given_at 0 clients.now) ≤ result }
+    ensures no_more { result ≤ length (collected given_at 0 clients.now) }
+{
+    let mut count: usize = 0;
+    for slot in 0..clients.len() {
+        count = count.saturating_add(count_given_at(&clients[slot]));
+    }
+    count
+}
+
+/// The room that a cleanup takes.
+#[derive(Drop)]
+pub struct Room<T> {
+    /// The turns of the notes that it gathers.
+    pub turns: Vec<Turn>,
+    /// For the numbers of one client's objects.
+    pub numbers: Vec<u32>,
+    /// For the clients that leave.
+    pub given: Vec<(ClientId, T)>,
+}
+
+/// Makes room for the notes of a cleanup, of which so many are gathered. The answer is room for the numbers of the objects
+/// that are noted.
+fn notes_room<T: Drop, U: Drop, C: Drop>(
+    clients: &[Option<Client<T, U, C>>],
+    gathered: usize,
+    notes: &mut Vec<Note<U>>,
+) -> Result<Vec<u32>, OutOfMemory>
+    requires { gathered < 0xFFFFFFFFFFFFFFFF → count_leaving true clients.now ≤ gathered }
+    ensures room { OnOk result (vec_len notes.new + count_leaving true clients.now + length (collected ends_at 0 clients.now) ≤ vec_capacity notes.new) }
+    ensures numbers { IfOk result (λ numbers. length (collected ends_at 0 clients.now) ≤ vec_capacity numbers) }
+    ensures items { notes.new.items ≡ notes.old.items }
+{
+    let ends = count_ends(clients);
+    let numbers = Vec::with_capacity(*notes.allocator(), ends)?;
+    notes.reserve(gathered.saturating_add(ends))?;
+    Ok(numbers)
+}
+
+/// Makes the room that a cleanup takes, and that for its notes. Where no notes are to be gathered and no client leaves, it
+/// asks for no memory.
+pub fn room_for<T: Drop, U: Drop, C: Drop>(
+    clients: &[Option<Client<T, U, C>>],
+    notes: &mut Vec<Note<U>>,
+) -> Result<Room<T>, OutOfMemory>
+    requires slots { length clients.now ≤ 0x100000000 }
+    ensures notes { OnOk result (vec_len notes.new + count_leaving true clients.now + length (collected ends_at 0 clients.now) ≤ vec_capacity notes.new) }
+    ensures numbers { IfOk result (λ room. length (collected ends_at 0 clients.now) ≤ vec_capacity room.numbers) }
+    ensures given { IfOk result (λ room. length (collected given_at 0 clients.now) ≤ vec_capacity room.given) }
+    ensures none { IfOk result (λ room. room.given.items ≡ []) }
+    ensures items { notes.new.items ≡ notes.old.items }
+    ensures some { OnErr result (0 < count_leaving true clients.now + length (collected given_at 0 clients.now)) }
+{
+    let alloc = *notes.allocator();
+    let gathered = count_notes(clients, true);
+    let leaving = count_given(clients);
+    let count = gathered.saturating_add(leaving);
+    if count == 0 {
+        return Ok(Room {
+            turns: Vec::new(alloc),
+            numbers: Vec::new(alloc),
+            given: Vec::new(alloc),
+        });
+    }
+    let numbers = notes_room(clients, gathered, notes)?;
+    let turns = turns_of(alloc, clients, true, gathered)?;
+    let given = Vec::with_capacity(alloc, leaving)?;
+    Ok(Room {
+        turns,
+        numbers,
+        given,
+    })
+}
+
+/// Flushes the killed clients, gathers all notes, and takes the killed clients out. The answer is whether memory was refused
+/// to a flush.
+fn clean_up<T: Transport + Drop, U: Drop, C: Drop>(
+    clients: &mut Vec<Option<Client<T, U, C>>>,
+    notes: &mut Vec<Note<U>>,
+    room: &mut Room<T>,
+) -> bool
+    requires slots { length clients.old.items ≤ 0x100000000 }
+    requires notes { vec_len notes.old + count_leaving true clients.old.items + length (collected ends_at 0 clients.old.items) ≤ vec_capacity notes.old }
+    requires numbers { length (collected ends_at 0 clients.old.items) ≤ vec_capacity room.old.numbers }
+    requires given { length (collected given_at 0 clients.old.items) ≤ vec_capacity room.old.given }
+    requires none { room.old.given.items ≡ [] }
+    ensures { CleansUp T.sends clients.old.items notes.old.items result clients.new.items notes.new.items room.new.given.items }
+{
+    let refused = flush_each(clients, true);
+    gather(clients, true, &room.turns, notes);
+    leave_all(clients, &mut room.numbers, notes, &mut room.given);
+    refused
+}
+
+impl<T: Transport + Drop, U: Drop, G: GlobalHandler<C> + Drop, C: Drop> Backend<T, U, G, C> {
+    /// Ends what was left for it: the notes that waited are made, in order of time, and killed clients are taken out, by
+    /// slot. The objects of such a client that have user data are noted as destroyed, by ascending number, and what waits
+    /// for it is sent, as far as its transport takes it; a fault is dropped. The answer is the clients that were taken
+    /// out, with their transports. Their slots are free then.
+    ///
+    /// Where there is no memory for it, nothing changes. It asks for none where no notes are to be gathered and no client is
+    /// to be taken out.
+    pub fn cleanup(&mut self) -> Result<Vec<(ClientId, T)>, OutOfMemory>
+        ensures { Calls (over T.sends T.receives G.views) self.old step.Cleanup (reply.Cleanup result) self.new }
+    {
+        match room_for(&self.clients, &mut self.notes) {
+            Ok(mut room) => {
+                self.refused = clean_up(&mut self.clients, &mut self.notes, &mut room);
+                self.numbers.waiting = 0;
+                // Any of them may be free now. The next insertion goes over them once more, as this call did.
+                self.free_from = 0;
+                Ok(room.given)
+            }
+            Err(error) => {
+                self.refused = true;
+                Err(error)
+            }
+        }
+    }
+}

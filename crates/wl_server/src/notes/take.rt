@@ -1,0 +1,34 @@
+//! The notes, as a program takes them.
+
+ghost use Rattle.wl_server.specs.Backend.{Calls};
+ghost use Rattle.wl_server.specs.PartStep.{over};
+ghost use Rattle.wl_server.specs.declared.runs.step.Reply.TheVariants as reply;
+ghost use Rattle.wl_server.specs.declared.runs.step.Step.TheVariants as step;
+
+use crate::backend::Backend;
+use crate::globals::handler::GlobalHandler;
+use crate::notes::Note;
+use crate::notes::gather::gather_made;
+use std::mem;
+use wl_link::Transport;
+use wl_wire::OutOfMemory;
+
+impl<T: Transport + Drop, U: Drop, G: GlobalHandler<C> + Drop, C: Drop> Backend<T, U, G, C> {
+    /// Takes the notes that were made, the oldest first. Where there is no memory for the list, nothing changes. It asks for
+    /// none where no note was made since the last call of this or of `cleanup`.
+    pub fn take_notes(&mut self) -> Result<Vec<Note<U>>, OutOfMemory>
+        ensures { Calls (over T.sends T.receives G.views) self.old step.TakeNotes (reply.TakeNotes result) self.new }
+    {
+        self.refused = false;
+        match gather_made(&mut self.clients, &mut self.notes) {
+            Ok(()) => {
+                let none = Vec::new(*self.notes.allocator());
+                Ok(mem::replace(&mut self.notes, none))
+            }
+            Err(error) => {
+                self.refused = true;
+                Err(error)
+            }
+        }
+    }
+}

@@ -1,0 +1,113 @@
+//! New objects of the server's.
+
+ghost use Rattle.std.specs.Prelude.{◌≡◌, []};
+ghost use Rattle.wl_server.specs.Backend.{Calls};
+ghost use Rattle.wl_server.specs.Inside.Client.{Does};
+ghost use Rattle.wl_server.specs.Inside.Creation.{LacksSerial};
+ghost use Rattle.wl_server.specs.Objects.{Creates};
+ghost use Rattle.wl_server.specs.PartStep.{lacks_create, over};
+ghost use Rattle.wl_server.specs.declared.runs.step.Reply.TheVariants as reply;
+ghost use Rattle.wl_server.specs.declared.runs.step.Step.TheVariants as step;
+
+use crate::backend::Backend;
+use crate::client::Client;
+use crate::error::CreateError;
+use crate::globals::handler::GlobalHandler;
+use crate::ids::client_id::ClientId;
+use crate::ids::object_id::ObjectId;
+use crate::objects::{Kept, fresh_object};
+use wl_link::{NewError, ObjectMap, SERVER_ID_LIMIT, Transport};
+use wl_wire::{InterfaceId, Protocol};
+
+/// How many numbers the server's range has.
+const SERVER_NUMBERS: u32 = 0x0100_0000;
+
+/// Why no object is created where no serial is left: it may be that no number is left either. The numbers of the server's
+/// range are looked at one by one, only here, since otherwise an insertion tells it.
+#[cold]
+#[inline(never)]
+fn without_serial<U: Drop>(objects: &ObjectMap<Kept<U>>) -> CreateError
+    ensures { LacksSerial objects.now.store result }
+{
+    for place in 0..SERVER_NUMBERS {
+        let number = SERVER_ID_LIMIT + place;
+        if objects.find(number).is_none() {
+            return CreateError::SerialsExhausted;
+        }
+    }
+    CreateError::IdsExhausted
+}
+
+impl<T: Drop, U: Drop, C: Drop> Client<T, U, C> {
+    /// Creates an object of the server's, with the id of the client that this is.
+    pub fn create_object(
+        &mut self,
+        id: &ClientId,
+        protocol: &Protocol,
+        interface: InterfaceId,
+        version: u32,
+        user_data: U,
+    ) -> Result<ObjectId, CreateError>
+        ensures { Does self.old (λ p did q. (did ≡ []) × Creates protocol.now id.now p interface version user_data result q) self.new }
+    {
+        if protocol.get(interface).is_none() {
+            return Err(CreateError::UnknownInterface);
+        }
+        let Some(serial) = self.last_serial.checked_add(1) else {
+            return Err(without_serial(&self.objects));
+        };
+        let object = fresh_object(interface, version, serial, Some(user_data));
+        match self.objects.server_insert_new(object) {
+            Ok(number) => {
+                self.last_serial = serial;
+                Ok(ObjectId::from_parts(number, serial, *id, interface))
+            }
+            Err(NewError::IdsExhausted) => Err(CreateError::IdsExhausted),
+            Err(NewError::OutOfMemory) => Err(CreateError::OutOfMemory),
+        }
+    }
+}
+
+/// Whether memory was refused in a creation that was answered so.
+fn lacks_memory(answer: &Result<ObjectId, CreateError>) -> bool
+    ensures { result ≡ lacks_create answer.now }
+{
+    matches!(answer, Err(CreateError::OutOfMemory))
+}
+
+impl<T: Transport + Drop, U: Drop, G: GlobalHandler<C> + Drop, C: Drop> Backend<T, U, G, C> {
+    /// Creates an object of the server's for the client, and answers its id: it gets the least number from 0xFF000000 on
+    /// that holds no object of that client, and the next serial. The client is told of it by an event that names it.
+    ///
+    /// `InvalidId` where the client is not stored, `UnknownInterface` where the interface is not in the table,
+    /// `IdsExhausted` where no number and `SerialsExhausted` where no serial is left, else `OutOfMemory` where there is
+    /// none. A refusal changes nothing.
+    pub fn create_object(
+        &mut self,
+        client: &ClientId,
+        interface: InterfaceId,
+        version: u32,
+        user_data: U,
+    ) -> Result<ObjectId, CreateError>
+        ensures { Calls (over T.sends T.receives G.views) self.old (step.CreateObject client.now interface version user_data) (reply.CreateObject result) self.new }
+    {
+        self.refused = false;
+        if !self.is_stored(client) {
+            return Err(CreateError::InvalidId);
+        }
+        match &mut self.clients[client.slot() as usize] {
+            Some(stored) => {
+                let answer = stored.create_object(
+                    client,
+                    &self.protocol,
+                    interface,
+                    version,
+                    user_data,
+                );
+                self.refused = lacks_memory(&answer);
+                answer
+            }
+            None => unreachable!(),
+        }
+    }
+}

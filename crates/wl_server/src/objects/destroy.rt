@@ -1,0 +1,101 @@
+//! The end of an object that the program destroys.
+
+ghost use Rattle.std.specs.Prelude.{◌≡◌, ◌==◌, if◌then◌else◌, None, option_copied};
+ghost use Rattle.wl_server.specs.Backend.{Calls};
+ghost use Rattle.wl_server.specs.Inside.Client.{Does};
+ghost use Rattle.wl_server.specs.Inside.Destruction.{lacks_destroy};
+ghost use Rattle.wl_server.specs.Objects.{Destroys};
+ghost use Rattle.wl_server.specs.Part.{named};
+ghost use Rattle.wl_server.specs.PartStep.{over};
+ghost use Rattle.wl_server.specs.declared.runs.step.Reply.TheVariants as reply;
+ghost use Rattle.wl_server.specs.declared.runs.step.Step.TheVariants as step;
+
+use crate::backend::Backend;
+use crate::client::Client;
+use crate::error::DestroyError;
+use crate::events::display::{DISPLAY, lacks_memory, put_delete_id};
+use crate::globals::handler::GlobalHandler;
+use crate::ids::object_id::ObjectId;
+use crate::notes::NoteNumbers;
+use crate::objects::{Kept, named_in, reserve_note, take_out_noted};
+use wl_link::{Object, ObjectMap, Transport};
+use wl_wire::OutOfMemory;
+
+/// The object that the program may destroy by the id.
+fn destroyable<'a, U: Drop>(
+    objects: &'a ObjectMap<Kept<U>>,
+    id: &ObjectId,
+) -> Option<&'a Object<Kept<U>>>
+    ensures { option_copied result ≡ (if id.now.number == 1 then None else named objects.now.store id.now) }
+{
+    if id.protocol_id() == DISPLAY {
+        return None;
+    }
+    named_in(objects, id)
+}
+
+impl<T: Transport + Drop, U: Drop, C: Drop> Client<T, U, C> {
+    /// Destroys the object that the id names.
+    pub fn destroy_object(
+        &mut self,
+        numbers: &mut NoteNumbers,
+        id: &ObjectId,
+    ) -> Result<(), DestroyError>
+        ensures { Does self.old (λ p did q. Destroys T.sends id.now.client p id.now result (lacks_destroy result) did q) self.new }
+    {
+        let Some(object) = destroyable(&self.objects, id) else {
+            return Err(DestroyError::InvalidId);
+        };
+        if let Err(OutOfMemory) = reserve_note(&mut self.waiting, object) {
+            return Err(DestroyError::OutOfMemory);
+        }
+        let alloc = *self.registries.allocator();
+        let wrote = put_delete_id(alloc, &mut self.socket, id.protocol_id());
+        if lacks_memory(wrote) {
+            return Err(DestroyError::OutOfMemory);
+        }
+        take_out_noted(
+            &mut self.objects,
+            &mut self.registries,
+            &mut self.waiting,
+            numbers,
+            id,
+        );
+        let _ = self.told(numbers, wrote);
+        Ok(())
+    }
+}
+
+/// Whether memory was refused in a destruction that was answered so.
+fn lacked_memory(answer: &Result<(), DestroyError>) -> bool
+    ensures { result ≡ lacks_destroy answer.now }
+{
+    matches!(answer, Err(DestroyError::OutOfMemory))
+}
+
+impl<T: Transport + Drop, U: Drop, G: GlobalHandler<C> + Drop, C: Drop> Backend<T, U, G, C> {
+    /// Destroys the object that the id names: it leaves, and where its number is one of the client's own, the client is
+    /// told that this is free again. If the object had user data, a note of it waits for the next cleanup.
+    ///
+    /// `InvalidId` where its client is not stored, or the id names none, or the display. A client that cannot be told is
+    /// killed: its connection is closed, and the object is gone all the same. `OutOfMemory` where there is none for the
+    /// note or the message: then the object stays, and what is sent to the client is as before but for what a flush sent
+    /// or dropped of it and a storage that grew.
+    pub fn destroy_object(&mut self, id: &ObjectId) -> Result<(), DestroyError>
+        ensures { Calls (over T.sends T.receives G.views) self.old (step.DestroyObject id.now) (reply.DestroyObject result) self.new }
+    {
+        self.refused = false;
+        let client = id.client();
+        if !self.is_stored(&client) {
+            return Err(DestroyError::InvalidId);
+        }
+        match &mut self.clients[client.slot() as usize] {
+            Some(client) => {
+                let answer = client.destroy_object(&mut self.numbers, id);
+                self.refused = lacked_memory(&answer);
+                answer
+            }
+            None => unreachable!(),
+        }
+    }
+}

@@ -1,0 +1,211 @@
+//! The arguments of a request, and what they do to the objects of a client.
+
+ghost use Rattle.std.specs.Prelude.{◌≡◌, ◌≢◌, ◌+◌, ◌<◌, false, true, None, Ok, Err, IfOk, MatchResult, length, reverse};
+ghost use Rattle.smallvec.specs.SmallVec.{HasRoomFor};
+ghost use Rattle.wl_wire.specs.Argument.{Matches};
+ghost use Rattle.wl_wire.specs.Asked.{next_interface, rest_of};
+ghost use Rattle.wl_server.specs.Requests.{Wrong, allows_null as null_allowed, convert, kinds_after, object_argument};
+ghost use Rattle.wl_server.specs.Inside.Conversion.{CanMake, Converts, EndsWhole, IsNextKind, Makes, MakesNew, objects_of_map, state};
+
+use crate::ids::client_id::ClientId;
+use crate::ids::object_id::ObjectId;
+use crate::objects::{Kept, fresh_object, id_at};
+use crate::reading::response::RequestFault;
+use smallvec::SmallVec;
+use wl_link::{InsertError, ObjectMap, SERVER_ID_LIMIT};
+use wl_wire::{
+    ANONYMOUS_INTERFACE, AllowNull, Argument, ArgumentType, INLINE_ARGS, InterfaceId, Token,
+    same_interface_or_anonymous,
+};
+
+/// How far the arguments of a request were gone through.
+#[derive(Drop)]
+pub struct Progress<'a> {
+    /// The types of the signature that no argument took yet.
+    pub kinds: &'a [ArgumentType],
+    /// The interfaces of the table that no object argument took yet.
+    pub asked: &'a [InterfaceId],
+    /// The interface of the object that the request may yet make.
+    pub child: Option<InterfaceId>,
+    /// The object that it made.
+    pub created: Option<ObjectId>,
+}
+
+/// The id that the number of an object becomes, where the table asks for this interface.
+fn object_argument<U: Drop>(
+    client: ClientId,
+    objects: &ObjectMap<Kept<U>>,
+    allows_null: bool,
+    asked: InterfaceId,
+    number: u32,
+) -> Result<ObjectId, RequestFault>
+    ensures { result ≡ object_argument client objects.now.store allows_null asked number }
+{
+    if number == 0 {
+        if !allows_null {
+            return Err(RequestFault::NullObject);
+        }
+        return Ok(ObjectId::from_parts(0, 0, client, ANONYMOUS_INTERFACE));
+    }
+    let Some(object) = objects.find(number) else {
+        return Err(RequestFault::UnknownId(number));
+    };
+    if !same_interface_or_anonymous(asked, object.interface) {
+        return Err(RequestFault::WrongInterface(number, asked, object.interface));
+    }
+    Ok(id_at(&client, number, object))
+}
+
+/// Makes an object of a client at this number, and answers its id; `None` where the client may make none there, or
+/// where no serial is left. Then nothing is changed.
+pub fn make_object<U: Drop>(
+    client: ClientId,
+    objects: &mut ObjectMap<Kept<U>>,
+    last_serial: &mut u64,
+    interface: InterfaceId,
+    version: u32,
+    number: u32,
+) -> Option<ObjectId>
+    requires { objects.old.reserved ≡ true }
+    ensures { Makes client (objects_of_map objects.old last_serial.old) interface version number result
+        (objects_of_map objects.new last_serial.new) }
+{
+    if number >= SERVER_ID_LIMIT || *last_serial == u64::MAX {
+        return None;
+    }
+    let serial = *last_serial + 1;
+    match objects.insert_at(number, fresh_object(interface, version, serial, None)) {
+        Ok(()) => {
+            *last_serial = serial;
+            Some(ObjectId::from_parts(number, serial, client, interface))
+        }
+        Err(InsertError::NotFree) => None,
+        Err(InsertError::OutOfMemory) => unreachable!(),
+    }
+}
+
+/// Whether the next argument may be null. Its type is taken.
+fn take_kind(progress: &mut Progress<'_>) -> bool
+    ensures null { result ≡ null_allowed progress.old.kinds.now }
+    ensures kinds { progress.new.kinds.now ≡ kinds_after progress.old.kinds.now }
+    ensures asked { progress.new.asked.now ≡ progress.old.asked.now }
+    ensures child { progress.new.child ≡ progress.old.child }
+    ensures created { progress.new.created ≡ progress.old.created }
+{
+    match progress.kinds.split_first() {
+        Some((kind, rest)) => {
+            progress.kinds = rest;
+            matches!(*kind, ArgumentType::Object(AllowNull::Yes))
+        }
+        None => false,
+    }
+}
+
+/// The next of the interfaces that the table asks for, which is taken.
+fn take_asked(progress: &mut Progress<'_>) -> InterfaceId
+    ensures next { result ≡ next_interface progress.old.asked.now }
+    ensures rest { progress.new.asked.now ≡ rest_of progress.old.asked.now }
+    ensures kinds { progress.new.kinds.now ≡ progress.old.kinds.now }
+    ensures child { progress.new.child ≡ progress.old.child }
+    ensures created { progress.new.created ≡ progress.old.created }
+{
+    match progress.asked.split_first() {
+        Some((next, rest)) => {
+            progress.asked = rest;
+            *next
+        }
+        None => ANONYMOUS_INTERFACE,
+    }
+}
+
+/// What a new id becomes, whose type was taken.
+fn new_id_argument<U: Drop>(
+    client: ClientId,
+    version: u32,
+    objects: &mut ObjectMap<Kept<U>>,
+    last_serial: &mut u64,
+    progress: &mut Progress<'_>,
+    number: u32,
+) -> Result<Argument<ObjectId, Token>, RequestFault>
+    requires { progress.old.child ≢ None → objects.old.reserved ≡ true }
+    ensures made { MakesNew client version (state objects.old last_serial.old progress.old) number result
+        (state objects.new last_serial.new progress.new) }
+    ensures child { IfOk result (λ _. progress.new.child ≡ None) }
+    ensures kinds { progress.new.kinds.now ≡ progress.old.kinds.now }
+{
+    let Some(interface) = progress.child else {
+        return Err(RequestFault::InvalidNewId(number));
+    };
+    match make_object(client, objects, last_serial, interface, version, number) {
+        Some(id) => {
+            progress.child = None;
+            progress.created = Some(id);
+            Ok(Argument::NewId(id))
+        }
+        None => Err(RequestFault::InvalidNewId(number)),
+    }
+}
+
+/// What an argument of a request becomes, whose object has this version.
+fn convert_one<U: Drop>(
+    client: ClientId,
+    version: u32,
+    objects: &mut ObjectMap<Kept<U>>,
+    last_serial: &mut u64,
+    progress: &mut Progress<'_>,
+    arg: Argument<u32, Token>,
+) -> Result<Argument<ObjectId, Token>, RequestFault>
+    requires can_make { CanMake progress.old objects.old }
+    requires kind { IsNextKind progress.old.kinds.now arg }
+    ensures converts { Converts client version (state objects.old last_serial.old progress.old) arg result
+        (state objects.new last_serial.new progress.new) }
+    ensures can_make { IfOk result (λ _. CanMake progress.new objects.new) }
+    ensures kinds { progress.new.kinds.now ≡ kinds_after progress.old.kinds.now }
+{
+    let allows_null = take_kind(progress);
+    match arg {
+        Argument::Int(value) => Ok(Argument::Int(value)),
+        Argument::Uint(value) => Ok(Argument::Uint(value)),
+        Argument::Fixed(value) => Ok(Argument::Fixed(value)),
+        Argument::Str(text) => Ok(Argument::Str(text)),
+        Argument::Array(bytes) => Ok(Argument::Array(bytes)),
+        Argument::Fd(token) => Ok(Argument::Fd(token)),
+        Argument::Object(number) => {
+            let asked = take_asked(progress);
+            let id = object_argument(client, objects, allows_null, asked, number)?;
+            Ok(Argument::Object(id))
+        }
+        Argument::NewId(number) => {
+            new_id_argument(client, version, objects, last_serial, progress, number)
+        }
+    }
+}
+
+/// What the arguments of a request become, from left to right; `args` has the last of them first, and they are taken
+/// out of it. The answer is the object that the request makes.
+pub fn convert<U: Drop>(
+    client: ClientId,
+    version: u32,
+    objects: &mut ObjectMap<Kept<U>>,
+    last_serial: &mut u64,
+    progress: &mut Progress<'_>,
+    args: &mut SmallVec<Argument<u32, Token>, INLINE_ARGS>,
+    converted: &mut SmallVec<Argument<ObjectId, Token>, INLINE_ARGS>,
+) -> Result<Option<ObjectId>, RequestFault>
+    requires can_make { CanMake progress.old objects.old }
+    requires kinds { Matches progress.old.kinds.now (reverse args.old.items) }
+    requires room { HasRoomFor converted.old (length args.old.items) }
+    ensures capacity { converted.new.capacity ≡ converted.old.capacity }
+    ensures converts { MatchResult result
+        (λ created. EndsWhole
+        (convert client version (state objects.old last_serial.old progress.old) converted.old.items (reverse args.old.items))
+        (objects_of_map objects.new last_serial.new) created converted.new.items)
+        (λ wrong. convert client version (state objects.old last_serial.old progress.old) converted.old.items (reverse args.old.items)
+        ≡ Wrong wrong (objects_of_map objects.new last_serial.new)) }
+{
+    while let Some(arg) = args.pop() {
+        let converted_arg = convert_one(client, version, objects, last_serial, progress, arg)?;
+        converted.push_reserved(converted_arg);
+    }
+    Ok(progress.created)
+}

@@ -1,0 +1,126 @@
+//! The requests to a display.
+
+ghost use Rattle.std.specs.Prelude.{◌≡◌, ◌<◌, true, List, vec_len, vec_capacity};
+ghost use Rattle.std.specs.List.{list_any};
+ghost use Rattle.wl_wire.specs.Argument.{type_of};
+ghost use Rattle.wl_wire.specs.Table.{is_new_id};
+ghost use Rattle.wl_wire.specs.declared.argument.Argument.{Argument as Arg};
+ghost use Rattle.wl_wire.specs.declared.argument.Token.{Token as TokenParts};
+ghost use Rattle.wl_link.specs.Identity.{Id};
+ghost use Rattle.wl_server.specs.Ids.{IdParts};
+ghost use Rattle.wl_server.specs.Reading.{display_request as request_verdict, made_at, registers, syncs};
+ghost use Rattle.wl_server.specs.Inside.Responses.{HasNames, core_with, only_new_id, response_to};
+ghost use Rattle.wl_server.specs.Telling.{Core};
+ghost use Rattle.wl_server.specs.Inside.Turns.{around_of};
+
+use crate::client::Registry;
+use crate::globals::handler::GlobalHandler;
+use crate::objects::Kept;
+use crate::reading::Surroundings;
+use crate::reading::arguments::make_object;
+use crate::reading::response::{Breach, Response};
+use wl_link::ObjectMap;
+use wl_wire::{Argument, Message, Token, WL_CALLBACK_INTERFACE, WL_REGISTRY_INTERFACE};
+
+/// The opcode of `wl_display.sync`.
+const SYNC: u16 = 0;
+
+/// Goes through a request to a display.
+pub fn display_request<'m, U: Drop, G: GlobalHandler<C>, C>(
+    around: &Surroundings<'_, G>,
+    info: &C,
+    objects: &mut ObjectMap<Kept<U>>,
+    last_serial: &mut u64,
+    registries: &mut Vec<Registry>,
+    message: &'m Message<u32, Token>,
+) -> Response<'m>
+    requires can_make { list_any (λ x. is_new_id (type_of x)) message.now.args.items ≡ true → objects.old.reserved ≡ true }
+    requires can_register { list_any (λ x. is_new_id (type_of x)) message.now.args.items ≡ true → vec_len registries.old < vec_capacity registries.old }
+    ensures names { HasNames result }
+    ensures responds { (c : Core U C) (args : List (Arg IdParts TokenParts))
+        → request_verdict (around_of G.views around.now) (core_with c info.now objects.old.store last_serial.old registries.old.items) message.now.opcode message.now.args.items
+        ≡ response_to (around_of G.views around.now) (core_with c info.now objects.new.store last_serial.new registries.new.items) result args }
+{
+    let Some(number) = new_id_in(message) else {
+        return Response::Garbled;
+    };
+    if message.opcode == SYNC {
+        return sync(around, info, objects, last_serial, number);
+    }
+    get_registry(around, info, objects, last_serial, registries, number)
+}
+
+/// The number of the new id that is the message's one argument.
+fn new_id_in(message: &Message<u32, Token>) -> Option<u32>
+    ensures { result ≡ only_new_id message.now.args.items }
+{
+    match message.args.as_slice() {
+        [Argument::NewId(number)] => Some(*number),
+        _ => None,
+    }
+}
+
+/// Makes a callback at this number, which is gone again at once.
+fn sync<'m, U: Drop, G: GlobalHandler<C>, C>(
+    around: &Surroundings<'_, G>,
+    info: &C,
+    objects: &mut ObjectMap<Kept<U>>,
+    last_serial: &mut u64,
+    number: u32,
+) -> Response<'m>
+    requires { objects.old.reserved ≡ true }
+    ensures names { HasNames result }
+    ensures responds { (c : Core U C) (registries : List Id) (args : List (Arg IdParts TokenParts))
+        → (let before : Core U C = core_with c info.now objects.old.store last_serial.old registries in
+        made_at (around_of G.views around.now) before number (syncs (around_of G.views around.now) before number))
+        ≡ response_to (around_of G.views around.now) (core_with c info.now objects.new.store last_serial.new registries) result args }
+{
+    match make_object(
+        around.client,
+        objects,
+        last_serial,
+        WL_CALLBACK_INTERFACE,
+        1,
+        number,
+    ) {
+        Some(id) => {
+            objects.remove(number);
+            Response::Syncs(id)
+        }
+        None => Response::Breaks(Breach::InvalidNewId(number)),
+    }
+}
+
+/// Makes a registry at this number.
+fn get_registry<'m, U: Drop, G: GlobalHandler<C>, C>(
+    around: &Surroundings<'_, G>,
+    info: &C,
+    objects: &mut ObjectMap<Kept<U>>,
+    last_serial: &mut u64,
+    registries: &mut Vec<Registry>,
+    number: u32,
+) -> Response<'m>
+    requires can_make { objects.old.reserved ≡ true }
+    requires can_register { vec_len registries.old < vec_capacity registries.old }
+    ensures names { HasNames result }
+    ensures responds { (c : Core U C) (args : List (Arg IdParts TokenParts))
+        → (let before : Core U C = core_with c info.now objects.old.store last_serial.old registries.old.items in
+        made_at (around_of G.views around.now) before number (registers (around_of G.views around.now) before number))
+        ≡ response_to (around_of G.views around.now) (core_with c info.now objects.new.store last_serial.new registries.new.items) result args }
+{
+    match make_object(
+        around.client,
+        objects,
+        last_serial,
+        WL_REGISTRY_INTERFACE,
+        1,
+        number,
+    ) {
+        Some(id) => {
+            let serial = id.serial();
+            registries.push_reserved(Registry { number, serial });
+            Response::Registers(id)
+        }
+        None => Response::Breaks(Breach::InvalidNewId(number)),
+    }
+}

@@ -1,0 +1,294 @@
+//! The end of an action that was handed out.
+
+ghost use Rattle.std.specs.Prelude.{◌≡◌, ◌+◌, ◌<◌, ◌≤◌, ◌++◌, IsSome, Some, OnErr, OnOk, false, is_some, true, map, option_copied};
+ghost use Rattle.std.specs.VecDeque.{deque_capacity, deque_len};
+ghost use Rattle.wl_link.specs.Store.{held, removed};
+ghost use Rattle.wl_link.specs.declared.object.Object.{Object};
+ghost use Rattle.wl_server.specs.declared.objects.Kept.{Kept};
+ghost use Rattle.wl_server.specs.Backend.{Calls};
+ghost use Rattle.wl_server.specs.Inside.Client.{Does};
+ghost use Rattle.wl_server.specs.Cutting.{CallIsCut};
+ghost use Rattle.wl_server.specs.Finish.{ended_by, FinishesBind, FinishesOpen, FinishesRequest, refusal};
+ghost use Rattle.wl_server.specs.Inside.Finishing.{EndsSender, lacks_finish, part_closed};
+ghost use Rattle.wl_server.specs.Part.{note_of_end, registries_without};
+ghost use Rattle.wl_server.specs.PartStep.{Asked, over};
+ghost use Rattle.wl_server.specs.declared.reading.action.OpenAction.TheVariants as opened;
+ghost use Rattle.wl_server.specs.declared.runs.step.Reply.TheVariants as reply;
+ghost use Rattle.wl_server.specs.declared.runs.step.Step.TheVariants as step;
+
+use crate::backend::Backend;
+use crate::client::{Client, Registry};
+use crate::error::{FinishError, FinishRefused};
+use crate::events::display::{lacks_memory, put_delete_id};
+use crate::globals::handler::GlobalHandler;
+use crate::ids::client_id::ClientId;
+use crate::ids::object_id::ObjectId;
+use crate::notes::{Happening, NoteNumbers, next_number};
+use crate::objects::data::give_data;
+use crate::objects::{Kept, id_at, named_in, take_out};
+use crate::reading::action::OpenAction;
+use std::alloc::Global;
+use std::collections::VecDeque;
+use wl_link::{Object, ObjectMap, Transport};
+use wl_wire::{IoFault, OutOfMemory};
+
+/// Why a request cannot be finished with these data, whatever memory there is. Those of a killed client may lack.
+fn refusal_of<U>(
+    is_killed: bool,
+    created: &Option<ObjectId>,
+    user_data: &Option<U>,
+) -> Option<FinishError>
+    ensures { result ≡ refusal is_killed created.now user_data.now }
+{
+    match (created.is_some(), user_data.is_some()) {
+        (true, false) if !is_killed => Some(FinishError::MissingObjectData),
+        (false, true) => Some(FinishError::UnexpectedData),
+        _ => None,
+    }
+}
+
+/// The object that a request ends: its own sender, while that is kept.
+fn ended_in<'a, U: Drop>(
+    objects: &'a ObjectMap<Kept<U>>,
+    sender: &ObjectId,
+    is_destructor: bool,
+) -> Option<&'a Object<Kept<U>>>
+    ensures { option_copied result ≡ ended_by objects.now.store sender.now is_destructor }
+{
+    if !is_destructor {
+        return None;
+    }
+    named_in(objects, sender)
+}
+
+/// Makes room for the note of this object, where it has user data, and for one more.
+fn reserve_end<U: Drop>(
+    made: &mut VecDeque<(u128, Happening<U>)>,
+    object: &Object<Kept<U>>,
+) -> Result<(), OutOfMemory>
+    ensures items { made.new.items ≡ made.old.items }
+    ensures len { deque_len made.new ≡ deque_len made.old }
+    ensures capacity { deque_capacity made.old ≤ deque_capacity made.new }
+    ensures room { OnOk result (IsSome object.now.value.user_data → deque_len made.new + 2 ≤ deque_capacity made.new) }
+    ensures asked { OnErr result (is_some object.now.value.user_data ≡ true) }
+{
+    if object.value.user_data.is_some() {
+        made.reserve(2)?;
+    }
+    Ok(())
+}
+
+/// Takes the object of this number out, and notes it if it had user data. There is room for that.
+fn take_out_made<U: Drop>(
+    objects: &mut ObjectMap<Kept<U>>,
+    registries: &mut Vec<Registry>,
+    made: &mut VecDeque<(u128, Happening<U>)>,
+    numbers: &mut NoteNumbers,
+    client: &ClientId,
+    number: u32,
+)
+    requires { (x : Object (Kept U)) → held objects.old.store number ≡ Some x → IsSome x.value.user_data → deque_len made.old + 2 ≤ deque_capacity made.old }
+    ensures removed { objects.new.store ≡ removed objects.old.store number }
+    ensures left { (x : Object (Kept U)) → held objects.old.store number ≡ Some x
+        → (registries.new.items ≡ registries_without registries.old.items number x)
+        × (map (λ m. m.1) made.new.items ≡ map (λ m. m.1) made.old.items ++ note_of_end client.now number x) }
+    ensures room { deque_len made.old < deque_capacity made.old → deque_len made.new < deque_capacity made.new }
+{
+    let Some(object) = take_out(objects, registries, number) else {
+        return;
+    };
+    let id = id_at(client, number, &object);
+    if let Some(user_data) = object.value.user_data {
+        made.push_back_reserved((
+            next_number(&mut numbers.made),
+            Happening::Destroyed(id, user_data),
+        ));
+    }
+}
+
+impl<T: Transport + Drop, U: Drop, C: Drop> Client<T, U, C> {
+    /// Ends the sender of a request, where the request ends it and it is kept: the client is told that the number is free,
+    /// the object leaves, and it is noted if it had user data. The answer is that of the telling. Without memory for the
+    /// note or for the telling the object stays.
+    fn end_sender(
+        &mut self,
+        alloc: Global,
+        id: &ClientId,
+        numbers: &mut NoteNumbers,
+        sender: &ObjectId,
+        is_destructor: bool,
+    ) -> Result<Result<(), IoFault>, OutOfMemory>
+        ensures { EndsSender T.sends id.now self.old sender.now is_destructor result self.new }
+    {
+        let Some(object) = ended_in(&self.objects, sender, is_destructor) else {
+            return Ok(Ok(()));
+        };
+        reserve_end(&mut self.made, object)?;
+        let number = sender.protocol_id();
+        let wrote = put_delete_id(alloc, &mut self.socket, number);
+        if lacks_memory(wrote) {
+            return Err(OutOfMemory);
+        }
+        take_out_made(
+            &mut self.objects,
+            &mut self.registries,
+            &mut self.made,
+            numbers,
+            id,
+            number,
+        );
+        Ok(wrote)
+    }
+
+    /// No action is open any more, and the object that it made, if that is still kept, gets these data.
+    fn close_action(&mut self, created: Option<ObjectId>, user_data: Option<U>)
+        ensures { self.new ≡ record self.old { part = part_closed self.old.part created user_data } }
+    {
+        self.action = None;
+        if let (Some(id), Some(user_data)) = (created, user_data) {
+            let _ = give_data(&mut self.objects, &id, user_data);
+        }
+    }
+
+    /// Ends the request that is open with these data.
+    fn end_request(
+        &mut self,
+        id: &ClientId,
+        numbers: &mut NoteNumbers,
+        sender: &ObjectId,
+        is_destructor: bool,
+        created: Option<ObjectId>,
+        user_data: Option<U>,
+    ) -> Result<(), FinishRefused<Option<U>>>
+        ensures { Does self.old (λ p did q. FinishesOpen T.sends id.now p (opened.Request sender.now is_destructor created) user_data result (lacks_finish result) did q) self.new }
+    {
+        if let Some(error) = refusal_of(self.is_killed, &created, &user_data) {
+            return Err(FinishRefused { error, user_data });
+        }
+        let alloc = *self.registries.allocator();
+        let Ok(wrote) = self.end_sender(alloc, id, numbers, sender, is_destructor) else {
+            let error = FinishError::OutOfMemory;
+            return Err(FinishRefused { error, user_data });
+        };
+        self.close_action(created, user_data);
+        let _ = self.told(numbers, wrote);
+        Ok(())
+    }
+
+    /// Ends the open request.
+    pub fn finish_request(
+        &mut self,
+        id: &ClientId,
+        numbers: &mut NoteNumbers,
+        user_data: Option<U>,
+    ) -> Result<(), FinishRefused<Option<U>>>
+        ensures { Does self.old (λ p did q. FinishesRequest T.sends id.now p user_data result (lacks_finish result) did q) self.new }
+    {
+        let Some(action) = &self.action else {
+            let error = FinishError::NoOpenAction;
+            return Err(FinishRefused { error, user_data });
+        };
+        match action {
+            OpenAction::Request {
+                sender,
+                is_destructor,
+                created,
+            } => {
+                let (sender, is_destructor, created) = (*sender, *is_destructor, *created);
+                self.end_request(id, numbers, &sender, is_destructor, created, user_data)
+            }
+            OpenAction::Bind { .. } => {
+                let error = FinishError::WrongKind;
+                Err(FinishRefused { error, user_data })
+            }
+        }
+    }
+
+    /// Ends the open bind: its object gets these data.
+    pub fn finish_bind(&mut self, user_data: U) -> Result<(), FinishRefused<U>>
+        ensures { Does self.old (λ p did q. FinishesBind p user_data result false did q) self.new }
+    {
+        let Some(action) = &self.action else {
+            let error = FinishError::NoOpenAction;
+            return Err(FinishRefused { error, user_data });
+        };
+        match action {
+            OpenAction::Bind { object } => {
+                let object = *object;
+                self.close_action(Some(object), Some(user_data));
+                Ok(())
+            }
+            OpenAction::Request { .. } => {
+                let error = FinishError::WrongKind;
+                Err(FinishRefused { error, user_data })
+            }
+        }
+    }
+}
+
+/// Whether memory was refused, by the answer.
+fn lacks<D>(answer: &Result<(), FinishRefused<D>>) -> bool
+    ensures { result ≡ lacks_finish answer.now }
+{
+    match answer {
+        Ok(()) => false,
+        Err(refused) => matches!(refused.error, FinishError::OutOfMemory),
+    }
+}
+
+impl<T: Transport + Drop, U: Drop, G: GlobalHandler<C> + Drop, C: Drop> Backend<T, U, G, C> {
+    /// Ends the request that `next_action` handed out, and gives the object that it made, if that is still kept, these user
+    /// data.
+    ///
+    /// A request that ends its sender destroys it, while it is kept: its client is told that the number is free again, if
+    /// it is one of its own, and the object is noted if it has user data. A client that cannot be told is killed, as one
+    /// whose connection is closed, and the action is finished all the same.
+    ///
+    /// The refusals are, in this order: `InvalidId` where the client is not stored; `NoOpenAction`; `WrongKind` where a bind
+    /// is open; `MissingObjectData` where the request made an object, no data are given, and the client is not killed;
+    /// `UnexpectedData` where it made none and data are given; `OutOfMemory` where there is none for the note or for what
+    /// the client is told. Each gives the data back, and leaves the action open and all else as it was, but that after
+    /// `OutOfMemory` what a flush of the telling sent or dropped is gone from the link, and a storage that grew stays so.
+    pub fn finish_request(
+        &mut self,
+        client: &ClientId,
+        user_data: Option<U>,
+    ) -> Result<(), FinishRefused<Option<U>>>
+        ensures cutting { CallIsCut (over T.sends T.receives G.views) self.old.server (Asked (step.FinishRequest client.now user_data) (reply.FinishRequest result)) self.new.refused self.new.server }
+        ensures finished { Calls (over T.sends T.receives G.views) self.old (step.FinishRequest client.now user_data) (reply.FinishRequest result) self.new }
+    {
+        self.refused = false;
+        if !self.is_stored(client) {
+            let error = FinishError::InvalidId;
+            return Err(FinishRefused { error, user_data });
+        }
+        match &mut self.clients[client.slot() as usize] {
+            Some(stored) => {
+                let answer = stored.finish_request(client, &mut self.numbers, user_data);
+                self.refused = lacks(&answer);
+                answer
+            }
+            None => unreachable!(),
+        }
+    }
+
+    /// Ends the bind that `next_action` handed out, and gives its object, if that is still kept, these user data. It takes
+    /// no memory.
+    ///
+    /// The refusals are, in this order: `InvalidId` where the client is not stored; `NoOpenAction`; `WrongKind` where a
+    /// request is open. Each gives the data back, and changes nothing.
+    pub fn finish_bind(&mut self, client: &ClientId, user_data: U) -> Result<(), FinishRefused<U>>
+        ensures cutting { CallIsCut (over T.sends T.receives G.views) self.old.server (Asked (step.FinishBind client.now user_data) (reply.FinishBind result)) self.new.refused self.new.server }
+        ensures finished { Calls (over T.sends T.receives G.views) self.old (step.FinishBind client.now user_data) (reply.FinishBind result) self.new }
+    {
+        self.refused = false;
+        if !self.is_stored(client) {
+            let error = FinishError::InvalidId;
+            return Err(FinishRefused { error, user_data });
+        }
+        match &mut self.clients[client.slot() as usize] {
+            Some(stored) => stored.finish_bind(user_data),
+            None => unreachable!(),
+        }
+    }
+}

@@ -1,0 +1,305 @@
+//! One turn of a reading: the message at the front is taken off the link and handled.
+
+ghost use Rattle.std.specs.Prelude.{◌≡◌, ◌≢◌, ◌≤◌, ◌<◌, List, [], true, false, None, Some, Ok, Err, length, vec_len, vec_capacity, IfOk, IfSome, OnErr, OnOk, option_copied, option_map};
+ghost use Rattle.smallvec.specs.SmallVec.{HasRoomFor};
+ghost use Rattle.wl_wire.specs.Argument.{Matches};
+ghost use Rattle.wl_wire.specs.Asked.{creates};
+ghost use Rattle.wl_wire.specs.Message.{content};
+ghost use Rattle.wl_wire.specs.Parse.{IsThere};
+ghost use Rattle.wl_wire.specs.Table.{IsAcceptedTable, holds_zero, message_row};
+ghost use Rattle.wl_link.specs.Store.{held};
+ghost use Rattle.wl_server.specs.Reading.{row_asks, row_in};
+ghost use Rattle.wl_wire.specs.declared.argument.Argument.{Argument as Arg};
+ghost use Rattle.wl_wire.specs.declared.argument.Token.{Token as TokenParts};
+ghost use Rattle.wl_server.specs.declared.reading.action.Reading.{Reading as ReadingOf};
+ghost use Rattle.wl_server.specs.Ids.{IdParts};
+ghost use Rattle.wl_server.specs.Inside.Responses.{HasNames, TookRequest};
+ghost use Rattle.wl_server.specs.Inside.Turns.{IsHeader, Live, NotTaken, TookWith, Turns, around_of, turned};
+
+use crate::client::{Client, Registry};
+use crate::globals::handler::GlobalHandler;
+use crate::ids::global_id::GlobalId;
+use crate::ids::object_id::ObjectId;
+use crate::notes::NoteNumbers;
+use crate::objects::Kept;
+use crate::reading::Surroundings;
+use crate::reading::action::Reading;
+use crate::reading::request::request;
+use crate::reading::response::Response;
+use smallvec::SmallVec;
+use wl_link::{BufferedSocket, ObjectMap, Transport};
+use wl_wire::{
+    Argument, INLINE_ARGS, IoFault, Message, MessageDesc, MessageParseError, OutOfMemory, Protocol,
+    Token,
+};
+
+/// Why a reading ends without an action.
+#[derive(Drop)]
+pub struct NoAction {
+    /// The answer of the reading.
+    pub fault: IoFault,
+    /// Whether memory was refused.
+    pub refused: bool,
+}
+
+/// An action that is handed out, without the arguments of a request.
+#[derive(Clone, Copy)]
+pub enum Found {
+    /// A request: its object, its opcode, whether it ends the object, and the object that it made.
+    Request(ObjectId, u16, bool, Option<ObjectId>),
+    /// A new object was bound to a global.
+    Bind(GlobalId, ObjectId),
+}
+
+/// What a turn came to.
+#[derive(Drop)]
+pub enum TurnEnd {
+    /// An action is there to hand out.
+    Acts(Found),
+    /// A message was handled, and the reading goes on.
+    GoesOn,
+    /// No message waits whole.
+    Lacks,
+    /// The reading ends without an action.
+    Ends(NoAction),
+}
+
+/// The request of that opcode of the object that the number holds.
+fn request_desc<'p, U: Drop>(
+    protocol: &'p Protocol,
+    objects: &ObjectMap<Kept<U>>,
+    sender: u32,
+    opcode: u16,
+) -> Option<&'p MessageDesc>
+    ensures row { option_map message_row (option_copied result) ≡ row_in protocol.now (held objects.now.store sender) opcode }
+    ensures accepted { IfSome result (λ _. IsAcceptedTable protocol.now) }
+{
+    let object = objects.find(sender)?;
+    let interface = protocol.get(object.interface)?;
+    interface.requests.get(opcode as usize)
+}
+
+/// Makes room for what the message at the front becomes, where it is there whole: for its arguments, and for the object
+/// that it may make, which may be a registry. Of a message that is not there nothing is asked for.
+fn make_room<T: Drop, U: Drop>(
+    objects: &mut ObjectMap<Kept<U>>,
+    registries: &mut Vec<Registry>,
+    converted: &mut SmallVec<Argument<ObjectId, Token>, INLINE_ARGS>,
+    socket: &BufferedSocket<T>,
+    desc: &MessageDesc,
+) -> Result<(), OutOfMemory>
+    requires empty { converted.old.items ≡ [] }
+    requires inline { INLINE_ARGS ≤ converted.old.capacity }
+    ensures store { objects.new.store ≡ objects.old.store }
+    ensures registries { registries.new.items ≡ registries.old.items }
+    ensures empty { converted.new.items ≡ [] }
+    ensures inline { INLINE_ARGS ≤ converted.new.capacity }
+    ensures room { OnOk result (IsThere socket.now.incoming.bytes desc.now.signature.items socket.now.incoming.tokens
+        → length desc.now.signature.items ≤ converted.new.capacity) }
+    ensures can_make { OnOk result (IsThere socket.now.incoming.bytes desc.now.signature.items socket.now.incoming.tokens
+        → creates (message_row desc.now) ≡ true → objects.new.reserved ≡ true) }
+    ensures can_register { OnOk result (IsThere socket.now.incoming.bytes desc.now.signature.items socket.now.incoming.tokens
+        → creates (message_row desc.now) ≡ true → vec_len registries.new < vec_capacity registries.new) }
+    ensures asked { OnErr result ((row_asks (Some (message_row desc.now)) ≡ true)
+        × IsThere socket.now.incoming.bytes desc.now.signature.items socket.now.incoming.tokens) }
+{
+    let creates = desc.creates_object();
+    let asks_for_memory = creates || desc.signature.len() > INLINE_ARGS;
+    if !asks_for_memory || !socket.holds_message(desc.signature.as_slice()) {
+        return Ok(());
+    }
+    converted.reserve(desc.signature.len())?;
+    if creates {
+        registries.reserve(1)?;
+        objects.reserve()?;
+    }
+    Ok(())
+}
+
+/// Takes the message at the front, of that sender and opcode, off the link, with room for what it becomes: for its
+/// arguments in `converted`, which is emptied, and for the object that it may make in the map and among the registries.
+/// The answer is what the table says of it.
+fn take<'p, T: Drop, U: Drop>(
+    protocol: &'p Protocol,
+    objects: &mut ObjectMap<Kept<U>>,
+    registries: &mut Vec<Registry>,
+    socket: &mut BufferedSocket<T>,
+    header: (u32, u16),
+    message: &mut Message<u32, Token>,
+    converted: &mut SmallVec<Argument<ObjectId, Token>, INLINE_ARGS>,
+) -> Result<&'p MessageDesc, MessageParseError>
+    requires header { IsHeader socket.old header }
+    requires inline { INLINE_ARGS ≤ converted.old.capacity }
+    requires place { INLINE_ARGS ≤ message.old.args.capacity }
+    ensures took { TookWith protocol.now objects.old.store socket.old result (content message.new) socket.new }
+    ensures matches { IfOk result (λ desc. Matches desc.now.signature.items message.new.args.items) }
+    ensures name { IfOk result (λ desc. holds_zero (message_row desc.now).name ≡ false) }
+    ensures fewer { OnOk result (length socket.new.incoming.bytes < length socket.old.incoming.bytes) }
+    ensures store { objects.new.store ≡ objects.old.store }
+    ensures registries { registries.new.items ≡ registries.old.items }
+    ensures room { OnOk result (HasRoomFor converted.new (length message.new.args.items)) }
+    ensures inline { INLINE_ARGS ≤ converted.new.capacity }
+    ensures empty { converted.new.items ≡ [] }
+    ensures can_make { IfOk result (λ desc. creates (message_row desc.now) ≡ true → objects.new.reserved ≡ true) }
+    ensures can_register { IfOk result (λ desc. creates (message_row desc.now) ≡ true → vec_len registries.new < vec_capacity registries.new) }
+{
+    converted.clear();
+    let (sender, opcode) = header;
+    let Some(desc) = request_desc(protocol, objects, sender, opcode) else {
+        return Err(MessageParseError::Malformed);
+    };
+    let signature = desc.signature.as_slice();
+    let Ok(()) = make_room(objects, registries, converted, socket, desc) else {
+        return Err(MessageParseError::OutOfMemory);
+    };
+    socket.read_with_signature(signature, message)?;
+    Ok(desc)
+}
+
+/// Takes the message at the front, of that sender and opcode, off the link, and goes through it. The arguments of one that
+/// is handed out are in `args` then, and `message` is the place of the message. `protocol` is the table, apart since its
+/// loan need not be as long as that of `around`.
+fn take_request<'m, T: Drop, U: Drop, G: GlobalHandler<C> + Drop, C>(
+    protocol: &'m Protocol,
+    around: &Surroundings<'_, G>,
+    info: &C,
+    objects: &mut ObjectMap<Kept<U>>,
+    last_serial: &mut u64,
+    registries: &mut Vec<Registry>,
+    socket: &mut BufferedSocket<T>,
+    header: (u32, u16),
+    message: &'m mut Message<u32, Token>,
+    args: &mut SmallVec<Argument<ObjectId, Token>, INLINE_ARGS>,
+) -> Result<Response<'m>, MessageParseError>
+    requires protocol { protocol.now ≡ around.now.protocol.now }
+    requires header { IsHeader socket.old header }
+    requires inline { INLINE_ARGS ≤ args.old.capacity }
+    requires place { INLINE_ARGS ≤ message.old.args.capacity }
+    ensures took { TookRequest (around_of G.views around.now) info.now objects.old.store last_serial.old registries.old.items socket.old result args.new.items
+        objects.new.store last_serial.new registries.new.items socket.new }
+    ensures names { IfOk result HasNames }
+    ensures fewer { OnOk result (length socket.new.incoming.bytes < length socket.old.incoming.bytes) }
+    ensures inline { INLINE_ARGS ≤ args.new.capacity }
+{
+    let taken = take(protocol, objects, registries, socket, header, message, args);
+    let desc = match taken {
+        Ok(desc) => desc,
+        Err(error) => return Err(error),
+    };
+    Ok(request(
+        around,
+        info,
+        objects,
+        last_serial,
+        registries,
+        desc,
+        message,
+        args,
+    ))
+}
+
+impl<T: Transport + Drop, U: Drop, C: Drop> Client<T, U, C> {
+    /// Takes the message at the front off the link and handles it. The arguments of a request that is handed out are in
+    /// `args` then.
+    pub fn turn<G: GlobalHandler<C> + Drop>(
+        &mut self,
+        numbers: &mut NoteNumbers,
+        around: &Surroundings<'_, G>,
+        reading: &mut Reading,
+        args: &mut SmallVec<Argument<ObjectId, Token>, INLINE_ARGS>,
+    ) -> TurnEnd
+        requires live { Live self.old.part }
+        requires inline { INLINE_ARGS ≤ args.old.capacity }
+        ensures turns { Turns T.sends T.receives (around_of G.views around.now) self.old reading.old (turned result args.new.items) self.new reading.new }
+        ensures inline { INLINE_ARGS ≤ args.new.capacity }
+    {
+        match self.socket.next_header() {
+            Some(header) => self.turn_at_header(numbers, around, reading, header, args),
+            None => TurnEnd::Lacks,
+        }
+    }
+
+    /// The same where this header waits. It is apart, since the place for a message is made only where a header waits.
+    #[inline(never)]
+    fn turn_at_header<G: GlobalHandler<C> + Drop>(
+        &mut self,
+        numbers: &mut NoteNumbers,
+        around: &Surroundings<'_, G>,
+        reading: &mut Reading,
+        header: (u32, u16),
+        args: &mut SmallVec<Argument<ObjectId, Token>, INLINE_ARGS>,
+    ) -> TurnEnd
+        requires live { Live self.old.part }
+        requires header { IsHeader self.old.part.link header }
+        requires inline { INLINE_ARGS ≤ args.old.capacity }
+        ensures turns { Turns T.sends T.receives (around_of G.views around.now) self.old reading.old (turned result args.new.items) self.new reading.new }
+        ensures inline { INLINE_ARGS ≤ args.new.capacity }
+    {
+        let mut message = Message {
+            sender_id: 0,
+            opcode: 0,
+            args: SmallVec::new(*self.registries.allocator()),
+        };
+        self.turn_with(numbers, around, reading, header, &mut message, args)
+    }
+
+    /// The same with a place for the message that is taken. It is lent, so that an early return has nothing to drop.
+    fn turn_with<G: GlobalHandler<C> + Drop>(
+        &mut self,
+        numbers: &mut NoteNumbers,
+        around: &Surroundings<'_, G>,
+        reading: &mut Reading,
+        header: (u32, u16),
+        message: &mut Message<u32, Token>,
+        args: &mut SmallVec<Argument<ObjectId, Token>, INLINE_ARGS>,
+    ) -> TurnEnd
+        requires live { Live self.old.part }
+        requires header { IsHeader self.old.part.link header }
+        requires place { INLINE_ARGS ≤ message.old.args.capacity }
+        requires inline { INLINE_ARGS ≤ args.old.capacity }
+        ensures turns { Turns T.sends T.receives (around_of G.views around.now) self.old reading.old (turned result args.new.items) self.new reading.new }
+        ensures inline { INLINE_ARGS ≤ args.new.capacity }
+    {
+        let read = reading.read;
+        match take_request(
+            around.protocol,
+            around,
+            &self.info,
+            &mut self.objects,
+            &mut self.last_serial,
+            &mut self.registries,
+            &mut self.socket,
+            header,
+            message,
+            args,
+        ) {
+            Ok(response) => {
+                reading.read = read.saturating_add(1);
+                self.respond(numbers, around, &response)
+            }
+            Err(error) => self.not_taken(numbers, around, error),
+        }
+    }
+
+    /// What it comes to that no message was taken.
+    fn not_taken<G: GlobalHandler<C> + Drop>(
+        &mut self,
+        numbers: &mut NoteNumbers,
+        around: &Surroundings<'_, G>,
+        error: MessageParseError,
+    ) -> TurnEnd
+        requires live { Live self.old.part }
+        requires not_taken { NotTaken around.now.protocol.now self.old.part.store self.old.part.link error }
+        ensures { (r : ReadingOf) (args : List (Arg IdParts TokenParts)) → r.read ≤ 0xFFFFFFFFFFFFFFFF
+            → Turns T.sends T.receives (around_of G.views around.now) self.old r (turned result args) self.new r }
+    {
+        match error {
+            MessageParseError::MissingData | MessageParseError::MissingFD => TurnEnd::Lacks,
+            MessageParseError::Malformed => TurnEnd::Ends(self.garbled(numbers)),
+            MessageParseError::OutOfMemory => TurnEnd::Ends(NoAction {
+                fault: IoFault::OutOfMemory,
+                refused: true,
+            }),
+        }
+    }
+}

@@ -1,0 +1,242 @@
+//! A reading: messages are handled, and more is received where none waits whole.
+
+ghost use Rattle.std.specs.Prelude.{◌≡◌, ◌≤◌, option_map};
+ghost use Rattle.wl_server.specs.declared.runs.step.Reply.TheVariants as reply;
+ghost use Rattle.wl_server.specs.declared.runs.step.Step.TheVariants as step;
+ghost use Rattle.wl_server.specs.Backend.{Calls};
+ghost use Rattle.wl_server.specs.Inside.Client.{Does};
+ghost use Rattle.wl_server.specs.Cutting.{CallIsCut};
+ghost use Rattle.wl_server.specs.PartStep.{Asked, over};
+ghost use Rattle.wl_server.specs.Reading.{NextAction, action_content, new_reading};
+ghost use Rattle.wl_server.specs.Deeds.{handed};
+ghost use Rattle.wl_server.specs.Room.{HasRoom};
+ghost use Rattle.wl_server.specs.Inside.Turns.{EndsAs, Fills, Live, Waited, action_of, around_of, found_with};
+
+use crate::backend::Backend;
+use crate::client::Client;
+use crate::error::ActionError;
+use crate::globals::handler::GlobalHandler;
+use crate::ids::client_id::ClientId;
+use crate::ids::object_id::ObjectId;
+use crate::notes::{DisconnectReason, NoteNumbers};
+use crate::reading::Surroundings;
+use crate::reading::action::{Action, Reading};
+use crate::reading::message::{Found, NoAction, TurnEnd};
+use smallvec::SmallVec;
+use wl_link::Transport;
+use wl_wire::{Argument, INLINE_ARGS, IoFault, Token};
+
+/// How many receives a reading makes at most, where nothing else is said.
+pub const READ_TURNS: u32 = 64;
+
+impl Reading {
+    /// A reading that may receive `READ_TURNS` times, and that has read nothing.
+    pub fn new() -> Self
+        ensures { result ≡ new_reading }
+    {
+        Reading {
+            turns_left: READ_TURNS,
+            read: 0,
+        }
+    }
+}
+
+/// The action that is handed out, with the arguments of a request.
+fn with_args(found: &Found, args: SmallVec<Argument<ObjectId, Token>, INLINE_ARGS>) -> Action
+    ensures { handed result ≡ found_with found.now args.items }
+{
+    match found {
+        Found::Request(sender, opcode, is_destructor, created) => {
+            Action::Request {
+                sender: *sender,
+                opcode: *opcode,
+                args,
+                is_destructor: *is_destructor,
+                created: *created,
+            }
+        }
+        Found::Bind(global, object) => {
+            Action::Bind {
+                global: *global,
+                object: *object,
+            }
+        }
+    }
+}
+
+impl<T: Transport + Drop, U: Drop, C: Drop> Client<T, U, C> {
+    /// Handles messages until the reading ends, or no message waits whole. The arguments of a request that is handed out
+    /// are in `args` then.
+    fn handle_waiting<G: GlobalHandler<C> + Drop>(
+        &mut self,
+        numbers: &mut NoteNumbers,
+        around: &Surroundings<'_, G>,
+        reading: &mut Reading,
+        args: &mut SmallVec<Argument<ObjectId, Token>, INLINE_ARGS>,
+    ) -> Option<Result<Found, NoAction>>
+        requires live { Live self.old.part }
+        requires inline { INLINE_ARGS ≤ args.old.capacity }
+        ensures waited { Waited T.sends T.receives (around_of G.views around.now) self.old reading.old (option_map (λ r. action_of r args.new.items) result) self.new reading.new }
+        ensures inline { INLINE_ARGS ≤ args.new.capacity }
+    {
+        // That the count is a number of 64 bits is known of this.
+        let _read = reading.read;
+        loop {
+            match self.turn(numbers, around, reading, args) {
+                TurnEnd::GoesOn => {}
+                TurnEnd::Lacks => return None,
+                TurnEnd::Acts(found) => return Some(Ok(found)),
+                TurnEnd::Ends(end) => return Some(Err(end)),
+            }
+        }
+    }
+
+    /// Receives once; the answer is why the reading ends, if it does. A fault after which nothing more may come closes the
+    /// client down.
+    fn receive(&mut self, numbers: &mut NoteNumbers) -> Option<NoAction>
+        ensures { Fills T.receives self.old result self.new }
+    {
+        let Err(fault) = self.socket.fill_incoming_buffers() else {
+            return None;
+        };
+        match fault {
+            IoFault::WouldBlock => Some(NoAction {
+                fault,
+                refused: false,
+            }),
+            IoFault::OutOfMemory => Some(NoAction {
+                fault,
+                refused: true,
+            }),
+            _ => {
+                self.kill(numbers, DisconnectReason::ConnectionClosed);
+                Some(NoAction {
+                    fault,
+                    refused: false,
+                })
+            }
+        }
+    }
+
+    /// Handles messages and receives, until there is an action or no receive is left. The arguments of a request that is
+    /// handed out are in `args` then.
+    fn read<G: GlobalHandler<C> + Drop>(
+        &mut self,
+        numbers: &mut NoteNumbers,
+        around: &Surroundings<'_, G>,
+        reading: &mut Reading,
+        args: &mut SmallVec<Argument<ObjectId, Token>, INLINE_ARGS>,
+    ) -> Result<Found, NoAction>
+        requires live { Live self.old.part }
+        requires inline { INLINE_ARGS ≤ args.old.capacity }
+        ensures { EndsAs T.sends T.receives (around_of G.views around.now) self.old reading.old (action_of result args.new.items) self.new reading.new }
+    {
+        // That the count is a number of 64 bits is known of this.
+        let _read = reading.read;
+        while reading.turns_left > 0 {
+            if let Some(end) = self.handle_waiting(numbers, around, reading, args) {
+                return end;
+            }
+            reading.turns_left -= 1;
+            if let Some(end) = self.receive(numbers) {
+                return Err(end);
+            }
+        }
+        if let Some(end) = self.handle_waiting(numbers, around, reading, args) {
+            return end;
+        }
+        Err(NoAction {
+            fault: IoFault::WouldBlock,
+            refused: false,
+        })
+    }
+
+    /// The next action of the client, which is open until it is finished, and whether memory was refused.
+    pub fn next_action<G: GlobalHandler<C> + Drop>(
+        &mut self,
+        numbers: &mut NoteNumbers,
+        around: &Surroundings<'_, G>,
+        reading: &mut Reading,
+    ) -> (Result<Action, ActionError>, bool)
+        ensures { Does self.old (λ p did q. NextAction T.sends T.receives (around_of G.views around.now) reading.old p (action_content result.0) reading.new result.1 did q) self.new }
+    {
+        if self.action.is_some() {
+            return (Err(ActionError::ActionOpen), false);
+        }
+        if self.is_killed {
+            return (Err(ActionError::Io(IoFault::Pipe)), false);
+        }
+        let mut args = SmallVec::new(*self.registries.allocator());
+        match self.read(numbers, around, reading, &mut args) {
+            Ok(found) => (Ok(with_args(&found, args)), false),
+            Err(end) => {
+                // No request: the arguments that were already put there are dropped.
+                drop(args);
+                (Err(ActionError::Io(end.fault)), end.refused)
+            }
+        }
+    }
+}
+
+impl<T: Transport + Drop, U: Drop, G: GlobalHandler<C> + Drop, C: Drop> Backend<T, U, G, C> {
+    /// The next action of the client, which is open until `finish_request` or `finish_bind` ends it. It receives 64 times
+    /// at most.
+    ///
+    /// The server answers some requests by itself: syncs, registries, and what breaks the protocol. The refusals are, in
+    /// this order: `Io(InvalidInput)` where the client is not stored; `ActionOpen`; `Io(Pipe)` where it was killed; then
+    /// what the reading comes to: `Io(Proto)` for bytes that are no message, and `Io(Pipe)` where the client broke the
+    /// protocol or could not be told something, all of which kill it; the transport's fault, which kills it unless it is
+    /// `WouldBlock` or `OutOfMemory`; `Io(WouldBlock)` also where no whole message waits after the last receive;
+    /// `Io(OutOfMemory)` where there is no memory for the message at the front or for a receive. After the last two what
+    /// was handled stays handled, and what waits is read by the next call.
+    ///
+    /// A message that is no longer than the client's limit or 65536 bytes, whichever is less, and whose tokens come no later
+    /// than its last byte, does not kill the client by a full storage. Where each receive brings a byte or would block, and
+    /// memory is not refused, it does not matter how bytes and tokens were cut into receives.
+    pub fn next_action(&mut self, id: &ClientId) -> Result<Action, ActionError>
+        ensures read { Calls (over T.sends T.receives G.views) self.old (step.NextAction id.now) (reply.NextAction result) self.new }
+        ensures room { HasRoom (over T.sends T.receives G.views) self.old.server (Asked (step.NextAction id.now) (reply.NextAction result)) self.new.server }
+        ensures cutting { CallIsCut (over T.sends T.receives G.views) self.old.server (Asked (step.NextAction id.now) (reply.NextAction result)) self.new.refused self.new.server }
+    {
+        let mut reading = Reading::new();
+        self.read_client(id, &mut reading)
+    }
+
+    /// The same, which receives as often as the reading allows. `reading` then has the receives that are left, and counts
+    /// the requests that were read with those of the calls before.
+    pub fn next_action_within(
+        &mut self,
+        id: &ClientId,
+        reading: &mut Reading,
+    ) -> Result<Action, ActionError>
+        ensures read { Calls (over T.sends T.receives G.views) self.old (step.NextActionWithin id.now reading.old) (reply.NextActionWithin result reading.new) self.new }
+        ensures room { HasRoom (over T.sends T.receives G.views) self.old.server (Asked (step.NextActionWithin id.now reading.old) (reply.NextActionWithin result reading.new)) self.new.server }
+        ensures cutting { CallIsCut (over T.sends T.receives G.views) self.old.server (Asked (step.NextActionWithin id.now reading.old) (reply.NextActionWithin result reading.new)) self.new.refused self.new.server }
+    {
+        self.read_client(id, reading)
+    }
+
+    /// Reads the client, for each of the two calls.
+    fn read_client(&mut self, id: &ClientId, reading: &mut Reading) -> Result<Action, ActionError>
+        ensures fresh { reading.old ≡ new_reading → Calls (over T.sends T.receives G.views) self.old (step.NextAction id.now) (reply.NextAction result) self.new }
+        ensures within { Calls (over T.sends T.receives G.views) self.old (step.NextActionWithin id.now reading.old) (reply.NextActionWithin result reading.new) self.new }
+    {
+        self.refused = false;
+        if !self.is_stored(id) {
+            return Err(ActionError::Io(IoFault::InvalidInput));
+        }
+        let around = Surroundings {
+            protocol: &self.protocol,
+            globals: &self.globals,
+            client: *id,
+        };
+        match &mut self.clients[id.slot() as usize] {
+            Some(client) => {
+                let (answer, refused) = client.next_action(&mut self.numbers, &around, reading);
+                self.refused = refused;
+                answer
+            }
+            None => unreachable!(),
+        }
+    }
+}

@@ -1,0 +1,122 @@
+//! The requests to objects that are neither displays nor registries.
+
+ghost use Rattle.std.specs.Prelude.{◌≡◌, List, [], true, false, Some, MatchResult, length};
+ghost use Rattle.smallvec.specs.SmallVec.{HasRoomFor};
+ghost use Rattle.wl_wire.specs.Argument.{Matches};
+ghost use Rattle.wl_wire.specs.Asked.{creates as row_creates};
+ghost use Rattle.wl_wire.specs.Message.{content};
+ghost use Rattle.wl_wire.specs.Table.{holds_zero, message_row};
+ghost use Rattle.wl_link.specs.declared.object.Object.{Object as ObjectOf};
+ghost use Rattle.wl_link.specs.Identity.{Id};
+ghost use Rattle.wl_link.specs.Store.{held};
+ghost use Rattle.wl_server.specs.declared.objects.Kept.{Kept as KeptOf};
+ghost use Rattle.wl_server.specs.Inside.Conversion.{EndsWhole, objects_of_map};
+ghost use Rattle.wl_server.specs.Reading.{other_request as request_verdict};
+ghost use Rattle.wl_server.specs.Requests.{Wrong, convert as outcome_of, start};
+ghost use Rattle.wl_server.specs.Inside.Responses.{HasNames, core_with, response_to};
+ghost use Rattle.wl_server.specs.Telling.{Core};
+ghost use Rattle.wl_server.specs.Inside.Turns.{around_of};
+
+use crate::globals::handler::GlobalHandler;
+use crate::ids::client_id::ClientId;
+use crate::ids::object_id::ObjectId;
+use crate::objects::{Kept, id_at};
+use crate::reading::Surroundings;
+use crate::reading::arguments::{Progress, convert};
+use crate::reading::message::Found;
+use crate::reading::response::{Breach, RequestFault, Response};
+use smallvec::SmallVec;
+use wl_link::ObjectMap;
+use wl_wire::{Argument, INLINE_ARGS, Message, MessageDesc, Token};
+
+/// What the arguments of a request become, whose object has this version. They are taken out of the message. `args` has
+/// room for them. The answer is the object that the request makes.
+fn convert_request<U: Drop>(
+    client: ClientId,
+    version: u32,
+    desc: &MessageDesc,
+    objects: &mut ObjectMap<Kept<U>>,
+    last_serial: &mut u64,
+    message: &mut Message<u32, Token>,
+    args: &mut SmallVec<Argument<ObjectId, Token>, INLINE_ARGS>,
+) -> Result<Option<ObjectId>, RequestFault>
+    requires can_make { row_creates (message_row desc.now) ≡ true → objects.old.reserved ≡ true }
+    requires kinds { Matches desc.now.signature.items message.old.args.items }
+    requires empty { args.old.items ≡ [] }
+    requires room { HasRoomFor args.old (length message.old.args.items) }
+    ensures capacity { args.new.capacity ≡ args.old.capacity }
+    ensures header { (message.new.sender_id ≡ message.old.sender_id) × (message.new.opcode ≡ message.old.opcode) }
+    ensures converts { MatchResult result
+        (λ created. EndsWhole (outcome_of client version (start (objects_of_map objects.old last_serial.old) (message_row desc.now)) [] message.old.args.items)
+        (objects_of_map objects.new last_serial.new) created args.new.items)
+        (λ wrong. outcome_of client version (start (objects_of_map objects.old last_serial.old) (message_row desc.now)) [] message.old.args.items
+        ≡ Wrong wrong (objects_of_map objects.new last_serial.new)) }
+{
+    let mut progress = Progress {
+        kinds: desc.signature.as_slice(),
+        asked: desc.arg_interfaces.as_slice(),
+        child: desc.child_interface,
+        created: None,
+    };
+    // The first argument is then the last, which is taken out without moving the others.
+    message.args.reverse();
+    convert(
+        client,
+        version,
+        objects,
+        last_serial,
+        &mut progress,
+        &mut message.args,
+        args,
+    )
+}
+
+/// Goes through a request to an object that is neither a display nor a registry. Its arguments are taken out of the message,
+/// and what they become is in `args` then, where it is handed out.
+pub fn other_request<'m, U: Drop, G: GlobalHandler<C>, C>(
+    around: &Surroundings<'_, G>,
+    info: &C,
+    objects: &mut ObjectMap<Kept<U>>,
+    last_serial: &mut u64,
+    desc: &'m MessageDesc,
+    message: &mut Message<u32, Token>,
+    args: &mut SmallVec<Argument<ObjectId, Token>, INLINE_ARGS>,
+) -> Response<'m>
+    requires can_make { row_creates (message_row desc.now) ≡ true → objects.old.reserved ≡ true }
+    requires kinds { Matches desc.now.signature.items message.old.args.items }
+    requires empty { args.old.items ≡ [] }
+    requires room { HasRoomFor args.old (length message.old.args.items) }
+    requires name { holds_zero (message_row desc.now).name ≡ false }
+    ensures capacity { args.new.capacity ≡ args.old.capacity }
+    ensures names { HasNames result }
+    ensures responds { (x : ObjectOf (KeptOf U)) (c : Core U C) (registries : List Id) → held objects.old.store message.old.sender_id ≡ Some x
+        → request_verdict (around_of G.views around.now) (core_with c info.now objects.old.store last_serial.old registries) (content message.old) x (message_row desc.now)
+        ≡ response_to (around_of G.views around.now) (core_with c info.now objects.new.store last_serial.new registries) result args.new.items }
+{
+    let number = message.sender_id;
+    let opcode = message.opcode;
+    let Some(object) = objects.find(number) else {
+        return Response::Garbled;
+    };
+    let sender = id_at(&around.client, number, object);
+    let interface = object.interface;
+    let version = object.version;
+    if version < desc.since {
+        return Response::Breaks(Breach::SinceLater(opcode, version, desc.since, interface, number));
+    }
+    let is_destructor = desc.is_destructor;
+    match convert_request(
+        around.client,
+        version,
+        desc,
+        objects,
+        last_serial,
+        message,
+        args,
+    ) {
+        Ok(created) => {
+            Response::HandsOut(Found::Request(sender, opcode, is_destructor, created))
+        }
+        Err(wrong) => Response::Breaks(Breach::WrongArgument(interface, desc, wrong)),
+    }
+}

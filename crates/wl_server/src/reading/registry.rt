@@ -1,0 +1,160 @@
+//! The requests to a registry.
+
+ghost use Rattle.std.specs.Prelude.{◌≡◌, true, List, option_map};
+ghost use Rattle.std.specs.List.{list_any};
+ghost use Rattle.wl_wire.specs.declared.argument.Argument.{Argument as Arg};
+ghost use Rattle.wl_wire.specs.declared.argument.Token.{Token as TokenParts};
+ghost use Rattle.wl_wire.specs.Argument.{type_of};
+ghost use Rattle.wl_wire.specs.Table.{is_new_id};
+ghost use Rattle.wl_link.specs.Identity.{Id};
+ghost use Rattle.wl_link.specs.Store.{held};
+ghost use Rattle.wl_server.specs.Ids.{IdParts};
+ghost use Rattle.wl_server.specs.Reading.{binds, binds_to, made_at, registry_request as request_verdict};
+ghost use Rattle.wl_server.specs.Inside.Responses.{HasNames, allows, bind_of, bind_parts, core_with, response_to};
+ghost use Rattle.wl_server.specs.Telling.{Core};
+ghost use Rattle.wl_server.specs.Inside.Turns.{around_of};
+
+use crate::globals::KeptGlobal;
+use crate::globals::handler::GlobalHandler;
+use crate::ids::global_id::GlobalId;
+use crate::objects::Kept;
+use crate::reading::Surroundings;
+use crate::reading::arguments::make_object;
+use crate::reading::message::Found;
+use crate::reading::response::{Breach, Response};
+use wl_link::{Object, ObjectMap};
+use wl_wire::{Argument, CString, Message, Token};
+
+/// What a bind asks for.
+#[derive(Drop)]
+pub struct Bind<'m> {
+    /// The name of the global.
+    pub global: u32,
+    /// The name of the interface.
+    pub interface: &'m Option<CString>,
+    /// The version of the new object.
+    pub version: u32,
+    /// The number of the new object.
+    pub number: u32,
+}
+
+/// What the message asks for as a bind.
+fn bind_in(message: &Message<u32, Token>) -> Option<Bind<'_>>
+    ensures { option_map bind_of result ≡ bind_parts message.now.args.items }
+{
+    match message.args.as_slice() {
+        [
+            Argument::Uint(global),
+            Argument::Str(interface),
+            Argument::Uint(version),
+            Argument::NewId(number),
+        ] => {
+            Some(Bind {
+                global: *global,
+                interface,
+                version: *version,
+                number: *number,
+            })
+        }
+        _ => None,
+    }
+}
+
+/// Whether the global may be bound so.
+fn may_bind<G: GlobalHandler<C>, C>(
+    around: &Surroundings<'_, G>,
+    info: &C,
+    bind: &Bind<'_>,
+    global: &Object<KeptGlobal<G>>,
+) -> bool
+    ensures { result ≡ allows (around_of G.views around.now) info.now bind.now.global bind.now.interface.now bind.now.version global.now }
+{
+    let Some(interface) = bind.interface else {
+        return false;
+    };
+    if interface.as_bytes() != around.protocol.name(global.interface).as_bytes() {
+        return false;
+    }
+    if bind.version == 0 || bind.version > global.version {
+        return false;
+    }
+    let id = GlobalId::from_parts(bind.global, global.value.serial);
+    global.value.handler.can_view(&around.client, info, &id)
+}
+
+/// Goes through a request to a registry.
+pub fn registry_request<'m, U: Drop, G: GlobalHandler<C> + Drop, C>(
+    around: &Surroundings<'_, G>,
+    info: &C,
+    objects: &mut ObjectMap<Kept<U>>,
+    last_serial: &mut u64,
+    message: &'m Message<u32, Token>,
+) -> Response<'m>
+    requires { list_any (λ x. is_new_id (type_of x)) message.now.args.items ≡ true → objects.old.reserved ≡ true }
+    ensures names { HasNames result }
+    ensures responds { (c : Core U C) (registries : List Id) (args : List (Arg IdParts TokenParts))
+        → request_verdict (around_of G.views around.now) (core_with c info.now objects.old.store last_serial.old registries) message.now.args.items
+        ≡ response_to (around_of G.views around.now) (core_with c info.now objects.new.store last_serial.new registries) result args }
+{
+    let Some(bind) = bind_in(message) else {
+        return Response::Garbled;
+    };
+    bind_to(around, info, objects, last_serial, &bind)
+}
+
+/// Binds a new object to the global of this name, where it may be bound so.
+fn bind_to<'m, U: Drop, G: GlobalHandler<C> + Drop, C>(
+    around: &Surroundings<'_, G>,
+    info: &C,
+    objects: &mut ObjectMap<Kept<U>>,
+    last_serial: &mut u64,
+    bind: &Bind<'m>,
+) -> Response<'m>
+    requires { objects.old.reserved ≡ true }
+    ensures names { HasNames result }
+    ensures responds { (c : Core U C) (registries : List Id) (args : List (Arg IdParts TokenParts))
+        → binds_to (around_of G.views around.now) (core_with c info.now objects.old.store last_serial.old registries) bind.now.global bind.now.interface.now bind.now.version bind.now.number (held around.now.globals.now.store bind.now.global)
+        ≡ response_to (around_of G.views around.now) (core_with c info.now objects.new.store last_serial.new registries) result args }
+{
+    let refused = Response::Breaks(Breach::RefusedBind(bind.global, bind.version, bind.interface));
+    let Some(global) = around.globals.find(bind.global) else {
+        return refused;
+    };
+    if !may_bind(around, info, bind, global) {
+        return refused;
+    }
+    make_bound(around, info, objects, last_serial, bind, global)
+}
+
+/// Makes an object that is bound to the global.
+fn make_bound<'m, U: Drop, G: GlobalHandler<C>, C>(
+    around: &Surroundings<'_, G>,
+    info: &C,
+    objects: &mut ObjectMap<Kept<U>>,
+    last_serial: &mut u64,
+    bind: &Bind<'m>,
+    global: &Object<KeptGlobal<G>>,
+) -> Response<'m>
+    requires { objects.old.reserved ≡ true }
+    ensures names { HasNames result }
+    ensures responds { (c : Core U C) (registries : List Id) (args : List (Arg IdParts TokenParts))
+        → (let before : Core U C = core_with c info.now objects.old.store last_serial.old registries in
+        made_at (around_of G.views around.now) before bind.now.number (binds (around_of G.views around.now) before bind.now.global bind.now.version bind.now.number global.now))
+        ≡ response_to (around_of G.views around.now) (core_with c info.now objects.new.store last_serial.new registries) result args }
+{
+    let number = bind.number;
+    match make_object(
+        around.client,
+        objects,
+        last_serial,
+        global.interface,
+        bind.version,
+        number,
+    ) {
+        Some(object) => {
+            let id = GlobalId::from_parts(bind.global, global.value.serial);
+            Response::HandsOut(Found::Bind(id, object))
+        }
+        None => Response::Breaks(Breach::InvalidNewId(number)),
+    }
+}

@@ -1,0 +1,253 @@
+//! Runs of calls over transports by script.
+
+ghost use Rattle.std.specs.Prelude.{◌≡◌, ◌++◌, List, [], true, false, IfOk, IfErr, IsOk, is_err, length};
+ghost use Rattle.wl_wire.specs.Table.{InterfaceRow};
+ghost use Rattle.wl_link.specs.Runs.{AllSame, RunEntry, entries};
+ghost use Rattle.wl_link.specs.Script.{Script};
+ghost use Rattle.wl_server.specs.declared.runs.step.Reply.{Reply};
+ghost use Rattle.wl_server.specs.declared.runs.step.Step.{Step};
+ghost use Rattle.wl_server.specs.Accounts.{AccountsForStopped, AreAccountedFor};
+ghost use Rattle.wl_server.specs.Backend.{Calls};
+ghost use Rattle.wl_server.specs.PartStep.{over_scripts};
+ghost use Rattle.wl_server.specs.Inside.Performing.{IsOfAll, IsOfGlobals, IsOfObject, IsOfReading, IsOfScript};
+ghost use Rattle.wl_server.specs.Runs.{AreIsolated, Performs, StopsAt};
+ghost use Rattle.wl_server.specs.Server.{ServerState, new_server};
+ghost use Rattle.wl_server.specs.Stretches.{AreCut};
+ghost use Rattle.wl_server.specs.WholeOutcome.{SameServer, WholeReply};
+
+use crate::backend::Backend;
+use crate::globals::handler::GlobalHandler;
+use crate::runs::script::ScriptCall;
+use crate::runs::step::{Reply, Step, Stopped};
+use wl_link::Memory;
+
+impl<U: Drop, G: GlobalHandler<C> + Drop, C: Drop> Backend<Memory, U, G, C> {
+    /// Makes the call of a step that is about one object.
+    fn perform_object(&mut self, step: Step<Memory, U, G, C>) -> Reply<Memory, U>
+        requires { IsOfObject step }
+        ensures { Calls (over_scripts G.views) self.old step result self.new }
+    {
+        match step {
+            Step::SetObjectData(id, user_data) => {
+                Reply::SetObjectData(self.set_object_data(&id, user_data))
+            }
+            Step::CreateObject(client, interface, version, user_data) => {
+                Reply::CreateObject(self.create_object(&client, interface, version, user_data))
+            }
+            Step::DestroyObject(id) => Reply::DestroyObject(self.destroy_object(&id)),
+            Step::SendEvent(message) => Reply::SendEvent(self.send_event(message)),
+            Step::PostError(id, code, message) => {
+                self.post_error(&id, code, message);
+                Reply::PostError
+            }
+            _ => unreachable!(),
+        }
+    }
+
+    /// Makes the call of a step that reads of a client, or ends what was read.
+    fn perform_reading(&mut self, step: Step<Memory, U, G, C>) -> Reply<Memory, U>
+        requires { IsOfReading step }
+        ensures { Calls (over_scripts G.views) self.old step result self.new }
+    {
+        match step {
+            Step::NextAction(client) => Reply::NextAction(self.next_action(&client)),
+            Step::NextActionWithin(client, reading) => {
+                let mut reading = reading;
+                let answer = self.next_action_within(&client, &mut reading);
+                Reply::NextActionWithin(answer, reading)
+            }
+            Step::FinishRequest(client, user_data) => {
+                Reply::FinishRequest(self.finish_request(&client, user_data))
+            }
+            Step::FinishBind(client, user_data) => {
+                Reply::FinishBind(self.finish_bind(&client, user_data))
+            }
+            _ => unreachable!(),
+        }
+    }
+
+    /// Makes the call of a step that is about globals, or that kills or limits a client.
+    fn perform_global(&mut self, step: Step<Memory, U, G, C>) -> Reply<Memory, U>
+        requires { IsOfGlobals step }
+        ensures { Calls (over_scripts G.views) self.old step result self.new }
+    {
+        match step {
+            Step::CreateGlobal(interface, version, handler) => {
+                Reply::CreateGlobal(self.create_global(interface, version, handler))
+            }
+            Step::DisableGlobal(global) => {
+                self.disable_global(&global);
+                Reply::DisableGlobal
+            }
+            Step::RemoveGlobal(global) => {
+                self.remove_global(&global);
+                Reply::RemoveGlobal
+            }
+            Step::KillClient(client, reason) => {
+                self.kill_client(&client, reason);
+                Reply::KillClient
+            }
+            Step::SetClientMaxBufferSize(client, max_buffer_size) => {
+                self.set_client_max_buffer_size(&client, max_buffer_size);
+                Reply::SetClientMaxBufferSize
+            }
+            _ => unreachable!(),
+        }
+    }
+
+    /// Makes the call of a step that is about all clients, or a new one.
+    fn perform_shared(&mut self, step: Step<Memory, U, G, C>) -> Reply<Memory, U>
+        requires { IsOfAll step }
+        ensures { Calls (over_scripts G.views) self.old step result self.new }
+    {
+        match step {
+            Step::InsertClient(transport, info) => {
+                Reply::InsertClient(self.insert_client(transport, info))
+            }
+            Step::Flush(client) => Reply::Flush(self.flush(client)),
+            Step::SetDefaultMaxBufferSize(max_buffer_size) => {
+                self.set_default_max_buffer_size(max_buffer_size);
+                Reply::SetDefaultMaxBufferSize
+            }
+            Step::Cleanup => Reply::Cleanup(self.cleanup()),
+            Step::TakeNotes => Reply::TakeNotes(self.take_notes()),
+            _ => unreachable!(),
+        }
+    }
+
+    /// Makes the call of a step of a transport by script.
+    fn perform_script(&mut self, step: Step<Memory, U, G, C>) -> Reply<Memory, U>
+        requires { IsOfScript step }
+        ensures { Calls (over_scripts G.views) self.old step result self.new }
+    {
+        match step {
+            Step::Arrive(client, bytes, tokens) => {
+                Reply::Arrive(self.script(&client, ScriptCall::Arrive(bytes, tokens)))
+            }
+            Step::ArriveFault(client, fault) => {
+                Reply::ArriveFault(self.script(&client, ScriptCall::ArriveFault(fault)))
+            }
+            Step::Accept(client, count) => {
+                Reply::Accept(self.script(&client, ScriptCall::Accept(count)))
+            }
+            Step::AcceptFault(client, fault) => {
+                Reply::AcceptFault(self.script(&client, ScriptCall::AcceptFault(fault)))
+            }
+            Step::TakeSent(client) => Reply::TakeSent(self.take_sent(&client)),
+            _ => unreachable!(),
+        }
+    }
+
+    /// Makes the call of a step.
+    fn perform(&mut self, step: Step<Memory, U, G, C>) -> Reply<Memory, U>
+        ensures { Calls (over_scripts G.views) self.old step result self.new }
+    {
+        match step {
+            Step::SetObjectData(..)
+            | Step::CreateObject(..)
+            | Step::DestroyObject(_)
+            | Step::SendEvent(_)
+            | Step::PostError(..) => self.perform_object(step),
+            Step::NextAction(_)
+            | Step::NextActionWithin(..)
+            | Step::FinishRequest(..)
+            | Step::FinishBind(..) => self.perform_reading(step),
+            Step::CreateGlobal(..)
+            | Step::DisableGlobal(_)
+            | Step::RemoveGlobal(_)
+            | Step::KillClient(..)
+            | Step::SetClientMaxBufferSize(..) => self.perform_global(step),
+            Step::Arrive(..)
+            | Step::ArriveFault(..)
+            | Step::Accept(..)
+            | Step::AcceptFault(..)
+            | Step::TakeSent(_) => self.perform_script(step),
+            _ => self.perform_shared(step),
+        }
+    }
+
+    /// Makes the calls of the steps, one after another, and puts their replies into the list, which is empty; up to the
+    /// step in which memory is refused. Room for the replies is made first.
+    fn perform_all(
+        &mut self,
+        steps: &mut Vec<Step<Memory, U, G, C>>,
+        replies: &mut Vec<Reply<Memory, U>>,
+    )
+        requires { replies.old.items ≡ [] }
+        ensures none { steps.old.items ≡ [] → self.new.refused ≡ false }
+        ensures made { self.new.refused ≡ false →
+            Performs (over_scripts G.views) self.old.server (entries steps.old.items replies.new.items) self.new.server × (length replies.new.items ≡ length steps.old.items) }
+        ensures stopped { self.new.refused ≡ true →
+            StopsAt (over_scripts G.views) self.old.server steps.old.items (length replies.new.items) replies.new.items self.new.server }
+    {
+        let Ok(()) = replies.reserve_exact(steps.len()) else {
+            self.refused = true;
+            return;
+        };
+        // The first step is then the last, which is taken out without moving the others.
+        steps.reverse();
+        self.refused = false;
+        while let Some(step) = steps.pop() {
+            let reply = self.perform(step);
+            if self.refused {
+                drop(reply);
+                return;
+            }
+            replies.push_reserved(reply);
+        }
+    }
+
+    /// Makes the calls of the steps, one after another, and answers their replies.
+    ///
+    /// Room for the replies is made first. In the first step that meets a want of memory the run stops: `Stopped`
+    /// names that step and has the replies to those before it, and the later ones are dropped. Step 0 is named also
+    /// where there was no room for the replies; nothing was done then. A run of no steps needs none.
+    ///
+    /// The run joins the runs before it. So what is held of each client that was inserted since the server was made is
+    /// what its own steps and the shared ones lead to alone, begun with the id that it got; no other client's steps
+    /// matter to it. Each id of an object that was handed out names its own object and no later one, what a client's
+    /// transport took is what was put for it, what its registries announced is what it is shown, and each object that
+    /// left with user data is noted once. A stretch of a client's own steps in which bytes arrive, and actions are read and
+    /// finished, gives what is served of all that arrived, however it was cut. The same steps give the same replies of any
+    /// server that is the same to its program, and leave one that is, where neither run stops.
+    pub fn replay(
+        &mut self,
+        steps: Vec<Step<Memory, U, G, C>>,
+    ) -> Result<Vec<Reply<Memory, U>>, Stopped<Memory, U>>
+        ensures none { steps.items ≡ [] → IsOk result }
+        ensures count { IfOk result (λ replies. length replies.items ≡ length steps.items) }
+        ensures steps { IfOk result (λ replies. Performs (over_scripts G.views) self.old.server (entries steps.items replies.items) self.new.server) }
+        ensures joined { IfOk result (λ replies. (begun : ServerState Script U G C) (run : List (RunEntry (Step Script U G C) (Reply Script U))) →
+            Performs (over_scripts G.views) begun run self.old.server →
+            Performs (over_scripts G.views) begun (run ++ entries steps.items replies.items) self.new.server) }
+        ensures isolated { IfOk result (λ replies. (table : List InterfaceRow) (run : List (RunEntry (Step Script U G C) (Reply Script U))) →
+            Performs (over_scripts G.views) (new_server table) run self.old.server →
+            AreIsolated (over_scripts G.views) table (run ++ entries steps.items replies.items) self.new.server) }
+        ensures accounted { IfOk result (λ replies. (table : List InterfaceRow) (run : List (RunEntry (Step Script U G C) (Reply Script U))) →
+            Performs (over_scripts G.views) (new_server table) run self.old.server →
+            AreAccountedFor (over_scripts G.views) table (run ++ entries steps.items replies.items) self.new.server) }
+        ensures outcome { IfOk result (λ replies. (same other : ServerState Script U G C) (others : List (Reply Script U)) →
+            SameServer self.old.server same → length others ≡ length steps.items →
+            Performs (over_scripts G.views) same (entries steps.items others) other →
+            AllSame WholeReply replies.items others × SameServer self.new.server other) }
+        ensures cutting { IfOk result (λ replies. (begun : ServerState Script U G C) (run : List (RunEntry (Step Script U G C) (Reply Script U))) →
+            Performs (over_scripts G.views) begun run self.old.server →
+            AreCut G.views begun (run ++ entries steps.items replies.items) self.new.server) }
+        ensures stopped_accounts { IfErr result (λ stopped. (table : List InterfaceRow) (run : List (RunEntry (Step Script U G C) (Reply Script U))) →
+            Performs (over_scripts G.views) (new_server table) run self.old.server →
+            AccountsForStopped (over_scripts G.views) table run steps.items stopped.replies.items self.new.server) }
+        ensures stopped { IfErr result (λ stopped. StopsAt (over_scripts G.views) self.old.server steps.items stopped.step stopped.replies.items self.new.server) }
+        ensures refused { self.new.refused ≡ is_err result }
+    {
+        let mut steps = steps;
+        let mut replies = Vec::new(*self.notes.allocator());
+        self.perform_all(&mut steps, &mut replies);
+        if self.refused {
+            return Err(Stopped {
+                step: replies.len(),
+                replies,
+            });
+        }
+        Ok(replies)
+    }
+}

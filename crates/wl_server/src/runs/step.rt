@@ -1,0 +1,127 @@
+//! The calls of a server as values, for a run of them.
+
+use crate::error::{
+    ActionError, CreateError, DestroyError, EventError, FinishRefused, GlobalError,
+    InsertClientError, InvalidId, ScriptError,
+};
+use crate::ids::client_id::ClientId;
+use crate::ids::global_id::GlobalId;
+use crate::ids::object_id::ObjectId;
+use crate::notes::{DisconnectReason, Note};
+use crate::reading::action::{Action, Reading};
+use wl_wire::{CString, InterfaceId, IoFault, Message, OutOfMemory, Token};
+
+/// A call that changes a server: one of its own, or one of a client's transport by script.
+#[derive(Drop)]
+pub enum Step<T, U, G, C> {
+    /// `Backend::insert_client`.
+    InsertClient(T, C),
+    /// `Backend::set_object_data`.
+    SetObjectData(ObjectId, U),
+    /// `Backend::create_object`.
+    CreateObject(ClientId, InterfaceId, u32, U),
+    /// `Backend::destroy_object`.
+    DestroyObject(ObjectId),
+    /// `Backend::send_event`.
+    SendEvent(Message<ObjectId, Token>),
+    /// `Backend::post_error`.
+    PostError(ObjectId, u32, CString),
+    /// `Backend::kill_client`.
+    KillClient(ClientId, DisconnectReason),
+    /// `Backend::create_global`.
+    CreateGlobal(InterfaceId, u32, G),
+    /// `Backend::disable_global`.
+    DisableGlobal(GlobalId),
+    /// `Backend::remove_global`.
+    RemoveGlobal(GlobalId),
+    /// `Backend::flush`.
+    Flush(Option<ClientId>),
+    /// `Backend::set_default_max_buffer_size`.
+    SetDefaultMaxBufferSize(usize),
+    /// `Backend::set_client_max_buffer_size`.
+    SetClientMaxBufferSize(ClientId, usize),
+    /// `Backend::next_action`.
+    NextAction(ClientId),
+    /// `Backend::next_action_within`.
+    NextActionWithin(ClientId, Reading),
+    /// `Backend::finish_request`.
+    FinishRequest(ClientId, Option<U>),
+    /// `Backend::finish_bind`.
+    FinishBind(ClientId, U),
+    /// `Backend::cleanup`.
+    Cleanup,
+    /// `Backend::take_notes`.
+    TakeNotes,
+    /// `Memory::arrive`.
+    Arrive(ClientId, Vec<u8>, Vec<Token>),
+    /// `Memory::arrive_fault`.
+    ArriveFault(ClientId, IoFault),
+    /// `Memory::accept`.
+    Accept(ClientId, usize),
+    /// `Memory::accept_fault`.
+    AcceptFault(ClientId, IoFault),
+    /// `Memory::take_sent`.
+    TakeSent(ClientId),
+}
+
+/// The answer of a step's call.
+#[derive(Drop)]
+pub enum Reply<T, U> {
+    /// To `Step::InsertClient`.
+    InsertClient(Result<ClientId, InsertClientError>),
+    /// To `Step::SetObjectData`.
+    SetObjectData(Result<(), InvalidId>),
+    /// To `Step::CreateObject`.
+    CreateObject(Result<ObjectId, CreateError>),
+    /// To `Step::DestroyObject`.
+    DestroyObject(Result<(), DestroyError>),
+    /// To `Step::SendEvent`.
+    SendEvent(Result<(), EventError>),
+    /// To `Step::PostError`.
+    PostError,
+    /// To `Step::KillClient`.
+    KillClient,
+    /// To `Step::CreateGlobal`.
+    CreateGlobal(Result<GlobalId, GlobalError>),
+    /// To `Step::DisableGlobal`.
+    DisableGlobal,
+    /// To `Step::RemoveGlobal`.
+    RemoveGlobal,
+    /// To `Step::Flush`.
+    Flush(Result<(), IoFault>),
+    /// To `Step::SetDefaultMaxBufferSize`.
+    SetDefaultMaxBufferSize,
+    /// To `Step::SetClientMaxBufferSize`.
+    SetClientMaxBufferSize,
+    /// To `Step::NextAction`.
+    NextAction(Result<Action, ActionError>),
+    /// To `Step::NextActionWithin`, with what is left of the reading.
+    NextActionWithin(Result<Action, ActionError>, Reading),
+    /// To `Step::FinishRequest`.
+    FinishRequest(Result<(), FinishRefused<Option<U>>>),
+    /// To `Step::FinishBind`.
+    FinishBind(Result<(), FinishRefused<U>>),
+    /// To `Step::Cleanup`.
+    Cleanup(Result<Vec<(ClientId, T)>, OutOfMemory>),
+    /// To `Step::TakeNotes`.
+    TakeNotes(Result<Vec<Note<U>>, OutOfMemory>),
+    /// To `Step::Arrive`.
+    Arrive(Result<(), ScriptError>),
+    /// To `Step::ArriveFault`.
+    ArriveFault(Result<(), ScriptError>),
+    /// To `Step::Accept`.
+    Accept(Result<(), ScriptError>),
+    /// To `Step::AcceptFault`.
+    AcceptFault(Result<(), ScriptError>),
+    /// To `Step::TakeSent`.
+    TakeSent(Result<Vec<(Vec<u8>, Vec<Token>)>, InvalidId>),
+}
+
+/// A run that met a want of memory.
+#[derive(Drop)]
+pub struct Stopped<T, U> {
+    /// The step in which memory was refused, counted from 0.
+    pub step: usize,
+    /// The replies to the steps before it.
+    pub replies: Vec<Reply<T, U>>,
+}

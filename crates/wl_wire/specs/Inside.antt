@@ -1,0 +1,3 @@
+-- What the functions inside promise each other; no public clause names these.
+pub mod Cursor
+pub mod Buffer
