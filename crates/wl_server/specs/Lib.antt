@@ -24,6 +24,7 @@ pub mod Outcome
 pub mod WholeOutcome
 pub mod HandedIds
 pub mod Identified
+pub mod Named
 pub mod Logged
 pub mod NotedOnce
 pub mod Announced

@@ -24,6 +24,7 @@ ghost use Rattle.wl_server.specs.Globals.{CreatesGlobal, Globals, Offer};
 ghost use Rattle.wl_server.specs.Ids.{ClientParts, GlobalParts};
 ghost use Rattle.wl_server.specs.Outcome.{ClientsHaveOneOutcome, OffersHaveOneOutcome, OwnRunsHaveOneOutcome, StepsHaveOneOutcome};
 ghost use Rattle.wl_server.specs.Identified.{EachHasOwnIds, HaveOwnIds};
+ghost use Rattle.wl_server.specs.Named.{EachKeepsNaming, EachNamesNoneAgain};
 ghost use Rattle.wl_server.specs.Logged.{EachLogIsSpelled, HaveSpelledLogs};
 ghost use Rattle.wl_server.specs.NotedOnce.{CleanupNotesAll, EachIsNoted, FinishNotesAtOnce, HaveNotes};
 ghost use Rattle.wl_server.specs.Part.{Part};
@@ -108,6 +109,26 @@ pub fn each_id_names_its_own_object<T: Transport, U, G: GlobalHandler<C>, C>()
         Leads (over T.sends T.receives G.views) (new_server table) run after → EachHasOwnIds (over T.sends T.receives G.views) table run after }
     ensures script { (table : List InterfaceRow) (steps : List (RunEntry (Step Script U G C) (Reply Script U))) (after : ServerState Script U G C) →
         Performs (over_scripts G.views) (new_server table) steps after → HaveOwnIds (over_scripts G.views) table steps after }
+{}
+
+/// The identity law of any id, however it came to be: one that `object_for_protocol_id` or `with_all_objects_for` answers too.
+///
+/// From each point of a run on at which an id names an object of a client, it names that very object exactly while that is
+/// kept and its client stored, and afterwards none (`named`): by changes that also make the ids of the client's whole run
+/// its own. Where it names none at a later point, it names none ever after (`none`).
+pub fn each_id_that_names_an_object_keeps_it<T: Transport, U, G: GlobalHandler<C>, C>()
+    ensures named { (table : List InterfaceRow) (done later : List (Entry T U G C)) (point after : ServerState T U G C) →
+        Leads (over T.sends T.receives G.views) (new_server table) done point → Leads (over T.sends T.receives G.views) point later after →
+        EachKeepsNaming (over T.sends T.receives G.views) table done point later after }
+    ensures none { (table : List InterfaceRow) (done between later : List (Entry T U G C)) (point mid after : ServerState T U G C) →
+        Leads (over T.sends T.receives G.views) (new_server table) done point → Leads (over T.sends T.receives G.views) point between mid →
+        Leads (over T.sends T.receives G.views) mid later after → EachNamesNoneAgain done point mid after }
+    ensures script_named { (table : List InterfaceRow) (done later : List (Entry Script U G C)) (point after : ServerState Script U G C) →
+        Leads (over_scripts G.views) (new_server table) done point → Leads (over_scripts G.views) point later after →
+        EachKeepsNaming (over_scripts G.views) table done point later after }
+    ensures script_none { (table : List InterfaceRow) (done between later : List (Entry Script U G C)) (point mid after : ServerState Script U G C) →
+        Leads (over_scripts G.views) (new_server table) done point → Leads (over_scripts G.views) point between mid →
+        Leads (over_scripts G.views) mid later after → EachNamesNoneAgain done point mid after }
 {}
 
 /// Log equals bytes, over every transport.

@@ -18,7 +18,7 @@
 //! | `replay` | `runs` | `Runs` |
 //!
 //! The laws of runs are the contracts of the functions of [`laws`]. Each names its statement: `Runs` (each client is alone),
-//! `Identified` (ids), `Logged` (what was sent), `Announced` (globals), `NotedOnce` (notes), `Cutting` and `Stretches`
+//! `Identified` and `Named` (ids), `Logged` (what was sent), `Announced` (globals), `NotedOnce` (notes), `Cutting` and `Stretches`
 //! (cutting does not matter), `Outcome` and `WholeOutcome` (there is one outcome), `Room` (a reading has room).
 #![tactic(auto)]
 
