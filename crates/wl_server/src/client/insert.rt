@@ -28,9 +28,8 @@ use std::collections::VecDeque;
 use wl_link::{BufferedSocket, ObjectMap, Transport};
 use wl_wire::{OutOfMemory, WL_DISPLAY_INTERFACE};
 
-/// What a client in which nothing has happened keeps beside its link: its objects, of which the display is the only one, and the note
-/// that it was inserted, with
-/// room for that of its end.
+/// What a client in which nothing has happened keeps beside its link: its objects, of which the display is the only one,
+/// and the note that it was inserted, with room for that of its end.
 fn first_lists<U: Drop>(
     alloc: Global,
     numbers: &mut NoteNumbers,
