@@ -32,6 +32,7 @@ pub mod Cutting
 pub mod Stretches
 pub mod Room
 pub mod Accounts
+pub mod Histories
 -- ---- dispatches
 pub mod Reached
 pub mod Dispatch

@@ -15,7 +15,7 @@
 //! | `create_global`, `disable_global`, `remove_global` | `globals` | `Globals`, `Felt` |
 //! | `cleanup`, `take_notes` | `notes` | `PartStep`, `Felt` |
 //! | look-ups, `with_all_clients`, `with_all_objects_for` | `lookups`, `globals::lookups` | `Lookups` |
-//! | `replay` | `runs` | `Runs` |
+//! | `replay` | `runs` | `Runs`, `Histories` |
 //!
 //! The laws of runs are the contracts of the functions of [`laws`]. Each names its statement: `Runs` (each client is alone),
 //! `Identified` and `Named` (ids), `Logged` (what was sent), `Announced` (globals), `NotedOnce` (notes), `Cutting` and `Stretches`
