@@ -1,3 +1,4 @@
+mod FirstAnswer
 mod FirstSync
 mod HexWords
 mod InputLines

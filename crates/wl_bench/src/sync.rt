@@ -1,7 +1,9 @@
 //! The first exchange of a client and a server: `wl_display.sync`, and its answer.
 
 ghost use Rattle.std.specs.Prelude.{◌≡◌, IfOk, OnOk};
-ghost use Rattle.wl_bench.specs.Sync.{IsFresh, all_bytes, request_bytes};
+ghost use Rattle.wl_bench.specs.Sync.{HasAsked, IsFresh, WasSent, all_bytes, answer_bytes, bringing, request_bytes};
+ghost use Rattle.wl_server.specs.Server.{new_server};
+ghost use Rattle.wl_wire.specs.Table.{fixed_rows};
 
 use crate::stop::Stop;
 use smallvec::SmallVec;
@@ -74,25 +76,48 @@ pub fn request(alloc: Global) -> Result<Vec<u8>, Stop>
 type Server = wl_server::Backend<Memory, (), ShownToAll, ()>;
 
 /// A transport from which these bytes come.
-fn bringing(alloc: Global, bytes: &[u8]) -> Result<Memory, Stop> {
+fn bringing(alloc: Global, bytes: &[u8]) -> Result<Memory, Stop>
+    ensures { IfOk result (λ transport. transport ≡ bringing bytes.now) }
+{
     let mut transport = Memory::new(alloc);
     transport.arrive(Vec::from_slice(alloc, bytes)?, Vec::new(alloc))?;
     Ok(transport)
 }
 
+/// A server over the fixed interfaces, in which nothing has happened.
+fn fresh_server(alloc: Global) -> Result<Server, Stop>
+    ensures { IfOk result (λ server. server.server ≡ new_server fixed_rows) }
+{
+    Ok(Server::new(alloc, Protocol::new(alloc, Vec::new(alloc))?))
+}
+
+/// Takes a client from which these bytes come.
+fn insert(alloc: Global, server: &mut Server, request: &[u8]) -> Result<ClientId, Stop>
+    ensures { server.old.server ≡ new_server fixed_rows → request.now ≡ request_bytes → IfOk result (HasAsked server.new.server) }
+{
+    let transport = bringing(alloc, request)?;
+    Ok(server.insert_client(transport, ())?)
+}
+
 /// Reads and handles what came of a client, for which the server hands nothing out, and sends the answer.
-fn serve(server: &mut Server, client: &ClientId) -> Result<(), Stop> {
+fn serve(server: &mut Server, client: &ClientId) -> Result<(), Stop>
+    ensures { OnOk result (HasAsked server.old.server client.now → WasSent server.new.server client.now answer_bytes) }
+{
     match server.next_action(client) {
         Err(ActionError::Io(IoFault::WouldBlock)) => {}
         _ => return Err(Stop::Failed),
+    }
+    if server.memory_refused() {
+        return Err(Stop::Failed);
     }
     Ok(server.flush(Some(*client))?)
 }
 
 /// All bytes that a server sends to a new client of which these come.
-fn answer_to(alloc: Global, server: &mut Server, request: &[u8]) -> Result<Vec<u8>, Stop> {
-    let transport = bringing(alloc, request)?;
-    let client = server.insert_client(transport, ())?;
+fn answer_to(alloc: Global, server: &mut Server, request: &[u8]) -> Result<Vec<u8>, Stop>
+    ensures { server.old.server ≡ new_server fixed_rows → request.now ≡ request_bytes → IfOk result (λ v. v.items ≡ answer_bytes) }
+{
+    let client = insert(alloc, server, request)?;
     serve(server, &client)?;
     sent_bytes(alloc, server.transport(&client)?)
 }
@@ -100,7 +125,9 @@ fn answer_to(alloc: Global, server: &mut Server, request: &[u8]) -> Result<Vec<u
 /// The bytes that a fresh server sends to its first client for its first request.
 ///
 /// For a `wl_display.sync` these are two events: the callback is done, and its number is free again.
-pub fn answer(alloc: Global, request: &[u8]) -> Result<Vec<u8>, Stop> {
-    let mut server = Server::new(alloc, Protocol::new(alloc, Vec::new(alloc))?);
+pub fn answer(alloc: Global, request: &[u8]) -> Result<Vec<u8>, Stop>
+    ensures { request.now ≡ request_bytes → IfOk result (λ v. v.items ≡ answer_bytes) }
+{
+    let mut server = fresh_server(alloc)?;
     answer_to(alloc, &mut server, request)
 }

@@ -11,6 +11,7 @@ pub mod Finish
 pub mod Steps
 -- Laws of runs.
 pub mod Handed
+pub mod Named
 pub mod Noted
 pub mod Failed
 pub mod Replies

@@ -13,9 +13,11 @@ ghost use Rattle.wl_client.specs.declared.step.Reply.{Reply};
 ghost use Rattle.wl_client.specs.declared.step.Step.{Step};
 ghost use Rattle.wl_client.specs.Failed.{StaysFailed};
 ghost use Rattle.wl_client.specs.Handed.{HasOwnIds};
+ghost use Rattle.wl_client.specs.Named.{KeepsNaming};
+ghost use Rattle.wl_client.specs.ObjectId.{IdParts};
 ghost use Rattle.wl_client.specs.Noted.{NotesWhatEnded};
 ghost use Rattle.wl_client.specs.Replies.{SameReply, SameReplies};
-ghost use Rattle.wl_client.specs.Session.{Core, SessionState, IsConnected};
+ghost use Rattle.wl_client.specs.Session.{Core, SessionState, IsConnected, named};
 ghost use Rattle.wl_client.specs.Steps.{Entry, Leads, StepOf, entries};
 ghost use Rattle.wl_client.specs.Stretches.{IsRunServed, IsStretch, IsStretchWithin, SameLeft, arrived, events_of, finished};
 
@@ -31,6 +33,20 @@ use wl_link::Transport;
 pub fn each_id_names_its_own_object<U>()
     ensures { (table : List InterfaceRow) (transport : Script) (before after : SessionState Script U) (run : List (Entry U)) →
         IsConnected table transport before → Leads before run after → HasOwnIds before run after }
+{}
+
+/// The identity law of any id, however it came to be: one of a look-up or of `display_id` too.
+///
+/// From each point of a run on at which it names an object, it names that very object exactly while that is kept, and
+/// afterwards none (`named`): by changes that also make the ids of the whole run its own. Where it names none at a later
+/// point, it names none ever after (`none`).
+pub fn each_id_that_names_an_object_keeps_it<U>()
+    ensures named { (table : List InterfaceRow) (transport : Script) (begun point after : SessionState Script U) (done later : List (Entry U)) →
+        IsConnected table transport begun → Leads begun done point → Leads point later after →
+        KeepsNaming begun done point later after }
+    ensures none { (table : List InterfaceRow) (transport : Script) (begun point mid after : SessionState Script U) (done between later : List (Entry U)) →
+        IsConnected table transport begun → Leads begun done point → Leads point between mid → Leads mid later after →
+        (id : IdParts) → IsSome (named point.store id) → ¬ IsSome (named mid.store id) → ¬ IsSome (named after.store id) }
 {}
 
 /// The law of a session's notes.

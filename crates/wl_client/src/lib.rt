@@ -13,10 +13,10 @@
 //! | `next_event` | `next_event`, `message`, `event`, `arguments`, `display` | `Reading`, `Handling`, `Events`, `Cutting` |
 //! | `finish_event` | `finish_event` | `Finish`, `Cutting` |
 //! | `info`, `get_data`, `set_data`, `destroy_object` | `objects` | `Objects` |
-//! | `replay` | `step`, `replay` | `Steps`, `Handed`, `Noted`, `Replies`, `Stretches` |
+//! | `replay` | `step`, `replay` | `Steps`, `Handed`, `Named`, `Noted`, `Replies`, `Stretches` |
 //!
-//! The laws of runs are the contracts of the functions of [`laws`]. Each names its statement: `Handed` (ids), `Noted`
-//! (notes), `Failed` (errors), `Replies` (there is one outcome), `Cutting` and `Stretches` (cutting does not matter).
+//! The laws of runs are the contracts of the functions of [`laws`]. Each names its statement: `Handed` and `Named` (ids),
+//! `Noted` (notes), `Failed` (errors), `Replies` (there is one outcome), `Cutting` and `Stretches` (cutting does not matter).
 #![tactic(auto)]
 
 mod arguments;

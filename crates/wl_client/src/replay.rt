@@ -4,6 +4,7 @@ ghost use Rattle.std.specs.Prelude.{◌≡◌, ◌∷◌, ◌++◌, List, [], tr
 ghost use Rattle.wl_wire.specs.Table.{InterfaceRow};
 ghost use Rattle.wl_link.specs.Script.{Script, parcel};
 ghost use Rattle.wl_client.specs.Handed.{HasOwnIds};
+ghost use Rattle.wl_client.specs.Named.{KeepsNaming};
 ghost use Rattle.wl_client.specs.Noted.{AccountsForStopped, NotesWhatEnded};
 ghost use Rattle.wl_client.specs.Replies.{SameReplies};
 ghost use Rattle.wl_client.specs.Session.{IsConnected, SessionState};
@@ -141,8 +142,8 @@ impl<U: Drop> Backend<Memory, U> {
     /// where there was no room for the replies; nothing was done then. A run of no steps needs none.
     ///
     /// The run joins the runs before it. So each id that was handed out since the connecting, by a reply, an event or
-    /// a note, names the object that it was made of exactly while that is kept, and afterwards none; and the notes are those
-    /// of the objects that ended with user data, in order. A run that stopped has both too. Each part of it in which bytes
+    /// a note, names the object that it was made of exactly while that is kept, and afterwards none; so does any id, from a
+    /// point on at which it names an object (`named`). The notes are those of the objects that ended with user data, in order. A run that stopped has both too. Each part of it in which bytes
     /// arrive, and events are read and finished, hands out what is served of all that arrived, however it was cut. The
     /// replies and the session after it are the only ones that the steps may lead to.
     pub fn replay(&mut self, steps: Vec<Step<U>>) -> Result<Vec<Reply<U>>, Stopped<U>>
@@ -155,6 +156,10 @@ impl<U: Drop> Backend<Memory, U> {
             (table : List InterfaceRow) (transport : Script) (begun : SessionState Script U) (run : List (Entry U)) →
             IsConnected table transport begun → Leads begun run self.old.session →
             HasOwnIds begun (run ++ entries steps.items replies.items) self.new.session) }
+        ensures named { IfOk result (λ replies.
+            (table : List InterfaceRow) (transport : Script) (begun point : SessionState Script U) (done later : List (Entry U)) →
+            IsConnected table transport begun → Leads begun done point → Leads point later self.old.session →
+            KeepsNaming begun done point (later ++ entries steps.items replies.items) self.new.session) }
         ensures notes { IfOk result (λ replies.
             (table : List InterfaceRow) (transport : Script) (begun : SessionState Script U) (run : List (Entry U)) →
             IsConnected table transport begun → Leads begun run self.old.session →

@@ -22,5 +22,6 @@ pub mod Stretch
 -- Laws of runs: of calls, and of objects by their ids.
 pub mod Runs
 pub mod Identity
+pub mod Named
 -- What only the functions inside promise each other.
 pub mod Inside

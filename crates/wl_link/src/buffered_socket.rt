@@ -319,6 +319,19 @@ impl<T: Transport> BufferedSocket<T> {
         ensures kept { FlushKeeps T.sends self.old result self.new }
         ensures drained { FlushDrains T.sends self.old result self.new }
     {
+        if self.outgoing.is_empty() {
+            return Ok(());
+        }
+        self.flush_waiting()
+    }
+
+    /// Sends what waits, where bytes wait. It is apart, so that a flush of a link on which none wait is one comparison.
+    #[inline(never)]
+    fn flush_waiting(&mut self) -> Result<(), IoFault>
+        ensures flushed { Flushed T.sends self.old result self.new }
+        ensures kept { FlushKeeps T.sends self.old result self.new }
+        ensures drained { FlushDrains T.sends self.old result self.new }
+    {
         while self.outgoing.len() > 0 {
             let bytes = first_bytes(self.outgoing.bytes(), self.fds_out.len());
             let fds = self.fds_out.first(MAX_FDS_OUT);

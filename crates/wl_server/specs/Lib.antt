@@ -24,6 +24,7 @@ pub mod Outcome
 pub mod WholeOutcome
 pub mod HandedIds
 pub mod Identified
+pub mod Named
 pub mod Logged
 pub mod NotedOnce
 pub mod Announced
@@ -31,6 +32,7 @@ pub mod Cutting
 pub mod Stretches
 pub mod Room
 pub mod Accounts
+pub mod Histories
 -- ---- dispatches
 pub mod Reached
 pub mod Dispatch

@@ -115,8 +115,8 @@ pub enum GlobalError {
 /// Why no action was handed out.
 #[derive(Clone, Copy, Debug, PartialEq, Eq, Error)]
 pub enum ActionError {
-    /// The transport failed, or would block; the client broke the protocol (`Proto`), was killed (`Pipe`) or is not stored
-    /// (`InvalidInput`); or there was no memory (`OutOfMemory`).
+    /// The transport failed, or would block; the client sent bytes that are no message that it may send (`Proto`), broke the
+    /// protocol otherwise or was killed (`Pipe`), or is not stored (`InvalidInput`); or there was no memory (`OutOfMemory`).
     #[error("Io error: {0}")]
     Io(IoFault),
     /// An action was handed out and not finished yet.

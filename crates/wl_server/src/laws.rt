@@ -17,13 +17,14 @@ ghost use Rattle.wl_server.specs.declared.error.InsertClientError.{InsertClientE
 ghost use Rattle.wl_server.specs.declared.error.InsertClientError.TheVariants as insert;
 ghost use Rattle.wl_server.specs.declared.runs.step.Reply.{Reply};
 ghost use Rattle.wl_server.specs.declared.runs.step.Step.{Step};
-ghost use Rattle.wl_server.specs.Accounts.{AreAccountedFor};
+ghost use Rattle.wl_server.specs.Accounts.{AreAccountedFor, IsAccountedFor};
 ghost use Rattle.wl_server.specs.Announced.{EachAnnouncesShown, HaveAnnouncements};
 ghost use Rattle.wl_server.specs.Cutting.{EachIsServed, GoesOn, HistoriesAreCut, IsServed};
 ghost use Rattle.wl_server.specs.Globals.{CreatesGlobal, Globals, Offer};
 ghost use Rattle.wl_server.specs.Ids.{ClientParts, GlobalParts};
 ghost use Rattle.wl_server.specs.Outcome.{ClientsHaveOneOutcome, OffersHaveOneOutcome, OwnRunsHaveOneOutcome, StepsHaveOneOutcome};
 ghost use Rattle.wl_server.specs.Identified.{EachHasOwnIds, HaveOwnIds};
+ghost use Rattle.wl_server.specs.Named.{EachKeepsNaming, EachNamesNoneAgain};
 ghost use Rattle.wl_server.specs.Logged.{EachLogIsSpelled, HaveSpelledLogs};
 ghost use Rattle.wl_server.specs.NotedOnce.{CleanupNotesAll, EachIsNoted, FinishNotesAtOnce, HaveNotes};
 ghost use Rattle.wl_server.specs.Part.{Part};
@@ -31,7 +32,7 @@ ghost use Rattle.wl_server.specs.PartStep.{Call, around, over, over_scripts, sha
 ghost use Rattle.wl_server.specs.Reading.{Around, reads_on, server};
 ghost use Rattle.wl_server.specs.Runs.{Alone, AreIsolated, IsIsolated, Leads, Own, Performs, history};
 ghost use Rattle.wl_server.specs.Server.{Seen, ServerState, Stored, new_server};
-ghost use Rattle.wl_server.specs.Steps.{RiseBySlot, Entry, InsertsNext, StepOf};
+ghost use Rattle.wl_server.specs.Steps.{RiseBySlot, Entry, InsertsNext, OneStep, StepOf};
 ghost use Rattle.wl_server.specs.Stretches.{IsServed as IsRunServed, IsStretch, IsStretchWithin, SameLeft, answered, arrived, beside_exchanges, finished};
 ghost use Rattle.wl_server.specs.Telling.{Core, Finish, Told};
 ghost use Rattle.wl_server.specs.WholeOutcome.{AnswersAlike, PerformancesHaveOneOutcome, RunsHaveOneOutcome, SameServer};
@@ -110,6 +111,26 @@ pub fn each_id_names_its_own_object<T: Transport, U, G: GlobalHandler<C>, C>()
         Performs (over_scripts G.views) (new_server table) steps after → HaveOwnIds (over_scripts G.views) table steps after }
 {}
 
+/// The identity law of any id, however it came to be: one that `object_for_protocol_id` or `with_all_objects_for` answers too.
+///
+/// From each point of a run on at which an id names an object of a client, it names that very object exactly while that is
+/// kept and its client stored, and afterwards none (`named`): by changes that also make the ids of the client's whole run
+/// its own. Where it names none at a later point, it names none ever after (`none`).
+pub fn each_id_that_names_an_object_keeps_it<T: Transport, U, G: GlobalHandler<C>, C>()
+    ensures named { (table : List InterfaceRow) (done later : List (Entry T U G C)) (point after : ServerState T U G C) →
+        Leads (over T.sends T.receives G.views) (new_server table) done point → Leads (over T.sends T.receives G.views) point later after →
+        EachKeepsNaming (over T.sends T.receives G.views) table done point later after }
+    ensures none { (table : List InterfaceRow) (done between later : List (Entry T U G C)) (point mid after : ServerState T U G C) →
+        Leads (over T.sends T.receives G.views) (new_server table) done point → Leads (over T.sends T.receives G.views) point between mid →
+        Leads (over T.sends T.receives G.views) mid later after → EachNamesNoneAgain done point mid after }
+    ensures script_named { (table : List InterfaceRow) (done later : List (Entry Script U G C)) (point after : ServerState Script U G C) →
+        Leads (over_scripts G.views) (new_server table) done point → Leads (over_scripts G.views) point later after →
+        EachKeepsNaming (over_scripts G.views) table done point later after }
+    ensures script_none { (table : List InterfaceRow) (done between later : List (Entry Script U G C)) (point mid after : ServerState Script U G C) →
+        Leads (over_scripts G.views) (new_server table) done point → Leads (over_scripts G.views) point between mid →
+        Leads (over_scripts G.views) mid later after → EachNamesNoneAgain done point mid after }
+{}
+
 /// Log equals bytes, over every transport.
 ///
 /// Over every run of calls of a new server, what the transport of a client took since its insertion, followed by what
@@ -152,17 +173,25 @@ pub fn registries_announce_what_is_shown<T: Transport, U, G: GlobalHandler<C>, C
         Performs (over_scripts G.views) (new_server table) steps after → HaveAnnouncements (over_scripts G.views) table steps after }
 {}
 
-/// Over the transport by script a call does what its step does in a run by `Backend::replay`. So one run may be made of both:
-/// what is said here and there of steps over the transport by script holds of calls of such a server, too.
+/// Over the transport by script a call does what its step does in a run by `Backend::replay`, and a change of a client's
+/// transport is what it is among such steps (`entry`, and of a run of both `run`). So one history may be made of calls, changes
+/// of transports and runs by `replay`: what is said here and there of steps over the transport by script holds of it.
 pub fn calls_over_scripts_are_steps<U, G: GlobalHandler<C>, C>()
-    ensures { (before after : ServerState Script U G C) (call : Step Script U G C) (answer : Reply Script U) (refused : Bool) →
+    ensures step { (before after : ServerState Script U G C) (call : Step Script U G C) (answer : Reply Script U) (refused : Bool) →
         StepOf (over ScriptSends ScriptReceives G.views) before call answer refused after → StepOf (over_scripts G.views) before call answer refused after }
+    ensures entry { (before after : ServerState Script U G C) (e : Entry Script U G C) →
+        OneStep (over ScriptSends ScriptReceives G.views) before e after → OneStep (over_scripts G.views) before e after }
+    ensures run { (before after : ServerState Script U G C) (run : List (Entry Script U G C)) →
+        Leads (over ScriptSends ScriptReceives G.views) before run after → Leads (over_scripts G.views) before run after }
 {}
 
 /// Steps over the transport by script have one history, of which all the laws of runs hold: isolation, identity, log equals
-/// bytes, announcements, and each note once.
+/// bytes, announcements, and each note once (`steps`). So has every history over that transport, changes of a client's
+/// transport among its entries (`history`).
 pub fn each_client_of_a_script_is_accounted_for<U, G: GlobalHandler<C>, C>()
-    ensures { (table : List InterfaceRow) (steps : List (RunEntry (Step Script U G C) (Reply Script U))) (after : ServerState Script U G C) →
+    ensures history { (table : List InterfaceRow) (run : List (Entry Script U G C)) (after : ServerState Script U G C) →
+        Leads (over_scripts G.views) (new_server table) run after → IsAccountedFor (over_scripts G.views) table run after }
+    ensures steps { (table : List InterfaceRow) (steps : List (RunEntry (Step Script U G C) (Reply Script U))) (after : ServerState Script U G C) →
         Performs (over_scripts G.views) (new_server table) steps after → AreAccountedFor (over_scripts G.views) table steps after }
 {}
 

@@ -15,10 +15,10 @@
 //! | `create_global`, `disable_global`, `remove_global` | `globals` | `Globals`, `Felt` |
 //! | `cleanup`, `take_notes` | `notes` | `PartStep`, `Felt` |
 //! | look-ups, `with_all_clients`, `with_all_objects_for` | `lookups`, `globals::lookups` | `Lookups` |
-//! | `replay` | `runs` | `Runs` |
+//! | `replay` | `runs` | `Runs`, `Histories` |
 //!
 //! The laws of runs are the contracts of the functions of [`laws`]. Each names its statement: `Runs` (each client is alone),
-//! `Identified` (ids), `Logged` (what was sent), `Announced` (globals), `NotedOnce` (notes), `Cutting` and `Stretches`
+//! `Identified` and `Named` (ids), `Logged` (what was sent), `Announced` (globals), `NotedOnce` (notes), `Cutting` and `Stretches`
 //! (cutting does not matter), `Outcome` and `WholeOutcome` (there is one outcome), `Room` (a reading has room).
 #![tactic(auto)]
 

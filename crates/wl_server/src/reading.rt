@@ -9,6 +9,7 @@ pub mod next_action;
 pub mod other;
 pub mod registry;
 pub mod request;
+pub mod respond;
 pub mod response;
 pub mod texts;
 

@@ -2,9 +2,10 @@
 use Rattle.std.proofs.Common.{◌≡◌, ◌≢◌, ℕ, Bool, List, [], ◌∷◌, ◌++◌, Option, None, Some, is_some, IsSome, AllPairs, refl, sym, ap, subst, ◌∙◌, append-nil, append_assoc, cond, map}
 use Rattle.wl_wire.specs.Table.{InterfaceRow}
 use Rattle.wl_link.specs.declared.object.Object.{Object}
-use Rattle.wl_link.proofs.Ids.EndsLaw.{ends_once_law, run_leads, run_owns}
+use Rattle.wl_link.proofs.Ids.EndsLaw.{ends_once_law, run_keeps_joins, run_leads, run_owns}
 use Rattle.wl_link.specs.Identity.{Change, Born, Gone, Wrote, Ended, Made, Id, OwnsExactly, RunEnds, first_objects, counted_id, ended_in, ended_over}
 use Rattle.wl_link.proofs.Ids.IdentityLaw.{identity_law}
+use Rattle.wl_link.proofs.Ids.NamedLaw.{named_law, none_again_law}
 use Rattle.wl_link.proofs.OverRuns.RunLaws.{joins, stopped_leads}
 use Rattle.wl_link.specs.Script.{Script}
 use Rattle.wl_client.specs.declared.objects.Kept.{Kept}
@@ -15,6 +16,7 @@ use Rattle.wl_client.specs.ObjectId.{IdParts}
 use Rattle.wl_client.proofs.OverRuns.ChangeLaws.{each_all, note_ids_both, step_moves}
 use Rattle.wl_client.specs.Handed.{Follows, HasOwnIds, ended_notes, is_over, note_ids, notes_in}
 use Rattle.wl_client.specs.Objects.{info_in, info_of}
+use Rattle.wl_client.specs.Named.{KeepsNaming}
 use Rattle.wl_client.specs.Noted.{AccountsForStopped, NotesWhatEnded, all_ended_notes, notes_of}
 use Rattle.wl_client.specs.Session.{IsConnected, SessionState, alive, display_object, id_at, id_of, named, noted, objects_of, serial_of}
 use Rattle.wl_client.specs.Steps.{Entry, Leads, StepOf, StopsAt, entries}
@@ -66,21 +68,74 @@ module _ {U : Type 0} where
       go None known = known
       go (Some x) known = refl
 
+  -- changes of a run from the connecting on make its ids its own
+  own_by : (table : List InterfaceRow) (transport : Script) (before after : SessionState Script U) (run : List (Entry U)) → IsConnected table transport before
+      → (changes : List (List (Change (Kept U)))) → RunEnds serial_of is_over (objects_of before) changes (objects_of after) → Follows before run changes after
+      → HasOwnIds before run after
+  own_by table transport before after run connected changes ends follows =
+      let owns = from_display table transport before after connected changes ends in
+      let identity = identity_law serial_of display_object refl changes (objects_of after)
+      (run_leads serial_of (OwnsExactly is_over) (first_objects display_object) (objects_of after) changes owns) in
+      record {
+        changes = changes;
+        follows = follows;
+        ends_so = owns;
+        identity = identity;
+        info = λ id birth made known. (identity.own (id_of id) birth made).0 (known_named after id known);
+      }
+
   -- every run from the connecting on has ids of its own
   pub own_ids : (table : List InterfaceRow) (transport : Script) (before after : SessionState Script U) (run : List (Entry U))
       → IsConnected table transport before → Leads before run after → HasOwnIds before run after
   own_ids table transport before after run connected leads =
       let moves = run_moves before run after leads in
-      let owns = from_display table transport before after connected moves.changes moves.owns in
-      let identity = identity_law serial_of display_object refl moves.changes (objects_of after)
-      (run_leads serial_of (OwnsExactly is_over) (first_objects display_object) (objects_of after) moves.changes owns) in
+      own_by table transport before after run connected moves.changes moves.owns moves.follows
+
+  -- ---- from a point of a run on
+
+  follows_joins : (s mid after : SessionState Script U) (run others : List (Entry U)) (changes rest : List (List (Change (Kept U))))
+      → Follows s run changes mid → Follows mid others rest after → Follows s (run ++ others) (changes ++ rest) after
+  follows_joins s mid after [] others [] rest same behind = subst (λ (x : SessionState Script U). Follows x others rest after) same behind
+  follows_joins s mid after [] others (changes ∷ more) rest follows behind = absurd follows
+  follows_joins s mid after (e ∷ run) others [] rest follows behind = absurd follows
+  follows_joins s mid after (e ∷ run) others (changes ∷ more) rest (next, by, owns, handed, notes, noted, follows) behind =
+      (next, by, owns, handed, notes, noted, follows_joins next mid after run others more rest follows behind)
+
+  -- each id that names an object at a point of a run names that object from there on
+  pub keeps_naming : (table : List InterfaceRow) (transport : Script) (begun point after : SessionState Script U) (done later : List (Entry U))
+      → IsConnected table transport begun → Leads begun done point → Leads point later after → KeepsNaming begun done point later after
+  unfolding own_by
+  keeps_naming table transport begun point after done later connected first others =
+      let moves = run_moves begun done point first in
+      let more = run_moves point later after others in
+      let ends = from_display table transport begun point connected moves.changes moves.owns in
       record {
-        changes = moves.changes;
-        follows = moves.follows;
-        ends_so = owns;
-        identity = identity;
-        info = λ id birth made known. (identity.own (id_of id) birth made).0 (known_named after id known);
+        ids = own_by table transport begun after (done ++ later) connected (moves.changes ++ more.changes)
+            (run_keeps_joins serial_of (OwnsExactly is_over) (objects_of begun) (objects_of point) (objects_of after) moves.changes more.changes moves.owns more.owns)
+            (follows_joins begun point after done later moves.changes more.changes moves.follows more.follows);
+        first = moves.changes;
+        rest = more.changes;
+        split = refl;
+        before = moves.follows;
+        behind = more.follows;
+        stays = λ id named. named_law serial_of display_object refl moves.changes more.changes (objects_of point) (objects_of after)
+            (run_leads serial_of (OwnsExactly is_over) (first_objects display_object) (objects_of point) moves.changes ends)
+            (run_leads serial_of (OwnsExactly is_over) (objects_of point) (objects_of after) more.changes more.owns) (id_of id) named;
       }
+
+  -- and where it names none, it names none ever after
+  pub names_none_again : (table : List InterfaceRow) (transport : Script) (begun point mid after : SessionState Script U) (done between later : List (Entry U))
+      → IsConnected table transport begun → Leads begun done point → Leads point between mid → Leads mid later after
+      → (id : IdParts) → IsSome (named point.store id) → ¬ IsSome (named mid.store id) → ¬ IsSome (named after.store id)
+  names_none_again table transport begun point mid after done between later connected first second third id =
+      let moves = run_moves begun done point first in
+      let more = run_moves point between mid second in
+      let last = run_moves mid later after third in
+      let ends = from_display table transport begun point connected moves.changes moves.owns in
+      none_again_law serial_of display_object refl moves.changes more.changes last.changes (objects_of point) (objects_of mid) (objects_of after)
+      (run_leads serial_of (OwnsExactly is_over) (first_objects display_object) (objects_of point) moves.changes ends)
+      (run_leads serial_of (OwnsExactly is_over) (objects_of point) (objects_of mid) more.changes more.owns)
+      (run_leads serial_of (OwnsExactly is_over) (objects_of mid) (objects_of after) last.changes last.owns) (id_of id)
 
   -- ---- notes
 

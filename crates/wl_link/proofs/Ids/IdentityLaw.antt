@@ -108,7 +108,7 @@ module _ {D : Type 0} (serial_of : D → ℕ) where
 
   -- ---- what an id names
 
-  names_at : (id : Id) (store : Store D) (o : Option (Object D)) → id.number ≢ 0 → held store id.number ≡ o → names serial_of id store ≡ named_in serial_of id o
+  pub names_at : (id : Id) (store : Store D) (o : Option (Object D)) → id.number ≢ 0 → held store id.number ≡ o → names serial_of id store ≡ named_in serial_of id o
   names_at id store o ne e =
       ap (λ b. cond b None (named_in serial_of id (held store id.number))) (ne_eqb id.number 0 ne) ∙ ap (named_in serial_of id) e
 
@@ -128,7 +128,7 @@ module _ {D : Type 0} (serial_of : D → ℕ) where
       go false true e = absurd (true≢false (sym e))
 
   -- an object that is named has the serial of the id, and the number is not 0
-  named_serial : (id : Id) (o : Option (Object D)) → is_some (named_in serial_of id o) ≡ true → (x : Object D) × (o ≡ Some x) × (serial_of x.value ≡ id.serial)
+  pub named_serial : (id : Id) (o : Option (Object D)) → is_some (named_in serial_of id o) ≡ true → (x : Object D) × (o ≡ Some x) × (serial_of x.value ≡ id.serial)
   named_serial id None h = absurd (true≢false (sym h))
   named_serial id (Some x) h = (x, refl, eqb-true (serial_of x.value) id.serial (test (eqb (serial_of x.value) id.serial) h))
     where
@@ -136,7 +136,7 @@ module _ {D : Type 0} (serial_of : D → ℕ) where
       test true h = refl
       test false h = absurd (true≢false (sym h))
 
-  named_parts : (id : Id) (store : Store D) → IsSome (names serial_of id store)
+  pub named_parts : (id : Id) (store : Store D) → IsSome (names serial_of id store)
       → (id.number ≢ 0) × (is_some (named_in serial_of id (held store id.number)) ≡ true)
   named_parts id store h = go (cases_eq id.number 0)
     where
@@ -364,7 +364,7 @@ module _ {D : Type 0} (serial_of : D → ℕ) where
 
   -- ---- an id is made
 
-  lasts_made : (next : Birth) (births : Births) (s : Objects D) (id : Id) (o : Option Birth) → Lasts next births s
+  pub lasts_made : (next : Birth) (births : Births) (s : Objects D) (id : Id) (o : Option Birth) → Lasts next births s
       → IsSome (names serial_of id s.store) → births.of_number id.number ≡ o → Lasts next (with_made births id o) s
   lasts_made next births s id None lasts named e = record { kept = lasts.kept; serials = lasts.serials; born = lasts.born; made = lasts.made }
   lasts_made next births s id (Some b) lasts named e = record {
@@ -402,12 +402,12 @@ module _ {D : Type 0} (serial_of : D → ℕ) where
       (next, changes, run_joins next between after rest others leads after-leads)
 
   -- what lasts over the changes of a step, and what is made there
-  record StepLasts (next : Birth) (births births-after : Births) (changes : List (Change D)) (after : Objects D) : Type 0 where
-    last : Birth
-    same : last.step ≡ next.step
-    lasts : Lasts last births-after after
-    still : (p : Id × Birth) → Contains births.made p → Contains births-after.made p
-    makes : (id : Id) → IsMadeInStep changes id → (b : Birth) × Contains births-after.made (id, b)
+  pub record StepLasts (next : Birth) (births births-after : Births) (changes : List (Change D)) (after : Objects D) : Type 0 where
+    pub last : Birth
+    pub same : last.step ≡ next.step
+    pub lasts : Lasts last births-after after
+    pub still : (p : Id × Birth) → Contains births.made p → Contains births-after.made p
+    pub makes : (id : Id) → IsMadeInStep changes id → (b : Birth) × Contains births-after.made (id, b)
 
   still_made : (births : Births) (id : Id) (o : Option Birth) (p : Id × Birth) → Contains births.made p → Contains (with_made births id o).made p
   still_made births id None p in-made = in-made
@@ -417,14 +417,14 @@ module _ {D : Type 0} (serial_of : D → ℕ) where
   made_now births id None h = absurd (true≢false (sym h))
   made_now births id (Some b) h = (b, (0, omega arith, refl))
 
-  has_birth : (next : Birth) (births : Births) (s : Objects D) (id : Id) → Lasts next births s → IsSome (names serial_of id s.store)
+  pub has_birth : (next : Birth) (births : Births) (s : Objects D) (id : Id) → Lasts next births s → IsSome (names serial_of id s.store)
       → is_some (births.of_number id.number) ≡ true
   has_birth next births s id lasts named =
       let (numbered, is) = named_parts id s.store named in
       let (x, holds, same) = named_serial id (held s.store id.number) is in
       lasts.kept id.number ∙ ap is_some holds
 
-  lasts_in : (next : Birth) (births : Births) (s after : Objects D) (changes : List (Change D)) → Lasts next births s
+  pub lasts_in : (next : Birth) (births : Births) (s after : Objects D) (changes : List (Change D)) → Lasts next births s
       → StepLeads serial_of s changes after → StepLasts next births (births_in next births changes) changes after
   lasts_in next births s after [] lasts same = record {
     last = next;
@@ -475,7 +475,7 @@ module _ {D : Type 0} (serial_of : D → ℕ) where
             );
       }
 
-  later_step : (last : Birth) (births : Births) (s : Objects D) (step : ℕ) → last.step + 1 ≡ step → Lasts last births s
+  pub later_step : (last : Birth) (births : Births) (s : Objects D) (step : ℕ) → last.step + 1 ≡ step → Lasts last births s
       → Lasts (record { step = step; place = 0 }) births s
   later_step last births s step e lasts = record {
     kept = lasts.kept;
@@ -491,13 +491,13 @@ module _ {D : Type 0} (serial_of : D → ℕ) where
       moved {b} h = subst (λ k. IsBefore b (record { step = k; place = 0 })) e h
 
   -- what lasts over the steps of a run, and what is made there
-  record RunLasts (births births-after : Births) (run : List (List (Change D))) (after : Objects D) : Type 0 where
-    last : Birth
-    lasts : Lasts last births-after after
-    still : (p : Id × Birth) → Contains births.made p → Contains births-after.made p
-    makes : (id : Id) → IsMadeIn run id → (b : Birth) × Contains births-after.made (id, b)
+  pub record RunLasts (births births-after : Births) (run : List (List (Change D))) (after : Objects D) : Type 0 where
+    pub last : Birth
+    pub lasts : Lasts last births-after after
+    pub still : (p : Id × Birth) → Contains births.made p → Contains births-after.made p
+    pub makes : (id : Id) → IsMadeIn run id → (b : Birth) × Contains births-after.made (id, b)
 
-  lasts_over : (step : ℕ) (births : Births) (s after : Objects D) (run : List (List (Change D)))
+  pub lasts_over : (step : ℕ) (births : Births) (s after : Objects D) (run : List (List (Change D)))
       → Lasts (record { step = step; place = 0 }) births s → RunLeads serial_of s run after
       → RunLasts births (births_over step births run) run after
   lasts_over step births s after [] lasts same = record {
@@ -670,7 +670,7 @@ module _ {D : Type 0} (serial_of : D → ℕ) where
   abbrev display_birth : Option Birth
   display_birth = Some (record { step = 0; place = 0 })
 
-  lasts_begun : (display : Object D) → serial_of display.value ≡ 0 → Lasts (record { step = 1; place = 0 }) display_born (first_objects display)
+  pub lasts_begun : (display : Object D) → serial_of display.value ≡ 0 → Lasts (record { step = 1; place = 0 }) display_born (first_objects display)
   lasts_begun display serial = record {
     kept = λ n. (
         elim (cases_eq n 1) [

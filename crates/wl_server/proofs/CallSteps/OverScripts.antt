@@ -1,5 +1,5 @@
 -- A call over a transport whose sends and receives are those of a script, as one over the transport by script.
-use Rattle.std.proofs.Common.{◌≡◌, Bool, true, false, List, [], ◌++◌, Option, None, Some, Err}
+use Rattle.std.proofs.Common.{◌≡◌, Bool, true, false, List, [], ◌∷◌, ◌++◌, Option, None, Some, Err}
 use Rattle.std.specs.Prelude.{MatchOption}
 use Rattle.wl_link.specs.Script.{Script, ScriptReceives, ScriptSends}
 use Rattle.wl_server.specs.declared.error.ScriptError.TheVariants as script
@@ -14,8 +14,9 @@ use Rattle.wl_server.specs.Ids.{ClientParts, GlobalParts, same_client}
 use Rattle.wl_server.specs.Moves.{Accept, AcceptFault, Arrive, ArriveFault, Move, Moved, TakeSent}
 use Rattle.wl_server.specs.Part.{Part}
 use Rattle.wl_server.specs.PartStep.{Asked, Call, Changed, MovedFor, OfClient, PartCall, PartStep, Unfelt, WithTransport, World, lacks_move, over, over_scripts}
+use Rattle.wl_server.specs.Runs.{Leads}
 use Rattle.wl_server.specs.Server.{Seen, ServerState}
-use Rattle.wl_server.specs.Steps.{StepOf}
+use Rattle.wl_server.specs.Steps.{Entry, OneStep, StepOf}
 
 module _ {U G C : Type 0} (w : World Script G C) where
   abbrev Moves : Moved → Move → Bool → List (Deed U) → Part Script U C → Part Script U C → Type 0
@@ -81,23 +82,27 @@ module _ {U G C : Type 0} (views : G → ClientParts → C → GlobalParts → B
     part_call (Asked s answer) before lacked did after h = part_step s answer before lacked did after h
     part_call (Changed target t) before lacked did after h = h
 
+  pub one_over_script : (before : ServerState Script U G C) (e : Entry Script U G C) (after : ServerState Script U G C)
+      → OneStep (by_script views) before e after → OneStep (over_scripts views) before e after
+  one_over_script before e after one = record {
+    offer = one.offer;
+    last = one.last;
+    client = one.client;
+    global = one.global;
+    order = one.order;
+    room = one.room;
+    refused = one.refused;
+    each = λ id. part_call id before.offer e.call _ _ _ _ (one.each id);
+  }
+
+  pub run_over_script : (before : ServerState Script U G C) (run : List (Entry Script U G C)) (after : ServerState Script U G C)
+      → Leads (by_script views) before run after → Leads (over_scripts views) before run after
+  run_over_script before [] after same = same
+  run_over_script before (e ∷ run) after (mid, one, leads) = (mid, one_over_script before e mid one, run_over_script mid run after leads)
+
   pub step_over_script : (before : ServerState Script U G C) (s : Step Script U G C) (answer : Reply Script U) (refused : Bool) (after : ServerState Script U G C)
       → StepOf (by_script views) before s answer refused after → StepOf (over_scripts views) before s answer refused after
-  step_over_script before s answer refused after (e, call, is, one) = (
-    e,
-    call,
-    is,
-    record {
-      offer = one.offer;
-      last = one.last;
-      client = one.client;
-      global = one.global;
-      order = one.order;
-      room = one.room;
-      refused = one.refused;
-      each = λ id. part_call id before.offer e.call _ _ _ _ (one.each id);
-    },
-  )
+  step_over_script before s answer refused after (e, call, is, one) = (e, call, is, one_over_script before e after one)
 
   pub over_script : (before : BackendState Script U G C) (s : Step Script U G C) (answer : Reply Script U) (after : BackendState Script U G C)
       → Calls (by_script views) before s answer after → Calls (over_scripts views) before s answer after

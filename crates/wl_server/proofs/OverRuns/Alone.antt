@@ -2,3 +2,4 @@
 pub mod IsolationLaw
 pub mod OwnRuns
 pub mod AccountLaws
+pub mod HistoryLaws

@@ -3,3 +3,4 @@ pub mod AmongLaws
 pub mod ChangeLaws
 pub mod ReplyLaws
 pub mod IdentityLaws
+pub mod NamedLaws

@@ -13,9 +13,9 @@ use Rattle.wl_link.specs.Reader.{Given, HandedOut, Queued, Verdict, came_to, put
 use Rattle.wl_server.specs.declared.reading.action.OpenAction.{OpenAction}
 use Rattle.wl_server.specs.declared.notes.Happening.{Happening}
 use Rattle.wl_server.specs.declared.notes.DisconnectReason.TheVariants.{ConnectionClosed}
-use Rattle.wl_server.specs.declared.reading.message.NoAction.{NoAction}
-use Rattle.wl_server.specs.declared.reading.message.TurnEnd.{TurnEnd}
-use Rattle.wl_server.specs.declared.reading.message.TurnEnd.TheVariants as came
+use Rattle.wl_server.specs.declared.reading.action.NoAction.{NoAction}
+use Rattle.wl_server.specs.declared.reading.action.TurnEnd.{TurnEnd}
+use Rattle.wl_server.specs.declared.reading.action.TurnEnd.TheVariants as came
 use Rattle.wl_server.specs.Inside.Carried.{IsCarried}
 use Rattle.wl_server.specs.Inside.Client.{Does}
 use Rattle.wl_server.specs.Deeds.{Acted, Deed, Handed, Remembered, notes_in}

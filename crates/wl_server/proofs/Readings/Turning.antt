@@ -26,7 +26,7 @@ use Rattle.wl_server.specs.declared.error.ActionError.TheVariants.{ActionOpen, I
 use Rattle.wl_server.specs.declared.notes.DisconnectReason.{DisconnectReason}
 use Rattle.wl_server.specs.declared.notes.Happening.{Happening}
 use Rattle.wl_server.specs.declared.notes.DisconnectReason.TheVariants.{ConnectionClosed}
-use Rattle.wl_server.specs.declared.reading.message.NoAction.{NoAction}
+use Rattle.wl_server.specs.declared.reading.action.NoAction.{NoAction}
 use Rattle.wl_server.specs.declared.objects.Kept.{Kept}
 use Rattle.wl_server.specs.declared.reading.response.Response.{Response}
 use Rattle.wl_server.specs.Inside.Client.{Does}

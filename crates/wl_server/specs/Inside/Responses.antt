@@ -23,8 +23,8 @@ use Rattle.wl_server.specs.declared.reading.response.Breach.{Breach}
 use Rattle.wl_server.specs.declared.reading.response.Breach.TheVariants as broke
 use Rattle.wl_server.specs.declared.reading.response.Response.{Response}
 use Rattle.wl_server.specs.declared.reading.response.Response.TheVariants as response
-use Rattle.wl_server.specs.declared.reading.message.Found.{Found}
-use Rattle.wl_server.specs.declared.reading.message.Found.TheVariants as found
+use Rattle.wl_server.specs.declared.reading.action.Found.{Found}
+use Rattle.wl_server.specs.declared.reading.action.Found.TheVariants as found
 use Rattle.wl_server.specs.Deeds.{Remembered}
 use Rattle.wl_server.specs.Errors.{bind_text, fault_text, new_id_text, since_text}
 use Rattle.wl_server.specs.Globals.{is_visible, shown}

@@ -21,11 +21,11 @@ use Rattle.wl_server.specs.declared.error.ActionError.{ActionError}
 use Rattle.wl_server.specs.declared.error.ActionError.TheVariants.{Io}
 use Rattle.wl_server.specs.declared.objects.Kept.{Kept}
 use Rattle.wl_server.specs.declared.reading.Surroundings.{Surroundings}
-use Rattle.wl_server.specs.declared.reading.message.Found.{Found}
-use Rattle.wl_server.specs.declared.reading.message.Found.TheVariants as found
-use Rattle.wl_server.specs.declared.reading.message.NoAction.{NoAction}
-use Rattle.wl_server.specs.declared.reading.message.TurnEnd.{TurnEnd}
-use Rattle.wl_server.specs.declared.reading.message.TurnEnd.TheVariants as came
+use Rattle.wl_server.specs.declared.reading.action.Found.{Found}
+use Rattle.wl_server.specs.declared.reading.action.Found.TheVariants as found
+use Rattle.wl_server.specs.declared.reading.action.NoAction.{NoAction}
+use Rattle.wl_server.specs.declared.reading.action.TurnEnd.{TurnEnd}
+use Rattle.wl_server.specs.declared.reading.action.TurnEnd.TheVariants as came
 use Rattle.wl_server.specs.Deeds.{Bind, Handed, Request, notes_in}
 use Rattle.wl_server.specs.Ids.{ClientParts, GlobalParts, IdParts}
 use Rattle.wl_server.specs.Part.{Part, with_link}

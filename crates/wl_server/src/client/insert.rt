@@ -28,9 +28,8 @@ use std::collections::VecDeque;
 use wl_link::{BufferedSocket, ObjectMap, Transport};
 use wl_wire::{OutOfMemory, WL_DISPLAY_INTERFACE};
 
-/// What a client in which nothing has happened keeps beside its link: its objects, of which the display is the only one, and the note
-/// that it was inserted, with
-/// room for that of its end.
+/// What a client in which nothing has happened keeps beside its link: its objects, of which the display is the only one,
+/// and the note that it was inserted, with room for that of its end. Refused, it uses up no number of a note.
 fn first_lists<U: Drop>(
     alloc: Global,
     numbers: &mut NoteNumbers,
@@ -68,8 +67,9 @@ fn first_parts<T: Drop, U: Drop>(
     ensures notes { IfOk result (λ parts. map (λ m. m.1) parts.2.items ≡ Initialized ∷ []) }
     ensures room { IfOk result (λ parts. deque_len parts.2 < deque_capacity parts.2) }
 {
-    let (objects, made) = first_lists(alloc, numbers)?;
     let socket = BufferedSocket::new(alloc, transport, Some(max_buffer_size))?;
+    // Last, since it uses up a note's number, which no refusal does.
+    let (objects, made) = first_lists(alloc, numbers)?;
     Ok((socket, objects, made))
 }
 

@@ -1,9 +1,9 @@
-//! What a reading hands out, and how much it may read.
+//! What a reading hands out, how much it may read, and what handling a message came to.
 
 use crate::ids::global_id::GlobalId;
 use crate::ids::object_id::ObjectId;
 use smallvec::SmallVec;
-use wl_wire::{Argument, INLINE_ARGS, Token};
+use wl_wire::{Argument, INLINE_ARGS, IoFault, Token};
 
 /// What a client asks of the program.
 #[derive(Drop)]
@@ -56,4 +56,35 @@ pub struct Reading {
     pub turns_left: u32,
     /// The requests read; it stops at the greatest number.
     pub read: usize,
+}
+
+/// Why a reading ends without an action.
+#[derive(Drop)]
+pub struct NoAction {
+    /// The answer of the reading.
+    pub fault: IoFault,
+    /// Whether memory was refused.
+    pub refused: bool,
+}
+
+/// An action that is handed out, without the arguments of a request.
+#[derive(Clone, Copy)]
+pub enum Found {
+    /// A request: its object, its opcode, whether it ends the object, and the object that it made.
+    Request(ObjectId, u16, bool, Option<ObjectId>),
+    /// A new object was bound to a global.
+    Bind(GlobalId, ObjectId),
+}
+
+/// What a turn came to.
+#[derive(Drop)]
+pub enum TurnEnd {
+    /// An action is there to hand out.
+    Acts(Found),
+    /// A message was handled, and the reading goes on.
+    GoesOn,
+    /// No message waits whole.
+    Lacks,
+    /// The reading ends without an action.
+    Ends(NoAction),
 }

@@ -18,12 +18,11 @@ ghost use Rattle.wl_server.specs.Inside.Turns.{IsHeader, Live, NotTaken, TookWit
 
 use crate::client::{Client, Registry};
 use crate::globals::handler::GlobalHandler;
-use crate::ids::global_id::GlobalId;
 use crate::ids::object_id::ObjectId;
 use crate::notes::NoteNumbers;
 use crate::objects::Kept;
 use crate::reading::Surroundings;
-use crate::reading::action::Reading;
+use crate::reading::action::{NoAction, Reading, TurnEnd};
 use crate::reading::request::request;
 use crate::reading::response::Response;
 use smallvec::SmallVec;
@@ -32,37 +31,6 @@ use wl_wire::{
     Argument, INLINE_ARGS, IoFault, Message, MessageDesc, MessageParseError, OutOfMemory, Protocol,
     Token,
 };
-
-/// Why a reading ends without an action.
-#[derive(Drop)]
-pub struct NoAction {
-    /// The answer of the reading.
-    pub fault: IoFault,
-    /// Whether memory was refused.
-    pub refused: bool,
-}
-
-/// An action that is handed out, without the arguments of a request.
-#[derive(Clone, Copy)]
-pub enum Found {
-    /// A request: its object, its opcode, whether it ends the object, and the object that it made.
-    Request(ObjectId, u16, bool, Option<ObjectId>),
-    /// A new object was bound to a global.
-    Bind(GlobalId, ObjectId),
-}
-
-/// What a turn came to.
-#[derive(Drop)]
-pub enum TurnEnd {
-    /// An action is there to hand out.
-    Acts(Found),
-    /// A message was handled, and the reading goes on.
-    GoesOn,
-    /// No message waits whole.
-    Lacks,
-    /// The reading ends without an action.
-    Ends(NoAction),
-}
 
 /// The request of that opcode of the object that the number holds.
 fn request_desc<'p, U: Drop>(

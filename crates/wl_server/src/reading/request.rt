@@ -1,51 +1,32 @@
-//! The requests of a client: what is made of one, and how it is answered.
+//! The requests of a client: what is made of one, by what its object is.
 
-ghost use Rattle.std.specs.Prelude.{◌≡◌, ◌∷◌, ◌<◌, map, List, [], true, false, Err, Some, IfOk, MatchResult, length, vec_len, vec_capacity};
+ghost use Rattle.std.specs.Prelude.{◌≡◌, ◌<◌, [], true, false, Some, length, vec_len, vec_capacity};
 ghost use Rattle.smallvec.specs.SmallVec.{HasRoomFor};
-ghost use Rattle.wl_wire.specs.declared.argument.Argument.{Argument as Arg};
-ghost use Rattle.wl_wire.specs.declared.argument.Token.{Token as TokenParts};
-ghost use Rattle.wl_wire.specs.declared.error.IoFault.TheVariants as io;
 ghost use Rattle.wl_wire.specs.Argument.{Matches};
 ghost use Rattle.wl_wire.specs.Asked.{creates as row_creates};
 ghost use Rattle.wl_wire.specs.Message.{content};
 ghost use Rattle.wl_wire.specs.Table.{holds_zero, message_row};
 ghost use Rattle.wl_link.specs.declared.object.Object.{Object as ObjectOf};
-ghost use Rattle.wl_link.specs.Puts.{lacked_memory};
 ghost use Rattle.wl_link.specs.Store.{held};
 ghost use Rattle.wl_server.specs.declared.objects.Kept.{Kept as KeptOf};
-ghost use Rattle.wl_server.specs.declared.notes.DisconnectReason.TheVariants.{ConnectionClosed};
-ghost use Rattle.wl_server.specs.declared.reading.message.TurnEnd.TheVariants as came;
-ghost use Rattle.wl_server.specs.Inside.Client.{Does};
-ghost use Rattle.wl_server.specs.Deeds.{Remembered};
-ghost use Rattle.wl_server.specs.Globals.{shown};
-ghost use Rattle.wl_server.specs.Ids.{IdParts};
-ghost use Rattle.wl_server.specs.Part.{id_of};
-ghost use Rattle.wl_server.specs.Reading.{breaks, garbled, replies, request_to};
-ghost use Rattle.wl_server.specs.Inside.Responses.{HasName, HasNames, code_of, core_with, opened_of, response_to, text_of};
-ghost use Rattle.wl_server.specs.Telling.{Core, Kills, core_of, global_message};
-ghost use Rattle.wl_server.specs.Inside.Turns.{Acts, Ended, IsHandled, Live, around_of, turned};
+ghost use Rattle.wl_server.specs.Reading.{request_to};
+ghost use Rattle.wl_server.specs.Inside.Responses.{HasNames, core_with, response_to};
+ghost use Rattle.wl_server.specs.Telling.{Core};
+ghost use Rattle.wl_server.specs.Inside.Turns.{around_of};
 
-use crate::client::{Client, Registry};
-use crate::events::display::{DISPLAY, put_done};
+use crate::client::Registry;
 use crate::globals::handler::GlobalHandler;
-use crate::globals::new_registry::put_globals;
 use crate::ids::object_id::ObjectId;
-use crate::notes::{DisconnectReason, NoteNumbers};
 use crate::objects::Kept;
 use crate::reading::Surroundings;
-use crate::reading::action::OpenAction;
 use crate::reading::display::display_request;
-use crate::reading::message::{Found, NoAction, TurnEnd};
 use crate::reading::other::other_request;
 use crate::reading::registry::registry_request;
-use crate::reading::response::{Breach, Response};
-use crate::reading::texts::{bind_text, fault_text, new_id_text, since_text};
+use crate::reading::response::Response;
 use smallvec::SmallVec;
-use std::alloc::Global;
-use wl_link::{ObjectMap, Transport};
+use wl_link::ObjectMap;
 use wl_wire::{
-    Argument, CString, INLINE_ARGS, IoFault, Message, MessageDesc, OutOfMemory, Protocol, Token,
-    WL_DISPLAY_INTERFACE, WL_REGISTRY_INTERFACE,
+    Argument, INLINE_ARGS, Message, MessageDesc, Token, WL_DISPLAY_INTERFACE, WL_REGISTRY_INTERFACE,
 };
 
 /// Goes through a request, by what its object is. The arguments of one that is handed out are taken out of the message,
@@ -83,156 +64,4 @@ pub fn request<'m, U: Drop, G: GlobalHandler<C> + Drop, C>(
         return registry_request(around, info, objects, last_serial, message);
     }
     other_request(around, info, objects, last_serial, desc, message, args)
-}
-
-/// The code and the text of the error that a breach ends in.
-#[cold]
-#[inline(never)]
-fn breach_error(
-    alloc: Global,
-    protocol: &Protocol,
-    breach: &Breach<'_>,
-) -> Result<(u32, CString), OutOfMemory>
-    requires { HasName breach.now }
-    ensures code { IfOk result (λ error. error.0 ≡ code_of breach.now) }
-    ensures text { IfOk result (λ error. error.1 ≡ text_of protocol.now breach.now) }
-{
-    match breach {
-        Breach::InvalidNewId(number) => Ok((0, new_id_text(alloc, *number)?)),
-        Breach::RefusedBind(global, version, interface) => {
-            Ok((0, bind_text(alloc, interface, *version, *global)?))
-        }
-        Breach::SinceLater(opcode, version, since, interface, number) => {
-            let text = since_text(
-                alloc, protocol, *opcode, *version, *since, *interface, *number,
-            )?;
-            Ok((1, text))
-        }
-        Breach::WrongArgument(interface, desc, wrong) => {
-            Ok((0, fault_text(alloc, protocol, *interface, desc, wrong)?))
-        }
-    }
-}
-
-/// What the end of an action has to know of it.
-fn open_action(found: &Found) -> OpenAction
-    ensures { result ≡ opened_of found.now }
-{
-    match found {
-        Found::Request(sender, _, is_destructor, created) => {
-            OpenAction::Request {
-                sender: *sender,
-                is_destructor: *is_destructor,
-                created: *created,
-            }
-        }
-        Found::Bind(_, object) => OpenAction::Bind { object: *object },
-    }
-}
-
-impl<T: Transport + Drop, U: Drop, C: Drop> Client<T, U, C> {
-    /// Closes the connection, for bytes that are no message that the client may send.
-    #[cold]
-    #[inline(never)]
-    pub fn garbled(&mut self, numbers: &mut NoteNumbers) -> NoAction
-        ensures { IsHandled T.sends (garbled (core_of self.old.part)) self.old (Ended result) self.new }
-    {
-        self.kill(numbers, DisconnectReason::ConnectionClosed);
-        NoAction {
-            fault: IoFault::Proto,
-            refused: false,
-        }
-    }
-
-    /// Ends a live client that broke the protocol: the breach is posted as an error on its display. Where there was no memory
-    /// for the text, the client is closed down.
-    #[cold]
-    #[inline(never)]
-    fn ends_by<G: GlobalHandler<C>>(
-        &mut self,
-        numbers: &mut NoteNumbers,
-        around: &Surroundings<'_, G>,
-        breach: &Breach<'_>,
-    ) -> NoAction
-        requires live { self.old.part.is_killed ≡ false }
-        requires name { HasName breach.now }
-        ensures { IsHandled T.sends (breaks (around_of G.views around.now) (core_of self.old.part) (code_of breach.now) (text_of around.now.protocol.now breach.now)) self.old (Ended result) self.new }
-    {
-        let alloc = *self.registries.allocator();
-        let Ok((code, text)) = breach_error(alloc, around.protocol, breach) else {
-            let refused = self.told(numbers, Err(IoFault::OutOfMemory));
-            return NoAction {
-                fault: IoFault::Pipe,
-                refused,
-            };
-        };
-        let display = ObjectId::from_parts(DISPLAY, 0, around.client, WL_DISPLAY_INTERFACE);
-        let refused = self.posts(around.protocol, numbers, &display, code, text);
-        NoAction {
-            fault: IoFault::Pipe,
-            refused,
-        }
-    }
-
-    /// What it comes to that what the client was told in answer to a request was put so.
-    pub fn replied(&mut self, numbers: &mut NoteNumbers, wrote: Result<(), IoFault>) -> TurnEnd
-        ensures { MatchResult wrote
-            (λ _. (result ≡ came.GoesOn) × (self.new ≡ self.old))
-            (λ f. (result ≡ came.Ends (record { fault = io.Pipe; refused = lacked_memory (Err f) }))
-            × Does self.old (λ p did q. Kills p ConnectionClosed did q) self.new) }
-    {
-        let is_written = wrote.is_ok();
-        let refused = self.told(numbers, wrote);
-        if is_written {
-            return TurnEnd::GoesOn;
-        }
-        TurnEnd::Ends(NoAction {
-            fault: IoFault::Pipe,
-            refused,
-        })
-    }
-
-    /// Tells a new registry of a live client of the globals.
-    fn registered<G: GlobalHandler<C> + Drop>(
-        &mut self,
-        numbers: &mut NoteNumbers,
-        around: &Surroundings<'_, G>,
-        registry: &ObjectId,
-    ) -> TurnEnd
-        requires { Live self.old.part }
-        ensures { (args : List (Arg IdParts TokenParts)) → IsHandled T.sends
-            (replies (core_of self.old.part) (map (global_message around.now.protocol.now (id_of registry.now)) (shown G.views (around_of G.views around.now).globals around.now.client self.old.part.info))
-            (Remembered (id_of registry.now) ∷ [])) self.old (turned result args) self.new }
-    {
-        let alloc = *self.registries.allocator();
-        let wrote = put_globals(alloc, &mut self.socket, around, &self.info, registry);
-        self.replied(numbers, wrote)
-    }
-
-    /// Answers a request of a live client that was gone through.
-    pub fn respond<G: GlobalHandler<C> + Drop>(
-        &mut self,
-        numbers: &mut NoteNumbers,
-        around: &Surroundings<'_, G>,
-        response: &Response<'_>,
-    ) -> TurnEnd
-        requires live { Live self.old.part }
-        requires names { HasNames response.now }
-        ensures { (args : List (Arg IdParts TokenParts)) → IsHandled T.sends (response_to (around_of G.views around.now) (core_of self.old.part) response.now args) self.old (turned result args) self.new }
-    {
-        match response {
-            Response::Garbled => TurnEnd::Ends(self.garbled(numbers)),
-            Response::Breaks(breach) => TurnEnd::Ends(self.ends_by(numbers, around, breach)),
-            Response::Syncs(callback) => {
-                let alloc = *self.registries.allocator();
-                let wrote = put_done(alloc, &mut self.socket, callback.protocol_id());
-                self.replied(numbers, wrote)
-            }
-            Response::Registers(registry) => self.registered(numbers, around, registry),
-            Response::HandsOut(found) => {
-                self.action = Some(open_action(found));
-                TurnEnd::Acts(*found)
-            }
-        }
-    }
 }

@@ -1,7 +1,7 @@
 //! What is yet to be done for a request that was gone through.
 
 use crate::ids::object_id::ObjectId;
-use crate::reading::message::Found;
+use crate::reading::action::Found;
 use wl_wire::{CString, InterfaceId, MessageDesc};
 
 /// Why a request ends its client.

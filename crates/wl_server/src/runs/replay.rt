@@ -8,6 +8,7 @@ ghost use Rattle.wl_server.specs.declared.runs.step.Reply.{Reply};
 ghost use Rattle.wl_server.specs.declared.runs.step.Step.{Step};
 ghost use Rattle.wl_server.specs.Accounts.{AccountsForStopped, AreAccountedFor};
 ghost use Rattle.wl_server.specs.Backend.{Calls};
+ghost use Rattle.wl_server.specs.Histories.{Extends, ExtendsUpTo};
 ghost use Rattle.wl_server.specs.PartStep.{over_scripts};
 ghost use Rattle.wl_server.specs.Inside.Performing.{IsOfAll, IsOfGlobals, IsOfObject, IsOfReading, IsOfScript};
 ghost use Rattle.wl_server.specs.Runs.{AreIsolated, Performs, StopsAt};
@@ -203,7 +204,8 @@ impl<U: Drop, G: GlobalHandler<C> + Drop, C: Drop> Backend<Memory, U, G, C> {
     /// names that step and has the replies to those before it, and the later ones are dropped. Step 0 is named also
     /// where there was no room for the replies; nothing was done then. A run of no steps needs none.
     ///
-    /// The run joins the runs before it. So what is held of each client that was inserted since the server was made is
+    /// The run joins the runs before it, and extends each history that led to the server before it: calls, changes of a
+    /// client's transport by `transport_mut`, and other runs (`history`, `stopped_history`). So what is held of each client that was inserted since the server was made is
     /// what its own steps and the shared ones lead to alone, begun with the id that it got; no other client's steps
     /// matter to it. Each id of an object that was handed out names its own object and no later one, what a client's
     /// transport took is what was put for it, what its registries announced is what it is shown, and each object that
@@ -226,6 +228,7 @@ impl<U: Drop, G: GlobalHandler<C> + Drop, C: Drop> Backend<Memory, U, G, C> {
         ensures accounted { IfOk result (λ replies. (table : List InterfaceRow) (run : List (RunEntry (Step Script U G C) (Reply Script U))) →
             Performs (over_scripts G.views) (new_server table) run self.old.server →
             AreAccountedFor (over_scripts G.views) table (run ++ entries steps.items replies.items) self.new.server) }
+        ensures history { IfOk result (λ replies. Extends G.views self.old.server (entries steps.items replies.items) self.new.server) }
         ensures outcome { IfOk result (λ replies. (same other : ServerState Script U G C) (others : List (Reply Script U)) →
             SameServer self.old.server same → length others ≡ length steps.items →
             Performs (over_scripts G.views) same (entries steps.items others) other →
@@ -236,6 +239,7 @@ impl<U: Drop, G: GlobalHandler<C> + Drop, C: Drop> Backend<Memory, U, G, C> {
         ensures stopped_accounts { IfErr result (λ stopped. (table : List InterfaceRow) (run : List (RunEntry (Step Script U G C) (Reply Script U))) →
             Performs (over_scripts G.views) (new_server table) run self.old.server →
             AccountsForStopped (over_scripts G.views) table run steps.items stopped.replies.items self.new.server) }
+        ensures stopped_history { IfErr result (λ stopped. ExtendsUpTo G.views self.old.server steps.items stopped.replies.items self.new.server) }
         ensures stopped { IfErr result (λ stopped. StopsAt (over_scripts G.views) self.old.server steps.items stopped.step stopped.replies.items self.new.server) }
         ensures refused { self.new.refused ≡ is_err result }
     {

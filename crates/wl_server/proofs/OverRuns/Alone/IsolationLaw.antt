@@ -191,11 +191,11 @@ module _ {T U G C : Type 0} where
 
   -- ---- clients that were not inserted yet
 
-  numbered : (before : ServerState T U G C) (call : Call T U G C) (new : ClientParts) → NumbersClient before call → Inserts new call
+  pub numbered : (before : ServerState T U G C) (call : Call T U G C) (new : ClientParts) → NumbersClient before call → Inserts new call
       → InsertsNext before.last_client before.clients (Ok new)
   numbered before call new by (transport, info, is) = subst (λ (c : Call T U G C). NumbersClient before c) is by
 
-  one_more : (call : Call T U G C) (new : ClientParts) → Inserts new call → inserted_by call ≡ 1
+  pub one_more : (call : Call T U G C) (new : ClientParts) → Inserts new call → inserted_by call ≡ 1
   one_more call new (transport, info, is) = ap inserted_by is
 
   -- of an id with a later serial nothing is held

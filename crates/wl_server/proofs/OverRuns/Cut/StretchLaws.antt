@@ -54,7 +54,7 @@ use Rattle.wl_server.proofs.OverRuns.Ids.ReplyLaws.{own_step}
 use Rattle.wl_server.specs.Runs.{Alone, Leads, Own, Performs, concerns, history, mine}
 use Rattle.wl_server.specs.Server.{Seen, ServerState, seen}
 use Rattle.wl_server.specs.Steps.{offer_after, Entry}
-use Rattle.wl_server.specs.Stretches.{AllHeard, AreCut, EachIsCut, EndsWaiting, IsHeard, IsServed, IsStretch, IsStretchWithin, SameLeft, answered, answers_in, arrived, arrived_by, beside_exchanges, finished, finished_by, left_in, reading_by, told_by, was_killed}
+use Rattle.wl_server.specs.Stretches.{AllHeard, AreCut, EachIsCut, EachPartIsCut, EndsWaiting, IsHeard, IsServed, IsStretch, IsStretchWithin, SameLeft, answered, answers_in, arrived, arrived_by, beside_exchanges, finished, finished_by, left_in, reading_by, told_by, was_killed}
 use Rattle.wl_server.specs.Telling.{Core, Finish, OfBind, OfRequest, Told, core_of, deeds_in, deeds_of, end_deeds, part_of, reader_part}
 
 none_some : {A : Type 0} {x : A} → None ≡ Some x → ⊥
@@ -593,9 +593,13 @@ each_is_cut views begun after run leads id p q born there ends =
       λ stretch. within_stretch views id begun.offer (seen id begun) (seen id after) p there q (mine id run) ends alone stretch,
     )
 
+pub each_part_is_cut : {U G C : Type 0} (views : G → ClientParts → C → GlobalParts → Bool) (begun : ServerState Script U G C) (run : List (Entry Script U G C))
+    → EachPartIsCut views begun run
+each_part_is_cut views begun run earlier middle later first last split before part = each_is_cut views first last middle part
+
 pub are_cut : {U G C : Type 0} (views : G → ClientParts → C → GlobalParts → Bool) (begun after : ServerState Script U G C) (steps : List (RunEntry (Step Script U G C) (Reply Script U)))
     → Performs (over_scripts views) begun steps after → AreCut views begun steps after
 are_cut views begun after steps performs = (
   performed (over_scripts views) begun after steps performs,
-  λ run are leads earlier middle later first last split before part. each_is_cut views first last middle part,
+  λ run are leads. each_part_is_cut views begun run,
 )

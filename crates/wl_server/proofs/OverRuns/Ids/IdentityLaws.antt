@@ -29,9 +29,10 @@ use Rattle.wl_server.proofs.OverRuns.Alone.IsolationLaw.{are_isolated, is_isolat
 use Rattle.wl_server.specs.Lookups.{and_then}
 use Rattle.wl_server.proofs.OverRuns.Ids.AmongLaws.{all_among, among_contains, among_first, among_later, contains_among}
 use Rattle.wl_server.proofs.OverRuns.Alone.OwnRuns.{AreMine, are_mine}
+use Rattle.wl_server.specs.Named.{offer_through}
 use Rattle.wl_server.specs.Part.{Part, display_object, id_of, named, objects_of, serial_of}
-use Rattle.wl_server.specs.PartStep.{World}
-use Rattle.wl_server.specs.Runs.{Alone, Leads, Own, Performs, begun, history, mine, offer_over}
+use Rattle.wl_server.specs.PartStep.{PartCall, World}
+use Rattle.wl_server.specs.Runs.{Alone, Leads, Own, Performs, begun, concerns, history, mine, offer_over}
 use Rattle.wl_server.specs.Server.{Seen, ServerState, new_server, seen}
 use Rattle.wl_server.specs.Steps.{Entry, offer_after}
 
@@ -39,16 +40,16 @@ use Rattle.wl_server.specs.Steps.{Entry, offer_after}
 
 module _ {U : Type 0} (client : ClientParts) where
   -- a note whose id is made in some step
-  abbrev IsNotedOver : List (List (Change (Kept U))) → Happening U → Type 0
+  abbrev pub IsNotedOver : List (List (Change (Kept U))) → Happening U → Type 0
   IsNotedOver [] h = ⊥
   IsNotedOver (step ∷ rest) h = IsNotedIn client step h ⊎ IsNotedOver rest h
 
-  noted_over : (run : List (List (Change (Kept U)))) (o : IdParts) (u : U) → IsNotedOver run (Destroyed o u) → (o.client ≡ client) × IsMadeIn run (id_of o)
+  pub noted_over : (run : List (List (Change (Kept U)))) (o : IdParts) (u : U) → IsNotedOver run (Destroyed o u) → (o.client ≡ client) × IsMadeIn run (id_of o)
   noted_over [] o u noted = absurd noted
   noted_over (step ∷ rest) o u (inl (of_it, made)) = (of_it, inl made)
   noted_over (step ∷ rest) o u (inr later) = let (of_it, made) = noted_over rest o u later in (of_it, inr made)
 
-  begins_without : (o : IdParts) (u : U) → IsAmong (Initialized ∷ []) (Destroyed o u) → ⊥
+  pub begins_without : (o : IdParts) (u : U) → IsAmong (Initialized ∷ []) (Destroyed o u) → ⊥
   begins_without o u (inl is) = true≢false (ap begins is)
     where
       begins : Happening U → Bool
@@ -57,14 +58,15 @@ module _ {U : Type 0} (client : ClientParts) where
   begins_without o u (inr none) = none
 
 module _ {T U G C : Type 0} (w : World T G C) (id : ClientParts) where
-  record RunChanging (offer : Offer G) (s : Seen T U C) (o : Objects (Kept U)) (run : List (Own T U G C)) (t : Seen T U C) : Type 0 where
-    changes : List (List (Change (Kept U)))
-    kept : Objects (Kept U)
-    follows : Follows w id offer s o run changes t kept
-    ends : RunEnds serial_of is_over o changes kept
-    are : AreObjectsOf t kept
-    left : left_in (history run) ≡ ended_over serial_of has_data changes
-    noted : (h : Happening U) → IsAmong (taken_in (history run) ++ (t.made ++ waiting_of t.part)) h → IsAmong (s.made ++ waiting_of s.part) h ⊎ IsNotedOver id changes h
+  pub record RunChanging (offer : Offer G) (s : Seen T U C) (o : Objects (Kept U)) (run : List (Own T U G C)) (t : Seen T U C) : Type 0 where
+    pub changes : List (List (Change (Kept U)))
+    pub kept : Objects (Kept U)
+    pub follows : Follows w id offer s o run changes t kept
+    pub ends : RunEnds serial_of is_over o changes kept
+    pub are : AreObjectsOf t kept
+    pub empty : held kept.store 0 ≡ None
+    pub left : left_in (history run) ≡ ended_over serial_of has_data changes
+    pub noted : (h : Happening U) → IsAmong (taken_in (history run) ++ (t.made ++ waiting_of t.part)) h → IsAmong (s.made ++ waiting_of s.part) h ⊎ IsNotedOver id changes h
 
   left_both : (a b : List (Deed U)) → left_in (a ++ b) ≡ left_in a ++ left_in b
   left_both a b = ap (λ (d : Doings U). d.left) (done_both a b)
@@ -72,7 +74,64 @@ module _ {T U G C : Type 0} (w : World T G C) (id : ClientParts) where
   taken_both : (a b : List (Deed U)) → taken_in (a ++ b) ≡ taken_in a ++ taken_in b
   taken_both a b = ap (λ (d : Doings U). d.taken) (done_both a b)
 
-  run_change : (offer : Offer G) (s : Seen T U C) (o : Objects (Kept U)) (run : List (Own T U G C)) (t : Seen T U C) → AreMine id run → AreObjectsOf s o
+  -- one more call
+  pub change_more : (offer : Offer G) (s : Seen T U C) (o : Objects (Kept U)) (e : Own T U G C) (run : List (Own T U G C)) (mid t : Seen T U C)
+      → concerns id e.call ≡ true → PartCall w id offer e.call s e.lacked e.did mid
+      → (first : CallChanging w.sends w.receives id s o (doings_of (handed_by id e.call e.did) e.did) mid)
+      → RunChanging (offer_after offer e.call) mid first.after run t → RunChanging offer s o (e ∷ run) t
+  change_more offer s o e run mid t own by first rest = record {
+    changes = first.changes ∷ rest.changes;
+    kept = rest.kept;
+    follows = (
+      mid,
+      first.after,
+      by,
+      first.ends,
+      first.are,
+      all_among (IsHandedIn id first.changes) (ids_in e.call) (λ i among. first.handed i (covers w id offer e.call s e.lacked e.did mid own by i among)),
+      first.left,
+      (λ h there. made_now h
+          (first.new h (among_contains (notes_in e.did ++ waiting_of mid.part) h there))),
+      rest.follows,
+    );
+    ends = (first.after, first.ends, rest.ends);
+    are = rest.are;
+    empty = rest.empty;
+    left = left_both e.did (history run) ∙ ap (λ (l : List Id). l ++ left_in (history run)) first.left
+        ∙ ap (λ (l : List Id). ended_in serial_of has_data first.changes ++ l) rest.left;
+    noted = λ h among. (
+        elim (in_three (taken_in e.did) (taken_in (history run)) (t.made ++ waiting_of t.part) h
+        (subst (λ (l : List (Happening U)). IsAmong l h)
+        (ap (λ (l : List (Happening U)). l ++ (t.made ++ waiting_of t.part)) (taken_both e.did (history run))
+        ∙ append_assoc (taken_in e.did) (taken_in (history run)) (t.made ++ waiting_of t.part)) among)) [
+          | inl now ↦ sooner first.changes rest.changes h (first.noted h (among_first (taken_in e.did) (mid.made ++ waiting_of mid.part) h now))
+          | inr (inl later) ↦ behind h (rest.noted h (among_first (taken_in (history run)) (t.made ++ waiting_of t.part) h later))
+          | inr (inr left) ↦ behind h (rest.noted h (among_later (taken_in (history run)) (t.made ++ waiting_of t.part) h left))
+        ]
+        );
+  }
+    where
+      made_now : (h : Happening U) → IsAmong (waiting_of s.part) h ⊎ IsNotedIn id first.changes h → Contains (waiting_of s.part) h ⊎ IsNotedIn id first.changes h
+      made_now h (inl old) = inl (contains_among (waiting_of s.part) h old)
+      made_now h (inr new) = inr new
+
+      sooner : (changes : List (Change (Kept U))) (others : List (List (Change (Kept U)))) (h : Happening U) → IsAmong (s.made ++ waiting_of s.part) h ⊎ IsNotedIn id changes h
+          → IsAmong (s.made ++ waiting_of s.part) h ⊎ IsNotedOver id (changes ∷ others) h
+      sooner changes others h (inl old) = inl old
+      sooner changes others h (inr new) = inr (inl new)
+
+      behind : (h : Happening U) → IsAmong (mid.made ++ waiting_of mid.part) h ⊎ IsNotedOver id rest.changes h
+          → IsAmong (s.made ++ waiting_of s.part) h ⊎ IsNotedOver id (first.changes ∷ rest.changes) h
+      behind h (inl old) = sooner first.changes rest.changes h (first.noted h (among_later (taken_in e.did) (mid.made ++ waiting_of mid.part) h old))
+      behind h (inr new) = inr (inr new)
+
+  pub one_change : (offer : Offer G) (s : Seen T U C) (o : Objects (Kept U)) (e : Own T U G C) (mid : Seen T U C) → concerns id e.call ≡ true → AreObjectsOf s o
+      → held o.store 0 ≡ None → PartCall w id offer e.call s e.lacked e.did mid
+      → CallChanging w.sends w.receives id s o (doings_of (handed_by id e.call e.did) e.did) mid
+  one_change offer s o e mid own are empty by =
+      goes_change w.sends w.receives id s mid o (doings_of (handed_by id e.call e.did) e.did) are empty (call_goes w id offer e.call s e.lacked e.did mid own by)
+
+  pub run_change : (offer : Offer G) (s : Seen T U C) (o : Objects (Kept U)) (run : List (Own T U G C)) (t : Seen T U C) → AreMine id run → AreObjectsOf s o
       → held o.store 0 ≡ None → Alone w id offer s run t → RunChanging offer s o run t
   run_change offer s o [] t own are empty same = record {
     changes = [];
@@ -80,63 +139,17 @@ module _ {T U G C : Type 0} (w : World T G C) (id : ClientParts) where
     follows = (same, refl);
     ends = refl;
     are = subst (λ (x : Seen T U C). AreObjectsOf x o) (sym same) are;
+    empty = empty;
     left = refl;
     noted = λ h among. inl (subst (λ (x : Seen T U C). IsAmong (x.made ++ waiting_of x.part) h) same among);
   }
   run_change offer s o (e ∷ run) t own are empty (mid, by, alone) =
-      let first = goes_change w.sends w.receives id s mid o (doings_of (handed_by id e.call e.did) e.did) are empty (call_goes w id offer e.call s e.lacked e.did mid own.0 by) in
-      let rest = run_change (offer_after offer e.call) mid first.after run t own.1 first.are first.empty alone in
-      record {
-        changes = first.changes ∷ rest.changes;
-        kept = rest.kept;
-        follows = (
-          mid,
-          first.after,
-          by,
-          first.ends,
-          first.are,
-          all_among (IsHandedIn id first.changes) (ids_in e.call) (λ i among. first.handed i (covers w id offer e.call s e.lacked e.did mid own.0 by i among)),
-          first.left,
-          (λ h there. made_now first h
-              (first.new h (among_contains (notes_in e.did ++ waiting_of mid.part) h there))),
-          rest.follows,
-        );
-        ends = (first.after, first.ends, rest.ends);
-        are = rest.are;
-        left = left_both e.did (history run) ∙ ap (λ (l : List Id). l ++ left_in (history run)) first.left
-            ∙ ap (λ (l : List Id). ended_in serial_of has_data first.changes ++ l) rest.left;
-        noted = λ h among. (
-            elim (in_three (taken_in e.did) (taken_in (history run)) (t.made ++ waiting_of t.part) h
-            (subst (λ (l : List (Happening U)). IsAmong l h)
-            (ap (λ (l : List (Happening U)). l ++ (t.made ++ waiting_of t.part)) (taken_both e.did (history run))
-            ∙ append_assoc (taken_in e.did) (taken_in (history run)) (t.made ++ waiting_of t.part)) among)) [
-              | inl now ↦ sooner first.changes rest.changes h (first.noted h (among_first (taken_in e.did) (mid.made ++ waiting_of mid.part) h now))
-              | inr (inl later) ↦ behind first rest h (rest.noted h (among_first (taken_in (history run)) (t.made ++ waiting_of t.part) h later))
-              | inr (inr left) ↦ behind first rest h (rest.noted h (among_later (taken_in (history run)) (t.made ++ waiting_of t.part) h left))
-            ]
-            );
-      }
-    where
-      made_now : (first : CallChanging w.sends w.receives id s o (doings_of (handed_by id e.call e.did) e.did) mid) (h : Happening U)
-          → IsAmong (waiting_of s.part) h ⊎ IsNotedIn id first.changes h → Contains (waiting_of s.part) h ⊎ IsNotedIn id first.changes h
-      made_now first h (inl old) = inl (contains_among (waiting_of s.part) h old)
-      made_now first h (inr new) = inr new
-
-      sooner : (changes : List (Change (Kept U))) (others : List (List (Change (Kept U)))) (h : Happening U) → IsAmong (s.made ++ waiting_of s.part) h ⊎ IsNotedIn id changes h
-          → IsAmong (s.made ++ waiting_of s.part) h ⊎ IsNotedOver id (changes ∷ others) h
-      sooner changes others h (inl old) = inl old
-      sooner changes others h (inr new) = inr (inl new)
-
-      behind : (first : CallChanging w.sends w.receives id s o (doings_of (handed_by id e.call e.did) e.did) mid)
-          (rest : RunChanging (offer_after offer e.call) mid first.after run t) (h : Happening U)
-          → IsAmong (mid.made ++ waiting_of mid.part) h ⊎ IsNotedOver id rest.changes h
-          → IsAmong (s.made ++ waiting_of s.part) h ⊎ IsNotedOver id (first.changes ∷ rest.changes) h
-      behind first rest h (inl old) = sooner first.changes rest.changes h (first.noted h (among_later (taken_in e.did) (mid.made ++ waiting_of mid.part) h old))
-      behind first rest h (inr new) = inr (inr new)
+      let first = one_change offer s o e mid own.0 are empty by in
+      change_more offer s o e run mid t own.0 by first (run_change (offer_after offer e.call) mid first.after run t own.1 first.are first.empty alone)
 
   -- ---- what holds of it
 
-  names_of : (t : Seen T U C) (kept : Objects (Kept U)) → AreObjectsOf t kept → (o : IdParts) → IsSome (named_of t o) ↔ IsSome (names serial_of (id_of o) kept.store)
+  pub names_of : (t : Seen T U C) (kept : Objects (Kept U)) → AreObjectsOf t kept → (o : IdParts) → IsSome (named_of t o) ↔ IsSome (names serial_of (id_of o) kept.store)
   names_of t kept are o = go t.part are
     where
       none_there : held kept.store o.number ≡ None → IsSome (names serial_of (id_of o) kept.store) → ⊥
@@ -154,10 +167,19 @@ module _ {T U G C : Type 0} (w : World T G C) (id : ClientParts) where
         λ some. sym (ap (λ (x : Objects (Kept U)). is_some (names serial_of (id_of o) x.store)) is) ∙ some,
       )
 
-  pub own_ids : (offer : Offer G) (link : LinkState T) (info : C) (run : List (Own T U G C)) (t : Seen T U C) → AreMine id run → Alone w id offer (begun link info) run t
-      → HasOwnIds w id offer (begun link info) run t
-  own_ids offer link info run t own alone =
-      let changing = run_change offer (begun link info) (objects.first_objects display_object) run t own refl (stored_other empty_store 1 display_object 0 (λ is. none_one is) ∙ held_empty 0) alone in
+  -- a client's run is one of changes, from its display alone on
+  pub begun_change : (offer : Offer G) (link : LinkState T) (info : C) (run : List (Own T U G C)) (t : Seen T U C) → AreMine id run → Alone w id offer (begun link info) run t
+      → RunChanging offer (begun link info) (objects.first_objects display_object) run t
+  begun_change offer link info run t own alone =
+      run_change offer (begun link info) (objects.first_objects display_object) run t own refl (stored_other empty_store 1 display_object 0 (λ is. none_one is) ∙ held_empty 0) alone
+    where
+      none_one : ◌≡◌ {A = ℕ} 0 1 → ⊥
+      none_one is = omega (arith, is)
+
+  -- and those changes make its ids its own
+  unfoldable pub own_by : (offer : Offer G) (link : LinkState T) (info : C) (run : List (Own T U G C)) (t : Seen T U C)
+      → RunChanging offer (begun link info) (objects.first_objects display_object) run t → HasOwnIds w id offer (begun link info) run t
+  own_by offer link info run t changing =
       let identity = identity_law serial_of display_object refl changing.changes changing.kept
       (run_leads serial_of (OwnsExactly is_over) (objects.first_objects display_object) changing.kept changing.changes changing.ends) in
       record {
@@ -181,9 +203,62 @@ module _ {T U G C : Type 0} (w : World T G C) (id : ClientParts) where
             (ends_once_law serial_of is_over has_data display_object refl changing.changes changing.kept
             (run_owns serial_of is_over (objects.first_objects display_object) changing.kept changing.changes changing.ends));
       }
-    where
-      none_one : ◌≡◌ {A = ℕ} 0 1 → ⊥
-      none_one is = omega (arith, is)
+
+  pub own_ids : (offer : Offer G) (link : LinkState T) (info : C) (run : List (Own T U G C)) (t : Seen T U C) → AreMine id run → Alone w id offer (begun link info) run t
+      → HasOwnIds w id offer (begun link info) run t
+  own_ids offer link info run t own alone = own_by offer link info run t (begun_change offer link info run t own alone)
+
+  -- ---- a run in two parts
+
+  pub record InParts (offer : Offer G) (s : Seen T U C) (o : Objects (Kept U)) (done : List (Own T U G C)) (point : Seen T U C) (later : List (Own T U G C)) (t : Seen T U C) : Type 0 where
+    pub whole : RunChanging offer s o (done ++ later) t
+    pub first : List (List (Change (Kept U)))
+    pub rest : List (List (Change (Kept U)))
+    pub split : whole.changes ≡ first ++ rest
+    pub there : Objects (Kept U)
+    pub are : AreObjectsOf point there
+    pub empty : held there.store 0 ≡ None
+    pub before : Follows w id offer s o done first point there
+    pub behind : Follows w id (offer_through offer done) point there later rest t whole.kept
+    pub ends_first : RunEnds serial_of is_over o first there
+    pub ends_rest : RunEnds serial_of is_over there rest whole.kept
+
+  pub in_parts : (offer : Offer G) (s : Seen T U C) (o : Objects (Kept U)) (done : List (Own T U G C)) (point : Seen T U C) (later : List (Own T U G C)) (t : Seen T U C)
+      → AreMine id done → AreMine id later → AreObjectsOf s o → held o.store 0 ≡ None → Alone w id offer s done point
+      → Alone w id (offer_through offer done) point later t → InParts offer s o done point later t
+  unfolding change_more
+  in_parts offer s o [] point later t own more are empty same alone =
+      let rest = run_change offer s o later t more are empty (subst (λ (x : Seen T U C). Alone w id offer x later t) same alone) in
+      record {
+        whole = rest;
+        first = [];
+        rest = rest.changes;
+        split = refl;
+        there = o;
+        are = subst (λ (x : Seen T U C). AreObjectsOf x o) (sym same) are;
+        empty = empty;
+        before = (same, refl);
+        behind = subst (λ (x : Seen T U C). Follows w id offer x o later rest.changes t rest.kept) (sym same) rest.follows;
+        ends_first = refl;
+        ends_rest = rest.ends;
+      }
+  in_parts offer s o (e ∷ done) point later t own more are empty (mid, by, led) alone =
+      let one = one_change offer s o e mid own.0 are empty by in
+      let parts = in_parts (offer_after offer e.call) mid one.after done point later t own.1 more one.are one.empty led alone in
+      let whole = change_more offer s o e (done ++ later) mid t own.0 by one parts.whole in
+      record {
+        whole = whole;
+        first = one.changes ∷ parts.first;
+        rest = parts.rest;
+        split = ap (λ (l : List (List (Change (Kept U)))). one.changes ∷ l) parts.split;
+        there = parts.there;
+        are = parts.are;
+        empty = parts.empty;
+        before = (mid, one.after, by, one.ends, one.are, whole.follows.5, whole.follows.6, whole.follows.7, parts.before);
+        behind = parts.behind;
+        ends_first = (one.after, one.ends, parts.ends_first);
+        ends_rest = parts.ends_rest;
+      }
 
 -- ---- every client of a server
 

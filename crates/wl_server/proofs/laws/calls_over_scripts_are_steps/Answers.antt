@@ -1,5 +1,11 @@
-use Rattle.wl_server.proofs.CallSteps.OverScripts.{step_over_script}
+use Rattle.wl_server.proofs.CallSteps.OverScripts.{one_over_script, run_over_script, step_over_script}
 use Rattle.wl_server.proofs.laws.calls_over_scripts_are_steps.Goals as goal
 
-pub returns : goal.returns
-returns g c = λ before after s answer refused. step_over_script g.G.GlobalHandler.views before s answer refused after
+pub returns-clause-step : goal.returns-clause-step
+returns-clause-step g c = λ before after s answer refused. step_over_script g.G.GlobalHandler.views before s answer refused after
+
+pub returns-clause-entry : goal.returns-clause-entry
+returns-clause-entry g c = λ before after e. one_over_script g.G.GlobalHandler.views before e after
+
+pub returns-clause-run : goal.returns-clause-run
+returns-clause-run g c = λ before after run. run_over_script g.G.GlobalHandler.views before run after

@@ -1,6 +1,9 @@
 use Rattle.wl_link.specs.ScriptLaws.{script_within_offer}
-use Rattle.wl_server.proofs.OverRuns.Alone.AccountLaws.{are_accounted_for}
+use Rattle.wl_server.proofs.OverRuns.Alone.AccountLaws.{are_accounted_for, is_accounted_for}
 use Rattle.wl_server.proofs.laws.each_client_of_a_script_is_accounted_for.Goals as goal
 
-pub returns : goal.returns
-returns g c = λ table steps after performs. are_accounted_for _ (record { law = script_within_offer }) table steps after performs
+pub returns-clause-history : goal.returns-clause-history
+returns-clause-history g c = λ table run after leads. is_accounted_for _ (record { law = script_within_offer }) table run after leads
+
+pub returns-clause-steps : goal.returns-clause-steps
+returns-clause-steps g c = λ table steps after performs. are_accounted_for _ (record { law = script_within_offer }) table steps after performs

@@ -1,6 +1,6 @@
 use Rattle.std.proofs.Common.{ℕ, ◌++◌, ◌∙◌, ap, subst, sym}
 use Rattle.wl_client.specs.Steps.{StepOf, StopsAt, entries}
-use Rattle.wl_client.proofs.OverRuns.IdentityLaws.{notes_ended, own_ids, stopped_accounts}
+use Rattle.wl_client.proofs.OverRuns.IdentityLaws.{keeps_naming, notes_ended, own_ids, stopped_accounts}
 use Rattle.wl_client.proofs.OverRuns.OutcomeLaws.{run_one}
 use Rattle.wl_client.proofs.OverRuns.StretchLaws.{parts_cut}
 use Rattle.wl_link.proofs.OverRuns.RunLaws.{joins}
@@ -44,3 +44,9 @@ pub returns-clause-outcome : goal.returns-clause-outcome
 returns-clause-outcome g c others other as_many leads =
     run_one c.args.self.now.session c.perform_all.new.self.session other c.args.steps.items c.perform_all.new.replies.items others
     (returns-clause-count g c) as_many (returns-clause-steps g c) leads
+
+pub returns-clause-named : goal.returns-clause-named
+returns-clause-named g c table transport begun point done later connected first others =
+    keeps_naming table transport begun point c.perform_all.new.self.session done (later ++ entries c.args.steps.items c.perform_all.new.replies.items) connected first
+    (joins StepOf point c.args.self.now.session c.perform_all.new.self.session later (entries c.args.steps.items c.perform_all.new.replies.items) others
+    (returns-clause-steps g c))

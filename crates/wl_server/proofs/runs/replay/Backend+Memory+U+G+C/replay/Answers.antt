@@ -4,6 +4,7 @@ use Rattle.wl_link.proofs.OverRuns.RunLaws.{joins}
 use Rattle.wl_link.specs.Runs.{entries}
 use Rattle.wl_link.specs.ScriptLaws.{script_within_offer}
 use Rattle.wl_server.proofs.OverRuns.Alone.AccountLaws.{accounts_for_stopped, are_accounted_for}
+use Rattle.wl_server.proofs.OverRuns.Alone.HistoryLaws.{extends, extends_up_to}
 use Rattle.wl_server.proofs.OverRuns.Alone.IsolationLaw.{are_isolated}
 use Rattle.wl_server.proofs.OverRuns.Outcome.MoveLaws.{scripts_determined}
 use Rattle.wl_server.specs.PartStep.{over_scripts}
@@ -62,3 +63,14 @@ pub returns-clause-cutting : goal.returns-clause-cutting
 returns-clause-cutting g c begun run before =
     are_cut g.G.GlobalHandler.views begun c.perform_all.new.self.server (run ++ entries c.args.steps.items c.perform_all.new.replies.items)
     (returns-clause-joined g c begun run before)
+
+pub returns-clause-history : goal.returns-clause-history
+returns-clause-history g c =
+    extends g.G.GlobalHandler.views c.args.self.now.server c.perform_all.new.self.server (entries c.args.steps.items c.perform_all.new.replies.items)
+    (returns-clause-steps g c)
+
+pub returns-then-self-clause-stopped_history : goal.returns-then-self-clause-stopped_history
+returns-then-self-clause-stopped_history g c =
+    extends_up_to g.G.GlobalHandler.views c.args.self.now.server c.perform_all.new.self.server
+    c.args.steps.items (length c.perform_all.new.replies.items) c.perform_all.new.replies.items
+    (c.perform_all.ensures.stopped (sym (ap (λ s. s.refused) c.self-2.view_is) ∙ c.if-self.true))

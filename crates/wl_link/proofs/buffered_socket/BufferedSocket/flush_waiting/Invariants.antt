@@ -1,7 +1,7 @@
 use Rattle.std.proofs.Common.{length}
 use Rattle.wl_link.specs.Inside.Storage.{beside}
 use Rattle.wl_link.proofs.Calls.FlushLaws.{FlushLeads}
-use Rattle.wl_link.proofs.buffered_socket.BufferedSocket.flush.Given as goal
+use Rattle.wl_link.proofs.buffered_socket.BufferedSocket.flush_waiting.Given as goal
 
 abbrev pub invariant-loop-self : goal.invariant-loop-self
 invariant-loop-self g l =

@@ -5,7 +5,7 @@ use Rattle.wl_link.specs.Link.{offer_of}
 use Rattle.wl_link.specs.Inside.Storage.{beside}
 use Rattle.wl_link.proofs.Calls.KeptLaws.{flush_keeps, flush_drains}
 use Rattle.wl_link.proofs.Calls.FlushLaws.{some_bytes, offered, flush_done, flush_fails, flush_stops, flush_goes_on}
-use Rattle.wl_link.proofs.buffered_socket.BufferedSocket.flush.Goals as goal
+use Rattle.wl_link.proofs.buffered_socket.BufferedSocket.flush_waiting.Goals as goal
 
 pub returns-in-Err-clause-flushed : goal.returns-in-Err-clause-flushed
 returns-in-Err-clause-flushed g c =

@@ -1,0 +1,23 @@
+-- What an id names from a point of a session's run on, however it came to be.
+use Rattle.std.specs.Prelude.{◌≡◌, List, ◌++◌, IsSome}
+use Rattle.wl_link.specs.Identity.{Change}
+use Rattle.wl_link.specs.Named.{StaysNamed}
+use Rattle.wl_link.specs.Script.{Script}
+use Rattle.wl_client.specs.declared.objects.Kept.{Kept}
+use Rattle.wl_client.specs.Handed.{Follows, HasOwnIds}
+use Rattle.wl_client.specs.ObjectId.{IdParts}
+use Rattle.wl_client.specs.Session.{SessionState, id_of, named, objects_of, serial_of}
+use Rattle.wl_client.specs.Steps.{Entry}
+
+module _ {U : Type 0} where
+  -- The changes that make the ids of a run its own are those of its first entries, which lead to this point, and then those
+  -- of the later ones. Each id that names an object at this point, however it came to be, names that very object behind the
+  -- run exactly while it is kept, and else none.
+  pub record KeepsNaming (begins : SessionState Script U) (done : List (Entry U)) (point : SessionState Script U) (later : List (Entry U)) (ends : SessionState Script U) : Type 0 where
+    pub ids : HasOwnIds begins (done ++ later) ends
+    pub first : List (List (Change (Kept U)))
+    pub rest : List (List (Change (Kept U)))
+    pub split : ids.changes ≡ first ++ rest
+    pub before : Follows begins done first point
+    pub behind : Follows point later rest ends
+    pub stays : (id : IdParts) → IsSome (named point.store id) → StaysNamed serial_of first rest (objects_of ends) (id_of id)

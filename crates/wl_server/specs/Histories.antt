@@ -1,0 +1,34 @@
+-- Runs of any entries over the transport by script: steps with their replies, and changes of a client's transport.
+use Rattle.std.specs.Prelude.{Bool, List, ◌++◌, length}
+use Rattle.wl_wire.specs.Table.{InterfaceRow}
+use Rattle.wl_link.specs.Runs.{RunEntry, IsWhereItStops, entries}
+use Rattle.wl_link.specs.Script.{Script}
+use Rattle.wl_server.specs.declared.runs.step.Reply.{Reply}
+use Rattle.wl_server.specs.declared.runs.step.Step.{Step}
+use Rattle.wl_server.specs.Accounts.{IsAccountedFor}
+use Rattle.wl_server.specs.Ids.{ClientParts, GlobalParts}
+use Rattle.wl_server.specs.PartStep.{over_scripts}
+use Rattle.wl_server.specs.Runs.{AreOf, Leads}
+use Rattle.wl_server.specs.Server.{ServerState, new_server}
+use Rattle.wl_server.specs.Steps.{Entry}
+use Rattle.wl_server.specs.Stretches.{EachPartIsCut}
+
+module _ {U G C : Type 0} (views : G → ClientParts → C → GlobalParts → Bool) where
+  -- Steps with these replies are the calls of entries that lead from one value of a server to another. Whatever history of a
+  -- new server led to the first, changes of transports among its entries, these entries extend it, and all laws of runs hold
+  -- of it with them behind it. Over each part of a history that they extend, cutting does not matter; and so it is whatever
+  -- their deeds.
+  pub record Extends (before : ServerState Script U G C) (steps : List (RunEntry (Step Script U G C) (Reply Script U))) (after : ServerState Script U G C) : Type 0 where
+    pub run : List (Entry Script U G C)
+    pub are : AreOf steps run
+    pub leads : Leads (over_scripts views) before run after
+    pub accounted : (table : List InterfaceRow) (history : List (Entry Script U G C)) → Leads (over_scripts views) (new_server table) history before
+        → Leads (over_scripts views) (new_server table) (history ++ run) after × IsAccountedFor (over_scripts views) table (history ++ run) after
+    pub cut : (begun : ServerState Script U G C) (history more : List (Entry Script U G C)) → Leads (over_scripts views) begun history before
+        → AreOf steps more → Leads (over_scripts views) before more after → EachPartIsCut views begun (history ++ more)
+
+  -- steps of which those before a want of memory have these replies: so it is with the step that met it, if one was begun
+  abbrev pub ExtendsUpTo : ServerState Script U G C → List (Step Script U G C) → List (Reply Script U) → ServerState Script U G C → Type 0
+  ExtendsUpTo before steps replies after =
+      (last : List (RunEntry (Step Script U G C) (Reply Script U))) × IsWhereItStops steps (length replies) last
+      × Extends before (entries steps replies ++ last) after

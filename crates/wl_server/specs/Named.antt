@@ -1,0 +1,59 @@
+-- What an id names from a point of a run on, however it came to be: by a reply, an action or a note, or by a look-up.
+use Rattle.std.specs.Prelude.{◌≡◌, ◌↔◌, List, [], ◌∷◌, ◌++◌, Some, IsSome, Ok}
+use Rattle.wl_wire.specs.Table.{InterfaceRow}
+use Rattle.wl_link.specs.Identity.{Birth, Change, Objects, births_of}
+use Rattle.wl_link.specs.Identity as objects
+use Rattle.wl_link.specs.Link.{LinkState, IsFresh}
+use Rattle.wl_server.specs.declared.objects.Kept.{Kept}
+use Rattle.wl_server.specs.declared.runs.step.Reply.TheVariants as reply
+use Rattle.wl_server.specs.declared.runs.step.Step.TheVariants as step
+use Rattle.wl_server.specs.Globals.{Offer, new_offer}
+use Rattle.wl_server.specs.Identified.{Follows, HasOwnIds, named_of}
+use Rattle.wl_server.specs.Ids.{ClientParts, IdParts}
+use Rattle.wl_server.specs.Part.{display_object}
+use Rattle.wl_server.specs.PartStep.{Asked, World}
+use Rattle.wl_server.specs.Runs.{Own, begun, mine, offer_over}
+use Rattle.wl_server.specs.Server.{Seen, ServerState, seen}
+use Rattle.wl_server.specs.Steps.{Entry, offer_after}
+
+-- the offer after a client's own calls and the shared ones
+abbrev pub offer_through : {T U G C : Type 0} → Offer G → List (Own T U G C) → Offer G
+offer_through offer [] = offer
+offer_through offer (e ∷ run) = offer_through (offer_after offer e.call) run
+
+module _ {T U G C : Type 0} (w : World T G C) (id : ClientParts) where
+  -- The changes that make the ids of a client's run its own are those of its first calls, which lead to this point, and then
+  -- those of the later ones. Each id that names an object of the client at this point, however it came to be, names that
+  -- very object behind the run exactly while it is kept and its client stored, and else none.
+  pub record KeepsNaming (offer : Offer G) (begins : Seen T U C) (done : List (Own T U G C)) (point : Seen T U C) (later : List (Own T U G C)) (ends : Seen T U C) : Type 0 where
+    pub ids : HasOwnIds w id offer begins (done ++ later) ends
+    pub first : List (List (Change (Kept U)))
+    pub rest : List (List (Change (Kept U)))
+    pub split : ids.changes ≡ first ++ rest
+    pub there : Objects (Kept U)
+    pub before : Follows w id offer begins (objects.first_objects display_object) done first point there
+    pub behind : Follows w id (offer_through offer done) point there later rest ends ids.kept
+    pub stays : (o : IdParts) → IsSome (named_of point o)
+        → (birth : Birth) × ((births_of first).of_number o.number ≡ Some birth)
+        × (IsSome (named_of ends o) ↔ ((births_of (first ++ rest)).of_number o.number ≡ Some birth))
+
+module _ {T U C : Type 0} where
+  -- an id that names an object of the client at a point, and none at a later one, names none ever after
+  abbrev pub NamesNoneAgain : Seen T U C → Seen T U C → Seen T U C → Type 0
+  NamesNoneAgain point mid ends = (o : IdParts) → IsSome (named_of point o) → ¬ IsSome (named_of mid o) → ¬ IsSome (named_of ends o)
+
+module _ {T U G C : Type 0} where
+  -- Of each client that was inserted before the point, from its insertion on, by its own calls and the shared ones.
+  abbrev pub EachKeepsNaming : World T G C → List InterfaceRow → List (Entry T U G C) → ServerState T U G C → List (Entry T U G C) → ServerState T U G C → Type 0
+  EachKeepsNaming w table done point later after =
+      (id : ClientParts) (transport : T) (info : C) (earlier between : List (Entry T U G C)) (e : Entry T U G C) →
+      done ≡ earlier ++ e ∷ between → e.call ≡ Asked (step.InsertClient transport info) (reply.InsertClient (Ok id)) →
+      (link : LinkState T) × IsFresh transport (Some (offer_over (new_offer table) earlier).default_limit) link
+      × KeepsNaming w id (offer_over (new_offer table) (earlier ++ e ∷ [])) (begun link info) (mine id between) (seen id point) (mine id later) (seen id after)
+
+  -- so it is with each client that was inserted before the point
+  abbrev pub EachNamesNoneAgain : List (Entry T U G C) → ServerState T U G C → ServerState T U G C → ServerState T U G C → Type 0
+  EachNamesNoneAgain done point mid after =
+      (id : ClientParts) (transport : T) (info : C) (earlier since : List (Entry T U G C)) (e : Entry T U G C) →
+      done ≡ earlier ++ e ∷ since → e.call ≡ Asked (step.InsertClient transport info) (reply.InsertClient (Ok id)) →
+      NamesNoneAgain (seen id point) (seen id mid) (seen id after)
