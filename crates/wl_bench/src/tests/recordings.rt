@@ -3,6 +3,7 @@
 mod clients;
 mod conversations;
 mod differences;
+mod quads;
 
 use crate::commands::record;
 use crate::replay::replay;
