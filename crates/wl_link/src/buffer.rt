@@ -1,6 +1,7 @@
 //! Bytes that wait, in a storage that is used again.
 
 ghost use Rattle.std.specs.Prelude.{◌≡◌, ◌≢◌, ◌↔◌, ◌+◌, ◌-◌, ◌<◌, ◌≤◌, ◌^◌, [], length, take, drop, slice_range, Err, IfOk, IsTrue, OnOk, OnErr};
+ghost use Rattle.std.specs.VecDeque.{deque_capacity, deque_len};
 ghost use Rattle.wl_wire.specs.MapIds.{numbered};
 ghost use Rattle.wl_wire.specs.Message.{IsMessage, size, tokens};
 ghost use Rattle.wl_link.specs.Inside.Storage.{waits, beside, arrived, Received, Appended};
@@ -151,12 +152,14 @@ impl Buffer {
     }
 
     /// Receives behind the bytes that wait, into all of the storage that is free, and answers how many bytes came.
-    /// The tokens that came are put behind those in the queue. A fault changes neither.
+    /// The tokens that came are put behind those in the queue, which has room for the most that a receive may give. A
+    /// fault changes neither.
     pub fn receive<T: Transport>(
         &mut self,
         transport: &mut T,
         tokens: &mut VecDeque<Token>,
     ) -> Result<usize, IoFault>
+        requires tokens { deque_len tokens.old + 28 ≤ deque_capacity tokens.old }
         ensures received { Received T.receives transport.old (beside self.old.bytes tokens.old.items) self.old.size result
             transport.new (beside self.new.bytes tokens.new.items) }
         ensures size { self.new.size ≡ self.old.size }

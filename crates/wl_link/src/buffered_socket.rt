@@ -7,10 +7,10 @@ ghost use Rattle.wl_wire.specs.MapIds.{numbered};
 ghost use Rattle.wl_wire.specs.Message.{IsMessage, content, size};
 ghost use Rattle.wl_wire.specs.declared.error.MessageParseError.TheVariants as parse;
 ghost use Rattle.wl_wire.specs.Parse.{IsInline, IsThere, ReadsMessage, RefusesMessage, sender_of, opcode_of};
-ghost use Rattle.wl_link.specs.Link.{IsFresh, LimitSet, Flushed, Filled, Grown, Wants, Put, Placed, Wrote, ReadOne, looked_up, read_content, read_into, needed, has_room, ignoring, counted_answer, grown_capacity, with_incoming_capacity, with_incoming, behind_first, FindsRoom};
+ghost use Rattle.wl_link.specs.Link.{IsFresh, LimitSet, Flushed, Filled, Grown, Wants, Put, Placed, Wrote, ReadOne, looked_up, read_content, read_into, needed, has_room, ignoring, counted_answer, grown_capacity, with_incoming, behind_first, FindsRoom, LacksBytes};
 ghost use Rattle.wl_link.specs.Kept.{FlushKeeps, FlushDrains, WriteKeeps};
 ghost use Rattle.wl_link.specs.Sides.{ReadTakes};
-ghost use Rattle.wl_link.specs.Inside.Storage.{write_answer_of};
+ghost use Rattle.wl_link.specs.Inside.Storage.{FitsUnder, grown_to, write_answer_of};
 
 use crate::buffer::Buffer;
 use crate::limit::{DEFAULT_MAX_BUFFER_SIZE, grown_size, incoming_limit, rounded};
@@ -277,22 +277,6 @@ impl<T> BufferedSocket<T> {
         self.outgoing.grow(grown)
     }
 
-    /// Makes room for the most tokens that a receive may give, and for a byte, where the limit allows it. Where there is
-    /// no memory, both sides stay as they were.
-    fn grow_incoming(&mut self) -> Result<(), OutOfMemory>
-        ensures ok { OnOk result (self.new ≡ with_incoming_capacity self.old (grown_capacity self.old)) }
-        ensures err { OnErr result (self.new ≡ self.old) }
-        ensures room { OnOk result (FindsRoom self.old self.new.incoming_capacity) }
-        ensures doubled { FindsRoom self.old (grown_capacity self.old) }
-    {
-        let size = self.incoming.size();
-        self.fds_in.reserve(MAX_FDS_OUT)?;
-        if self.incoming.len() < size || size >= incoming_limit(self.limit) {
-            return Ok(());
-        }
-        self.incoming.grow(size * 2)
-    }
-
     /// Puts the message behind what waits.
     fn put<Id, N: Numbering<Id>>(
         &mut self,
@@ -462,12 +446,29 @@ impl<T: Transport> BufferedSocket<T> {
         ensures room { result ≢ Err IoFault.OutOfMemory → FindsRoom self.old self.new.incoming_capacity }
         ensures doubled { FindsRoom self.old (grown_capacity self.old) }
     {
-        let Ok(()) = self.grow_incoming() else {
+        let size = size_with_room(&self.incoming, self.limit);
+        let Ok(()) = self.fds_in.reserve(MAX_FDS_OUT) else {
+            return Err(IoFault::OutOfMemory);
+        };
+        let Ok(()) = self.incoming.grow(size) else {
             return Err(IoFault::OutOfMemory);
         };
         let received = self.incoming.receive(&mut self.transport, &mut self.fds_in);
         answer_of(received)
     }
+}
+
+/// The size of the storage that a receive finds: one of which no byte is free is doubled, where the limit allows it.
+fn size_with_room(incoming: &Buffer, limit: Option<usize>) -> usize
+    ensures is { result ≡ grown_to limit incoming.now }
+    ensures room { LacksBytes incoming.now.bytes → FitsUnder limit incoming.now.bytes → length incoming.now.bytes < result }
+    ensures no_less { incoming.now.size ≤ result }
+{
+    let size = incoming.size();
+    if incoming.len() < size || size >= incoming_limit(limit) {
+        return size;
+    }
+    size * 2
 }
 
 /// What is offered of the bytes that wait, where so many tokens wait.

@@ -1,5 +1,5 @@
 -- Bytes that wait in a storage, as the functions inside the link say it.
-use Rattle.std.specs.Prelude.{◌≡◌, ℕ, ◌≢◌, ◌+◌, ◌-◌, ◌<◌, ◌≤◌, List, [], ◌++◌, length, Result, Ok, Err}
+use Rattle.std.specs.Prelude.{◌≡◌, ℕ, ◌≢◌, ◌+◌, ◌-◌, ◌*◌, ◌<◌, ◌≤◌, ◌&&◌, List, [], ◌++◌, length, nat_le, nat_lt, if◌then◌else◌, Option, Result, Ok, Err}
 use Rattle.wl_wire.specs.declared.error.MessageWriteError.{MessageWriteError}
 use Rattle.wl_wire.specs.declared.error.MessageWriteError.TheVariants as errors
 use Rattle.wl_wire.specs.Message.{WireMessage, size, spelling, tokens as tokens_of}
@@ -7,7 +7,8 @@ use Rattle.wl_wire.specs.declared.argument.Token.{Token}
 use Rattle.wl_wire.specs.declared.error.IoFault.{IoFault}
 use Rattle.wl_wire.specs.declared.error.IoFault.TheVariants as fault
 use Rattle.wl_link.specs.Exchange.{Queue}
-use Rattle.wl_link.specs.Link.{count_of, with_came}
+use Rattle.wl_wire.specs.Parse.{length_of}
+use Rattle.wl_link.specs.Link.{count_of, incoming_limit, with_came}
 
 -- the bytes, and how many the storage can hold
 pub record Waiting : Type 0 where
@@ -33,6 +34,14 @@ Received receives before waiting size answer after waiting' =
     × receives before (size - length waiting.bytes) received after
     × (answer ≡ count_of received)
     × (waiting' ≡ with_came waiting received)
+
+-- the storage that a receive finds under a limit
+abbrev pub grown_to : Option ℕ → Waiting → ℕ
+grown_to limit w = if nat_le w.size (length w.bytes) && nat_lt w.size (incoming_limit limit) then w.size * 2 else w.size
+
+-- the message at the front is no longer than a storage may become under a limit
+abbrev pub FitsUnder : Option ℕ → List ℕ → Type 0
+FitsUnder limit bytes = 8 ≤ length bytes → length_of bytes ≤ incoming_limit limit
 
 -- The message stands behind what waits. A refusal changes nothing: the message is too long, or there is too little
 -- room behind what waits, or there is no memory for its tokens.
