@@ -1,6 +1,6 @@
 //! A server that is driven by commands: the steps that each command is, and what it prints.
 
-ghost use Rattle.std.specs.Prelude.{List, ◌≡◌, ◌∷◌, ◌++◌, [], IfErr, IfOk, MatchOption, OnOk, Some, map};
+ghost use Rattle.std.specs.Prelude.{List, ◌≡◌, ◌∷◌, ◌++◌, [], IfErr, IfOk, MatchOption, None, Ok, OnOk, Some, map};
 ghost use Rattle.std.specs.String.{string_bytes};
 ghost use Rattle.wl_server.specs.Deeds.{handed};
 ghost use Rattle.wl_bench.specs.Bench.{BenchReply, Does, DoesFor, DoesForAll, IsOneCall, IsShared, NamesNone, Replies, accept_step, all_latest, client_calls, client_of, clients_after, finish_step, global_of, globals_after, heard_by, latest, new_bench, opened_by, printed, seat_told, shared_call, take_step, with_latest};
@@ -93,6 +93,7 @@ impl Bench {
     ) -> Result<Option<Vec<String>>, Stop>
         ensures done { IfOk result (λ answer. MatchOption answer (NamesNone self.old command × (self.new ≡ self.old))
             (λ lines. Does self.old number command (map string_bytes lines.items) self.new)) }
+        ensures none { NamesNone self.old command → result ≡ Ok None }
         ensures failed { IfErr result (λ stop. stop ≡ Failed) }
     {
         match command {
