@@ -14,7 +14,7 @@ use wl_server::{Action, ActionError, Backend, ClientId, Reply, Step};
 use wl_wire::{InterfaceId, IoFault};
 
 /// A server of the runs.
-type Server = Backend<Memory, u32, Shown, bool>;
+pub type Server = Backend<Memory, u32, Shown, bool>;
 
 /// A call of a run, or a look.
 #[derive(Clone, Copy)]
@@ -517,7 +517,7 @@ fn prepare(alloc: Global, server: &mut Server, act: Act) -> Result<(), Fail> {
 }
 
 /// Makes the calls, and tells what they answer.
-fn perform_all(
+pub fn perform_all(
     alloc: Global,
     server: &mut Server,
     log: &mut String,
