@@ -1,6 +1,6 @@
 -- What a dispatch does: the actions of a client are read, handled and ended, one after another.
 --
--- A dispatch is a run of calls. What its turns are is said here; the calls themselves are those of `Steps`.
+-- A dispatch is a run of calls. What its rounds are is said here; the calls themselves are those of `Steps`.
 use Rattle.std.specs.Prelude.{◌≡◌, ℕ, ◌+◌, ◌==◌, min, List, [], ◌∷◌, ◌++◌, Bool, false, ◌||◌, if◌then◌else◌, Option, None, Some, Result, Ok, Err}
 use Rattle.wl_wire.specs.declared.argument.Argument.{Argument}
 use Rattle.wl_wire.specs.declared.argument.Token.{Token}
@@ -77,7 +77,7 @@ cleaned (reply.Cleanup r) answer = behind_cleanup r answer
 cleaned _ answer = answer
 
 module _ {H T U G C : Type 0} (w : World T G C) (answers : Answering H T U G C) (id : ClientParts) where
-  -- ---- a turn
+  -- ---- a round
 
   -- the handler is called with the action, and this is to end the action, with its answer
   abbrev pub Answers : H → BackendState T U G C → Action → Step T U G C → H → BackendState T U G C → Type 0
@@ -104,9 +104,9 @@ module _ {H T U G C : Type 0} (w : World T G C) (answers : Answering H T U G C) 
     pub run_is : run ≡ calls ++ (ended ∷ [])
     pub lacked_is : lacked ≡ ended.refused
 
-  -- A turn: the client is read, and the action that is handed out is handled. Whether memory was refused is said of the
+  -- A round: the client is read, and the action that is handed out is handled. Whether memory was refused is said of the
   -- reading and of the action's end, and not of the handler's calls.
-  pub record Turn (h : H) (r : Reading) (before : ServerState T U G C) (run : List (Entry T U G C)) (lacked : Bool) (why : Option FinishError)
+  pub record Round (h : H) (r : Reading) (before : ServerState T U G C) (run : List (Entry T U G C)) (lacked : Bool) (why : Option FinishError)
       (h' : H) (r' : Reading) (after : ServerState T U G C) : Type 0 where
     pub handed : Action
     pub read : Entry T U G C
@@ -120,13 +120,13 @@ module _ {H T U G C : Type 0} (w : World T G C) (answers : Answering H T U G C) 
     pub run_is : run ≡ read ∷ rest
     pub lacked_is : lacked ≡ read.refused || end_lacked
 
-  -- turns one after another, the ends of which were accepted
-  pub data Turns : H → Reading → ServerState T U G C → List (Entry T U G C) → Bool → H → Reading → ServerState T U G C → Type 0 where
+  -- rounds one after another, the ends of which were accepted
+  pub data Rounds : H → Reading → ServerState T U G C → List (Entry T U G C) → Bool → H → Reading → ServerState T U G C → Type 0 where
     none : {h : H} {r : Reading} {s : ServerState T U G C} {run : List (Entry T U G C)} {lacked : Bool}
-        → run ≡ [] → lacked ≡ false → Turns h r s run lacked h r s
+        → run ≡ [] → lacked ≡ false → Rounds h r s run lacked h r s
     more : {h h1 h' : H} {r r1 r' : Reading} {s s1 s' : ServerState T U G C} {first next run : List (Entry T U G C)} {before now lacked : Bool}
-        → Turns h r s first before h1 r1 s1 → Turn h1 r1 s1 next now None h' r' s' → run ≡ first ++ next → lacked ≡ before || now
-        → Turns h r s run lacked h' r' s'
+        → Rounds h r s first before h1 r1 s1 → Round h1 r1 s1 next now None h' r' s' → run ≡ first ++ next → lacked ≡ before || now
+        → Rounds h r s run lacked h' r' s'
 
   -- The last: the reading hands out no action, or the end of its action is refused. It ends the dispatch by this fault.
   pub data Last (h : H) (r : Reading) (s : ServerState T U G C) (run : List (Entry T U G C)) (lacked : Bool) (f : IoFault) (h' : H) (r' : Reading)
@@ -134,12 +134,12 @@ module _ {H T U G C : Type 0} (w : World T G C) (answers : Answering H T U G C) 
     no_action : (e : Entry T U G C) (error : ActionError) → OneStep w s e s'
         → e.call ≡ Asked (step.NextActionWithin id r) (reply.NextActionWithin (Err error) r') → run ≡ e ∷ [] → lacked ≡ e.refused
         → f ≡ fault_of_reading error → h' ≡ h → Last h r s run lacked f h' r' s'
-    not_ended : (why : FinishError) → Turn h r s run lacked (Some why) h' r' s' → f ≡ fault_of_end why → Last h r s run lacked f h' r' s'
+    not_ended : (why : FinishError) → Round h r s run lacked (Some why) h' r' s' → f ≡ fault_of_end why → Last h r s run lacked f h' r' s'
 
   -- ---- a client
 
-  -- turns, and then the last, which ends them by this fault
-  pub record TurnsEnd (h : H) (r : Reading) (before : ServerState T U G C) (run : List (Entry T U G C)) (lacked : Bool) (f : IoFault) (h' : H)
+  -- rounds, and then the last, which ends them by this fault
+  pub record RoundsEnd (h : H) (r : Reading) (before : ServerState T U G C) (run : List (Entry T U G C)) (lacked : Bool) (f : IoFault) (h' : H)
       (r' : Reading) (after : ServerState T U G C) : Type 0 where
     pub handler : H
     pub reading : Reading
@@ -148,7 +148,7 @@ module _ {H T U G C : Type 0} (w : World T G C) (answers : Answering H T U G C) 
     pub last : List (Entry T U G C)
     pub first_lacked : Bool
     pub last_lacked : Bool
-    pub turns : Turns h r before first first_lacked handler reading mid
+    pub rounds : Rounds h r before first first_lacked handler reading mid
     pub end : Last handler reading mid last last_lacked f h' r' after
     pub run_is : run ≡ first ++ last
     pub lacked_is : lacked ≡ first_lacked || last_lacked
@@ -158,7 +158,7 @@ module _ {H T U G C : Type 0} (w : World T G C) (answers : Answering H T U G C) 
       (after : ServerState T U G C) : Type 0 where
     pub left : Reading
     pub fault : IoFault
-    pub served : TurnsEnd h new_reading before run lacked fault h' left after
+    pub served : RoundsEnd h new_reading before run lacked fault h' left after
     pub answer_is : answer ≡ dispatched fault left.read
 
 -- ---- clients one after another

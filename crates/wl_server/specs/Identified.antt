@@ -27,7 +27,7 @@ use Rattle.wl_server.specs.Lookups.{and_then}
 use Rattle.wl_server.specs.Part.{Part, display_object, id_of, named, null_id, objects_of, serial_of}
 use Rattle.wl_server.specs.PartStep.{Asked, Call, PartCall, World}
 use Rattle.wl_server.specs.Reading.{action_content}
-use Rattle.wl_server.specs.Runs.{AreOf, Leads, Own, begun, history, mine, offer_over}
+use Rattle.wl_server.specs.Runs.{AreOf, Leads, Own, just_inserted, history, mine, offer_over}
 use Rattle.wl_server.specs.Server.{Seen, ServerState, new_server, seen}
 use Rattle.wl_server.specs.Steps.{Entry, offer_after}
 
@@ -126,7 +126,7 @@ module _ {T U G C : Type 0} where
       (id : ClientParts) (transport : T) (info : C) (earlier later : List (Entry T U G C)) (e : Entry T U G C) →
       run ≡ earlier ++ e ∷ later → e.call ≡ Asked (step.InsertClient transport info) (reply.InsertClient (Ok id)) →
       (link : LinkState T) × IsFresh transport (Some (offer_over (new_offer table) earlier).default_limit) link
-      × HasOwnIds w id (offer_over (new_offer table) (earlier ++ e ∷ [])) (begun link info) (mine id later) (seen id after)
+      × HasOwnIds w id (offer_over (new_offer table) (earlier ++ e ∷ [])) (just_inserted link info) (mine id later) (seen id after)
 
   -- steps of a new server, with these replies, are the calls of a run in which each client has
   abbrev pub HaveOwnIds : World T G C → List InterfaceRow → List (RunEntry (Step T U G C) (Reply T U)) → ServerState T U G C → Type 0

@@ -12,7 +12,7 @@ use Rattle.wl_server.specs.Identified.{Follows, HasOwnIds, named_of}
 use Rattle.wl_server.specs.Ids.{ClientParts, IdParts}
 use Rattle.wl_server.specs.Part.{display_object}
 use Rattle.wl_server.specs.PartStep.{Asked, World}
-use Rattle.wl_server.specs.Runs.{Own, begun, mine, offer_over}
+use Rattle.wl_server.specs.Runs.{Own, just_inserted, mine, offer_over}
 use Rattle.wl_server.specs.Server.{Seen, ServerState, seen}
 use Rattle.wl_server.specs.Steps.{Entry, offer_after}
 
@@ -49,7 +49,7 @@ module _ {T U G C : Type 0} where
       (id : ClientParts) (transport : T) (info : C) (earlier between : List (Entry T U G C)) (e : Entry T U G C) →
       done ≡ earlier ++ e ∷ between → e.call ≡ Asked (step.InsertClient transport info) (reply.InsertClient (Ok id)) →
       (link : LinkState T) × IsFresh transport (Some (offer_over (new_offer table) earlier).default_limit) link
-      × KeepsNaming w id (offer_over (new_offer table) (earlier ++ e ∷ [])) (begun link info) (mine id between) (seen id point) (mine id later) (seen id after)
+      × KeepsNaming w id (offer_over (new_offer table) (earlier ++ e ∷ [])) (just_inserted link info) (mine id between) (seen id point) (mine id later) (seen id after)
 
   -- so it is with each client that was inserted before the point
   abbrev pub EachNamesNoneAgain : List (Entry T U G C) → ServerState T U G C → ServerState T U G C → ServerState T U G C → Type 0

@@ -82,8 +82,8 @@ pub record Own (T U G C : Type 0) : Type 0 where
   pub did : List (Deed U)
 
 -- what is held of a client that was just inserted
-abbrev pub begun : {T U C : Type 0} → LinkState T → C → Seen T U C
-begun link info = record { part = Some (fresh_part link info); made = Initialized ∷ [] }
+abbrev pub just_inserted : {T U C : Type 0} → LinkState T → C → Seen T U C
+just_inserted link info = record { part = Some (fresh_part link info); made = Initialized ∷ [] }
 
 module _ {T U G C : Type 0} where
   abbrev pub own_of : ClientParts → Entry T U G C → Own T U G C
@@ -120,7 +120,7 @@ module _ {T U G C : Type 0} where
       (id : ClientParts) (transport : T) (info : C) (earlier later : List (Entry T U G C)) (e : Entry T U G C) →
       run ≡ earlier ++ e ∷ later → e.call ≡ Asked (step.InsertClient transport info) (reply.InsertClient (Ok id)) →
       (link : LinkState T) × IsFresh transport (Some (offer_over (new_offer table) earlier).default_limit) link
-      × Alone w id (offer_over (new_offer table) (earlier ++ e ∷ [])) (begun link info) (mine id later) (seen id after)
+      × Alone w id (offer_over (new_offer table) (earlier ++ e ∷ [])) (just_inserted link info) (mine id later) (seen id after)
 
   -- a call inserts this client
   abbrev pub Inserts : ClientParts → Call T U G C → Type 0

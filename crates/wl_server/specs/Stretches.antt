@@ -101,9 +101,9 @@ told_by (Some (Err (Io f))) did = if was_killed did then Err f ∷ [] else []
 
 module _ {T U G C : Type 0} where
   -- the actions and why nothing more was read, in order
-  abbrev pub answered : List (Own T U G C) → List (Result Handed IoFault)
-  answered [] = []
-  answered (e ∷ run) = told_by (reading_by e.call) e.did ++ answered run
+  abbrev pub handed_out : List (Own T U G C) → List (Result Handed IoFault)
+  handed_out [] = []
+  handed_out (e ∷ run) = told_by (reading_by e.call) e.did ++ handed_out run
 
   -- the last entry is a reading that finds that the transport would block
   abbrev pub EndsWaiting : List (Own T U G C) → Type 0
@@ -147,14 +147,14 @@ module _ {U G C : Type 0} (a : Around G C) where
   -- What it gave, and what it came to, is what is served of all that arrived, with the finishes that were accepted, over the
   -- script's answers to the sends: by that it is determined what was put and done and noted, what was answered, and how
   -- the client stands.
-  pub record IsServed (before : Part Script U C) (run : List (Own Script U G C)) (after : Part Script U C) : Type 0 where
+  pub record StretchIsServed (before : Part Script U C) (run : List (Own Script U G C)) (after : Part Script U C) : Type 0 where
     pub gave : List (Given (Told U))
     pub end : ReaderState Script (Core U C)
     pub served : Served ScriptSends (server a) (reader_part before) (joined (left_in before) (arrived run)) (sending_side before.link.transport) (finished run) gave
         (state_as end (left_in after) (sending_side after.link.transport))
     pub leads : after ≡ part_of end
     pub deeds : beside_exchanges (history run) ≡ deeds_in gave ++ end_deeds end.core.ended
-    pub answers : answered run ≡ answers_in gave
+    pub answers : handed_out run ≡ answers_in gave
 
 module _ {U C : Type 0} where
   -- the whole of a client as it is over what waits and what is left over of the arrivals, joined
@@ -167,7 +167,7 @@ module _ {U C : Type 0} where
 module _ {U G C : Type 0} where
   -- where the client's own run is a stretch, it is served so; and one of messages that are short enough is a stretch
   abbrev pub CutsStretch : Around G C → Part Script U C → List (Own Script U G C) → Part Script U C → Type 0
-  CutsStretch a p run q = (IsStretch a p run q → IsServed a p run q) × (IsStretchWithin a p run q → IsStretch a p run q)
+  CutsStretch a p run q = (IsStretch a p run q → StretchIsServed a p run q) × (IsStretchWithin a p run q → IsStretch a p run q)
 
   -- so it is of each client that was there before and is stored in the end
   abbrev pub EachIsCut : (G → ClientParts → C → GlobalParts → Bool) → ServerState Script U G C → List (Entry Script U G C) → ServerState Script U G C → Type 0

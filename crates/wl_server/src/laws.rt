@@ -33,7 +33,7 @@ ghost use Rattle.wl_server.specs.Reading.{Around, reads_on, server};
 ghost use Rattle.wl_server.specs.Runs.{Alone, AreIsolated, IsIsolated, Leads, Own, Performs, history};
 ghost use Rattle.wl_server.specs.Server.{Seen, ServerState, Stored, new_server};
 ghost use Rattle.wl_server.specs.Steps.{RiseBySlot, Entry, InsertsNext, OneStep, StepOf};
-ghost use Rattle.wl_server.specs.Stretches.{IsServed as IsRunServed, IsStretch, IsStretchWithin, SameLeft, answered, arrived, beside_exchanges, finished};
+ghost use Rattle.wl_server.specs.Stretches.{StretchIsServed, IsStretch, IsStretchWithin, SameLeft, handed_out, arrived, beside_exchanges, finished};
 ghost use Rattle.wl_server.specs.Telling.{Core, Finish, Told};
 ghost use Rattle.wl_server.specs.WholeOutcome.{AnswersAlike, PerformancesHaveOneOutcome, RunsHaveOneOutcome, SameServer};
 
@@ -232,7 +232,7 @@ pub fn cutting_does_not_matter_to_a_client<T: Transport, U, G, C>()
 pub fn cutting_does_not_matter_to_a_run<U, G: GlobalHandler<C>, C>()
     ensures served { (id : ClientParts) (offer : Offer G) (before after : Seen Script U C) (p q : Part Script U C) (run : List (Own Script U G C)) →
         before.part ≡ Some p → after.part ≡ Some q → Alone (over_scripts G.views) id offer before run after →
-        IsStretch (around (over_scripts G.views) id offer) p run q → IsRunServed (around (over_scripts G.views) id offer) p run q }
+        IsStretch (around (over_scripts G.views) id offer) p run q → StretchIsServed (around (over_scripts G.views) id offer) p run q }
     ensures within { (id : ClientParts) (offer : Offer G) (before after : Seen Script U C) (p q : Part Script U C) (run : List (Own Script U G C)) →
         before.part ≡ Some p → after.part ≡ Some q → Alone (over_scripts G.views) id offer before run after →
         IsStretchWithin (around (over_scripts G.views) id offer) p run q → IsStretch (around (over_scripts G.views) id offer) p run q }
@@ -241,5 +241,5 @@ pub fn cutting_does_not_matter_to_a_run<U, G: GlobalHandler<C>, C>()
         Alone (over_scripts G.views) id offer before run after → Alone (over_scripts G.views) id offer before others other →
         IsStretch (around (over_scripts G.views) id offer) p run q → IsStretch (around (over_scripts G.views) id offer) p others r →
         arrived run ≡ arrived others → finished run ≡ finished others →
-        (beside_exchanges (history run) ≡ beside_exchanges (history others)) × (answered run ≡ answered others) × SameLeft q r }
+        (beside_exchanges (history run) ≡ beside_exchanges (history others)) × (handed_out run ≡ handed_out others) × SameLeft q r }
 {}

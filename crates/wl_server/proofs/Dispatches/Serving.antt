@@ -16,7 +16,7 @@ use Rattle.wl_server.specs.declared.runs.step.Reply.TheVariants as reply
 use Rattle.wl_server.specs.declared.runs.step.Step.{Step}
 use Rattle.wl_server.specs.declared.runs.step.Step.TheVariants as step
 use Rattle.wl_server.specs.Backend.{BackendState, Calls}
-use Rattle.wl_server.specs.Dispatch.{Answering, Answers, AreCut, DispatchesAll, DispatchesClient, EndsDispatch, Handles, Last, Serves, ServesEach, StayAccountedFor, Turn, Turns, TurnsEnd, behind_cleanup, dispatched, fault_of_end, fault_of_reading, more, no_action, none, not_ended, refusal_in, total_with}
+use Rattle.wl_server.specs.Dispatch.{Answering, Answers, AreCut, DispatchesAll, DispatchesClient, EndsDispatch, Handles, Last, Serves, ServesEach, StayAccountedFor, Round, Rounds, RoundsEnd, behind_cleanup, dispatched, fault_of_end, fault_of_reading, more, no_action, none, not_ended, refusal_in, total_with}
 use Rattle.wl_server.specs.Ids.{ClientParts}
 use Rattle.wl_server.specs.Inside.Dispatching.{CleansUp, Fewer, HasServed, HasServedEach, ServesAll, ServesOnce, ServesSome, waiting_of}
 use Rattle.wl_server.specs.PartStep.{World}
@@ -25,7 +25,7 @@ use Rattle.wl_server.specs.Reading.{new_reading}
 use Rattle.wl_server.specs.Runs.{Leads}
 use Rattle.wl_server.specs.Server.{ServerState, new_server}
 use Rattle.wl_server.specs.Steps.{Entry, OneStep}
-use Rattle.wl_server.proofs.Dispatches.Waiting.{turn_fewer}
+use Rattle.wl_server.proofs.Dispatches.Waiting.{round_fewer}
 use Rattle.wl_server.proofs.OverRuns.Alone.AccountLaws.{is_accounted_for}
 use Rattle.wl_server.proofs.OverRuns.Alone.IsolationLaw.{join_runs}
 use Rattle.wl_server.proofs.OverRuns.Cut.CuttingLaws.{histories_cut}
@@ -70,11 +70,11 @@ module _ {H T U G C : Type 0} (w : World T G C) (answers : Answering H T U G C) 
       let (e, is, refused, one) = calls.step in (e ∷ [], no_action e error one is refl (sym refused) refl refl)
 
   -- a reading that hands out an action, and what the handler made of that
-  turn_by : (h h' : H) (r r' : Reading) (before found : BackendState T U G C) (after : ServerState T U G C) (a : Action) (lacked : Bool) (why : Option FinishError)
+  round_by : (h h' : H) (r r' : Reading) (before found : BackendState T U G C) (after : ServerState T U G C) (a : Action) (lacked : Bool) (why : Option FinishError)
       → Calls w before (step.NextActionWithin id r) (reply.NextActionWithin (Ok a) r') found
       → (run : List (Entry T U G C)) × Handles w answers id h found a run lacked why h' after
-      → (run : List (Entry T U G C)) × Turn w answers id h r before.server run (found.refused || lacked) why h' r' after
-  turn_by h h' r r' before found after a lacked why calls (rest, handles) =
+      → (run : List (Entry T U G C)) × Round w answers id h r before.server run (found.refused || lacked) why h' r' after
+  round_by h h' r r' before found after a lacked why calls (rest, handles) =
       let (e, is, refused, one) = calls.step in (
         e ∷ rest,
         record {
@@ -120,8 +120,8 @@ module _ {H T U G C : Type 0} (w : World T G C) (answers : Answering H T U G C) 
       → (run : List (Entry T U G C)) × Handles w answers id h found a run left.refused (Some error) h' left.server → f ≡ fault_of_end error → after ≡ keeping (was || read) left
       → ServesOnce w answers id h r before (Some f) h' r' after
   serves_refused h h' r r' before found left a error f after was read was_is read_is calls handles is kept =
-      let (run, turn) = turn_by h h' r r' before found left.server a left.refused (Some error) calls handles in
-      let last : Last w answers id h r before.server run (found.refused || left.refused) (fault_of_end error) h' r' left.server = not_ended error turn refl in record {
+      let (run, round) = round_by h h' r r' before found left.server a left.refused (Some error) calls handles in
+      let last : Last w answers id h r before.server run (found.refused || left.refused) (fault_of_end error) h' r' left.server = not_ended error round refl in record {
         run = run;
         lacked = found.refused || left.refused;
         served = subst (λ (x : IoFault). Last w answers id h r before.server run (found.refused || left.refused) x h' r' after.server) (sym is)
@@ -131,36 +131,36 @@ module _ {H T U G C : Type 0} (w : World T G C) (answers : Answering H T U G C) 
         fewer = λ none. absurd (true≢false (ap is_some none));
       }
 
-  pub serves_turn : (h h' : H) (r r' : Reading) (before found left : BackendState T U G C) (a : Action) (after : BackendState T U G C) (was read : Bool)
+  pub serves_round : (h h' : H) (r r' : Reading) (before found left : BackendState T U G C) (a : Action) (after : BackendState T U G C) (was read : Bool)
       → was ≡ before.refused → read ≡ found.refused → Calls w before (step.NextActionWithin id r) (reply.NextActionWithin (Ok a) r') found
       → (run : List (Entry T U G C)) × Handles w answers id h found a run left.refused None h' left.server → after ≡ keeping (was || read) left
       → ServesOnce w answers id h r before None h' r' after
-  serves_turn h h' r r' before found left a after was read was_is read_is calls handles kept =
-      let (run, turn) = turn_by h h' r r' before found left.server a left.refused None calls handles in
+  serves_round h h' r r' before found left a after was read was_is read_is calls handles kept =
+      let (run, round) = round_by h h' r r' before found left.server a left.refused None calls handles in
       let server : after.server ≡ left.server = ap (λ (b : BackendState T U G C). b.server) kept in record {
         run = run;
         lacked = found.refused || left.refused;
-        served = subst (λ (s : ServerState T U G C). Turn w answers id h r before.server run (found.refused || left.refused) None h' r' s) (sym server) turn;
+        served = subst (λ (s : ServerState T U G C). Round w answers id h r before.server run (found.refused || left.refused) None h' r' s) (sym server) round;
         refused = ap (λ (b : BackendState T U G C). b.refused) kept ∙ refused_both before.refused found.refused left.refused was read was_is read_is;
         fewer = λ none.
             subst (λ (s : ServerState T U G C). Fewer id r before.server r' s) (sym server)
-            (turn_fewer w id answers h h' r r' before found left.server a handles.0 left.refused None calls handles.1);
+            (round_fewer w id answers h h' r r' before found left.server a handles.0 left.refused None calls handles.1);
       }
 
   -- ---- actions one after another
 
-  turns_join : (h h1 h' : H) (r r1 r' : Reading) (s s1 s' : ServerState T U G C) (first next : List (Entry T U G C)) (before now : Bool)
-      → Turns w answers id h r s first before h1 r1 s1 → Turns w answers id h1 r1 s1 next now h' r' s' → Turns w answers id h r s (first ++ next) (before || now) h' r' s'
-  turns_join h h1 h' r r1 r' s s1 s' first next before now one (none no_run unlacked) =
-      subst (λ (run : List (Entry T U G C)). Turns w answers id h r s run (before || now) h' r' s') (sym (append-nil first) ∙ ap (λ (x : List (Entry T U G C)). first ++ x) (sym no_run))
-      (subst (λ (b : Bool). Turns w answers id h r s first b h' r' s') (sym (or_false before) ∙ ap (λ (x : Bool). before || x) (sym unlacked)) one)
-  turns_join h h1 h' r r1 r' s s1 s' first next before now one (more {first = earlier} {next = last} {before = b} {now = c} others turn run_is lacked_is) =
-      more (turns_join h h1 _ r r1 _ s s1 _ first earlier before b one others) turn (ap (λ (x : List (Entry T U G C)). first ++ x) run_is ∙ sym (append_assoc first earlier last))
+  rounds_join : (h h1 h' : H) (r r1 r' : Reading) (s s1 s' : ServerState T U G C) (first next : List (Entry T U G C)) (before now : Bool)
+      → Rounds w answers id h r s first before h1 r1 s1 → Rounds w answers id h1 r1 s1 next now h' r' s' → Rounds w answers id h r s (first ++ next) (before || now) h' r' s'
+  rounds_join h h1 h' r r1 r' s s1 s' first next before now one (none no_run unlacked) =
+      subst (λ (run : List (Entry T U G C)). Rounds w answers id h r s run (before || now) h' r' s') (sym (append-nil first) ∙ ap (λ (x : List (Entry T U G C)). first ++ x) (sym no_run))
+      (subst (λ (b : Bool). Rounds w answers id h r s first b h' r' s') (sym (or_false before) ∙ ap (λ (x : Bool). before || x) (sym unlacked)) one)
+  rounds_join h h1 h' r r1 r' s s1 s' first next before now one (more {first = earlier} {next = last} {before = b} {now = c} others round run_is lacked_is) =
+      more (rounds_join h h1 _ r r1 _ s s1 _ first earlier before b one others) round (ap (λ (x : List (Entry T U G C)). first ++ x) run_is ∙ sym (append_assoc first earlier last))
       (ap (λ (x : Bool). before || x) lacked_is ∙ sym (or_assoc before b c))
 
   -- nothing yet
   pub served_none : (h : H) (r : Reading) (before : BackendState T U G C) → HasServed w answers id h r before h r before
-  served_none h r before = record { run = []; lacked = false; turns = none refl refl; refused = sym (or_false before.refused) }
+  served_none h r before = record { run = []; lacked = false; rounds = none refl refl; refused = sym (or_false before.refused) }
 
   -- memory was refused so far, and then
   refused_so : (a b c d e : Bool) → c ≡ b || e → b ≡ a || d → c ≡ a || (d || e)
@@ -171,7 +171,7 @@ module _ {H T U G C : Type 0} (w : World T G C) (answers : Answering H T U G C) 
   served_more {h} {h1} {h'} {r} {r1} {r'} {before} {mid} {after} {end} so_far one is = record {
     run = so_far.run ++ one.run;
     lacked = so_far.lacked || one.lacked;
-    turns = more so_far.turns (rw is at one.served) refl refl;
+    rounds = more so_far.rounds (rw is at one.served) refl refl;
     refused = refused_so before.refused mid.refused after.refused so_far.lacked one.lacked one.refused so_far.refused;
   }
 
@@ -180,14 +180,14 @@ module _ {H T U G C : Type 0} (w : World T G C) (answers : Answering H T U G C) 
   served_joins {h} {h1} {h'} {r} {r1} {r'} {before} {mid} {after} {end} so_far some is = record {
     run = so_far.run ++ some.run;
     lacked = so_far.lacked || some.lacked;
-    turns = turns_join h h1 h' r r1 r' before.server mid.server after.server so_far.run some.run so_far.lacked some.lacked so_far.turns (rw is at some.served);
+    rounds = rounds_join h h1 h' r r1 r' before.server mid.server after.server so_far.run some.run so_far.lacked some.lacked so_far.rounds (rw is at some.served);
     refused = refused_so before.refused mid.refused after.refused so_far.lacked some.lacked some.refused so_far.refused;
   }
 
   -- a receive was used up
-  pub some_turns : {h h' : H} {r r' : Reading} {before after : BackendState T U G C} → HasServed w answers id h r before h' r' after → r'.turns_left < r.turns_left
+  pub some_rounds : {h h' : H} {r r' : Reading} {before after : BackendState T U G C} → HasServed w answers id h r before h' r' after → r'.receives_left < r.receives_left
       → ServesSome w answers id h r before None h' r' after
-  some_turns so_far fewer = record { run = so_far.run; lacked = so_far.lacked; served = so_far.turns; refused = so_far.refused; fewer = λ is. fewer }
+  some_rounds so_far fewer = record { run = so_far.run; lacked = so_far.lacked; served = so_far.rounds; refused = so_far.refused; fewer = λ is. fewer }
 
   -- a fault ended them
   pub some_end : {h h1 h' : H} {r r1 r' : Reading} {before mid after : BackendState T U G C} {end : Option IoFault} (f : IoFault) → HasServed w answers id h r before h1 r1 mid
@@ -203,7 +203,7 @@ module _ {H T U G C : Type 0} (w : World T G C) (answers : Answering H T U G C) 
       last = one.run;
       first_lacked = so_far.lacked;
       last_lacked = one.lacked;
-      turns = so_far.turns;
+      rounds = so_far.rounds;
       end = rw is at one.served;
       run_is = refl;
       lacked_is = refl;
@@ -216,7 +216,7 @@ module _ {H T U G C : Type 0} (w : World T G C) (answers : Answering H T U G C) 
       → HasServed w answers id h new_reading before h1 r1 mid → ServesSome w answers id h1 r1 mid end h' r' after → end ≡ Some f → answer ≡ dispatched f r'.read
       → ServesAll w answers id h before answer h' after
   all_end {h} {h1} {h'} {r1} {r'} {before} {mid} {after} {end} {answer} f so_far some is answered =
-      let last : TurnsEnd w answers id h1 r1 mid.server some.run some.lacked f h' r' after.server = rw is at some.served in record {
+      let last : RoundsEnd w answers id h1 r1 mid.server some.run some.lacked f h' r' after.server = rw is at some.served in record {
         run = so_far.run ++ some.run;
         lacked = so_far.lacked || some.lacked;
         served = record {
@@ -230,7 +230,7 @@ module _ {H T U G C : Type 0} (w : World T G C) (answers : Answering H T U G C) 
             last = last.last;
             first_lacked = so_far.lacked || last.first_lacked;
             last_lacked = last.last_lacked;
-            turns = turns_join h h1 last.handler new_reading r1 last.reading before.server mid.server last.mid so_far.run last.first so_far.lacked last.first_lacked so_far.turns last.turns;
+            rounds = rounds_join h h1 last.handler new_reading r1 last.reading before.server mid.server last.mid so_far.run last.first so_far.lacked last.first_lacked so_far.rounds last.rounds;
             end = last.end;
             run_is = ap (λ (x : List (Entry T U G C)). so_far.run ++ x) last.run_is ∙ sym (append_assoc so_far.run last.first last.last);
             lacked_is = ap (λ (x : Bool). so_far.lacked || x) last.lacked_is ∙ sym (or_assoc so_far.lacked last.first_lacked last.last_lacked);
@@ -242,7 +242,7 @@ module _ {H T U G C : Type 0} (w : World T G C) (answers : Answering H T U G C) 
 
 -- no receive was used up, so fewer bytes wait
 pub fewer_wait : {T U G C : Type 0} (id : ClientParts) (r : Reading) (s : ServerState T U G C) (r' : Reading) (s' : ServerState T U G C) (left : ℕ) → Fewer id r s r' s'
-    → r.turns_left ≡ left → left ≤ r'.turns_left → (r'.turns_left ≡ left) × (waiting_of id s' < waiting_of id s)
+    → r.receives_left ≡ left → left ≤ r'.receives_left → (r'.receives_left ≡ left) × (waiting_of id s' < waiting_of id s)
 fewer_wait id r s r' s' left (inl fewer) was many = absurd (omega (arith, fewer, was, many))
 fewer_wait id r s r' s' left (inr (same, less)) was many = (same ∙ was, less)
 
@@ -258,28 +258,28 @@ module _ {H T U G C : Type 0} (w : World T G C) (answers : Answering H T U G C) 
       subst (λ (r : List (Entry T U G C)). Runs before.server r after) (sym x.run_is)
       (join_runs w before.server x.left.server after x.calls (x.ended ∷ []) x.leads (after, x.ends, refl))
 
-  turn_leads : {h h' : H} {r r' : Reading} {before : ServerState T U G C} {run : List (Entry T U G C)} {lacked : Bool} {why : Option FinishError} {after : ServerState T U G C}
-      → Turn w answers id h r before run lacked why h' r' after → Runs before run after
-  turn_leads {h} {h'} {r} {r'} {before} {run} {lacked} {why} {after} x =
+  round_leads : {h h' : H} {r r' : Reading} {before : ServerState T U G C} {run : List (Entry T U G C)} {lacked : Bool} {why : Option FinishError} {after : ServerState T U G C}
+      → Round w answers id h r before run lacked why h' r' after → Runs before run after
+  round_leads {h} {h'} {r} {r'} {before} {run} {lacked} {why} {after} x =
       subst (λ (y : List (Entry T U G C)). Runs before y after) (sym x.run_is) (x.found.server, x.reads, handles_lead x.handles)
 
-  turns_lead : {h h' : H} {r r' : Reading} {before : ServerState T U G C} {run : List (Entry T U G C)} {lacked : Bool} {after : ServerState T U G C}
-      → Turns w answers id h r before run lacked h' r' after → Runs before run after
-  turns_lead {h} {h'} {r} {r'} {before} {run} {lacked} {after} (none no_run unlacked) = subst (λ (y : List (Entry T U G C)). Runs before y before) (sym no_run) refl
-  turns_lead {h} {h'} {r} {r'} {before} {run} {lacked} {after} (more {s1 = mid} {first = first} {next = next} turns turn run_is lacked_is) =
-      subst (λ (y : List (Entry T U G C)). Runs before y after) (sym run_is) (join_runs w before mid after first next (turns_lead turns) (turn_leads turn))
+  rounds_lead : {h h' : H} {r r' : Reading} {before : ServerState T U G C} {run : List (Entry T U G C)} {lacked : Bool} {after : ServerState T U G C}
+      → Rounds w answers id h r before run lacked h' r' after → Runs before run after
+  rounds_lead {h} {h'} {r} {r'} {before} {run} {lacked} {after} (none no_run unlacked) = subst (λ (y : List (Entry T U G C)). Runs before y before) (sym no_run) refl
+  rounds_lead {h} {h'} {r} {r'} {before} {run} {lacked} {after} (more {s1 = mid} {first = first} {next = next} rounds round run_is lacked_is) =
+      subst (λ (y : List (Entry T U G C)). Runs before y after) (sym run_is) (join_runs w before mid after first next (rounds_lead rounds) (round_leads round))
 
   last_leads : {h h' : H} {r r' : Reading} {before : ServerState T U G C} {run : List (Entry T U G C)} {lacked : Bool} {f : IoFault} {after : ServerState T U G C}
       → Last w answers id h r before run lacked f h' r' after → Runs before run after
   last_leads {h} {h'} {r} {r'} {before} {run} {lacked} {f} {after} (no_action e error one is run_is lacked_is fault_is same) =
       subst (λ (y : List (Entry T U G C)). Runs before y after) (sym run_is) (after, one, refl)
-  last_leads (not_ended why turn is) = turn_leads turn
+  last_leads (not_ended why round is) = round_leads round
 
   serves_lead : {h h' : H} {before : ServerState T U G C} {run : List (Entry T U G C)} {lacked : Bool} {answer : Result ℕ IoFault} {after : ServerState T U G C}
       → Serves w answers id h before run lacked answer h' after → Runs before run after
   serves_lead {h} {h'} {before} {run} {lacked} {answer} {after} x =
       subst (λ (y : List (Entry T U G C)). Runs before y after) (sym x.served.run_is)
-      (join_runs w before x.served.mid after x.served.first x.served.last (turns_lead x.served.turns) (last_leads x.served.end))
+      (join_runs w before x.served.mid after x.served.first x.served.last (rounds_lead x.served.rounds) (last_leads x.served.end))
 
 module _ {H T U G C : Type 0} (w : World T G C) (answers : Answering H T U G C) where
   each_lead : {ids : List ClientParts} {h h' : H} {before : ServerState T U G C} {run : List (Entry T U G C)} {lacked : Bool} {total : ℕ} {after : ServerState T U G C}

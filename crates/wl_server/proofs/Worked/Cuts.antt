@@ -11,7 +11,7 @@ use Rattle.wl_link.specs.Served.{Answers, state_as}
 use Rattle.wl_server.specs.declared.error.ActionError.TheVariants.{Io}
 use Rattle.wl_server.specs.declared.runs.step.Reply.TheVariants as reply
 use Rattle.wl_server.specs.declared.runs.step.Step.TheVariants as step
-use Rattle.wl_server.specs.Cutting.{CutsReading, IsServed as IsServedNext}
+use Rattle.wl_server.specs.Cutting.{CutsReading, IsServed}
 use Rattle.wl_server.proofs.OverRuns.Cut.CuttingLaws.{one_served, seen_reads}
 use Rattle.wl_server.specs.Deeds.{Came}
 use Rattle.wl_server.specs.Globals.{Offer}
@@ -21,7 +21,7 @@ use Rattle.wl_server.specs.Reading.{exchanges_in, new_reading}
 use Rattle.wl_server.specs.Runs.{Alone, Own}
 use Rattle.wl_server.specs.Server.{Seen}
 use Rattle.wl_server.proofs.OverRuns.Cut.StretchLaws.{stretch_served}
-use Rattle.wl_server.specs.Stretches.{IsServed, IsStretch}
+use Rattle.wl_server.specs.Stretches.{IsStretch, StretchIsServed}
 use Rattle.wl_server.specs.Telling.{Core, Told, core_of, deeds_of, reader_part}
 use Rattle.wl_server.proofs.Worked.Messages.{client, says}
 
@@ -76,7 +76,7 @@ module _ (offer : Offer ℕ) (p : Part Script ℕ Bool) where
   its_deeds = refl
 
   -- a piece is received, and then nothing can be
-  a_read : ReadsFor w client offer client new_reading (Err (Io fault.WouldBlock)) (record { turns_left = 62; read = 0 }) (held before) false reading.did (held after)
+  a_read : ReadsFor w client offer client new_reading (Err (Io fault.WouldBlock)) (record { receives_left = 62; read = 0 }) (held before) false reading.did (held after)
   a_read = (
     after,
     (
@@ -111,7 +111,7 @@ module _ (offer : Offer ℕ) (p : Part Script ℕ Bool) where
   )
 
   a_reading : Alone w client offer (held before) (reading ∷ []) (held after)
-  a_reading = (held after, (Err (Io fault.WouldBlock), record { turns_left = 62; read = 0 }, refl, a_read), refl)
+  a_reading = (held after, (Err (Io fault.WouldBlock), record { receives_left = 62; read = 0 }, refl, a_read), refl)
 
   -- it is a stretch, and so what is served of the piece
   a_stretch : IsStretch (around w client offer) before (reading ∷ []) after
@@ -125,18 +125,18 @@ module _ (offer : Offer ℕ) (p : Part Script ℕ Bool) where
     roomy = λ dead. absurd (true≢false (sym dead));
   }
 
-  so_it_is_served : IsServed (around w client offer) before (reading ∷ []) after
+  so_it_is_served : StretchIsServed (around w client offer) before (reading ∷ []) after
   so_it_is_served = stretch_served says client offer (held before) (held after) before refl after (reading ∷ []) refl a_reading a_stretch
 
   -- the reading is cut by its own deeds
   it_is_cut : CutsReading (around w client offer) w.sends w.receives new_reading (held before) (Err (Io fault.WouldBlock)) reading.did (held after)
   it_is_cut =
-      seen_reads w client offer (held before) (held after) new_reading (Err (Io fault.WouldBlock)) (record { turns_left = 62; read = 0 }) false reading.did refl a_read
+      seen_reads w client offer (held before) (held after) new_reading (Err (Io fault.WouldBlock)) (record { receives_left = 62; read = 0 }) false reading.did refl a_read
 
   -- five bytes that wait are served as nothing, and still wait
-  of_half : IsServedNext (around w client offer) (reader_part before) half [] [] [] (state_as (reader_part before) half [])
+  of_half : IsServed (around w client offer) (reader_part before) half [] [] [] (state_as (reader_part before) half [])
   of_half = record { count = 0; left = []; serves = (refl, refl, refl); rests = inl (refl, refl) }
 
   -- with the law of one outcome: as nothing else
-  of_half_alone : (gave : List (Given (Told ℕ))) (end : ReaderState Answers (Core ℕ Bool)) → IsServedNext (around w client offer) (reader_part before) half [] [] gave end → gave ≡ []
+  of_half_alone : (gave : List (Given (Told ℕ))) (end : ReaderState Answers (Core ℕ Bool)) → IsServed (around w client offer) (reader_part before) half [] [] gave end → gave ≡ []
   of_half_alone gave end served = (one_served (around w client offer) (reader_part before) half [] [] gave [] end (state_as (reader_part before) half []) served of_half).0

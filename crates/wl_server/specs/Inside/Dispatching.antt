@@ -6,7 +6,7 @@ use Rattle.wl_server.specs.declared.reading.action.Reading.{Reading}
 use Rattle.wl_server.specs.declared.runs.step.Reply.{Reply}
 use Rattle.wl_server.specs.declared.runs.step.Step.TheVariants as step
 use Rattle.wl_server.specs.Backend.{BackendState}
-use Rattle.wl_server.specs.Dispatch.{Answering, Last, Serves, ServesEach, Turn, Turns, TurnsEnd, cleaned}
+use Rattle.wl_server.specs.Dispatch.{Answering, Last, Serves, ServesEach, Round, Rounds, RoundsEnd, cleaned}
 use Rattle.wl_server.specs.Ids.{ClientParts}
 use Rattle.wl_server.specs.PartStep.{Asked, World}
 use Rattle.wl_server.specs.Server.{Seen, ServerState, seen}
@@ -22,7 +22,7 @@ module _ {T U G C : Type 0} where
 
   -- fewer receives are left, or as many and fewer bytes wait
   abbrev pub Fewer : ClientParts → Reading → ServerState T U G C → Reading → ServerState T U G C → Type 0
-  Fewer id r s r' s' = (r'.turns_left < r.turns_left) ⊎ ((r'.turns_left ≡ r.turns_left) × (waiting_of id s' < waiting_of id s))
+  Fewer id r s r' s' = (r'.receives_left < r.receives_left) ⊎ ((r'.receives_left ≡ r.receives_left) × (waiting_of id s' < waiting_of id s))
 
 -- Each of these says whether memory was refused, in its own calls or in those of the dispatch before it.
 module _ {H T U G C : Type 0} (w : World T G C) (answers : Answering H T U G C) (id : ClientParts) where
@@ -30,7 +30,7 @@ module _ {H T U G C : Type 0} (w : World T G C) (answers : Answering H T U G C) 
   pub record ServesOnce (h : H) (r : Reading) (before : BackendState T U G C) (end : Option IoFault) (h' : H) (r' : Reading) (after : BackendState T U G C) : Type 0 where
     pub run : List (Entry T U G C)
     pub lacked : Bool
-    pub served : MatchOption end (Turn w answers id h r before.server run lacked None h' r' after.server)
+    pub served : MatchOption end (Round w answers id h r before.server run lacked None h' r' after.server)
         (λ f. Last w answers id h r before.server run lacked f h' r' after.server)
     pub refused : after.refused ≡ before.refused || lacked
     pub fewer : end ≡ None → Fewer id r before.server r' after.server
@@ -39,16 +39,16 @@ module _ {H T U G C : Type 0} (w : World T G C) (answers : Answering H T U G C) 
   pub record ServesSome (h : H) (r : Reading) (before : BackendState T U G C) (end : Option IoFault) (h' : H) (r' : Reading) (after : BackendState T U G C) : Type 0 where
     pub run : List (Entry T U G C)
     pub lacked : Bool
-    pub served : MatchOption end (Turns w answers id h r before.server run lacked h' r' after.server)
-        (λ f. TurnsEnd w answers id h r before.server run lacked f h' r' after.server)
+    pub served : MatchOption end (Rounds w answers id h r before.server run lacked h' r' after.server)
+        (λ f. RoundsEnd w answers id h r before.server run lacked f h' r' after.server)
     pub refused : after.refused ≡ before.refused || lacked
-    pub fewer : end ≡ None → r'.turns_left < r.turns_left
+    pub fewer : end ≡ None → r'.receives_left < r.receives_left
 
-  -- turns so far
+  -- rounds so far
   pub record HasServed (h : H) (r : Reading) (before : BackendState T U G C) (h' : H) (r' : Reading) (after : BackendState T U G C) : Type 0 where
     pub run : List (Entry T U G C)
     pub lacked : Bool
-    pub turns : Turns w answers id h r before.server run lacked h' r' after.server
+    pub rounds : Rounds w answers id h r before.server run lacked h' r' after.server
     pub refused : after.refused ≡ before.refused || lacked
 
   pub record ServesAll (h : H) (before : BackendState T U G C) (answer : Result ℕ IoFault) (h' : H) (after : BackendState T U G C) : Type 0 where

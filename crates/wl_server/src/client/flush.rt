@@ -13,7 +13,7 @@ ghost use Rattle.wl_server.specs.declared.runs.step.Step.TheVariants as step;
 
 use crate::backend::Backend;
 use crate::client::Client;
-use crate::events::display::lacks_memory;
+use crate::events::display::is_out_of_memory;
 use crate::globals::handler::GlobalHandler;
 use crate::ids::client_id::ClientId;
 use wl_link::Transport;
@@ -39,7 +39,7 @@ fn flush_at<T: Transport + Drop, U: Drop, C: Drop>(
     match client {
         Some(client) if client.is_killed == killed => {
             let answer = client.flush();
-            lacks_memory(answer)
+            is_out_of_memory(answer)
         }
         _ => false,
     }
@@ -81,7 +81,7 @@ impl<T: Transport + Drop, U: Drop, G: GlobalHandler<C> + Drop, C: Drop> Backend<
         match &mut self.clients[id.slot() as usize] {
             Some(client) => {
                 let answer = client.flush();
-                self.refused = lacks_memory(answer);
+                self.refused = is_out_of_memory(answer);
                 answer
             }
             None => unreachable!(),

@@ -33,9 +33,13 @@ impl<T: Drop, U: Drop, C: Drop> Client<T, U, C> {
         ));
     }
 
-    /// What it comes to that a write to the client was answered so: where it failed, the client is closed down. The
+    /// Closes the client down if a write to it was answered by a fault. The
     /// answer is whether memory was refused.
-    pub fn told(&mut self, numbers: &mut NoteNumbers, answer: Result<(), IoFault>) -> bool
+    pub fn kill_unless_written(
+        &mut self,
+        numbers: &mut NoteNumbers,
+        answer: Result<(), IoFault>,
+    ) -> bool
         ensures refused { result ≡ lacked_memory answer }
         ensures closed { MatchResult answer (λ _. self.new ≡ self.old) (λ _. Does self.old (λ p did q. Kills p ConnectionClosed did q) self.new) }
     {

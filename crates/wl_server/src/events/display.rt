@@ -26,7 +26,7 @@ const DONE: u16 = 0;
 const DELETE_ID: u16 = 1;
 
 /// Whether memory was refused to a write or a flush that was answered so.
-pub fn lacks_memory(answer: Result<(), IoFault>) -> bool
+pub fn is_out_of_memory(answer: Result<(), IoFault>) -> bool
     ensures { result ≡ lacked_memory answer }
 {
     matches!(answer, Err(IoFault::OutOfMemory))

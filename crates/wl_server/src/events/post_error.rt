@@ -15,7 +15,7 @@ ghost use Rattle.wl_server.specs.declared.runs.step.Step.TheVariants as step;
 
 use crate::backend::Backend;
 use crate::client::Client;
-use crate::events::display::{lacks_memory, put_error};
+use crate::events::display::{is_out_of_memory, put_error};
 use crate::globals::handler::GlobalHandler;
 use crate::ids::object_id::ObjectId;
 use crate::notes::{DisconnectReason, NoteNumbers};
@@ -47,11 +47,11 @@ impl<T: Transport + Drop, U: Drop, C: Drop> Client<T, U, C> {
             Ok(error) => {
                 let wrote = self.put_posted(id, code, text);
                 let lacked = self.flush_dropped();
-                let refused = self.told(numbers, wrote);
+                let refused = self.kill_unless_written(numbers, wrote);
                 self.kill(numbers, DisconnectReason::ProtocolError(error));
                 refused || lacked
             }
-            Err(_) => self.told(numbers, Err(IoFault::OutOfMemory)),
+            Err(_) => self.kill_unless_written(numbers, Err(IoFault::OutOfMemory)),
         }
     }
 
@@ -91,7 +91,7 @@ impl<T: Transport + Drop, U: Drop, C: Drop> Client<T, U, C> {
         ensures flushed { (es : _) × FlushesOut T.sends true self.old.part.link es result self.new.part.link }
         ensures rest { self.new ≡ record self.old { part = with_link self.old.part self.new.part.link } }
     {
-        lacks_memory(self.socket.flush())
+        is_out_of_memory(self.socket.flush())
     }
 }
 

@@ -18,7 +18,7 @@ use crate::backend::Backend;
 use crate::client::{Client, Registry};
 use crate::error::EventError;
 use crate::events::check::check_event;
-use crate::events::display::{lacks_memory, put_delete_id};
+use crate::events::display::{is_out_of_memory, put_delete_id};
 use crate::globals::handler::GlobalHandler;
 use crate::ids::object_id::ObjectId;
 use crate::notes::{Happening, NoteNumbers};
@@ -101,7 +101,7 @@ impl<T: Transport + Drop, U: Drop, C: Drop> Client<T, U, C> {
     {
         let alloc = *self.waiting.allocator();
         let answer = put_end(alloc, &mut self.socket, number, ends, written);
-        self.told(numbers, answer)
+        self.kill_unless_written(numbers, answer)
     }
 
     /// Writes an event that is not refused, and answers whether memory was refused, too. One that ends its sender takes it
@@ -121,7 +121,7 @@ impl<T: Transport + Drop, U: Drop, C: Drop> Client<T, U, C> {
             return (Err(EventError::OutOfMemory), true);
         }
         let written = self.socket.write_numbered(message, &OwnNumbers);
-        if lacks_memory(written) {
+        if is_out_of_memory(written) {
             return (Err(EventError::OutOfMemory), true);
         }
         end_sender(

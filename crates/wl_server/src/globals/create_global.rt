@@ -49,7 +49,7 @@ fn tell_new_at<T: Transport + Drop, U: Drop, G: GlobalHandler<C>, C: Drop>(
                 global.interface,
                 global.version,
             );
-            client.told(numbers, answer)
+            client.kill_unless_written(numbers, answer)
         }
         _ => false,
     }

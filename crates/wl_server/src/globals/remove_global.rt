@@ -47,7 +47,7 @@ fn tell_loss_at<T: Transport + Drop, U: Drop, C: Drop>(
             let alloc = *client.registries.allocator();
             let mut message = message_of_number(alloc, 0, GLOBAL_REMOVE, name);
             let answer = put_to_each(&mut client.socket, &client.registries, &mut message);
-            client.told(numbers, answer)
+            client.kill_unless_written(numbers, answer)
         }
         _ => false,
     }

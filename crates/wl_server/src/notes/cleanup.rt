@@ -16,7 +16,7 @@ use crate::client::flush::flush_each;
 use crate::globals::handler::GlobalHandler;
 use crate::ids::client_id::ClientId;
 use crate::notes::Note;
-use crate::notes::gather::{Turn, count_notes, gather, turns_of};
+use crate::notes::gather::{NoteOrder, count_notes, gather, order_of};
 use crate::notes::leaving::{count_ending, end_objects};
 use wl_link::Transport;
 use wl_wire::OutOfMemory;
@@ -124,20 +124,20 @@ pub fn count_given<T, U, C>(clients: &[Option<Client<T, U, C>>]) -> usize
     count
 }
 
-/// The room that a cleanup takes.
+/// The memory that a cleanup takes.
 #[derive(Drop)]
-pub struct Room<T> {
-    /// The turns of the notes that it gathers.
-    pub turns: Vec<Turn>,
+pub struct CleanupMemory<T> {
+    /// The places of the notes that it gathers.
+    pub order: Vec<NoteOrder>,
     /// For the numbers of one client's objects.
     pub numbers: Vec<u32>,
     /// For the clients that leave.
     pub given: Vec<(ClientId, T)>,
 }
 
-/// Makes room for the notes of a cleanup, of which so many are gathered. The answer is room for the numbers of the objects
+/// Takes memory for the notes of a cleanup, of which so many are gathered. The answer has room for the numbers of the objects
 /// that are noted.
-fn notes_room<T: Drop, U: Drop, C: Drop>(
+fn memory_for_notes<T: Drop, U: Drop, C: Drop>(
     clients: &[Option<Client<T, U, C>>],
     gathered: usize,
     notes: &mut Vec<Note<U>>,
@@ -153,17 +153,17 @@ fn notes_room<T: Drop, U: Drop, C: Drop>(
     Ok(numbers)
 }
 
-/// Makes the room that a cleanup takes, and that for its notes. Where no notes are to be gathered and no client leaves, it
+/// Takes the memory of a cleanup, and that for its notes. Where no notes are to be gathered and no client leaves, it
 /// asks for no memory.
-pub fn room_for<T: Drop, U: Drop, C: Drop>(
+pub fn memory_for<T: Drop, U: Drop, C: Drop>(
     clients: &[Option<Client<T, U, C>>],
     notes: &mut Vec<Note<U>>,
-) -> Result<Room<T>, OutOfMemory>
+) -> Result<CleanupMemory<T>, OutOfMemory>
     requires slots { length clients.now ≤ 0x100000000 }
     ensures notes { OnOk result (vec_len notes.new + count_leaving true clients.now + length (collected ends_at 0 clients.now) ≤ vec_capacity notes.new) }
-    ensures numbers { IfOk result (λ room. length (collected ends_at 0 clients.now) ≤ vec_capacity room.numbers) }
-    ensures given { IfOk result (λ room. length (collected given_at 0 clients.now) ≤ vec_capacity room.given) }
-    ensures none { IfOk result (λ room. room.given.items ≡ []) }
+    ensures numbers { IfOk result (λ memory. length (collected ends_at 0 clients.now) ≤ vec_capacity memory.numbers) }
+    ensures given { IfOk result (λ memory. length (collected given_at 0 clients.now) ≤ vec_capacity memory.given) }
+    ensures none { IfOk result (λ memory. memory.given.items ≡ []) }
     ensures items { notes.new.items ≡ notes.old.items }
     ensures some { OnErr result (0 < count_leaving true clients.now + length (collected given_at 0 clients.now)) }
 {
@@ -172,17 +172,17 @@ pub fn room_for<T: Drop, U: Drop, C: Drop>(
     let leaving = count_given(clients);
     let count = gathered.saturating_add(leaving);
     if count == 0 {
-        return Ok(Room {
-            turns: Vec::new(alloc),
+        return Ok(CleanupMemory {
+            order: Vec::new(alloc),
             numbers: Vec::new(alloc),
             given: Vec::new(alloc),
         });
     }
-    let numbers = notes_room(clients, gathered, notes)?;
-    let turns = turns_of(alloc, clients, true, gathered)?;
+    let numbers = memory_for_notes(clients, gathered, notes)?;
+    let order = order_of(alloc, clients, true, gathered)?;
     let given = Vec::with_capacity(alloc, leaving)?;
-    Ok(Room {
-        turns,
+    Ok(CleanupMemory {
+        order,
         numbers,
         given,
     })
@@ -193,18 +193,18 @@ pub fn room_for<T: Drop, U: Drop, C: Drop>(
 fn clean_up<T: Transport + Drop, U: Drop, C: Drop>(
     clients: &mut Vec<Option<Client<T, U, C>>>,
     notes: &mut Vec<Note<U>>,
-    room: &mut Room<T>,
+    memory: &mut CleanupMemory<T>,
 ) -> bool
     requires slots { length clients.old.items ≤ 0x100000000 }
     requires notes { vec_len notes.old + count_leaving true clients.old.items + length (collected ends_at 0 clients.old.items) ≤ vec_capacity notes.old }
-    requires numbers { length (collected ends_at 0 clients.old.items) ≤ vec_capacity room.old.numbers }
-    requires given { length (collected given_at 0 clients.old.items) ≤ vec_capacity room.old.given }
-    requires none { room.old.given.items ≡ [] }
-    ensures { CleansUp T.sends clients.old.items notes.old.items result clients.new.items notes.new.items room.new.given.items }
+    requires numbers { length (collected ends_at 0 clients.old.items) ≤ vec_capacity memory.old.numbers }
+    requires given { length (collected given_at 0 clients.old.items) ≤ vec_capacity memory.old.given }
+    requires none { memory.old.given.items ≡ [] }
+    ensures { CleansUp T.sends clients.old.items notes.old.items result clients.new.items notes.new.items memory.new.given.items }
 {
     let refused = flush_each(clients, true);
-    gather(clients, true, &room.turns, notes);
-    leave_all(clients, &mut room.numbers, notes, &mut room.given);
+    gather(clients, true, &memory.order, notes);
+    leave_all(clients, &mut memory.numbers, notes, &mut memory.given);
     refused
 }
 
@@ -219,13 +219,13 @@ impl<T: Transport + Drop, U: Drop, G: GlobalHandler<C> + Drop, C: Drop> Backend<
     pub fn cleanup(&mut self) -> Result<Vec<(ClientId, T)>, OutOfMemory>
         ensures { Calls (over T.sends T.receives G.views) self.old step.Cleanup (reply.Cleanup result) self.new }
     {
-        match room_for(&self.clients, &mut self.notes) {
-            Ok(mut room) => {
-                self.refused = clean_up(&mut self.clients, &mut self.notes, &mut room);
+        match memory_for(&self.clients, &mut self.notes) {
+            Ok(mut memory) => {
+                self.refused = clean_up(&mut self.clients, &mut self.notes, &mut memory);
                 self.numbers.waiting = 0;
                 // Any of them may be free now. The next insertion goes over them once more, as this call did.
                 self.free_from = 0;
-                Ok(room.given)
+                Ok(memory.given)
             }
             Err(error) => {
                 self.refused = true;

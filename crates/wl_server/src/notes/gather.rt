@@ -13,7 +13,7 @@ use std::collections::VecDeque;
 use wl_wire::OutOfMemory;
 
 /// When a note is gathered: those that were made before those that wait, each by its number; and the slot of its client.
-pub type Turn = (bool, u128, u32);
+pub type NoteOrder = (bool, u128, u32);
 
 /// The note of what happened to a client.
 fn note_of<U>(id: ClientId, happening: Happening<U>) -> Note<U>
@@ -88,11 +88,11 @@ fn move_notes<T, U, C>(
 }
 
 /// Moves the notes of all clients behind these notes: those that were made, and behind them, where they are to be, those
-/// that wait; each in its turn. There is room for them.
+/// that wait; each in its order. There is room for them.
 pub fn gather<T, U, C>(
     clients: &mut Vec<Option<Client<T, U, C>>>,
     waits: bool,
-    turns: &[Turn],
+    order: &[NoteOrder],
     notes: &mut Vec<Note<U>>,
 )
     requires slots { length clients.old.items ≤ 0x100000000 }
@@ -101,13 +101,13 @@ pub fn gather<T, U, C>(
     ensures ended { AllLeft waits clients.new.items }
     ensures capacity { vec_capacity notes.new ≡ vec_capacity notes.old }
 {
-    for turn in turns {
-        let slot = turn.2;
+    for next in order {
+        let slot = next.2;
         if (slot as usize) < clients.len() {
             move_note(slot, &mut clients[slot as usize], waits, notes);
         }
     }
-    // Each note had its turn. So nothing is left for this, which is for the proof that nothing is.
+    // Each note was moved. So nothing is left for this, which is for the proof that nothing is.
     for slot in 0..clients.len() {
         move_notes(slot as u32, &mut clients[slot], waits, notes);
     }
@@ -136,40 +136,40 @@ pub fn count_notes<T, U, C>(clients: &[Option<Client<T, U, C>>], waits: bool) ->
     count
 }
 
-/// Puts the turns of the notes of one client behind these turns.
-fn push_turns<U>(
-    turns: &mut Vec<Turn>,
+/// Puts the places of the notes of one client behind these.
+fn push_order<U>(
+    order: &mut Vec<NoteOrder>,
     waits: bool,
     slot: u32,
     notes: &VecDeque<(u128, Happening<U>)>,
 ) -> Result<(), OutOfMemory> {
     for (number, _) in notes.iter() {
-        turns.push((waits, *number, slot))?;
+        order.push((waits, *number, slot))?;
     }
     Ok(())
 }
 
-/// The turns of these notes, in order. Room is made for so many at once.
-pub fn turns_of<T, U, C>(
+/// The places of these notes, sorted. Memory is taken for so many at once.
+pub fn order_of<T, U, C>(
     alloc: Global,
     clients: &[Option<Client<T, U, C>>],
     waits: bool,
     count: usize,
-) -> Result<Vec<Turn>, OutOfMemory>
+) -> Result<Vec<NoteOrder>, OutOfMemory>
     requires { length clients.now ≤ 0x100000000 }
 {
-    let mut turns = Vec::with_capacity(alloc, count)?;
+    let mut order = Vec::with_capacity(alloc, count)?;
     for (slot, place) in clients.iter().enumerate() {
         let Some(client) = place else {
             continue;
         };
         if waits {
-            push_turns(&mut turns, true, slot as u32, &client.waiting)?;
+            push_order(&mut order, true, slot as u32, &client.waiting)?;
         }
-        push_turns(&mut turns, false, slot as u32, &client.made)?;
+        push_order(&mut order, false, slot as u32, &client.made)?;
     }
-    turns.sort_unstable();
-    Ok(turns)
+    order.sort_unstable();
+    Ok(order)
 }
 
 /// Moves the notes of all clients that were made behind these notes, in order of time. Where there is no memory for it,
@@ -188,8 +188,8 @@ pub fn gather_made<T, U, C>(
     if count == 0 {
         return Ok(());
     }
-    let turns = turns_of(*notes.allocator(), clients, false, count)?;
+    let order = order_of(*notes.allocator(), clients, false, count)?;
     notes.reserve(count)?;
-    gather(clients, false, &turns, notes);
+    gather(clients, false, &order, notes);
     Ok(())
 }

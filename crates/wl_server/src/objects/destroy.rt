@@ -13,7 +13,7 @@ ghost use Rattle.wl_server.specs.declared.runs.step.Step.TheVariants as step;
 use crate::backend::Backend;
 use crate::client::Client;
 use crate::error::DestroyError;
-use crate::events::display::{DISPLAY, lacks_memory, put_delete_id};
+use crate::events::display::{DISPLAY, is_out_of_memory, put_delete_id};
 use crate::globals::handler::GlobalHandler;
 use crate::ids::object_id::ObjectId;
 use crate::notes::NoteNumbers;
@@ -51,7 +51,7 @@ impl<T: Transport + Drop, U: Drop, C: Drop> Client<T, U, C> {
         }
         let alloc = *self.registries.allocator();
         let wrote = put_delete_id(alloc, &mut self.socket, id.protocol_id());
-        if lacks_memory(wrote) {
+        if is_out_of_memory(wrote) {
             return Err(DestroyError::OutOfMemory);
         }
         take_out_noted(
@@ -61,13 +61,13 @@ impl<T: Transport + Drop, U: Drop, C: Drop> Client<T, U, C> {
             numbers,
             id,
         );
-        let _ = self.told(numbers, wrote);
+        let _ = self.kill_unless_written(numbers, wrote);
         Ok(())
     }
 }
 
 /// Whether memory was refused in a destruction that was answered so.
-fn lacked_memory(answer: &Result<(), DestroyError>) -> bool
+fn lacks_memory(answer: &Result<(), DestroyError>) -> bool
     ensures { result ≡ lacks_destroy answer.now }
 {
     matches!(answer, Err(DestroyError::OutOfMemory))
@@ -92,7 +92,7 @@ impl<T: Transport + Drop, U: Drop, G: GlobalHandler<C> + Drop, C: Drop> Backend<
         match &mut self.clients[client.slot() as usize] {
             Some(client) => {
                 let answer = client.destroy_object(&mut self.numbers, id);
-                self.refused = lacked_memory(&answer);
+                self.refused = lacks_memory(&answer);
                 answer
             }
             None => unreachable!(),

@@ -53,7 +53,7 @@ pub enum OpenAction {
 #[derive(Clone, Copy)]
 pub struct Reading {
     /// The receives still allowed.
-    pub turns_left: u32,
+    pub receives_left: u32,
     /// The requests read; it stops at the greatest number.
     pub read: usize,
 }

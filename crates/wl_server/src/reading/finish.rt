@@ -19,7 +19,7 @@ ghost use Rattle.wl_server.specs.declared.runs.step.Step.TheVariants as step;
 use crate::backend::Backend;
 use crate::client::{Client, Registry};
 use crate::error::{FinishError, FinishRefused};
-use crate::events::display::{lacks_memory, put_delete_id};
+use crate::events::display::{is_out_of_memory, put_delete_id};
 use crate::globals::handler::GlobalHandler;
 use crate::ids::client_id::ClientId;
 use crate::ids::object_id::ObjectId;
@@ -126,7 +126,7 @@ impl<T: Transport + Drop, U: Drop, C: Drop> Client<T, U, C> {
         reserve_end(&mut self.made, object)?;
         let number = sender.protocol_id();
         let wrote = put_delete_id(alloc, &mut self.socket, number);
-        if lacks_memory(wrote) {
+        if is_out_of_memory(wrote) {
             return Err(OutOfMemory);
         }
         take_out_made(
@@ -171,7 +171,7 @@ impl<T: Transport + Drop, U: Drop, C: Drop> Client<T, U, C> {
             return Err(FinishRefused { error, user_data });
         };
         self.close_action(created, user_data);
-        let _ = self.told(numbers, wrote);
+        let _ = self.kill_unless_written(numbers, wrote);
         Ok(())
     }
 
@@ -227,7 +227,7 @@ impl<T: Transport + Drop, U: Drop, C: Drop> Client<T, U, C> {
 }
 
 /// Whether memory was refused, by the answer.
-fn lacks<D>(answer: &Result<(), FinishRefused<D>>) -> bool
+fn lacks_memory<D>(answer: &Result<(), FinishRefused<D>>) -> bool
     ensures { result ≡ lacks_finish answer.now }
 {
     match answer {
@@ -265,7 +265,7 @@ impl<T: Transport + Drop, U: Drop, G: GlobalHandler<C> + Drop, C: Drop> Backend<
         match &mut self.clients[client.slot() as usize] {
             Some(stored) => {
                 let answer = stored.finish_request(client, &mut self.numbers, user_data);
-                self.refused = lacks(&answer);
+                self.refused = lacks_memory(&answer);
                 answer
             }
             None => unreachable!(),

@@ -34,7 +34,7 @@ impl Reading {
         ensures { result ≡ new_reading }
     {
         Reading {
-            turns_left: READ_TURNS,
+            receives_left: READ_TURNS,
             read: 0,
         }
     }
@@ -132,11 +132,11 @@ impl<T: Transport + Drop, U: Drop, C: Drop> Client<T, U, C> {
     {
         // That the count is a number of 64 bits is known of this.
         let _read = reading.read;
-        while reading.turns_left > 0 {
+        while reading.receives_left > 0 {
             if let Some(end) = self.handle_waiting(numbers, around, reading, args) {
                 return end;
             }
-            reading.turns_left -= 1;
+            reading.receives_left -= 1;
             if let Some(end) = self.receive(numbers) {
                 return Err(end);
             }

@@ -106,7 +106,7 @@ impl<T: Transport + Drop, U: Drop, C: Drop> Client<T, U, C> {
     {
         let alloc = *self.registries.allocator();
         let Ok((code, text)) = breach_error(alloc, around.protocol, breach) else {
-            let refused = self.told(numbers, Err(IoFault::OutOfMemory));
+            let refused = self.kill_unless_written(numbers, Err(IoFault::OutOfMemory));
             return NoAction {
                 fault: IoFault::Pipe,
                 refused,
@@ -128,7 +128,7 @@ impl<T: Transport + Drop, U: Drop, C: Drop> Client<T, U, C> {
             × Does self.old (λ p did q. Kills p ConnectionClosed did q) self.new) }
     {
         let is_written = wrote.is_ok();
-        let refused = self.told(numbers, wrote);
+        let refused = self.kill_unless_written(numbers, wrote);
         if is_written {
             return TurnEnd::GoesOn;
         }

@@ -17,7 +17,7 @@ use Rattle.wl_server.specs.Globals.{Offer}
 use Rattle.wl_server.specs.Ids.{ClientParts, same_client}
 use Rattle.wl_server.specs.Part.{Part, fresh_part}
 use Rattle.wl_server.specs.PartStep.{Asked, Call, Changed, Inserted, InsertedAs, OfClient, PartCall, PartStep, Unfelt, World}
-use Rattle.wl_server.specs.Runs.{Alone, AreIsolated, AreOf, EachAlone, Inserts, IsIsolated, IsNeverInserted, IsNotInserted, Leads, Performs, SharedAlone, begun, concerns, is_about, mine, offer_over, own_of}
+use Rattle.wl_server.specs.Runs.{Alone, AreIsolated, AreOf, EachAlone, Inserts, IsIsolated, IsNeverInserted, IsNotInserted, Leads, Performs, SharedAlone, just_inserted, concerns, is_about, mine, offer_over, own_of}
 use Rattle.wl_server.specs.Server.{Seen, ServerState, new_server, nothing_seen, seen}
 use Rattle.wl_server.specs.Steps.{Entry, InsertsNext, NumbersClient, OneStep, inserted_by, offer_after}
 
@@ -306,7 +306,7 @@ module _ {T U G C : Type 0} where
       (subst (λ (c : Call T U G C). PartCall w id mid.offer c (seen id mid) (e.lacks id) (e.did id) (seen id next)) inserts (by.each id)) in (
         link,
         subst (λ (o : Offer G). IsFresh transport (Some o.default_limit) link) offered fresh,
-        subst (λ (o : Offer G). Alone w id o (begun link info) (mine id later) (seen id after))
+        subst (λ (o : Offer G). Alone w id o (just_inserted link info) (mine id later) (seen id after))
             (by.offer ∙ ap (λ (o : Offer G). offer_after o e.call) offered ∙ sym (offer_over_one (new_server {T = T} {U = U} {C = C} table).offer earlier e))
             (subst (λ (s : Seen T U C). Alone w id next.offer s (mine id later) (seen id after)) {y = begun link info} begun_so
             (alone_run w id next after later (omega (arith, number, grown, one)) rest)),

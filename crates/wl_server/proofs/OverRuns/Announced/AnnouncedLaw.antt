@@ -36,7 +36,7 @@ use Rattle.wl_server.specs.Moves.{Move, Moved}
 use Rattle.wl_server.proofs.OverRuns.Alone.OwnRuns.{AreMine, are_mine}
 use Rattle.wl_server.specs.Part.{Part, display_object, id_of}
 use Rattle.wl_server.specs.PartStep.{Asked, Call, Changed, CleanedAs, FeelsGlobal, FeelsLoss, FlushedFor, MovedFor, NotesTaken, OfClient, OnPart, PartCall, PartStep, ReadsFor, Unfelt, World}
-use Rattle.wl_server.specs.Runs.{Alone, Leads, Own, Performs, SharedAlone, begun, concerns, history, is_about, mine, offer_over, own_of}
+use Rattle.wl_server.specs.Runs.{Alone, Leads, Own, Performs, SharedAlone, just_inserted, concerns, history, is_about, mine, offer_over, own_of}
 use Rattle.wl_server.specs.Server.{Seen, ServerState, new_server, seen}
 use Rattle.wl_server.proofs.OverRuns.Announced.ShownLaws.{among_shown, disabled_one, disabled_stays, freed_one, freed_stays, shown_among, Hides, StaysShown}
 use Rattle.wl_server.specs.Steps.{Entry, NumbersGlobal, inserted_by, offer_after}
@@ -366,7 +366,7 @@ module _ {T U G C : Type 0} (w : World T G C) (id : ClientParts) (r : Id) where
       }
 
   -- a client to which nothing happened yet
-  begun_watched : (offer : Offer G) (link : LinkState T) (info : C) → SeenWatched offer (begun link info) [] []
+  begun_watched : (offer : Offer G) (link : LinkState T) (info : C) → SeenWatched offer (just_inserted link info) [] []
   begun_watched offer link info on = record {
     bounded = λ n x holds. most n x holds;
     listed = λ y among. absurd among;
@@ -388,11 +388,11 @@ module _ {T U G C : Type 0} (w : World T G C) (id : ClientParts) (r : Id) where
           ]
 
   own_announced : (offer : Offer G) (link : LinkState T) (info : C) (run : List (Own T U G C)) (t : Seen T U C) → AreMine id run → AreNumbered offer run
-      → IsAlwaysLeftAlone r run → Alone w id offer (begun link info) run t → Contains (registries_in (history run)) r
+      → IsAlwaysLeftAlone r run → Alone w id offer (just_inserted link info) run t → Contains (registries_in (history run)) r
       → MatchOption t.part (Unit {0})
       (λ p. p.is_killed ≡ false → AreSameGlobals (announced (log_of (history run)) r) (shown_of w.views (own_offer offer run) id p.info))
   own_announced offer link info run t own numbered left alone there =
-      of_watched t.part ((run_follows offer (begun link info) run t own numbered left alone).watch [] [] (begun_watched offer link info))
+      of_watched t.part ((run_follows offer (just_inserted link info) run t own numbered left alone).watch [] [] (begun_watched offer link info))
     where
       of_watched : (o : Option (Part T U C))
           → MatchOption o (Unit {0}) (λ p. p.is_killed ≡ false → Watched (own_offer offer run) p (log_of (history run)) (registries_in (history run)))

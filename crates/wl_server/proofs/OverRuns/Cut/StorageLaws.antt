@@ -17,7 +17,7 @@ use Rattle.wl_server.proofs.OverRuns.Alone.IsolationLaw.{is_isolated}
 use Rattle.wl_server.proofs.OverRuns.Alone.OwnRuns.{AreMine, are_mine}
 use Rattle.wl_server.specs.Part.{Part}
 use Rattle.wl_server.specs.PartStep.{World, around}
-use Rattle.wl_server.specs.Runs.{Alone, Leads, Own, begun, mine, offer_over}
+use Rattle.wl_server.specs.Runs.{Alone, Leads, Own, just_inserted, mine, offer_over}
 use Rattle.wl_server.specs.Server.{Seen, ServerState, new_server, seen}
 use Rattle.wl_server.specs.Steps.{Entry, offer_after}
 use Rattle.wl_server.specs.Telling.{reader_part}
@@ -87,5 +87,5 @@ module _ {T U G C : Type 0} where
       let (link, fresh, alone) = (is_isolated w table run after leads).each id transport info earlier later e split inserts in
       some_served (around w id after.offer) (reader_part p) more finishes
       (holds_at (seen id after) p there
-      (run_holds w id (offer_over (new_offer table) (earlier ++ e ∷ [])) (begun link info) (mine id later) (seen id after) (are_mine id later) alone
+      (run_holds w id (offer_over (new_offer table) (earlier ++ e ∷ [])) (just_inserted link info) (mine id later) (seen id after) (are_mine id later) alone
       (fresh_holds transport (Some (offer_over (new_offer table) earlier).default_limit) link fresh)))

@@ -54,7 +54,7 @@ use Rattle.wl_server.proofs.OverRuns.Ids.ReplyLaws.{own_step}
 use Rattle.wl_server.specs.Runs.{Alone, Leads, Own, Performs, concerns, history, mine}
 use Rattle.wl_server.specs.Server.{Seen, ServerState, seen}
 use Rattle.wl_server.specs.Steps.{offer_after, Entry}
-use Rattle.wl_server.specs.Stretches.{AllHeard, AreCut, EachIsCut, EachPartIsCut, EndsWaiting, IsHeard, IsServed, IsStretch, IsStretchWithin, SameLeft, answered, answers_in, arrived, arrived_by, beside_exchanges, finished, finished_by, left_in, reading_by, told_by, was_killed}
+use Rattle.wl_server.specs.Stretches.{AllHeard, AreCut, EachIsCut, EachPartIsCut, EndsWaiting, IsHeard, StretchIsServed, IsStretch, IsStretchWithin, SameLeft, handed_out, answers_in, arrived, arrived_by, beside_exchanges, finished, finished_by, left_in, reading_by, told_by, was_killed}
 use Rattle.wl_server.specs.Telling.{Core, Finish, OfBind, OfRequest, Told, core_of, deeds_in, deeds_of, end_deeds, part_of, reader_part}
 
 none_some : {A : Type 0} {x : A} → None ≡ Some x → ⊥
@@ -309,8 +309,8 @@ module _ {G C : Type 0} (views : G → ClientParts → C → GlobalParts → Boo
               (λ w. pipe_not (sym is ∙ same_Some answer (Err (Io fault.WouldBlock)) (sym told ∙ w)))
           by_standing (inl (live, unended)) unopened g =
               let (turns, out, end, reads, is, left, lacks, did_so, same) = live_reads s.core.is_killed live g in
-              acts_read s call did q r.turns_left turns out end answer (on_of s.core live unopened)
-              (subst (λ (p : ReaderState Script (Core U C)). Reads ScriptSends (server a) ScriptReceives r.turns_left p turns out end) (begun_so s unended) reads)
+              acts_read s call did q r.receives_left turns out end answer (on_of s.core live unopened)
+              (subst (λ (p : ReaderState Script (Core U C)). Reads ScriptSends (server a) ScriptReceives r.receives_left p turns out end) (begun_so s unended) reads)
               (sym lacks) is told did_so same unended sound came ended
 
       end_acts : (u : Finish U) → finished_by call ≡ u ∷ [] → reading_by call ≡ None → s.core.ended ≡ None → EndsAlike ScriptSends a (part_of s) u false did q → Acts s call did q
@@ -419,7 +419,7 @@ module _ {G C : Type 0} (views : G → ClientParts → C → GlobalParts → Boo
       came_in : act_arrived acts ≡ arrived run
       ended_with : act_ended acts ≡ finished run
       deeds : end_deeds s.core.ended ++ beside_exchanges (history run) ≡ deeds_in (given_in acts) ++ end_deeds end.core.ended
-      answers : AllPieces (arrivals_of s) → NotFull (server a) end → answered run ≡ answers_in (given_in acts)
+      answers : AllPieces (arrivals_of s) → NotFull (server a) end → handed_out run ≡ answers_in (given_in acts)
       waits : EndsWaiting run → (before : List (Act (Told U) (Finish U))) → ActsEndWaiting (before ++ acts)
 
     deeds_join : (e f : List (Deed U)) (d r : List (Deed U)) (g h : List (Given (Told U))) (l : List (Deed U)) → e ++ beside_exchanges d ≡ deeds_in g ++ f
@@ -520,7 +520,7 @@ module _ {G C : Type 0} (views : G → ClientParts → C → GlobalParts → Boo
       acts_of : (run : List (Own Script U G C)) (last : Seen Script U C) → Alone w id offer before run last → AllHeard id run → p.is_killed ≡ false → RunActs (reader_part p) run last
       acts_of run last leads heard live = run_acts (reader_part p) before last run begins leads heard (inl (live, refl))
 
-      served_at : (run : List (Own Script U G C)) (r : RunActs (reader_part p) run after) → IsStretch a p run (part_of r.end) → IsServed a p run (part_of r.end)
+      served_at : (run : List (Own Script U G C)) (r : RunActs (reader_part p) run after) → IsStretch a p run (part_of r.end) → StretchIsServed a p run (part_of r.end)
       served_at run r stretch =
           let served = acts_served (server a) ends_by_pipe (reader_part p) r.end r.acts (act_stretch p run after r stretch) in
           let side = sending_side p.link.transport in
@@ -535,11 +535,11 @@ module _ {G C : Type 0} (views : G → ClientParts → C → GlobalParts → Boo
             answers = r.answers stretch.spans.pieces (not_full p run r.end stretch);
           }
 
-      pub stretch_served : (q : Part Script U C) (run : List (Own Script U G C)) → after.part ≡ Some q → Alone w id offer before run after → IsStretch a p run q → IsServed a p run q
+      pub stretch_served : (q : Part Script U C) (run : List (Own Script U G C)) → after.part ≡ Some q → Alone w id offer before run after → IsStretch a p run q → StretchIsServed a p run q
       stretch_served q run ends leads stretch =
           let r = acts_of run after leads stretch.spans.heard stretch.spans.live in
           let is = part_is after q r.end ends r.there in
-          subst (IsServed a p run) (sym is) (served_at run r (subst (IsStretch a p run) is stretch))
+          subst (StretchIsServed a p run) (sym is) (served_at run r (subst (IsStretch a p run) is stretch))
 
       -- no receive of a stretch of such messages finds the storage full
       within_at : (run : List (Own Script U G C)) (r : RunActs (reader_part p) run after) → IsStretchWithin a p run (part_of r.end) → IsStretch a p run (part_of r.end)
@@ -558,7 +558,7 @@ module _ {G C : Type 0} (views : G → ClientParts → C → GlobalParts → Boo
 
       -- so two runs over which the same arrives and is finished give the same, and lead to the same, however it was cut
       abbrev SameCut : List (Own Script U G C) → List (Own Script U G C) → Part Script U C → Part Script U C → Type 0
-      SameCut run others q r = (beside_exchanges (history run) ≡ beside_exchanges (history others)) × (answered run ≡ answered others) × SameLeft q r
+      SameCut run others q r = (beside_exchanges (history run) ≡ beside_exchanges (history others)) × (handed_out run ≡ handed_out others) × SameLeft q r
 
       same_at : (other : Seen Script U C) (run others : List (Own Script U G C)) (x : RunActs (reader_part p) run after) (y : RunActs (reader_part p) others other)
           → IsStretch a p run (part_of x.end) → IsStretch a p others (part_of y.end) → arrived run ≡ arrived others → finished run ≡ finished others

@@ -32,7 +32,7 @@ use Rattle.wl_server.proofs.OverRuns.Alone.OwnRuns.{AreMine, are_mine}
 use Rattle.wl_server.specs.Named.{offer_through}
 use Rattle.wl_server.specs.Part.{Part, display_object, id_of, named, objects_of, serial_of}
 use Rattle.wl_server.specs.PartStep.{PartCall, World}
-use Rattle.wl_server.specs.Runs.{Alone, Leads, Own, Performs, begun, concerns, history, mine, offer_over}
+use Rattle.wl_server.specs.Runs.{Alone, Leads, Own, Performs, just_inserted, concerns, history, mine, offer_over}
 use Rattle.wl_server.specs.Server.{Seen, ServerState, new_server, seen}
 use Rattle.wl_server.specs.Steps.{Entry, offer_after}
 
@@ -168,17 +168,17 @@ module _ {T U G C : Type 0} (w : World T G C) (id : ClientParts) where
       )
 
   -- a client's run is one of changes, from its display alone on
-  pub begun_change : (offer : Offer G) (link : LinkState T) (info : C) (run : List (Own T U G C)) (t : Seen T U C) → AreMine id run → Alone w id offer (begun link info) run t
-      → RunChanging offer (begun link info) (objects.first_objects display_object) run t
+  pub begun_change : (offer : Offer G) (link : LinkState T) (info : C) (run : List (Own T U G C)) (t : Seen T U C) → AreMine id run → Alone w id offer (just_inserted link info) run t
+      → RunChanging offer (just_inserted link info) (objects.first_objects display_object) run t
   begun_change offer link info run t own alone =
-      run_change offer (begun link info) (objects.first_objects display_object) run t own refl (stored_other empty_store 1 display_object 0 (λ is. none_one is) ∙ held_empty 0) alone
+      run_change offer (just_inserted link info) (objects.first_objects display_object) run t own refl (stored_other empty_store 1 display_object 0 (λ is. none_one is) ∙ held_empty 0) alone
     where
       none_one : ◌≡◌ {A = ℕ} 0 1 → ⊥
       none_one is = omega (arith, is)
 
   -- and those changes make its ids its own
   unfoldable pub own_by : (offer : Offer G) (link : LinkState T) (info : C) (run : List (Own T U G C)) (t : Seen T U C)
-      → RunChanging offer (begun link info) (objects.first_objects display_object) run t → HasOwnIds w id offer (begun link info) run t
+      → RunChanging offer (just_inserted link info) (objects.first_objects display_object) run t → HasOwnIds w id offer (just_inserted link info) run t
   own_by offer link info run t changing =
       let identity = identity_law serial_of display_object refl changing.changes changing.kept
       (run_leads serial_of (OwnsExactly is_over) (objects.first_objects display_object) changing.kept changing.changes changing.ends) in
@@ -204,8 +204,8 @@ module _ {T U G C : Type 0} (w : World T G C) (id : ClientParts) where
             (run_owns serial_of is_over (objects.first_objects display_object) changing.kept changing.changes changing.ends));
       }
 
-  pub own_ids : (offer : Offer G) (link : LinkState T) (info : C) (run : List (Own T U G C)) (t : Seen T U C) → AreMine id run → Alone w id offer (begun link info) run t
-      → HasOwnIds w id offer (begun link info) run t
+  pub own_ids : (offer : Offer G) (link : LinkState T) (info : C) (run : List (Own T U G C)) (t : Seen T U C) → AreMine id run → Alone w id offer (just_inserted link info) run t
+      → HasOwnIds w id offer (just_inserted link info) run t
   own_ids offer link info run t own alone = own_by offer link info run t (begun_change offer link info run t own alone)
 
   -- ---- a run in two parts

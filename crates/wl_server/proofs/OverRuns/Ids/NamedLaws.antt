@@ -17,7 +17,7 @@ use Rattle.wl_server.specs.Ids.{ClientParts}
 use Rattle.wl_server.specs.Named.{EachKeepsNaming, KeepsNaming, NamesNoneAgain, offer_through}
 use Rattle.wl_server.specs.Part.{display_object, id_of, serial_of}
 use Rattle.wl_server.specs.PartStep.{Asked, World}
-use Rattle.wl_server.specs.Runs.{Alone, Leads, Own, begun, concerns, mine, offer_over, own_of}
+use Rattle.wl_server.specs.Runs.{Alone, Leads, Own, just_inserted, concerns, mine, offer_over, own_of}
 use Rattle.wl_server.specs.Server.{Seen, ServerState, new_server, seen}
 use Rattle.wl_server.specs.Steps.{Entry, offer_after}
 use Rattle.wl_server.proofs.OverRuns.Alone.IsolationLaw.{alone_run, each_alone, numbered, offer_of_other, offer_over_one, offer_run, one_more, split_run}
@@ -27,18 +27,18 @@ use Rattle.wl_server.proofs.OverRuns.Ids.IdentityLaws.{InParts, in_parts, names_
 module _ {T U G C : Type 0} (w : World T G C) (id : ClientParts) where
   -- the parts of a client's run from its insertion on
   from_begin : (offer : Offer G) (link : LinkState T) (info : C) (done : List (Own T U G C)) (point : Seen T U C) (later : List (Own T U G C)) (t : Seen T U C)
-      → AreMine id done → AreMine id later → Alone w id offer (begun link info) done point → Alone w id (offer_through offer done) point later t
-      → InParts w id offer (begun link info) (objects.first_objects display_object) done point later t
+      → AreMine id done → AreMine id later → Alone w id offer (just_inserted link info) done point → Alone w id (offer_through offer done) point later t
+      → InParts w id offer (just_inserted link info) (objects.first_objects display_object) done point later t
   from_begin offer link info done point later t own more led alone =
-      in_parts w id offer (begun link info) (objects.first_objects display_object) done point later t own more refl
+      in_parts w id offer (just_inserted link info) (objects.first_objects display_object) done point later t own more refl
       (stored_other empty_store 1 display_object 0 (λ is. none_one is) ∙ held_empty 0) led alone
     where
       none_one : ◌≡◌ {A = ℕ} 0 1 → ⊥
       none_one is = omega (arith, is)
 
   own_named : (offer : Offer G) (link : LinkState T) (info : C) (done : List (Own T U G C)) (point : Seen T U C) (later : List (Own T U G C)) (t : Seen T U C)
-      → AreMine id done → AreMine id later → Alone w id offer (begun link info) done point → Alone w id (offer_through offer done) point later t
-      → KeepsNaming w id offer (begun link info) done point later t
+      → AreMine id done → AreMine id later → Alone w id offer (just_inserted link info) done point → Alone w id (offer_through offer done) point later t
+      → KeepsNaming w id offer (just_inserted link info) done point later t
   unfolding own_by
   own_named offer link info done point later t own more led alone =
       let parts = from_begin offer link info done point later t own more led alone in
@@ -62,7 +62,7 @@ module _ {T U G C : Type 0} (w : World T G C) (id : ClientParts) where
 
   -- an id that names none at a later point names none behind it
   none_again : (offer : Offer G) (link : LinkState T) (info : C) (done : List (Own T U G C)) (point : Seen T U C) (between : List (Own T U G C)) (mid : Seen T U C)
-      (later : List (Own T U G C)) (t : Seen T U C) → AreMine id done → AreMine id between → AreMine id later → Alone w id offer (begun link info) done point
+      (later : List (Own T U G C)) (t : Seen T U C) → AreMine id done → AreMine id between → AreMine id later → Alone w id offer (just_inserted link info) done point
       → Alone w id (offer_through offer done) point between mid → Alone w id (offer_through (offer_through offer done) between) mid later t
       → NamesNoneAgain point mid t
   none_again offer link info done point between mid later t own next more led onward alone o named none =
@@ -100,7 +100,7 @@ module _ {T U G C : Type 0} where
   record IsInserted (w : World T G C) (id : ClientParts) (offer : Offer G) (transport : T) (limit : Option ℕ) (info : C) (between : List (Entry T U G C)) (point : ServerState T U G C) : Type 0 where
     link : LinkState T
     fresh : IsFresh transport limit link
-    alone : Alone w id offer (begun link info) (mine id between) (seen id point)
+    alone : Alone w id offer (just_inserted link info) (mine id between) (seen id point)
     given : id.serial ≤ point.last_client
     offered : point.offer ≡ offer_through offer (mine id between)
 

@@ -27,7 +27,7 @@ use Rattle.wl_server.specs.Logged.{EachLogIsSpelled, HaveSpelledLogs, LogIsSpell
 use Rattle.wl_server.proofs.OverRuns.Alone.OwnRuns.{AreMine, are_mine}
 use Rattle.wl_server.specs.Part.{Part}
 use Rattle.wl_server.specs.PartStep.{World}
-use Rattle.wl_server.specs.Runs.{Alone, Leads, Own, Performs, begun, history, mine, offer_over}
+use Rattle.wl_server.specs.Runs.{Alone, Leads, Own, Performs, just_inserted, history, mine, offer_over}
 use Rattle.wl_server.specs.Server.{Seen, ServerState, new_server, seen}
 use Rattle.wl_server.specs.Steps.{Entry, offer_after}
 
@@ -152,9 +152,9 @@ module _ {T U G C : Type 0} (w : World T G C) (within' : IsWithinOffer w.sends) 
       }
 
   own_log : (offer : Offer G) (transport : T) (limit : Option ℕ) (link : LinkState T) (info : C) (run : List (Own T U G C)) (t : Seen T U C) → IsFresh transport limit link
-      → AreMine id run → Alone w id offer (begun link info) run t → (waits : Queue) × WaitsFor t waits × LogIsSpelled (history run) waits
+      → AreMine id run → Alone w id offer (just_inserted link info) run t → (waits : Queue) × WaitsFor t waits × LogIsSpelled (history run) waits
   own_log offer transport limit link info run t (l, limits, fresh) own alone =
-      let kept = run_keeps offer (begun link info) link.outgoing run t own refl alone in
+      let kept = run_keeps offer (just_inserted link info) link.outgoing run t own refl alone in
       let none : link.outgoing ≡ nothing = ap (λ (x : LinkState T). x.outgoing) fresh in
       let from : LosesNothing (sends_of (history run)) nothing (spelled_log (log_of (history run))) kept.after =
       subst (λ (q : Queue). LosesNothing (sends_of (history run)) q (spelled_log (log_of (history run))) kept.after) none kept.keeps in (

@@ -29,7 +29,7 @@ use Rattle.wl_server.specs.NotedOnce.{EachIsNoted, HaveNotes, NotesEach, destroy
 use Rattle.wl_server.proofs.OverRuns.Alone.OwnRuns.{AreMine, are_mine}
 use Rattle.wl_server.specs.Part.{Part, end_note, id_at, id_of, note_of_end}
 use Rattle.wl_server.specs.PartStep.{World}
-use Rattle.wl_server.specs.Runs.{Alone, Leads, Own, Performs, begun, history, mine, offer_over}
+use Rattle.wl_server.specs.Runs.{Alone, Leads, Own, Performs, just_inserted, history, mine, offer_over}
 use Rattle.wl_server.specs.Server.{Seen, ServerState, new_server, seen}
 use Rattle.wl_server.specs.Steps.{Entry, offer_after}
 
@@ -287,10 +287,10 @@ module _ {T U G C : Type 0} (w : World T G C) (id : ClientParts) where
         none = rest.none;
       }
 
-  own_notes : (offer : Offer G) (link : LinkState T) (info : C) (run : List (Own T U G C)) (t : Seen T U C) → AreMine id run → HasOwnIds w id offer (begun link info) run t
-      → Alone w id offer (begun link info) run t → NotesEach (history run) t
+  own_notes : (offer : Offer G) (link : LinkState T) (info : C) (run : List (Own T U G C)) (t : Seen T U C) → AreMine id run → HasOwnIds w id offer (just_inserted link info) run t
+      → Alone w id offer (just_inserted link info) run t → NotesEach (history run) t
   own_notes offer link info run t own ids alone =
-      let notes = run_notes offer (begun link info) run t own refl alone in
+      let notes = run_notes offer (just_inserted link info) run t own refl alone in
       record {
         destroyed = subst (λ (l : List Id). IsPermutation (left_in (history run)) l)
             (ap (λ (l : List Id). destroyed_in (taken_in (history run)) ++ l) (sym (destroyed_both t.made (waiting_of t.part)))

@@ -11,7 +11,7 @@ use Rattle.wl_server.proofs.OverRuns.Outcome.Determined.{IsDetermined}
 use Rattle.wl_server.specs.Outcome.{AreNumbered, AreOwn, ClientsHaveOneOutcome, HasMemory, InsertsAs, SameRun, SameSteps}
 use Rattle.wl_server.proofs.OverRuns.Outcome.OutcomeLaws.{call_one}
 use Rattle.wl_server.specs.PartStep.{Call, PartCall, World}
-use Rattle.wl_server.specs.Runs.{Alone, Leads, Own, begun, mine, offer_over}
+use Rattle.wl_server.specs.Runs.{Alone, Leads, Own, just_inserted, mine, offer_over}
 use Rattle.wl_server.specs.Server.{Seen, ServerState, new_server, seen}
 use Rattle.wl_server.specs.Steps.{Entry, offer_after}
 
@@ -60,7 +60,7 @@ module _ {T U G C : Type 0} where
       let fresh_there = subst (λ (o : Offer G). IsFresh transport (Some o.default_limit) link') (sym offers) fresh' in
       let links : link' ≡ link = fresh_one transport (Some (offer_over (new_offer table) earlier).default_limit) link' link fresh_there fresh in
       let begun_there = subst (λ (l : LinkState T). Alone w id (offer_over (new_offer table) (earlier' ++ e' ∷ [])) (begun l info) (mine id later') (seen id after')) links alone' in
-      let alone_there = subst (λ (o : Offer G). Alone w id o (begun link info) (mine id later') (seen id after')) offered begun_there in
+      let alone_there = subst (λ (o : Offer G). Alone w id o (just_inserted link info) (mine id later') (seen id after')) offered begun_there in
       let numbers = subst (λ (o : Offer G). AreNumbered o (mine id later')) offered (later_numbered w table id earlier' later' e' after' leads') in
-      alone_one w known id (offer_over (new_offer table) (earlier ++ e ∷ [])) (begun link info) (seen id after) (seen id after') (mine id later) (mine id later')
+      alone_one w known id (offer_over (new_offer table) (earlier ++ e ∷ [])) (just_inserted link info) (seen id after) (seen id after') (mine id later) (mine id later')
       (mine_own id later) same ample ample' (later_numbered w table id earlier later e after leads) numbers alone alone_there

@@ -17,14 +17,14 @@ returns-in-Ok g c =
     let by : CleansUp g.T.Transport.sends c.self.inside.clients.items c.self.inside.notes.items c.clean_up-self-inside.result c.clean_up-self-inside.new.clients.items
     c.clean_up-self-inside.new.notes.items c.clean_up-self-inside.new.room.given.items =
     subst (λ ns. CleansUp g.T.Transport.sends c.self.inside.clients.items ns c.clean_up-self-inside.result c.clean_up-self-inside.new.clients.items
-    c.clean_up-self-inside.new.notes.items c.clean_up-self-inside.new.room.given.items) c.room_for.ensures.items c.clean_up-self-inside.ensures
+    c.clean_up-self-inside.new.notes.items c.clean_up-self-inside.new.room.given.items) c.memory_for.ensures.items c.clean_up-self-inside.ensures
     in
     rw (← c.self.view_is) (cleaned_up _ _ _ _ _ c.clean_up-self-inside.new.room.given _ refl by)
 
 pub returns-in-Err : goal.returns-in-Err
 returns-in-Err g c =
     let some = subst (λ xs. 0 < count_leaving true xs + length (collected given_at 0 xs)) c.deref.ensures.value c.in-Err.ensures.some in
-    rw (← c.self.view_is) (cleanup_starved _ _ _ c.room_for.new.notes.items c.room_for.ensures.items some)
+    rw (← c.self.view_is) (cleanup_starved _ _ _ c.memory_for.new.notes.items c.memory_for.ensures.items some)
 
 pub invariant_of-self : goal.invariant_of-self
 invariant_of-self g c =

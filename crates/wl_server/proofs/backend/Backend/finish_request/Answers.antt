@@ -39,7 +39,7 @@ unreachable-requires g c =
     slot_not_empty c.self.inside.clients.items c.args.client.now c.slot.result _ (sym c.is_stored.ensures.stored ∙ c.if-not-is_stored.false) c.slot.ensures c.index_mut.ensures.value c.in-None.is
 
 pub returns-clause-finished : goal.returns-clause-finished
-returns-clause-finished g c = rw (← c.self.view_is, c.lacks-self-inside.ensures)
+returns-clause-finished g c = rw (← c.self.view_is, c.lacks_memory-self-inside.ensures)
     (done_at _ _ _ _ (own _ _ _) c.args.client.now (finishes g.T.Transport.sends c.args.user_data c.finish_request-answer.result)
     (Unknown c.args.user_data c.finish_request-answer.result) (λ i l d b a h. (_, refl, h)) c.slot.result c.index_mut.result.now c.in-Some.stored
     c.finish_request-answer.new.self (lacks_finish c.finish_request-answer.result) (sym c.is_stored.ensures.stored ∙ c.if-not-is_stored.false) c.slot.ensures

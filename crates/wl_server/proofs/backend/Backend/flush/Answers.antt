@@ -46,12 +46,12 @@ unreachable-requires g c =
 
 pub returns : goal.returns
 returns g c =
-    let does : Does c.in-Some-index_mut.client (λ p did q. FlushedTo g.T.Transport.sends p c.flush-answer.result c.lacks_memory-self-inside.result did q) c.flush-answer.new.self =
+    let does : Does c.in-Some-index_mut.client (λ p did q. FlushedTo g.T.Transport.sends p c.flush-answer.result c.is_out_of_memory-self-inside.result did q) c.flush-answer.new.self =
     subst (λ (l : Bool). Does c.in-Some-index_mut.client (λ p did q. FlushedTo g.T.Transport.sends p c.flush-answer.result l did q) c.flush-answer.new.self)
-    (sym c.lacks_memory-self-inside.ensures) c.flush-answer.ensures in
+    (sym c.is_out_of_memory-self-inside.ensures) c.flush-answer.ensures in
     rw (← c.self.view_is, c.in-Some.is)
     (done_at _ _ _ _ (own _ _) c.in-Some.id (λ i p lacked did q. FlushedTo g.T.Transport.sends p c.flush-answer.result lacked did q) (c.flush-answer.result ≡ Ok tt) (λ i l d b a h. (_, refl, h))
-    c.slot.result c.index_mut.result.now c.in-Some-index_mut.client c.flush-answer.new.self c.lacks_memory-self-inside.result (sym c.is_stored.ensures.stored ∙ c.if-not-is_stored.false) c.slot.ensures c.index_mut.ensures.value
+    c.slot.result c.index_mut.result.now c.in-Some-index_mut.client c.flush-answer.new.self c.is_out_of_memory-self-inside.result (sym c.is_stored.ensures.stored ∙ c.if-not-is_stored.false) c.slot.ensures c.index_mut.ensures.value
     c.in-Some-index_mut.is does)
 
 pub invariant_of-self-in-Some-index_mut : goal.invariant_of-self-in-Some-index_mut

@@ -1,6 +1,6 @@
 use Rattle.wl_server.specs.Dispatch.{answering}
 use Rattle.wl_server.specs.PartStep.{over}
-use Rattle.wl_server.proofs.Dispatches.Serving.{serves_last, serves_refused, serves_turn}
+use Rattle.wl_server.proofs.Dispatches.Serving.{serves_last, serves_refused, serves_round}
 use Rattle.wl_server.proofs.backend.Backend.serve_action.Goals as goal
 
 pub returns-in-Err : goal.returns-in-Err
@@ -11,7 +11,7 @@ returns-in-Err g c =
 
 pub returns-in-None : goal.returns-in-None
 returns-in-None g c =
-    serves_turn (over g.T.Transport.sends g.T.Transport.receives g.G.GlobalHandler.views) (answering g.H.Handler.requests g.H.Handler.binds) c.args.id.now
+    serves_round (over g.T.Transport.sends g.T.Transport.receives g.G.GlobalHandler.views) (answering g.H.Handler.requests g.H.Handler.binds) c.args.id.now
     c.args.handler.now c.handle-why.new.handler c.args.reading.now c.next_action_within.new.reading c.args.self.now c.next_action_within.new.self c.handle-why.new.self c.in-Ok.action
     c.keep_refused-2.new.self c.memory_refused-refused.result c.memory_refused-refused-2.result c.memory_refused-refused.ensures c.memory_refused-refused-2.ensures
     c.in-Ok.ensures.read (rw c.in-None.is at c.handle-why.ensures) c.keep_refused-2.ensures

@@ -1,7 +1,7 @@
 use Rattle.std.proofs.Common.{refl}
 use Rattle.wl_server.specs.Dispatch.{answering}
 use Rattle.wl_server.specs.PartStep.{over}
-use Rattle.wl_server.proofs.Dispatches.Serving.{fewer_wait, served_more, served_none, some_end, some_turns}
+use Rattle.wl_server.proofs.Dispatches.Serving.{fewer_wait, served_more, served_none, some_end, some_rounds}
 use Rattle.wl_server.proofs.backend.Backend.serve_some.Goals as goal
 
 pub loop-fault-init : goal.loop-fault-init
@@ -18,13 +18,13 @@ returns-in-Some g c =
 
 pub returns-then-reading-left : goal.returns-then-reading-left
 returns-then-reading-left g c =
-    some_turns (over g.T.Transport.sends g.T.Transport.receives g.G.GlobalHandler.views) (answering g.H.Handler.requests g.H.Handler.binds) c.args.id.now
+    some_rounds (over g.T.Transport.sends g.T.Transport.receives g.G.GlobalHandler.views) (answering g.H.Handler.requests g.H.Handler.binds) c.args.id.now
     (served_more (over g.T.Transport.sends g.T.Transport.receives g.G.GlobalHandler.views) (answering g.H.Handler.requests g.H.Handler.binds) c.args.id.now
     c.loop-fault.invariant.served c.serve_action.ensures c.in_default.is) c.if-reading-left.true
 
 pub loop-fault-preserved : goal.loop-fault-preserved
 loop-fault-preserved g c =
-    let kept = fewer_wait c.args.id.now c.loop-fault.reading c.loop-fault.self.server c.serve_action.new.reading c.serve_action.new.self.server c.args.reading.now.turns_left
+    let kept = fewer_wait c.args.id.now c.loop-fault.reading c.loop-fault.self.server c.serve_action.new.reading c.serve_action.new.self.server c.args.reading.now.receives_left
     (c.serve_action.ensures.fewer c.in_default.is) c.loop-fault.invariant.left c.if-reading-left.false in
     record {
       served = served_more (over g.T.Transport.sends g.T.Transport.receives g.G.GlobalHandler.views) (answering g.H.Handler.requests g.H.Handler.binds) c.args.id.now
@@ -34,5 +34,5 @@ loop-fault-preserved g c =
 
 pub loop-fault-smaller : goal.loop-fault-smaller
 loop-fault-smaller g c =
-    (fewer_wait c.args.id.now c.loop-fault.reading c.loop-fault.self.server c.serve_action.new.reading c.serve_action.new.self.server c.args.reading.now.turns_left
+    (fewer_wait c.args.id.now c.loop-fault.reading c.loop-fault.self.server c.serve_action.new.reading c.serve_action.new.self.server c.args.reading.now.receives_left
     (c.serve_action.ensures.fewer c.in_default.is) c.loop-fault.invariant.left c.if-reading-left.false).1

@@ -20,9 +20,9 @@ returns-in_default-end_sender g c =
 
 pub returns : goal.returns
 returns g c =
-    request_ends g.T.Transport.sends c.args.id.now c.args.self.now c.args.sender.now c.args.is_destructor c.args.created c.args.user_data _ false c.told.new.self
+    request_ends g.T.Transport.sends c.args.id.now c.args.self.now c.args.sender.now c.args.is_destructor c.args.created c.args.user_data _ false c.kill_unless_written.new.self
     (rw (← c.self.view_is) c.in_default.ensures) refl
     (ends_done g.T.Transport.sends c.args.id.now c.args.self.now c.args.sender.now c.args.is_destructor c.args.created c.args.user_data c.in-Ok.wrote
-    c.end_sender.new.self c.told.new.self c.in-Ok.ensures
-    (subst (λ (s : Stored _ _ _). MatchResult c.in-Ok.wrote (λ _. c.told.new.self ≡ s) (λ _. Does s (λ p did q. Kills p ConnectionClosed did q) c.told.new.self))
-    c.close_action.ensures c.told.ensures.closed))
+    c.end_sender.new.self c.kill_unless_written.new.self c.in-Ok.ensures
+    (subst (λ (s : Stored _ _ _). MatchResult c.in-Ok.wrote (λ _. c.kill_unless_written.new.self ≡ s) (λ _. Does s (λ p did q. Kills p ConnectionClosed did q) c.kill_unless_written.new.self))
+    c.close_action.ensures c.kill_unless_written.ensures.closed))

@@ -10,5 +10,5 @@ returns g c =
 
 pub returns-in_default : goal.returns-in_default
 returns-in_default g c =
-    rw c.told-refused.ensures.refused (broke_starved g.T.Transport.sends (around_of g.G.GlobalHandler.views c.args.around.now) c.args.self.now c.told-refused.new.self (code_of c.args.breach.now)
-    (text_of c.args.around.now.protocol.now c.args.breach.now) c.requires.live c.told-refused.ensures.closed)
+    rw c.kill_unless_written-refused.ensures.refused (broke_starved g.T.Transport.sends (around_of g.G.GlobalHandler.views c.args.around.now) c.args.self.now c.kill_unless_written-refused.new.self (code_of c.args.breach.now)
+    (text_of c.args.around.now.protocol.now c.args.breach.now) c.requires.live c.kill_unless_written-refused.ensures.closed)

@@ -6,7 +6,7 @@ use Rattle.wl_server.proofs.client.Client.handle_waiting.Given as goal
 abbrev pub invariant-loop-found : goal.invariant-loop-found
 invariant-loop-found g l = record {
   inline : 4 ≤ l.args.capacity;
-  left : l.reading.turns_left ≡ l.fn.reading.turns_left;
+  left : l.reading.receives_left ≡ l.fn.reading.receives_left;
   goes : Goes g.T.Transport.sends g.T.Transport.receives (around_of g.G.GlobalHandler.views l.fn.around) l.fn.self l.fn.reading l.self l.reading;
 }
 

@@ -13,20 +13,20 @@ returns-then-refused g c =
     let live : c.args.self.now.part.is_killed ≡ false = rw (← c.self.view_is) c.if-self.false in
     rw c.if-refused.true
     (posted_live g.T.Transport.sends c.args.protocol.now c.args.self.now c.args.id.now c.args.code c.args.text
-    c.put_posted-wrote.new.self c.flush_dropped-lacked.new.self c.told-refused.new.self c.kill.new.self c.in-Ok.error c.put_posted-wrote.result
+    c.put_posted-wrote.new.self c.flush_dropped-lacked.new.self c.kill_unless_written-refused.new.self c.kill.new.self c.in-Ok.error c.put_posted-wrote.result
     c.flush_dropped-lacked.ensures.flushed.0 true c.flush_dropped-lacked.result c.in-Ok.ensures c.put_posted-wrote.ensures.put c.put_posted-wrote.ensures.rest
-    c.flush_dropped-lacked.ensures.flushed.1 c.flush_dropped-lacked.ensures.rest c.if-refused.ensures.refused c.told-refused.ensures.closed c.kill.ensures)
+    c.flush_dropped-lacked.ensures.flushed.1 c.flush_dropped-lacked.ensures.rest c.if-refused.ensures.refused c.kill_unless_written-refused.ensures.closed c.kill.ensures)
 
 pub returns-else-refused : goal.returns-else-refused
 returns-else-refused g c =
     let live : c.args.self.now.part.is_killed ≡ false = rw (← c.self.view_is) c.if-self.false in
     (posted_live g.T.Transport.sends c.args.protocol.now c.args.self.now c.args.id.now c.args.code c.args.text
-    c.put_posted-wrote.new.self c.flush_dropped-lacked.new.self c.told-refused.new.self c.kill.new.self c.in-Ok.error c.put_posted-wrote.result
+    c.put_posted-wrote.new.self c.flush_dropped-lacked.new.self c.kill_unless_written-refused.new.self c.kill.new.self c.in-Ok.error c.put_posted-wrote.result
     c.flush_dropped-lacked.ensures.flushed.0 false c.flush_dropped-lacked.result c.in-Ok.ensures c.put_posted-wrote.ensures.put c.put_posted-wrote.ensures.rest
-    c.flush_dropped-lacked.ensures.flushed.1 c.flush_dropped-lacked.ensures.rest c.if-refused.ensures.refused c.told-refused.ensures.closed c.kill.ensures)
+    c.flush_dropped-lacked.ensures.flushed.1 c.flush_dropped-lacked.ensures.rest c.if-refused.ensures.refused c.kill_unless_written-refused.ensures.closed c.kill.ensures)
 
 pub returns-in-Err : goal.returns-in-Err
 returns-in-Err g c =
     let live : c.args.self.now.part.is_killed ≡ false = rw (← c.self.view_is) c.if-self.false in
-    rw c.told.ensures.refused
-    (posted_starved g.T.Transport.sends c.args.protocol.now c.args.self.now c.args.id.now c.args.code c.args.text c.told.new.self live c.told.ensures.closed)
+    rw c.kill_unless_written.ensures.refused
+    (posted_starved g.T.Transport.sends c.args.protocol.now c.args.self.now c.args.id.now c.args.code c.args.text c.kill_unless_written.new.self live c.kill_unless_written.ensures.closed)

@@ -10,4 +10,4 @@ invariant-loop-reading g l = record {
 }
 
 abbrev pub decreases-loop-reading : goal.decreases-loop-reading
-decreases-loop-reading g l = l.reading.turns_left
+decreases-loop-reading g l = l.reading.receives_left

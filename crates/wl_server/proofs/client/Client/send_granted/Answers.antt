@@ -19,14 +19,14 @@ returns-then-is_err g c = λ sender is.
     (on_err c.make_room-room.result (sym c.is_err.ensures.value ∙ c.if-is_err.true) c.make_room-room.ensures.asked))
     (rw (← c.self.view_is, c.make_room-room.ensures.items) refl)
 
-pub returns-then-lacks_memory : goal.returns-then-lacks_memory
-returns-then-lacks_memory g c = λ sender is.
+pub returns-then-is_out_of_memory : goal.returns-then-is_out_of_memory
+returns-then-is_out_of_memory g c = λ sender is.
     not_written c.args.message.now.sender_id.client (session_content c.args.message.now) sender g.T.Transport.sends c.args.self.now _ c.args.ends
     c.write_numbered-written.new.self c.write_numbered-written.result
     (rw (← c.self.view_is)
     (subst (λ (m : WireMessage). Wrote g.T.Transport.sends c.self.inside.socket m c.write_numbered-written.result c.write_numbered-written.new.self) (event_numbered c.args.message.now)
     c.write_numbered-written.ensures.wrote))
-    (sym c.lacks_memory.ensures ∙ c.if-lacks_memory.true)
+    (sym c.is_out_of_memory.ensures ∙ c.if-is_out_of_memory.true)
     (rw (← c.self.view_is, c.make_room-room.ensures.items) refl)
 
 pub returns : goal.returns
@@ -42,6 +42,6 @@ returns g c = λ sender is.
     (rw (← c.self.view_is)
     (subst (λ (m : WireMessage). Wrote g.T.Transport.sends c.self.inside.socket m c.write_numbered-written.result c.write_numbered-written.new.self) (event_numbered c.args.message.now)
     c.write_numbered-written.ensures.wrote))
-    (sym c.lacks_memory.ensures ∙ c.if-lacks_memory.false)
+    (sym c.is_out_of_memory.ensures ∙ c.if-is_out_of_memory.false)
     (rw (← c.self.view_is, waiting, c.end_sender.ensures.store, registries, c.make_room-room.ensures.items) refl)
     c.protocol_id.ensures c.tell_end.ensures

@@ -5,8 +5,8 @@ use Rattle.wl_server.proofs.client.flush.flush_at.Goals as goal
 pub returns-in-Some : goal.returns-in-Some
 returns-in-Some g c = λ slot. rw c.in-Some.is (
   c.flush-answer.new.self,
-  flushes_where g.T.Transport.sends c.args.killed c.in-Some.client c.flush-answer.new.self c.flush-answer.result c.lacks_memory.result
-      (rw (← c.client.view_is) (same_killed _ _ c.if-client-killed.true)) c.lacks_memory.ensures c.flush-answer.ensures,
+  flushes_where g.T.Transport.sends c.args.killed c.in-Some.client c.flush-answer.new.self c.flush-answer.result c.is_out_of_memory.result
+      (rw (← c.client.view_is) (same_killed _ _ c.if-client-killed.true)) c.is_out_of_memory.ensures c.flush-answer.ensures,
   refl,
 )
 

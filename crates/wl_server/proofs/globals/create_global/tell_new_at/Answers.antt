@@ -17,9 +17,9 @@ pub returns-else-not-can_view : goal.returns-else-not-can_view
 returns-else-not-can_view g c =
     let told : Shown = record { name = c.args.id.now.name; interface = c.args.global.now.interface; version = c.args.global.now.version } in
     place_felt (HearsNew g.T.Transport.sends g.G.GlobalHandler.views c.args.protocol.now c.args.id.now c.args.global.now) c.args.slot _ c.from_parts-client_id.result c.in-Some.client
-    c.told.new.self c.args.client.now c.told.result c.in-Some.is c.from_parts-client_id.ensures (ap (λ (s : Stored _ _ _). s.serial) c.client.view_is)
+    c.kill_unless_written.new.self c.args.client.now c.kill_unless_written.result c.in-Some.is c.from_parts-client_id.ensures (ap (λ (s : Stored _ _ _). s.serial) c.client.view_is)
     (rw (← c.client.view_is) (seen_hears g.T.Transport.sends c.args.protocol.now _ told _ _ _ _ _ c.if-not-client.true (sym c.can_view.ensures ∙ c.if-not-can_view.false)
-    (rw (← c.deref.ensures.value, ← c.name.ensures) c.put_global_to_each-answer.ensures) c.told.ensures.refused c.told.ensures.closed))
+    (rw (← c.deref.ensures.value, ← c.name.ensures) c.put_global_to_each-answer.ensures) c.kill_unless_written.ensures.refused c.kill_unless_written.ensures.closed))
 
 pub returns-in_default : goal.returns-in_default
 returns-in_default g c = rw c.in-Some.is (c.in-Some.client, rw (← c.client.view_is) (killed_hears _ _ _ c.if-not-client.false), refl)

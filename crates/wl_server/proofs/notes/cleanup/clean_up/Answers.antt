@@ -48,7 +48,7 @@ leave_all-requires-clause-given g c =
     let same = (flushed_counts g.T.Transport.sends _ _ _ c.flush_each-refused.ensures).2 in
     let gathered = ap length (gathered_given _ _ _ _ c.gather.ensures.gathered) in
     let none = ap length c.requires.none in
-    let long = c.args.room.now.given.ok.0 in
+    let long = c.args.memory.now.given.ok.0 in
     let fits = c.requires.given in
     omega (arith, same, gathered, none, long, fits)
 

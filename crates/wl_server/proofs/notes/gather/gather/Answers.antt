@@ -7,20 +7,20 @@ use Rattle.wl_server.proofs.notes.gather.gather.Goals.{then-slot-len, else-slot-
 
 pub move_note-requires : goal.move_note-requires
 move_note-requires g c =
-    let here = slice_get_read c.loop-turn.clients.items _ _ c.index_mut.result.now c.loop-turn.clients.ok.0 (rw c.len.ensures at c.if-slot-len.true) c.index_mut.ensures.value in
-    room_at c.args.waits _ _ _ _ _ _ _ _ _ _ c.loop-turn.invariant.gathered c.args.notes.now.ok.0 c.loop-turn.notes.ok.0 c.requires.room c.loop-turn.invariant.capacity here
+    let here = slice_get_read c.loop-next.clients.items _ _ c.index_mut.result.now c.loop-next.clients.ok.0 (rw c.len.ensures at c.if-slot-len.true) c.index_mut.ensures.value in
+    room_at c.args.waits _ _ _ _ _ _ _ _ _ _ c.loop-next.invariant.gathered c.args.notes.now.ok.0 c.loop-next.notes.ok.0 c.requires.room c.loop-next.invariant.capacity here
 
-pub loop-turn-preserved : goal.loop-turn-preserved
-loop-turn-preserved g c =
+pub loop-next-preserved : goal.loop-next-preserved
+loop-next-preserved g c =
     elim c.if-slot-len.branch [
       | then-slot-len w ↦
-          let here = slice_get_read c.loop-turn.clients.items _ _ w.index_mut.result.now c.loop-turn.clients.ok.0 (rw c.len.ensures at w.if-slot-len.true) w.index_mut.ensures.value in
+          let here = slice_get_read c.loop-next.clients.items _ _ w.index_mut.result.now c.loop-next.clients.ok.0 (rw c.len.ensures at w.if-slot-len.true) w.index_mut.ensures.value in
           rw (w.clients-is, w.notes-is) (record {
-            gathered = gathers_more c.args.waits _ _ _ _ _ _ c.loop-turn.invariant.gathered
-                (gathers_at c.args.waits c.loop-turn.clients.items c.loop-turn.notes.items w.move_note.new.notes.items _ _ w.move_note.new.client here w.move_note.ensures.moved);
-            capacity = w.move_note.ensures.capacity ∙ c.loop-turn.invariant.capacity;
+            gathered = gathers_more c.args.waits _ _ _ _ _ _ c.loop-next.invariant.gathered
+                (gathers_at c.args.waits c.loop-next.clients.items c.loop-next.notes.items w.move_note.new.notes.items _ _ w.move_note.new.client here w.move_note.ensures.moved);
+            capacity = w.move_note.ensures.capacity ∙ c.loop-next.invariant.capacity;
           })
-      | else-slot-len w ↦ rw (w.clients-is, w.notes-is) c.loop-turn.invariant
+      | else-slot-len w ↦ rw (w.clients-is, w.notes-is) c.loop-next.invariant
     ]
 
 pub move_notes-requires : goal.move_notes-requires

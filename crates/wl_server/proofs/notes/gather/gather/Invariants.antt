@@ -5,8 +5,8 @@ use Rattle.wl_server.specs.Inside.Gathering.{Gathers, leaving}
 use Rattle.wl_server.specs.Server.{Stored}
 use Rattle.wl_server.proofs.notes.gather.gather.Given as goal
 
-abbrev pub invariant-loop-turn : goal.invariant-loop-turn
-invariant-loop-turn g l = record {
+abbrev pub invariant-loop-next : goal.invariant-loop-next
+invariant-loop-next g l = record {
   gathered : Gathers l.waits l.fn.clients.items l.fn.notes.items l.clients.items l.notes.items;
   capacity : vec_capacity l.notes ≡ vec_capacity l.fn.notes;
 }

@@ -10,8 +10,8 @@ returns-then-count-eq0-clause-ended g c =
     none_leaving false c.args.clients.now.items
     (none_of c.count_notes-count.result (count_leaving false c.args.clients.now.items) c.if-count-eq0.true all)
 
-pub returns-in_err-turns-clause-some : goal.returns-in_err-turns-clause-some
-returns-in_err-turns-clause-some g c =
+pub returns-in_err-order-clause-some : goal.returns-in_err-order-clause-some
+returns-in_err-order-clause-some g c =
     let more = subst (λ xs. c.count_notes-count.result ≤ count_leaving false xs) c.deref.ensures.value c.count_notes-count.ensures.no_more in
     on_err c.from_residual.result
     (positive c.count_notes-count.result (count_leaving false c.args.clients.now.items) c.if-count-eq0.false more)

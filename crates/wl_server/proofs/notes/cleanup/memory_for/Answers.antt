@@ -3,7 +3,7 @@ use Rattle.std.specs.Vec.{vec_capacity, vec_len}
 use Rattle.wl_server.specs.Inside.Gathering.{count_leaving}
 use Rattle.wl_server.specs.Inside.Leaving.{collected, ends_at, given_at}
 use Rattle.wl_server.proofs.CleanupSteps.Asking.{at_most, none_both, none_ends, none_of, on_err, room_of_none, some_of}
-use Rattle.wl_server.proofs.notes.cleanup.room_for.Goals as goal
+use Rattle.wl_server.proofs.notes.cleanup.memory_for.Goals as goal
 
 pub returns-then-count-eq0-clause-notes : goal.returns-then-count-eq0-clause-notes
 returns-then-count-eq0-clause-notes g c =
@@ -31,9 +31,9 @@ returns-in_err-numbers-clause-some g c =
     (some_of c.count_notes-gathered.result c.count_given-leaving.result c.saturating_add-count.result (count_leaving true c.args.clients.now)
     (length (collected given_at 0 c.args.clients.now)) c.saturating_add-count.ensures c.if-count-eq0.false c.count_notes-gathered.ensures.no_more c.count_given-leaving.ensures.no_more)
 
-pub returns-in_err-turns-clause-some : goal.returns-in_err-turns-clause-some
-returns-in_err-turns-clause-some g c =
-    on_err c.from_residual-in_err-turns.result
+pub returns-in_err-order-clause-some : goal.returns-in_err-order-clause-some
+returns-in_err-order-clause-some g c =
+    on_err c.from_residual-in_err-order.result
     (some_of c.count_notes-gathered.result c.count_given-leaving.result c.saturating_add-count.result (count_leaving true c.args.clients.now)
     (length (collected given_at 0 c.args.clients.now)) c.saturating_add-count.ensures c.if-count-eq0.false c.count_notes-gathered.ensures.no_more c.count_given-leaving.ensures.no_more)
 
