@@ -275,7 +275,7 @@ module _ {T U G C : Type 0} where
   begins : (w : World T G C) (id : ClientParts) (offer : Offer G) (transport : T) (info : C) (before : Seen T U C) (lacked : Bool) (did : List (Deed U)) (after : Seen T U C)
       (b : Bool) → b ≡ true → before ≡ nothing_seen
       → MatchBool b (Inserted w id offer transport info before lacked did after) (Unfelt before lacked did after)
-      → (link : LinkState T) × IsFresh transport (Some offer.default_limit) link × (after ≡ begun link info)
+      → (link : LinkState T) × IsFresh transport (Some offer.default_limit) link × (after ≡ just_inserted link info)
   begins w id offer transport info before lacked did after false is nothing h = absurd (false≢true is)
   begins w id offer transport info before lacked did after true is nothing (link, fresh, no_memory, deeds, same) =
       (link, fresh, same ∙ ap (λ (s : Seen T U C). record { part = Some (fresh_part link info); made = s.made ++ Initialized ∷ [] }) nothing)
@@ -283,7 +283,7 @@ module _ {T U G C : Type 0} where
   inserted_as : (w : World T G C) (id : ClientParts) (offer : Offer G) (transport : T) (info : C) (before : Seen T U C) (lacked : Bool) (did : List (Deed U)) (after : Seen T U C)
       → before ≡ nothing_seen
       → PartStep w id offer (step.InsertClient transport info) (reply.InsertClient (Ok id)) before lacked did after
-      → (link : LinkState T) × IsFresh transport (Some offer.default_limit) link × (after ≡ begun link info)
+      → (link : LinkState T) × IsFresh transport (Some offer.default_limit) link × (after ≡ just_inserted link info)
   inserted_as w id offer transport info before lacked did after nothing (r, is, h) =
       begins w id offer transport info before lacked did after (same_client id id) (same_self id) nothing
       (subst (λ (r : Result ClientParts InsertClientError). InsertedAs w id offer transport info r before lacked did after) (sym (ap inserted_in is)) h)
@@ -308,7 +308,7 @@ module _ {T U G C : Type 0} where
         subst (λ (o : Offer G). IsFresh transport (Some o.default_limit) link) offered fresh,
         subst (λ (o : Offer G). Alone w id o (just_inserted link info) (mine id later) (seen id after))
             (by.offer ∙ ap (λ (o : Offer G). offer_after o e.call) offered ∙ sym (offer_over_one (new_server {T = T} {U = U} {C = C} table).offer earlier e))
-            (subst (λ (s : Seen T U C). Alone w id next.offer s (mine id later) (seen id after)) {y = begun link info} begun_so
+            (subst (λ (s : Seen T U C). Alone w id next.offer s (mine id later) (seen id after)) {y = just_inserted link info} begun_so
             (alone_run w id next after later (omega (arith, number, grown, one)) rest)),
       )
 

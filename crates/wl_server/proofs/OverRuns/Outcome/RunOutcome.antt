@@ -59,7 +59,7 @@ module _ {T U G C : Type 0} where
       = inserted_offer (new_offer table) id transport info earlier' e' inserts' ∙ sym offers ∙ sym (inserted_offer (new_offer table) id transport info earlier e inserts) in
       let fresh_there = subst (λ (o : Offer G). IsFresh transport (Some o.default_limit) link') (sym offers) fresh' in
       let links : link' ≡ link = fresh_one transport (Some (offer_over (new_offer table) earlier).default_limit) link' link fresh_there fresh in
-      let begun_there = subst (λ (l : LinkState T). Alone w id (offer_over (new_offer table) (earlier' ++ e' ∷ [])) (begun l info) (mine id later') (seen id after')) links alone' in
+      let begun_there = subst (λ (l : LinkState T). Alone w id (offer_over (new_offer table) (earlier' ++ e' ∷ [])) (just_inserted l info) (mine id later') (seen id after')) links alone' in
       let alone_there = subst (λ (o : Offer G). Alone w id o (just_inserted link info) (mine id later') (seen id after')) offered begun_there in
       let numbers = subst (λ (o : Offer G). AreNumbered o (mine id later')) offered (later_numbered w table id earlier' later' e' after' leads') in
       alone_one w known id (offer_over (new_offer table) (earlier ++ e ∷ [])) (just_inserted link info) (seen id after) (seen id after') (mine id later) (mine id later')

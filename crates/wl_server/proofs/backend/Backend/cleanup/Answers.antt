@@ -10,16 +10,16 @@ use Rattle.wl_server.proofs.backend.Backend.cleanup.Goals as goal
 
 pub clean_up-self-inside-requires-clause-given : goal.clean_up-self-inside-requires-clause-given
 clean_up-self-inside-requires-clause-given g c =
-    subst (λ xs. length (collected given_at 0 xs) ≤ vec_capacity c.in-Ok.room.given) c.deref.ensures.value c.in-Ok.ensures.given
+    subst (λ xs. length (collected given_at 0 xs) ≤ vec_capacity c.in-Ok.memory.given) c.deref.ensures.value c.in-Ok.ensures.given
 
 pub returns-in-Ok : goal.returns-in-Ok
 returns-in-Ok g c =
     let by : CleansUp g.T.Transport.sends c.self.inside.clients.items c.self.inside.notes.items c.clean_up-self-inside.result c.clean_up-self-inside.new.clients.items
-    c.clean_up-self-inside.new.notes.items c.clean_up-self-inside.new.room.given.items =
+    c.clean_up-self-inside.new.notes.items c.clean_up-self-inside.new.memory.given.items =
     subst (λ ns. CleansUp g.T.Transport.sends c.self.inside.clients.items ns c.clean_up-self-inside.result c.clean_up-self-inside.new.clients.items
-    c.clean_up-self-inside.new.notes.items c.clean_up-self-inside.new.room.given.items) c.memory_for.ensures.items c.clean_up-self-inside.ensures
+    c.clean_up-self-inside.new.notes.items c.clean_up-self-inside.new.memory.given.items) c.memory_for.ensures.items c.clean_up-self-inside.ensures
     in
-    rw (← c.self.view_is) (cleaned_up _ _ _ _ _ c.clean_up-self-inside.new.room.given _ refl by)
+    rw (← c.self.view_is) (cleaned_up _ _ _ _ _ c.clean_up-self-inside.new.memory.given _ refl by)
 
 pub returns-in-Err : goal.returns-in-Err
 returns-in-Err g c =
