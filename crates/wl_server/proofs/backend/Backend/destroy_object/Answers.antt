@@ -46,9 +46,9 @@ unreachable-requires g c =
 pub returns : goal.returns
 returns g c = rw (← c.self.view_is)
     (done_at _ _ _ _ (own _ _) c.args.id.now.client (destroys g.T.Transport.sends c.args.id.now c.destroy_object-answer.result) (c.destroy_object-answer.result ≡ Err destroy.InvalidId)
-    (λ i l d b a h. (_, refl, h)) c.slot.result c.index_mut.result.now c.in-Some.client c.destroy_object-answer.new.self c.lacked_memory-self-inside.result
+    (λ i l d b a h. (_, refl, h)) c.slot.result c.index_mut.result.now c.in-Some.client c.destroy_object-answer.new.self c.lacks_memory-self-inside.result
     (stored_by _ _ _ _ c.client-client.ensures c.is_stored.ensures.stored ∙ c.if-not-is_stored.false) (c.slot.ensures ∙ ap (λ t. t.slot) c.client-client.ensures)
-    c.index_mut.ensures.value c.in-Some.is (does g.T.Transport.sends c.args.id.now _ _ c.destroy_object-answer.result _ c.lacked_memory-self-inside.ensures c.destroy_object-answer.ensures))
+    c.index_mut.ensures.value c.in-Some.is (does g.T.Transport.sends c.args.id.now _ _ c.destroy_object-answer.result _ c.lacks_memory-self-inside.ensures c.destroy_object-answer.ensures))
 
 pub invariant_of-self-in-Some : goal.invariant_of-self-in-Some
 invariant_of-self-in-Some g c = slots_set _ _ _ _ _ c.self.invariant
