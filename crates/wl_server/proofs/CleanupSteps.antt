@@ -1,6 +1,7 @@
 -- Killed clients leave, and notes are gathered.
 pub mod Taken
 pub mod Gathering
+pub mod Ordering
 pub mod Ending
 pub mod Outgoing
 pub mod CleanedSlots

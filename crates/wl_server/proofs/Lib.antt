@@ -6,3 +6,4 @@ mod CleanupSteps
 mod ObjectCalls
 mod Readings
 mod GlobalCalls
+pub mod Plain

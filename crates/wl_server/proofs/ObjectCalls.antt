@@ -1,6 +1,7 @@
 -- Clients and objects that are made, told of and ended.
 pub mod Creation
 pub mod Posting
+pub mod Told
 pub mod EventFaults
 pub mod Inserting
 pub mod SendingEvents

@@ -1,7 +1,7 @@
 -- What holds of each client of a server over a run, of one and the same history of deeds.
-use Rattle.std.specs.Prelude.{List, [], ◌∷◌, ◌++◌, length}
+use Rattle.std.specs.Prelude.{List, [], ◌∷◌, ◌++◌}
 use Rattle.wl_wire.specs.Table.{InterfaceRow}
-use Rattle.wl_link.specs.Runs.{RunEntry, IsWhereItStops, entries}
+use Rattle.wl_link.specs.Runs.{RunEntry}
 use Rattle.wl_server.specs.declared.runs.step.Reply.{Reply}
 use Rattle.wl_server.specs.declared.runs.step.Step.{Step}
 use Rattle.wl_server.specs.Announced.{EachAnnouncesShown}
@@ -26,14 +26,6 @@ pub record IsAccountedFor {T U G C : Type 0} (w : World T G C) (table : List Int
 abbrev pub AreAccountedFor : {T U G C : Type 0} → World T G C → List InterfaceRow → List (RunEntry (Step T U G C) (Reply T U)) → ServerState T U G C → Type 0
 AreAccountedFor {T = T} {U = U} {G = G} {C = C} w table steps after =
     (run : List (Entry T U G C)) × AreOf steps run × Leads w (new_server table) run after × IsAccountedFor w table run after
-
--- A run, and then steps of which those before a want of memory have these replies: with the step that met it, if one was
--- begun, they are the calls of a run of which that holds.
-abbrev pub AccountsForStopped : {T U G C : Type 0} → World T G C → List InterfaceRow → List (RunEntry (Step T U G C) (Reply T U)) → List (Step T U G C) → List (Reply T U)
-    → ServerState T U G C → Type 0
-AccountsForStopped {T = T} {U = U} {G = G} {C = C} w table run steps replies after =
-    (last : List (RunEntry (Step T U G C) (Reply T U))) × IsWhereItStops steps (length replies) last
-    × AreAccountedFor w table (run ++ (entries steps replies ++ last)) after
 
 -- From one value of a server to the next: a run of a new server that led to the one leads, with this call behind it, to the
 -- other, and all that holds of it.

@@ -11,6 +11,7 @@ pub mod Walks
 pub mod Carried
 pub mod Inserting
 pub mod Gathering
+pub mod NoteOrder
 pub mod Leaving
 pub mod Places
 pub mod Finishing

@@ -19,6 +19,7 @@ pub mod Runs
 pub mod Backend
 pub mod Lending
 pub mod Lookups
+pub mod Posted
 -- ---- laws of runs
 pub mod Outcome
 pub mod WholeOutcome
@@ -27,6 +28,7 @@ pub mod Identified
 pub mod Named
 pub mod Logged
 pub mod NotedOnce
+pub mod NotedEnds
 pub mod Announced
 pub mod Cutting
 pub mod Stretches
@@ -36,5 +38,7 @@ pub mod Histories
 -- ---- dispatches
 pub mod Reached
 pub mod Dispatch
+-- ---- what callers use
+pub mod Plain
 -- ---- what the functions inside promise each other
 pub mod Inside

@@ -4,7 +4,7 @@ use Rattle.wl_wire.specs.declared.error.IoFault.{IoFault}
 use Rattle.wl_wire.specs.declared.error.IoFault.TheVariants as fault
 use Rattle.wl_link.specs.Exchange.{Queue, joined, nothing}
 use Rattle.wl_link.specs.Link.{EachWithin, incoming_limit}
-use Rattle.wl_link.specs.Runs.{EachPart, RunEntry}
+use Rattle.wl_link.specs.Runs.{EachPart}
 use Rattle.wl_link.specs.Reader.{Given, HandedOut, Lacks, ReaderState}
 use Rattle.wl_link.specs.Script.{Script, ScriptSends}
 use Rattle.wl_link.specs.Served.{Served, state_as}
@@ -12,16 +12,14 @@ use Rattle.wl_link.specs.Stretch.{AllPieces, HasByteFree, LacksTokens, MayCome, 
 use Rattle.wl_server.specs.declared.error.ActionError.{ActionError}
 use Rattle.wl_server.specs.declared.error.ActionError.TheVariants.{ActionOpen, Io}
 use Rattle.wl_server.specs.declared.notes.Happening.TheVariants.{Disconnected}
-use Rattle.wl_server.specs.declared.runs.step.Reply.{Reply}
 use Rattle.wl_server.specs.declared.runs.step.Reply.TheVariants as reply
-use Rattle.wl_server.specs.declared.runs.step.Step.{Step}
 use Rattle.wl_server.specs.declared.runs.step.Step.TheVariants as step
 use Rattle.wl_server.specs.Deeds.{Acted, Came, Deed, Handed, Noted, Sent}
 use Rattle.wl_server.specs.Ids.{ClientParts, GlobalParts}
 use Rattle.wl_server.specs.Part.{Part}
 use Rattle.wl_server.specs.PartStep.{Asked, Call, around, over_scripts}
 use Rattle.wl_server.specs.Reading.{Around, action_content, reads_on, server}
-use Rattle.wl_server.specs.Runs.{AreOf, Leads, Own, concerns, history, mine}
+use Rattle.wl_server.specs.Runs.{Leads, Own, concerns, history, mine}
 use Rattle.wl_server.specs.Server.{ServerState, seen}
 use Rattle.wl_server.specs.Steps.{Entry}
 use Rattle.wl_server.specs.Telling.{Core, Did, Finish, OfBind, OfRequest, Stops, Told, core_of, deeds_in, end_deeds, part_of, reader_part}
@@ -178,11 +176,3 @@ module _ {U G C : Type 0} where
   -- so it is over each part of a run
   abbrev pub EachPartIsCut : (G → ClientParts → C → GlobalParts → Bool) → ServerState Script U G C → List (Entry Script U G C) → Type 0
   EachPartIsCut views begun run = EachPart (Leads (over_scripts views)) (EachIsCut views) begun run
-
-  -- Steps with these replies are the calls of a run; and of each such run, whatever its deeds, that is so: it is of the one
-  -- that is accounted for.
-  abbrev pub AreCut : (G → ClientParts → C → GlobalParts → Bool) → ServerState Script U G C → List (RunEntry (Step Script U G C) (Reply Script U))
-      → ServerState Script U G C → Type 0
-  AreCut views begun steps after =
-      ((run : List (Entry Script U G C)) × AreOf steps run × Leads (over_scripts views) begun run after)
-      × ((run : List (Entry Script U G C)) → AreOf steps run → Leads (over_scripts views) begun run after → EachPartIsCut views begun run)

@@ -6,7 +6,9 @@ ghost use Rattle.wl_server.specs.Server.{client_at, new_server};
 use crate::client::Client;
 use crate::globals::KeptGlobal;
 use crate::ids::client_id::ClientId;
-use crate::notes::{Note, NoteNumbers};
+use crate::notes::Note;
+use crate::notes::queues::NoteNumbers;
+use crate::reading::place::MessagePlace;
 use std::alloc::Global;
 use std::marker::Model;
 use wl_link::{DEFAULT_MAX_BUFFER_SIZE, ObjectMap};
@@ -30,6 +32,8 @@ pub struct Backend<T, U, G, C> {
     pub(crate) notes: Vec<Note<U>>,
     pub(crate) numbers: NoteNumbers,
     pub(crate) refused: bool,
+    /// The place for the message that a reading takes off a link.
+    pub(crate) place: MessagePlace,
 }
 
 impl<T, U, G, C> Model for Backend<T, U, G, C> {
@@ -75,11 +79,9 @@ impl<T: Drop, U: Drop, G: Drop, C: Drop> Backend<T, U, G, C> {
             clients: Vec::new(alloc),
             free_from: 0,
             notes: Vec::new(alloc),
-            numbers: NoteNumbers {
-                waiting: 0,
-                made: 0,
-            },
+            numbers: NoteNumbers::new(),
             refused: false,
+            place: MessagePlace::new(alloc),
         }
     }
 

@@ -9,10 +9,9 @@ pub mod kill;
 pub mod limits;
 pub mod transport;
 
-use crate::notes::Happening;
+use crate::notes::queues::{MadeNotes, WaitingNotes};
 use crate::objects::Kept;
 use crate::reading::action::OpenAction;
-use std::collections::VecDeque;
 use std::marker::Model;
 use wl_link::{BufferedSocket, ObjectMap};
 
@@ -50,10 +49,10 @@ pub struct Client<T, U, C> {
     pub action: Option<OpenAction>,
     /// The kept registries that were made for it, in order.
     pub registries: Vec<Registry>,
-    /// The notes that wait for the next cleanup, in order, each with its number.
-    pub waiting: VecDeque<(u128, Happening<U>)>,
-    /// The notes that were made and not gathered yet, likewise. A live client has room for one more, that of its end.
-    pub made: VecDeque<(u128, Happening<U>)>,
+    /// The notes that wait for the next cleanup.
+    pub waiting: WaitingNotes<U>,
+    /// The notes that were made and not gathered yet. A live client has room for one more, that of its end.
+    pub made: MadeNotes<U>,
 }
 
 impl<T, U, C> Model for Client<T, U, C> {
@@ -77,10 +76,10 @@ impl<T, U, C> Model for Client<T, U, C> {
         is_killed = c.is_killed;
         action = c.action;
         registries = c.registries.items;
-        waiting = map (λ w. w.1) c.waiting.items;
+        waiting = map (λ w. w.1) c.waiting.queue.items;
       };
-      made = map (λ m. m.1) c.made.items;
+      made = map (λ m. m.1) c.made.queue.items;
     } };
 
-    ghost invariant = { λ c. c.is_killed ≡ false → deque_len c.made < deque_capacity c.made };
+    ghost invariant = { λ c. c.is_killed ≡ false → deque_len c.made.queue < deque_capacity c.made.queue };
 }

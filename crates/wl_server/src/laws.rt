@@ -26,6 +26,7 @@ ghost use Rattle.wl_server.specs.Outcome.{ClientsHaveOneOutcome, OffersHaveOneOu
 ghost use Rattle.wl_server.specs.Identified.{EachHasOwnIds, HaveOwnIds};
 ghost use Rattle.wl_server.specs.Named.{EachKeepsNaming, EachNamesNoneAgain};
 ghost use Rattle.wl_server.specs.Logged.{EachLogIsSpelled, HaveSpelledLogs};
+ghost use Rattle.wl_server.specs.NotedEnds.{EachNoteIsOfAnEnd, EndIsNotedAtOnce, HaveNotesOfEnds};
 ghost use Rattle.wl_server.specs.NotedOnce.{CleanupNotesAll, EachIsNoted, FinishNotesAtOnce, HaveNotes};
 ghost use Rattle.wl_server.specs.Part.{Part};
 ghost use Rattle.wl_server.specs.PartStep.{Call, around, over, over_scripts, share_of};
@@ -147,17 +148,24 @@ pub fn log_is_what_was_sent<T: Transport, U, G: GlobalHandler<C>, C>()
 ///
 /// Over every run of calls of a new server, the objects of a client that left with user data are those that its notes tell
 /// of as destroyed, those that were handed out, that were made, and that wait for the next cleanup; none of them left
-/// twice. The end of a client is told of once if it was killed, and else never. After a cleanup that succeeds no note waits,
-/// and by the end of a request none begins to.
+/// twice. Each of these notes has the id of an object of this client that left with user data. The end of a client is told of
+/// once if it was killed, and else never. After a cleanup that succeeds no note waits, and by the end of a request none begins
+/// to: what leaves by it with user data is told of at once, by the notes that are made in that call.
 pub fn each_object_that_leaves_is_noted_once<T: Transport, U, G: GlobalHandler<C>, C>()
     ensures noted { (table : List InterfaceRow) (run : List (Entry T U G C)) (after : ServerState T U G C) →
         Leads (over T.sends T.receives G.views) (new_server table) run after → EachIsNoted run after }
     ensures cleanup { CleanupNotesAll U (over {C = C} T.sends T.receives G.views) }
     ensures finish { FinishNotesAtOnce U (over {C = C} T.sends T.receives G.views) }
+    ensures of_ends { (table : List InterfaceRow) (run : List (Entry T U G C)) (after : ServerState T U G C) →
+        Leads (over T.sends T.receives G.views) (new_server table) run after → EachNoteIsOfAnEnd run after }
+    ensures at_once { EndIsNotedAtOnce U (over {C = C} T.sends T.receives G.views) }
     ensures script_noted { (table : List InterfaceRow) (steps : List (RunEntry (Step Script U G C) (Reply Script U))) (after : ServerState Script U G C) →
         Performs (over_scripts G.views) (new_server table) steps after → HaveNotes (over_scripts G.views) table steps after }
     ensures script_cleanup { CleanupNotesAll U (over_scripts {C = C} G.views) }
     ensures script_finish { FinishNotesAtOnce U (over_scripts {C = C} G.views) }
+    ensures script_of_ends { (table : List InterfaceRow) (steps : List (RunEntry (Step Script U G C) (Reply Script U))) (after : ServerState Script U G C) →
+        Performs (over_scripts G.views) (new_server table) steps after → HaveNotesOfEnds (over_scripts G.views) table steps after }
+    ensures script_at_once { EndIsNotedAtOnce U (over_scripts {C = C} G.views) }
 {}
 
 /// The law of announcements, over every transport.

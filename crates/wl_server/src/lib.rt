@@ -12,10 +12,14 @@
 //! | `create_object`, `destroy_object`, `set_object_data` | `objects` | `Objects` |
 //! | `send_event`, `post_error` | `events` | `Events`, `Errors` |
 //! | `next_action`, `next_action_within`, `finish_request`, `finish_bind` | `reading` | `Reading`, `Requests`, `Finish` |
+//! | `dispatch_single_client`, `dispatch_all_clients`, [`Handler`] | `dispatch` | `Dispatch`, `Reached` |
 //! | `create_global`, `disable_global`, `remove_global` | `globals` | `Globals`, `Felt` |
 //! | `cleanup`, `take_notes` | `notes` | `PartStep`, `Felt` |
 //! | look-ups, `with_all_clients`, `with_all_objects_for` | `lookups`, `globals::lookups` | `Lookups` |
 //! | `replay` | `runs` | `Runs`, `Histories` |
+//!
+//! The calls that programs use most have a second clause, `plain`: what the program finds of the object, the client or the
+//! notes after the call, in the words of the look-ups (`specs/Plain`). It follows from `Calls`.
 //!
 //! The laws of runs are the contracts of the functions of [`laws`]. Each names its statement: `Runs` (each client is alone),
 //! `Identified` and `Named` (ids), `Logged` (what was sent), `Announced` (globals), `NotedOnce` (notes), `Cutting` and `Stretches`

@@ -18,8 +18,8 @@ pub mod destroy;
 use crate::client::Registry;
 use crate::ids::client_id::ClientId;
 use crate::ids::object_id::ObjectId;
-use crate::notes::{Happening, NoteNumbers, next_number};
-use std::collections::VecDeque;
+use crate::notes::Happening;
+use crate::notes::queues::{NoteNumbers, WaitingNotes};
 use wl_link::{Object, ObjectMap};
 use wl_wire::{InterfaceId, OutOfMemory, WL_REGISTRY_INTERFACE};
 
@@ -98,15 +98,15 @@ pub fn take_out<U: Drop>(
 
 /// Makes room for the note that this object is gone, where it has user data.
 pub fn reserve_note<U>(
-    waiting: &mut VecDeque<(u128, Happening<U>)>,
+    waiting: &mut WaitingNotes<U>,
     object: &Object<Kept<U>>,
 ) -> Result<(), OutOfMemory>
-    ensures items { waiting.new.items ≡ waiting.old.items }
-    ensures room { OnOk result (IsSome object.now.value.user_data → deque_len waiting.new < deque_capacity waiting.new) }
+    ensures items { waiting.new.queue.items ≡ waiting.old.queue.items }
+    ensures room { OnOk result (IsSome object.now.value.user_data → deque_len waiting.new.queue < deque_capacity waiting.new.queue) }
     ensures asked { OnErr result (is_some object.now.value.user_data ≡ true) }
 {
     if object.value.user_data.is_some() {
-        waiting.reserve(1)?;
+        waiting.reserve()?;
     }
     Ok(())
 }
@@ -116,17 +116,17 @@ pub fn reserve_note<U>(
 pub fn take_out_noted<U: Drop>(
     objects: &mut ObjectMap<Kept<U>>,
     registries: &mut Vec<Registry>,
-    waiting: &mut VecDeque<(u128, Happening<U>)>,
+    waiting: &mut WaitingNotes<U>,
     numbers: &mut NoteNumbers,
     id: &ObjectId,
 )
     requires { IfSome (held objects.old.store id.now.number)
-        (λ x. IsSome x.value.user_data → deque_len waiting.old < deque_capacity waiting.old) }
+        (λ x. IsSome x.value.user_data → deque_len waiting.old.queue < deque_capacity waiting.old.queue) }
     ensures removed { objects.new.store ≡ removed objects.old.store id.now.number }
     ensures registries { IfSome (held objects.old.store id.now.number)
         (λ x. registries.new.items ≡ registries_without registries.old.items id.now.number x) }
     ensures noted { IfSome (held objects.old.store id.now.number)
-        (λ x. map (λ w. w.1) waiting.new.items ≡ map (λ w. w.1) waiting.old.items ++ note_of_end id.now.client id.now.number x) }
+        (λ x. map (λ w. w.1) waiting.new.queue.items ≡ map (λ w. w.1) waiting.old.queue.items ++ note_of_end id.now.client id.now.number x) }
 {
     let number = id.protocol_id();
     let Some(object) = take_out(objects, registries, number) else {
@@ -134,9 +134,6 @@ pub fn take_out_noted<U: Drop>(
     };
     let gone = id_at(&id.client(), number, &object);
     if let Some(user_data) = object.value.user_data {
-        waiting.push_back_reserved((
-            next_number(&mut numbers.waiting),
-            Happening::Destroyed(gone, user_data),
-        ));
+        waiting.push(numbers, Happening::Destroyed(gone, user_data));
     }
 }

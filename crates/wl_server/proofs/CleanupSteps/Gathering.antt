@@ -1,15 +1,15 @@
 -- Gathering notes changes nothing of what is seen of any client.
-use Rattle.std.proofs.Common.{◌≡◌, ◌≢◌, ℕ, zero, suc, ◌+◌, ◌<◌, ◌≤◌, Bool, true, false, List, [], ◌∷◌, ◌++◌, length, map, drop, Option, None, Some, is_some, refl, sym, ap, subst, ◌∙◌, append_assoc, append-nil, arith}
+use Rattle.std.proofs.Common.{◌≡◌, ◌≢◌, ℕ, zero, suc, ◌+◌, ◌≤◌, Bool, true, false, List, [], ◌∷◌, ◌++◌, length, map, drop, Option, None, Some, is_some, refl, sym, ap, subst, ◌∙◌, append_assoc, append-nil, arith}
 use Rattle.std.specs.Option.{option_map, option_map_or}
-use Rattle.std.specs.Prelude.{◌==◌, slice_get, slice_set}
-use Rattle.std.proofs.lemmas.Bool.{eqb-true, false≢true}
+use Rattle.std.specs.Prelude.{slice_get, slice_set}
+use Rattle.std.proofs.lemmas.Bool.{false≢true}
 use Rattle.std.proofs.lemmas.Grind.{flat_map-append}
-use Rattle.std.proofs.lemmas.List.{length-append, length-map, map-append}
+use Rattle.std.proofs.lemmas.List.{length-append, length-map}
 use Rattle.std.proofs.lemmas.Option.{same_Some, none-some}
 use Rattle.wl_server.specs.declared.notes.Happening.{Happening}
 use Rattle.wl_server.specs.declared.notes.Happening.TheVariants as happened
 use Rattle.wl_server.specs.declared.notes.Note.{Note}
-use Rattle.wl_server.specs.Inside.Gathering.{Gathers, MovesNotes, count_leaving, emptied, leaving, notes_from}
+use Rattle.wl_server.specs.Inside.Gathering.{Gathers, MovesNote, count_leaving, emptied, leaving, notes_from}
 use Rattle.wl_server.specs.Ids.{ClientParts, same_client}
 use Rattle.wl_server.specs.Server.{Stored, client_at, if_serial, note_of, notes_of, told_of}
 use Rattle.wl_server.proofs.CallSteps.Slots.{Are, Serials, Slots, client_absent, client_present, compare, get_set_other, get_set_same, other_of, same_parts, same_self, same_serials, same_slots}
@@ -75,36 +75,6 @@ module _ {T U C : Type 0} (waits : Bool) where
     count = more.count ∙ first.count;
   }
 
-  -- ---- notes that are moved one after another
-
-  from_none : (slot : ℕ) (x : Option (Stored T U C)) → notes_from waits slot x [] ≡ []
-  from_none slot None = refl
-  from_none slot (Some s) = refl
-
-  from_more : (slot : ℕ) (x x' : Option (Stored T U C)) (a b : List (Happening U)) → option_map (emptied waits) x' ≡ option_map (emptied waits) x
-      → notes_from waits slot x (a ++ b) ≡ notes_from waits slot x a ++ notes_from waits slot x' b
-  from_more slot None None a b same = refl
-  from_more slot None (Some s') a b same = absurd (none-some (emptied waits s') (sym same))
-  from_more slot (Some s) None a b same = absurd (none-some (emptied waits s) same)
-  from_more slot (Some s) (Some s') a b same =
-      let serial : s'.serial ≡ s.serial = ap (λ (e : Stored T U C). e.serial) (same_Some (emptied waits s') (emptied waits s) same) in
-      map-append (note_of (record { slot = slot; serial = s.serial })) a b
-      ∙ ap (λ (n : ℕ). map (note_of (record { slot = slot; serial = s.serial })) a ++ map (note_of (record { slot = slot; serial = n })) b) (sym serial)
-
-  pub moves_none : (slot : ℕ) (x : Option (Stored T U C)) (notes : List (Note U)) → MovesNotes waits slot x notes x notes
-  moves_none slot x notes = ([], refl, refl, sym (ap (λ (l : List (Note U)). notes ++ l) (from_none slot x) ∙ append-nil notes))
-
-  pub moves_more : (slot : ℕ) (x : Option (Stored T U C)) (notes : List (Note U)) (x' : Option (Stored T U C)) (notes' : List (Note U)) (x'' : Option (Stored T U C))
-      (notes'' : List (Note U)) → MovesNotes waits slot x notes x' notes' → MovesNotes waits slot x' notes' x'' notes'' → MovesNotes waits slot x notes x'' notes''
-  moves_more slot x notes x' notes' x'' notes'' (a, left, rest, is) (b, left', rest', is') = (
-    a ++ b,
-    left ∙ (ap (λ (l : List (Happening U)). a ++ l) left' ∙ sym (append_assoc a b (leaving waits x''))),
-    rest' ∙ rest,
-    is' ∙ (ap (λ (l : List (Note U)). l ++ notes_from waits slot x' b) is
-        ∙ (append_assoc notes (notes_from waits slot x a) (notes_from waits slot x' b)
-        ∙ ap (λ (l : List (Note U)). notes ++ l) (sym (from_more slot x x' a b rest)))),
-  )
-
   -- ---- counts
 
   pub count_at : (clients : List (Option (Stored T U C))) (k : ℕ) (x : Option (Stored T U C)) → slice_get clients k ≡ Some x
@@ -140,20 +110,7 @@ module _ {T U C : Type 0} (waits : Bool) where
       let count = by.count in
       omega (arith, one, count, is, is', fits, same)
 
-  -- ---- places that were left
-
-  pub left_more : (clients : List (Option (Stored T U C))) (slot : ℕ) (z x : Option (Stored T U C)) → slice_get clients slot ≡ Some z
-      → ((k : ℕ) (y : Option (Stored T U C)) → k < slot → slice_get clients k ≡ Some y → leaving waits y ≡ []) → leaving waits x ≡ []
-      → (k : ℕ) (y : Option (Stored T U C)) → k < slot + 1 → slice_get (slice_set clients slot x) k ≡ Some y → leaving waits y ≡ []
-  left_more clients slot z x was below here k y under get = at (k == slot) refl
-    where
-      at : (b : Bool) → (k == slot) ≡ b → leaving waits y ≡ []
-      at true is =
-          let same : x ≡ y = same_Some x y (sym (get_set_same clients slot z x was) ∙ (ap (slice_get (slice_set clients slot x)) (sym (eqb-true k slot is)) ∙ get)) in
-          ap (leaving waits) (sym same) ∙ here
-      at false is =
-          let differ : k ≢ slot = other_of k slot is in
-          below k y (omega (arith, under, differ)) (sym (get_set_other clients slot k x (λ e. differ (sym e))) ∙ get)
+  -- ---- one note is moved
 
   from_length : (slot : ℕ) (x : Option (Stored T U C)) (told behind : List (Happening U)) → leaving waits x ≡ told ++ behind
       → length (notes_from waits slot x told) ≡ length told
@@ -178,13 +135,13 @@ module _ {T U C : Type 0} (waits : Bool) where
       ∙ (ap (λ (l : List (Happening U)). notes_of id notes ++ l) (notes_other target id told other) ∙ append-nil (notes_of id notes))))
 
   told_at : (clients : List (Option (Stored T U C))) (notes notes' : List (Note U)) (slot : ℕ) (x x' : Option (Stored T U C)) → slice_get clients slot ≡ Some x
-      → MovesNotes waits slot x notes x' notes' → (id : ClientParts) → ToldOf clients notes (slice_set clients slot x') notes' id
-  told_at clients notes notes' slot None None here (told, left, rest, is) id =
+      → MovesNote waits slot x notes x' notes' → (id : ClientParts) → ToldOf clients notes (slice_set clients slot x') notes' id
+  told_at clients notes notes' slot None None here (h, left, rest, is) id =
       ap (λ (xs : List (Option (Stored T U C))). notes_of id notes' ++ leaving waits (client_at id xs)) (set_itself clients slot None here)
       ∙ ap (λ (ns : List (Note U)). notes_of id ns ++ leaving waits (client_at id clients)) (is ∙ append-nil notes)
-  told_at clients notes notes' slot None (Some s') here (told, left, rest, is) id = absurd (none-some (emptied waits s') (sym rest))
-  told_at clients notes notes' slot (Some s) None here (told, left, rest, is) id = absurd (none-some (emptied waits s) rest)
-  told_at clients notes notes' slot (Some s) (Some s') here (told, left, rest, is) id =
+  told_at clients notes notes' slot None (Some s') here (h, left, rest, is) id = absurd (none-some (emptied waits s') (sym rest))
+  told_at clients notes notes' slot (Some s) None here (h, left, rest, is) id = absurd (none-some (emptied waits s) rest)
+  told_at clients notes notes' slot (Some s) (Some s') here (h, left, rest, is) id =
       elim (compare target id) [
         | Are at same ↦
             ap (λ (o : Option (Stored T U C)). notes_of id notes' ++ leaving waits o) (client_present id clients' s' (after at) (serial' ∙ same))
@@ -200,6 +157,9 @@ module _ {T U C : Type 0} (waits : Bool) where
             (client_absent id clients' s' (after at) (rw serial' differ) ∙ sym (client_absent id clients s (before at) differ))
       ]
     where
+      told : List (Happening U)
+      told = h ∷ []
+
       target : ClientParts
       target = record { slot = slot; serial = s.serial }
 
@@ -218,10 +178,11 @@ module _ {T U C : Type 0} (waits : Bool) where
       is_same : slot ≡ id.slot → s.serial ≡ id.serial → same_client target id ≡ true
       is_same at same = subst (λ (i : ClientParts). same_client target i ≡ true) (same_parts target id at same) (same_self target)
 
-  -- some notes of the client of one slot were moved
+  -- a note of the client of one slot was moved
   pub gathers_at : (clients : List (Option (Stored T U C))) (notes notes' : List (Note U)) (slot : ℕ) (x x' : Option (Stored T U C)) → slice_get clients slot ≡ Some x
-      → MovesNotes waits slot x notes x' notes' → Gathers waits clients notes (slice_set clients slot x') notes'
-  gathers_at clients notes notes' slot x x' here (told, left, rest, is) =
+      → MovesNote waits slot x notes x' notes' → Gathers waits clients notes (slice_set clients slot x') notes'
+  gathers_at clients notes notes' slot x x' here (h, left, rest, is) =
+      let told : List (Happening U) = h ∷ [] in
       let fewer : length (leaving waits x) ≡ length told + length (leaving waits x') = ap length left ∙ length-append told (leaving waits x') in
       let more : length notes' ≡ length notes + length told =
       ap length is ∙ (length-append notes (notes_from waits slot x told) ∙ ap (λ (n : ℕ). length notes + n) (from_length slot x told (leaving waits x') left))
@@ -229,6 +190,6 @@ module _ {T U C : Type 0} (waits : Bool) where
       let set = count_set clients slot x x' here in
       record {
         rest = map_set (option_map (emptied waits)) clients slot x x' here rest;
-        told = told_at clients notes notes' slot x x' here (told, left, rest, is);
+        told = told_at clients notes notes' slot x x' here (h, left, rest, is);
         count = omega (arith, fewer, more, set);
       }

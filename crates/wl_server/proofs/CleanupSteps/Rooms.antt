@@ -1,7 +1,8 @@
 -- The room that a cleanup made is enough, also once the killed clients were flushed and all notes gathered.
 use Rattle.std.proofs.Common.{◌≡◌, ℕ, suc, ◌+◌, Bool, true, false, List, [], ◌∷◌, ◌++◌, length, Option, None, Some, is_some, Result, refl, sym, ap, subst, ◌∙◌, arith, append-nil}
-use Rattle.std.specs.Option.{option_map}
-use Rattle.std.specs.Prelude.{MatchBool, if◌then◌else◌, slice_get}
+use mathlib.Core.Logic.{inl, inr}
+use Rattle.std.specs.Option.{option_map, option_map_or}
+use Rattle.std.specs.Prelude.{◌⊎◌, ◌<◌, ◌≤◌, MatchBool, if◌then◌else◌, slice_get}
 use Rattle.std.proofs.lemmas.Bool.{false≢true}
 use Rattle.std.proofs.lemmas.List.{length-append}
 use Rattle.std.proofs.lemmas.Option.{same_Some, slice_get_within}
@@ -16,7 +17,10 @@ use Rattle.wl_server.specs.Ids.{ClientParts}
 use Rattle.wl_server.specs.Inside.Leaving.{FlushesKilled, collected, ends_at, given_at}
 use Rattle.wl_server.specs.Part.{Part, with_link}
 use Rattle.wl_server.specs.Inside.Places.{AllFeel, FeltAt, PlaceFeels}
-use Rattle.wl_server.specs.Server.{Stored}
+use Rattle.wl_server.specs.Server.{Stored, stored_at}
+use Rattle.wl_server.specs.declared.notes.queues.NotePlace.{NotePlace}
+use Rattle.wl_server.specs.Inside.NoteOrder.{IsOrderOf}
+use Rattle.wl_server.proofs.CleanupSteps.Ordering.{split}
 use Rattle.wl_server.proofs.Readings.Notes.{notes_of_sends}
 
 given_length : {T : Type 0} (i : ClientParts) (t t' : T) (b : Bool)
@@ -89,6 +93,24 @@ module _ {T U C : Type 0} where
       place slot k x y at is is' =
           let same : slot ≡ k = omega (arith, at) in
           subst (λ (n : ℕ). SamePlace n x y) (sym same) (felt k x y (slice_get start k) (slice_get now k) is is' (all.felt k (slice_get_within start k x is)))
+
+  -- ---- the places of notes
+
+  felt_leaves : (sends : T → Queue → Result ℕ IoFault → T → Type 0) (k : ℕ) (lacked : Bool) (o o' : Option (Option (Stored T U C)))
+      → FeltAt (λ id p lacked did q. FlushesKilled sends p lacked did q) k o lacked o'
+      → length (leaving true (option_map_or (λ s. s) o' None)) ≡ length (leaving true (option_map_or (λ s. s) o None))
+  felt_leaves sends k lacked None o' (not, is) = ap (λ (o : Option (Option (Stored T U C))). length (leaving true (option_map_or (λ s. s) o None))) is
+  felt_leaves sends k lacked (Some a) o' (b, feels, to) =
+      ap (λ (o : Option (Option (Stored T U C))). length (leaving true (option_map_or (λ s. s) o None))) to ∙ (same_place sends k a b lacked feels).0
+
+  -- the places that were taken down before the flush are still those of the notes
+  pub flushed_order : (sends : T → Queue → Result ℕ IoFault → T → Type 0) (refused : Bool) (start now : List (Option (Stored T U C))) (order : List NotePlace)
+      → AllFeel (λ id p lacked did q. FlushesKilled sends p lacked did q) refused (length start) start now → IsOrderOf true start order → IsOrderOf true now order
+  flushed_order sends refused start now order all is = record { rise = is.rise; each = λ k. is.each k ∙ sym (at k (split k (length start))) }
+    where
+      at : (k : ℕ) → (k < length start) ⊎ (length start ≤ k) → length (leaving true (stored_at k now)) ≡ length (leaving true (stored_at k start))
+      at k (inl below) = felt_leaves sends k (all.lacks k) (slice_get start k) (slice_get now k) (all.felt k below)
+      at k (inr past) = ap (λ (o : Option (Option (Stored T U C))). length (leaving true (option_map_or (λ s. s) o None))) (all.rest k past)
 
   -- ---- gathered notes
 

@@ -1,3 +1,4 @@
 -- Each object that leaves with user data is noted once.
 pub mod NotedLaws
 pub mod NotedSoon
+pub mod NotedEnds

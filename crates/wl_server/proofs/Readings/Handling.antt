@@ -13,6 +13,7 @@ use Rattle.wl_link.specs.Reader.{Given, HandedOut, Queued, Verdict, came_to, put
 use Rattle.wl_server.specs.declared.reading.action.OpenAction.{OpenAction}
 use Rattle.wl_server.specs.declared.notes.Happening.{Happening}
 use Rattle.wl_server.specs.declared.notes.DisconnectReason.TheVariants.{ConnectionClosed}
+use Rattle.wl_server.specs.declared.reading.action.Found.{Found}
 use Rattle.wl_server.specs.declared.reading.action.NoAction.{NoAction}
 use Rattle.wl_server.specs.declared.reading.action.TurnEnd.{TurnEnd}
 use Rattle.wl_server.specs.declared.reading.action.TurnEnd.TheVariants as came
@@ -242,9 +243,9 @@ module _ {T U C : Type 0} (sends : T → Queue → Result ℕ IoFault → T → 
 
   -- as a reply was put, and as that was answered
   pub replied : (s after : Stored T U C) (link : LinkState T) (puts : List Said) (did : List (Deed U)) (wrote : Result (Unit {0}) IoFault) (end : TurnEnd)
-      (args : List (Argument IdParts Token)) → AreQuiet did → Live s.part → Puts sends s.part.link puts wrote link
+      (f : Found) (args : List (Argument IdParts Token)) → AreQuiet did → Live s.part → Puts sends s.part.link puts wrote link
       → MatchResult wrote (λ _. (end ≡ came.GoesOn) × (after ≡ over_link s link))
       (λ f. (end ≡ came.Ends (broken_with (lacked_memory (Err f)))) × Does (over_link s link) (λ p did q. Kills p ConnectionClosed did q) after)
-      → IsHandled sends (replies (core_of s.part) puts did) s (turned end args) after
-  replied s after link puts did (Ok u) end args quiet live put (is, same) = rw is (replied_all s after link puts did quiet live put same)
-  replied s after link puts did (Err f) end args quiet live put (is, kills) = rw is (replied_failed s after link puts did f quiet put kills)
+      → IsHandled sends (replies (core_of s.part) puts did) s (turned end f args) after
+  replied s after link puts did (Ok u) end found args quiet live put (is, same) = rw is (replied_all s after link puts did quiet live put same)
+  replied s after link puts did (Err f) end found args quiet live put (is, kills) = rw is (replied_failed s after link puts did f quiet put kills)

@@ -28,11 +28,11 @@ module _ {T U C : Type 0} (waits : Bool) where
   notes_from slot None told = []
   notes_from slot (Some s) told = map (note_of (record { slot = slot; serial = s.serial })) told
 
-  -- some of the notes of the client of a slot go behind these notes, the first ones first
-  abbrev pub MovesNotes : ℕ → Option (Stored T U C) → List (Note U) → Option (Stored T U C) → List (Note U) → Type 0
-  MovesNotes slot before notes after notes' =
-      (told : List (Happening U)) × (leaving before ≡ told ++ leaving after) × (option_map emptied after ≡ option_map emptied before)
-      × (notes' ≡ notes ++ notes_from slot before told)
+  -- the first of the notes of the client of a slot goes behind these notes
+  abbrev pub MovesNote : ℕ → Option (Stored T U C) → List (Note U) → Option (Stored T U C) → List (Note U) → Type 0
+  MovesNote slot before notes after notes' =
+      (h : Happening U) × (leaving before ≡ h ∷ leaving after) × (option_map emptied after ≡ option_map emptied before)
+      × (notes' ≡ notes ++ notes_from slot before (h ∷ []))
 
   -- some notes of all clients do: of each id the same is told as before
   pub record Gathers (clients : List (Option (Stored T U C))) (notes : List (Note U)) (clients' : List (Option (Stored T U C))) (notes' : List (Note U)) : Type 0 where

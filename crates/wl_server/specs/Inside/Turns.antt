@@ -87,16 +87,17 @@ pub data Turned : Type 0 where
   LacksMore : Turned
   Ended : NoAction → Turned
 
-abbrev pub turned : TurnEnd → List (Argument IdParts Token) → Turned
-turned (came.Acts f) args = Acts (found_with f args)
-turned came.GoesOn args = GoesOn
-turned came.Lacks args = LacksMore
-turned (came.Ends e) args = Ended e
+-- what was found, and the arguments of a request, stand in places of their own
+abbrev pub turned : TurnEnd → Found → List (Argument IdParts Token) → Turned
+turned came.Acts f args = Acts (found_with f args)
+turned came.GoesOn f args = GoesOn
+turned came.Lacks f args = LacksMore
+turned (came.Ends e) f args = Ended e
 
 -- how a reading ended, with the action that it hands out
-abbrev pub action_of : Result Found NoAction → List (Argument IdParts Token) → Result Handed NoAction
-action_of (Ok f) args = Ok (found_with f args)
-action_of (Err e) args = Err e
+abbrev pub action_of : {E : Type 0} → Result (Unit {0}) E → Found → List (Argument IdParts Token) → Result Handed E
+action_of (Ok u) f args = Ok (found_with f args)
+action_of (Err e) f args = Err e
 
 -- the answer of a reading, and whether memory was refused in it
 abbrev pub answer_of : Result Handed NoAction → Result Handed ActionError

@@ -7,6 +7,7 @@ ghost use Rattle.wl_server.specs.Inside.Client.{Does};
 ghost use Rattle.wl_server.specs.Felt.{FlushedTo};
 ghost use Rattle.wl_server.specs.Inside.Leaving.{Flushes};
 ghost use Rattle.wl_server.specs.PartStep.{over};
+ghost use Rattle.wl_server.specs.Plain.{FlushesClients};
 ghost use Rattle.wl_server.specs.Inside.Places.{AllFeel, PlaceFeels};
 ghost use Rattle.wl_server.specs.declared.runs.step.Reply.TheVariants as reply;
 ghost use Rattle.wl_server.specs.declared.runs.step.Step.TheVariants as step;
@@ -68,7 +69,8 @@ impl<T: Transport + Drop, U: Drop, G: GlobalHandler<C> + Drop, C: Drop> Backend<
     ///
     /// Without a client it does so for each live one. A fault of one of them is dropped, and the answer is `Ok`.
     pub fn flush(&mut self, client: Option<ClientId>) -> Result<(), IoFault>
-        ensures { Calls (over T.sends T.receives G.views) self.old (step.Flush client) (reply.Flush result) self.new }
+        ensures call { Calls (over T.sends T.receives G.views) self.old (step.Flush client) (reply.Flush result) self.new }
+        ensures plain { FlushesClients T.sends self.old client result self.new }
     {
         let Some(id) = client else {
             self.refused = flush_each(&mut self.clients, false);

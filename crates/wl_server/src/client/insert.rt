@@ -21,10 +21,10 @@ use crate::error::InsertClientError;
 use crate::events::display::DISPLAY;
 use crate::globals::handler::GlobalHandler;
 use crate::ids::client_id::ClientId;
-use crate::notes::{Happening, NoteNumbers, next_number};
+use crate::notes::Happening;
+use crate::notes::queues::{MadeNotes, NoteNumbers, WaitingNotes};
 use crate::objects::{Kept, fresh_object};
 use std::alloc::Global;
-use std::collections::VecDeque;
 use wl_link::{BufferedSocket, ObjectMap, Transport};
 use wl_wire::{OutOfMemory, WL_DISPLAY_INTERFACE};
 
@@ -33,18 +33,18 @@ use wl_wire::{OutOfMemory, WL_DISPLAY_INTERFACE};
 fn first_lists<U: Drop>(
     alloc: Global,
     numbers: &mut NoteNumbers,
-) -> Result<(ObjectMap<Kept<U>>, VecDeque<(u128, Happening<U>)>), OutOfMemory>
+) -> Result<(ObjectMap<Kept<U>>, MadeNotes<U>), OutOfMemory>
     ensures objects { IfOk result (λ lists. lists.0.store ≡ stored empty_store 1 display_object) }
-    ensures notes { IfOk result (λ lists. map (λ m. m.1) lists.1.items ≡ Initialized ∷ []) }
-    ensures room { IfOk result (λ lists. deque_len lists.1 < deque_capacity lists.1) }
+    ensures notes { IfOk result (λ lists. map (λ m. m.1) lists.1.queue.items ≡ Initialized ∷ []) }
+    ensures room { IfOk result (λ lists. deque_len lists.1.queue < deque_capacity lists.1.queue) }
 {
     let mut objects = ObjectMap::new(alloc);
     let display = fresh_object(WL_DISPLAY_INTERFACE, 1, 0, None);
     let Ok(()) = objects.insert_at(DISPLAY, display) else {
         return Err(OutOfMemory);
     };
-    let mut made = VecDeque::with_capacity(alloc, 2)?;
-    made.push_back_reserved((next_number(&mut numbers.made), Happening::Initialized));
+    let mut made = MadeNotes::with_capacity(alloc, 2)?;
+    made.push(numbers, Happening::Initialized);
     Ok((objects, made))
 }
 
@@ -54,18 +54,11 @@ fn first_parts<T: Drop, U: Drop>(
     transport: T,
     max_buffer_size: usize,
     numbers: &mut NoteNumbers,
-) -> Result<
-    (
-        BufferedSocket<T>,
-        ObjectMap<Kept<U>>,
-        VecDeque<(u128, Happening<U>)>,
-    ),
-    OutOfMemory,
->
+) -> Result<(BufferedSocket<T>, ObjectMap<Kept<U>>, MadeNotes<U>), OutOfMemory>
     ensures link { IfOk result (λ parts. IsFresh transport (Some max_buffer_size) parts.0) }
     ensures objects { IfOk result (λ parts. parts.1.store ≡ stored empty_store 1 display_object) }
-    ensures notes { IfOk result (λ parts. map (λ m. m.1) parts.2.items ≡ Initialized ∷ []) }
-    ensures room { IfOk result (λ parts. deque_len parts.2 < deque_capacity parts.2) }
+    ensures notes { IfOk result (λ parts. map (λ m. m.1) parts.2.queue.items ≡ Initialized ∷ []) }
+    ensures room { IfOk result (λ parts. deque_len parts.2.queue < deque_capacity parts.2.queue) }
 {
     let socket = BufferedSocket::new(alloc, transport, Some(max_buffer_size))?;
     // Last, since it uses up a note's number, which no refusal does.
@@ -95,7 +88,7 @@ impl<T: Drop, U: Drop, C: Drop> Client<T, U, C> {
             is_killed: false,
             action: None,
             registries: Vec::new(alloc),
-            waiting: VecDeque::new(alloc),
+            waiting: WaitingNotes::new(alloc),
             made,
         })
     }

@@ -5,6 +5,7 @@ ghost use Rattle.wl_link.specs.Puts.{lacked_memory};
 ghost use Rattle.wl_server.specs.Backend.{Calls};
 ghost use Rattle.wl_server.specs.Inside.Client.{Does};
 ghost use Rattle.wl_server.specs.PartStep.{over};
+ghost use Rattle.wl_server.specs.Plain.{KillsClient};
 ghost use Rattle.wl_server.specs.Telling.{Kills};
 ghost use Rattle.wl_server.specs.declared.notes.DisconnectReason.TheVariants.{ConnectionClosed};
 ghost use Rattle.wl_server.specs.declared.runs.step.Reply.TheVariants as reply;
@@ -14,7 +15,8 @@ use crate::backend::Backend;
 use crate::client::Client;
 use crate::globals::handler::GlobalHandler;
 use crate::ids::client_id::ClientId;
-use crate::notes::{DisconnectReason, Happening, NoteNumbers, next_number};
+use crate::notes::queues::NoteNumbers;
+use crate::notes::{DisconnectReason, Happening};
 use wl_link::Transport;
 use wl_wire::IoFault;
 
@@ -27,10 +29,7 @@ impl<T: Drop, U: Drop, C: Drop> Client<T, U, C> {
             return;
         }
         self.is_killed = true;
-        self.made.push_back_reserved((
-            next_number(&mut numbers.made),
-            Happening::Disconnected(reason),
-        ));
+        self.made.push(numbers, Happening::Disconnected(reason));
     }
 
     /// Closes the client down if a write to it was answered by a fault. The
@@ -55,7 +54,8 @@ impl<T: Transport + Drop, U: Drop, G: GlobalHandler<C> + Drop, C: Drop> Backend<
     /// Kills the client: it is noted as disconnected, for this reason, unless it was killed before. It stays stored until
     /// the next cleanup. An unknown client is nothing. It takes no memory.
     pub fn kill_client(&mut self, id: &ClientId, reason: DisconnectReason)
-        ensures { Calls (over T.sends T.receives G.views) self.old (step.KillClient id.now reason) reply.KillClient self.new }
+        ensures call { Calls (over T.sends T.receives G.views) self.old (step.KillClient id.now reason) reply.KillClient self.new }
+        ensures plain { KillsClient self.old id.now reason self.new }
     {
         self.refused = false;
         if !self.is_stored(id) {

@@ -101,7 +101,8 @@ pub fn put_error<T: Transport>(
     code: u32,
     text: CString,
 ) -> Result<(), IoFault>
-    ensures { Puts T.sends socket.old (error_message number code text ∷ []) result socket.new }
+    ensures puts { Puts T.sends socket.old (error_message number code text ∷ []) result socket.new }
+    ensures wrote { Wrote T.sends socket.old (error_message number code text).message result socket.new }
 {
     let message = message_of_error(alloc, number, code, text);
     socket.write_message(&message)

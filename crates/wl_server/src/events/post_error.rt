@@ -1,15 +1,17 @@
 //! Errors that are posted on objects.
 
-ghost use Rattle.std.specs.Prelude.{◌≡◌, true, false};
+ghost use Rattle.std.specs.Prelude.{◌≡◌, IsSome, true, false};
+ghost use Rattle.wl_link.specs.Link.{Wrote};
 ghost use Rattle.wl_link.specs.Puts.{FlushesOut};
 ghost use Rattle.wl_server.specs.Backend.{Calls};
 ghost use Rattle.wl_server.specs.Inside.Carried.{IsCarried};
 ghost use Rattle.wl_server.specs.Inside.Client.{Does};
 ghost use Rattle.wl_server.specs.Errors.{error_messages, posts, PostsError};
-ghost use Rattle.wl_server.specs.Part.{with_link};
+ghost use Rattle.wl_server.specs.Part.{named, with_link};
 ghost use Rattle.wl_server.specs.PartStep.{over};
 ghost use Rattle.wl_server.specs.Inside.Puts.{Puts};
-ghost use Rattle.wl_server.specs.Telling.{core_of};
+ghost use Rattle.wl_server.specs.Posted.{PostsExactly, PostsOn};
+ghost use Rattle.wl_server.specs.Telling.{core_of, error_message};
 ghost use Rattle.wl_server.specs.declared.runs.step.Reply.TheVariants as reply;
 ghost use Rattle.wl_server.specs.declared.runs.step.Step.TheVariants as step;
 
@@ -18,7 +20,8 @@ use crate::client::Client;
 use crate::events::display::{is_out_of_memory, put_error};
 use crate::globals::handler::GlobalHandler;
 use crate::ids::object_id::ObjectId;
-use crate::notes::{DisconnectReason, NoteNumbers};
+use crate::notes::DisconnectReason;
+use crate::notes::queues::NoteNumbers;
 use crate::objects::named_in;
 use crate::reading::texts::posted_error;
 use wl_link::Transport;
@@ -37,7 +40,8 @@ impl<T: Transport + Drop, U: Drop, C: Drop> Client<T, U, C> {
         code: u32,
         text: CString,
     ) -> bool
-        ensures { IsCarried T.sends (posts protocol.now (core_of self.old.part) id.now code text) self.old result self.new }
+        ensures carried { IsCarried T.sends (posts protocol.now (core_of self.old.part) id.now code text) self.old result self.new }
+        ensures exactly { PostsOn T.sends self.old.part id.now code text result self.new.part }
     {
         if self.is_killed {
             return self.flush_dropped();
@@ -65,7 +69,8 @@ impl<T: Transport + Drop, U: Drop, C: Drop> Client<T, U, C> {
         code: u32,
         text: CString,
     ) -> bool
-        ensures { Does self.old (λ p did q. PostsError T.sends protocol.now p id.now code text result did q) self.new }
+        ensures does { Does self.old (λ p did q. PostsError T.sends protocol.now p id.now code text result did q) self.new }
+        ensures exactly { PostsOn T.sends self.old.part id.now code text result self.new.part }
     {
         if id.is_null() {
             return false;
@@ -77,6 +82,7 @@ impl<T: Transport + Drop, U: Drop, C: Drop> Client<T, U, C> {
     fn put_posted(&mut self, id: &ObjectId, code: u32, text: CString) -> Result<(), IoFault>
         requires { self.old.part.is_killed ≡ false }
         ensures put { Puts T.sends self.old.part.link (error_messages (core_of self.old.part) id.now code text) result self.new.part.link }
+        ensures wrote { IsSome (named self.old.part.store id.now) → Wrote T.sends self.old.part.link (error_message id.now.number code text).message result self.new.part.link }
         ensures rest { self.new ≡ record self.old { part = with_link self.old.part self.new.part.link } }
     {
         if named_in(&self.objects, id).is_none() {
@@ -104,7 +110,8 @@ impl<T: Transport + Drop, U: Drop, G: GlobalHandler<C> + Drop, C: Drop> Backend<
     /// client is told to nobody, and kills the client all the same. To a killed client nothing is told; what waits is
     /// flushed. A null id, or one of a client that is not stored, is nothing.
     pub fn post_error(&mut self, id: &ObjectId, code: u32, text: CString)
-        ensures { Calls (over T.sends T.receives G.views) self.old (step.PostError id.now code text) reply.PostError self.new }
+        ensures call { Calls (over T.sends T.receives G.views) self.old (step.PostError id.now code text) reply.PostError self.new }
+        ensures exactly { PostsExactly T.sends self.old id.now code text self.new }
     {
         self.refused = false;
         let client = id.client();

@@ -21,23 +21,22 @@ use crate::events::check::check_event;
 use crate::events::display::{is_out_of_memory, put_delete_id};
 use crate::globals::handler::GlobalHandler;
 use crate::ids::object_id::ObjectId;
-use crate::notes::{Happening, NoteNumbers};
+use crate::notes::queues::{NoteNumbers, WaitingNotes};
 use crate::objects::{Kept, reserve_note, take_out_noted};
 use std::alloc::Global;
-use std::collections::VecDeque;
 use wl_link::{BufferedSocket, ObjectMap, Transport};
 use wl_wire::{IoFault, Message, OutOfMemory, OwnNumbers, Protocol, Token};
 
 /// Makes room for the note of the sender, where the event ends it and it has user data.
 fn make_room<U: Drop>(
     objects: &ObjectMap<Kept<U>>,
-    waiting: &mut VecDeque<(u128, Happening<U>)>,
+    waiting: &mut WaitingNotes<U>,
     sender: &ObjectId,
     ends: bool,
 ) -> Result<(), OutOfMemory>
-    ensures items { waiting.new.items ≡ waiting.old.items }
+    ensures items { waiting.new.queue.items ≡ waiting.old.queue.items }
     ensures asked { OnErr result (IfSome (held objects.now.store sender.now.number) (λ x. AsksForMemory x ends)) }
-    ensures room { OnOk result (IfSome (held objects.now.store sender.now.number) (λ x. AsksForMemory x ends → deque_len waiting.new < deque_capacity waiting.new)) }
+    ensures room { OnOk result (IfSome (held objects.now.store sender.now.number) (λ x. AsksForMemory x ends → deque_len waiting.new.queue < deque_capacity waiting.new.queue)) }
 {
     if !ends {
         return Ok(());
@@ -52,17 +51,17 @@ fn make_room<U: Drop>(
 fn end_sender<U: Drop>(
     objects: &mut ObjectMap<Kept<U>>,
     registries: &mut Vec<Registry>,
-    waiting: &mut VecDeque<(u128, Happening<U>)>,
+    waiting: &mut WaitingNotes<U>,
     numbers: &mut NoteNumbers,
     sender: &ObjectId,
     ends: bool,
 )
-    requires { IfSome (held objects.old.store sender.now.number) (λ x. AsksForMemory x ends → deque_len waiting.old < deque_capacity waiting.old) }
+    requires { IfSome (held objects.old.store sender.now.number) (λ x. AsksForMemory x ends → deque_len waiting.old.queue < deque_capacity waiting.old.queue) }
     ensures store { objects.new.store ≡ store_ending ends objects.old.store sender.now.number }
     ensures registries { IfSome (held objects.old.store sender.now.number)
         (λ x. registries.new.items ≡ registries_ending ends registries.old.items sender.now.number x) }
     ensures waiting { IfSome (held objects.old.store sender.now.number)
-        (λ x. map (λ w. w.1) waiting.new.items ≡ map (λ w. w.1) waiting.old.items ++ notes_ending ends sender.now.client sender.now.number x) }
+        (λ x. map (λ w. w.1) waiting.new.queue.items ≡ map (λ w. w.1) waiting.old.queue.items ++ notes_ending ends sender.now.client sender.now.number x) }
 {
     if ends {
         take_out_noted(objects, registries, waiting, numbers, sender);
@@ -99,7 +98,7 @@ impl<T: Transport + Drop, U: Drop, C: Drop> Client<T, U, C> {
     ) -> bool
         ensures { TellsEnd T.sends self.old number ends written result self.new }
     {
-        let alloc = *self.waiting.allocator();
+        let alloc = *self.registries.allocator();
         let answer = put_end(alloc, &mut self.socket, number, ends, written);
         self.kill_unless_written(numbers, answer)
     }

@@ -18,7 +18,7 @@ use crate::globals::handler::GlobalHandler;
 use crate::globals::{KeptGlobal, create, global_in};
 use crate::ids::client_id::ClientId;
 use crate::ids::global_id::GlobalId;
-use crate::notes::NoteNumbers;
+use crate::notes::queues::NoteNumbers;
 use wl_link::{Object, ObjectMap, Transport};
 use wl_wire::{InterfaceId, Protocol};
 

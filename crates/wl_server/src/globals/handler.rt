@@ -14,7 +14,8 @@ pub trait GlobalHandler<C> {
 
     ghost views: { Self → ClientParts → C → GlobalParts → Bool };
 
-    /// Whether the client may see the global.
+    /// Whether the client may see the global. There is no default answer, in place of the Rust crate's `true`: a program that
+    /// hides no global takes `ShownToAll`.
     fn can_view(&self, client: &ClientId, info: &C, global: &GlobalId) -> bool
         ensures { result ≡ views self.now client.now info.now global.now };
 }

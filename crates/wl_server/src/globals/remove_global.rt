@@ -17,7 +17,7 @@ use crate::globals::announce::put_to_each;
 use crate::globals::handler::GlobalHandler;
 use crate::globals::{KeptGlobal, disable, global_in, remove};
 use crate::ids::global_id::GlobalId;
-use crate::notes::NoteNumbers;
+use crate::notes::queues::NoteNumbers;
 use wl_link::{ObjectMap, Transport};
 
 /// The opcode of `wl_registry.global_remove`.

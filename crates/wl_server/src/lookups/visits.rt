@@ -23,11 +23,11 @@ fn live_at<T, U, C>(slot: u32, place: &Option<Client<T, U, C>>) -> Option<Client
     }
 }
 
-/// Calls the closure with the id of each live client, by slot.
-fn visit_live<T, U, C, F: FnMut(ClientId)>(clients: &[Option<Client<T, U, C>>], mut f: F)
-    requires call { F.IsAlwaysCallable f }
+/// Calls the closure with the id of each live client, by slot, and not once more.
+fn visit_live<T, U, C, F: FnMut(ClientId)>(clients: &[Option<Client<T, U, C>>], f: &mut F)
+    requires call { F.IsAlwaysCallable f.old }
     requires slots { length clients.now ≤ 0x100000000 }
-    ensures { (last : F) × FoldsTo (λ p x q. F.step p x tt q) f (live_from 0 clients.now) last }
+    ensures { FoldsTo (λ p x q. F.step p x tt q) f.old (live_from 0 clients.now) f.new }
 {
     let mut rest = clients;
     let mut slot: u64 = 0;
@@ -40,14 +40,14 @@ fn visit_live<T, U, C, F: FnMut(ClientId)>(clients: &[Option<Client<T, U, C>>], 
     }
 }
 
-/// Calls the closure with the id of each object of a client, by ascending number.
+/// Calls the closure with the id of each object of a client, by ascending number, and not once more.
 fn visit_objects<U: Drop, F: FnMut(ObjectId)>(
     client: &ClientId,
     objects: &ObjectMap<Kept<U>>,
-    mut f: F,
+    f: &mut F,
 )
-    requires { F.IsAlwaysCallable f }
-    ensures { (last : F) × FoldsTo (λ p x q. F.step p x tt q) f (ids_of client.now objects.now.store) last }
+    requires { F.IsAlwaysCallable f.old }
+    ensures { FoldsTo (λ p x q. F.step p x tt q) f.old (ids_of client.now objects.now.store) f.new }
 {
     let mut all = objects.all_objects();
     while let Some((number, object)) = all.next() {
@@ -57,11 +57,11 @@ fn visit_objects<U: Drop, F: FnMut(ObjectId)>(
 
 impl<T: Drop, U: Drop, G: Drop, C: Drop> Backend<T, U, G, C> {
     /// Calls the closure with the id of each live client, by slot: one that was killed is left out.
-    pub fn with_all_clients<F: FnMut(ClientId)>(&self, f: F)
+    pub fn with_all_clients<F: FnMut(ClientId)>(&self, mut f: F)
         requires { F.IsAlwaysCallable f }
         ensures { (last : F) × FoldsTo (λ p x q. F.step p x tt q) f (live_clients self.now.server) last }
     {
-        visit_live(&self.clients, f);
+        visit_live(&self.clients, &mut f);
     }
 
     /// Calls the closure with the id of each object of the client, by ascending number. `InvalidId` where the client is not
@@ -69,7 +69,7 @@ impl<T: Drop, U: Drop, G: Drop, C: Drop> Backend<T, U, G, C> {
     pub fn with_all_objects_for<F: FnMut(ObjectId)>(
         &self,
         client: &ClientId,
-        f: F,
+        mut f: F,
     ) -> Result<(), InvalidId>
         requires { F.IsAlwaysCallable f }
         ensures { MatchOption (objects_of_client self.now.server client.now) (result ≡ Err _)
@@ -78,7 +78,7 @@ impl<T: Drop, U: Drop, G: Drop, C: Drop> Backend<T, U, G, C> {
         let Some(stored) = self.client(client) else {
             return Err(InvalidId);
         };
-        visit_objects(client, &stored.objects, f);
+        visit_objects(client, &stored.objects, &mut f);
         Ok(())
     }
 }

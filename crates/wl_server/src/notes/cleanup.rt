@@ -5,8 +5,10 @@ ghost use Rattle.std.specs.Vec.{vec_capacity, vec_len};
 ghost use Rattle.wl_server.specs.Backend.{Calls};
 ghost use Rattle.wl_server.specs.Inside.Cleanup.{CleansUp};
 ghost use Rattle.wl_server.specs.Inside.Gathering.{count_leaving};
+ghost use Rattle.wl_server.specs.Inside.NoteOrder.{IsOrderOf};
 ghost use Rattle.wl_server.specs.Inside.Leaving.{all_staying, collected, ends_at, given_at, staying};
 ghost use Rattle.wl_server.specs.PartStep.{over};
+ghost use Rattle.wl_server.specs.Plain.{CleansUpClients};
 ghost use Rattle.wl_server.specs.declared.runs.step.Reply.TheVariants as reply;
 ghost use Rattle.wl_server.specs.declared.runs.step.Step.TheVariants as step;
 
@@ -16,8 +18,9 @@ use crate::client::flush::flush_each;
 use crate::globals::handler::GlobalHandler;
 use crate::ids::client_id::ClientId;
 use crate::notes::Note;
-use crate::notes::gather::{NoteOrder, count_notes, gather, order_of};
+use crate::notes::gather::{count_notes, gather, order_of};
 use crate::notes::leaving::{count_ending, end_objects};
+use crate::notes::queues::{NoteNumbers, NotePlace};
 use wl_link::Transport;
 use wl_wire::OutOfMemory;
 
@@ -128,7 +131,7 @@ pub fn count_given<T, U, C>(clients: &[Option<Client<T, U, C>>]) -> usize
 #[derive(Drop)]
 pub struct CleanupMemory<T> {
     /// The places of the notes that it gathers.
-    pub order: Vec<NoteOrder>,
+    pub order: Vec<NotePlace>,
     /// For the numbers of one client's objects.
     pub numbers: Vec<u32>,
     /// For the clients that leave.
@@ -164,6 +167,7 @@ pub fn memory_for<T: Drop, U: Drop, C: Drop>(
     ensures numbers { IfOk result (λ memory. length (collected ends_at 0 clients.now) ≤ vec_capacity memory.numbers) }
     ensures given { IfOk result (λ memory. length (collected given_at 0 clients.now) ≤ vec_capacity memory.given) }
     ensures none { IfOk result (λ memory. memory.given.items ≡ []) }
+    ensures order { IfOk result (λ memory. IsOrderOf true clients.now memory.order.items) }
     ensures items { notes.new.items ≡ notes.old.items }
     ensures some { OnErr result (0 < count_leaving true clients.now + length (collected given_at 0 clients.now)) }
 {
@@ -188,22 +192,26 @@ pub fn memory_for<T: Drop, U: Drop, C: Drop>(
     })
 }
 
-/// Flushes the killed clients, gathers all notes, and takes the killed clients out. The answer is whether memory was refused
-/// to a flush.
+/// Flushes the killed clients, gathers all notes, and takes the killed clients out. No note waits any more, so the numbers of
+/// those that wait begin anew. The answer is whether memory was refused to a flush.
 fn clean_up<T: Transport + Drop, U: Drop, C: Drop>(
     clients: &mut Vec<Option<Client<T, U, C>>>,
     notes: &mut Vec<Note<U>>,
+    numbers: &mut NoteNumbers,
     memory: &mut CleanupMemory<T>,
 ) -> bool
     requires slots { length clients.old.items ≤ 0x100000000 }
     requires notes { vec_len notes.old + count_leaving true clients.old.items + length (collected ends_at 0 clients.old.items) ≤ vec_capacity notes.old }
+    requires order { IsOrderOf true clients.old.items memory.old.order.items }
     requires numbers { length (collected ends_at 0 clients.old.items) ≤ vec_capacity memory.old.numbers }
     requires given { length (collected given_at 0 clients.old.items) ≤ vec_capacity memory.old.given }
     requires none { memory.old.given.items ≡ [] }
-    ensures { CleansUp T.sends clients.old.items notes.old.items result clients.new.items notes.new.items memory.new.given.items }
+    ensures cleaned { CleansUp T.sends clients.old.items notes.old.items result clients.new.items notes.new.items memory.new.given.items }
+    ensures numbers { numbers.new ≡ record numbers.old { waiting = 0 } }
 {
     let refused = flush_each(clients, true);
     gather(clients, true, &memory.order, notes);
+    numbers.begin_waiting_anew();
     leave_all(clients, &mut memory.numbers, notes, &mut memory.given);
     refused
 }
@@ -217,12 +225,17 @@ impl<T: Transport + Drop, U: Drop, G: GlobalHandler<C> + Drop, C: Drop> Backend<
     /// Where there is no memory for it, nothing changes. It asks for none where no notes are to be gathered and no client is
     /// to be taken out.
     pub fn cleanup(&mut self) -> Result<Vec<(ClientId, T)>, OutOfMemory>
-        ensures { Calls (over T.sends T.receives G.views) self.old step.Cleanup (reply.Cleanup result) self.new }
+        ensures call { Calls (over T.sends T.receives G.views) self.old step.Cleanup (reply.Cleanup result) self.new }
+        ensures plain { CleansUpClients T.sends self.old result self.new }
     {
         match memory_for(&self.clients, &mut self.notes) {
             Ok(mut memory) => {
-                self.refused = clean_up(&mut self.clients, &mut self.notes, &mut memory);
-                self.numbers.waiting = 0;
+                self.refused = clean_up(
+                    &mut self.clients,
+                    &mut self.notes,
+                    &mut self.numbers,
+                    &mut memory,
+                );
                 // Any of them may be free now. The next insertion goes over them once more, as this call did.
                 self.free_from = 0;
                 Ok(memory.given)

@@ -1,19 +1,17 @@
 //! The notes of all clients in one list, in order of time.
 
-ghost use Rattle.std.specs.Prelude.{◌≡◌, ℕ, ◌+◌, ◌≤◌, ◌<◌, ◌∷◌, [], length, true, false, None, Some, MatchOption, IfOk, OnErr};
+ghost use Rattle.std.specs.Prelude.{◌≡◌, ℕ, ◌+◌, ◌++◌, ◌≤◌, ◌<◌, ◌==◌, ◌∷◌, [], if◌then◌else◌, length, map, false, None, Some, MatchOption, IfOk, IsPermutation, OnErr, OnOk};
 ghost use Rattle.std.specs.Vec.{vec_capacity, vec_len};
-ghost use Rattle.wl_server.specs.Inside.Gathering.{AllLeft, Gathers, MovesNotes, count_leaving, emptied, leaving};
+ghost use Rattle.wl_server.specs.Inside.Gathering.{AllLeft, Gathers, MovesNote, count_leaving, emptied, leaving};
+ghost use Rattle.wl_server.specs.Inside.NoteOrder.{IsOrderOf, Rise, places_at, slot_of};
 ghost use Rattle.wl_server.specs.Server.{note_of as the_note};
 
 use crate::client::Client;
 use crate::ids::client_id::ClientId;
+use crate::notes::queues::NotePlace;
 use crate::notes::{Happening, Note};
 use std::alloc::Global;
-use std::collections::VecDeque;
 use wl_wire::OutOfMemory;
-
-/// When a note is gathered: those that were made before those that wait, each by its number; and the slot of its client.
-pub type NoteOrder = (bool, u128, u32);
 
 /// The note of what happened to a client.
 fn note_of<U>(id: ClientId, happening: Happening<U>) -> Note<U>
@@ -33,83 +31,55 @@ impl<T, U, C> Client<T, U, C> {
         ensures { MatchOption result ((self.new ≡ self.old) × (leaving waits (Some self.old) ≡ []))
             (λ h. (leaving waits (Some self.old) ≡ h ∷ leaving waits (Some self.new)) × (emptied waits self.new ≡ emptied waits self.old)) }
     {
-        if let Some((_, happening)) = self.made.pop_front() {
+        if let Some(happening) = self.made.pop() {
             return Some(happening);
         }
-        if waits && let Some((_, happening)) = self.waiting.pop_front() {
-            return Some(happening);
+        if waits {
+            return self.waiting.pop();
         }
         None
     }
 }
 
-/// Moves the next note of the client of a slot; the answer is whether there was one.
+/// Moves the next note of the client of a slot, which has one.
 fn move_note<T, U, C>(
     slot: u32,
     client: &mut Option<Client<T, U, C>>,
     waits: bool,
     notes: &mut Vec<Note<U>>,
-) -> bool
-    requires { vec_len notes.old + length (leaving waits client.old) ≤ vec_capacity notes.old }
-    ensures moved { MovesNotes waits slot client.old notes.old.items client.new notes.new.items }
-    ensures ended { result ≡ false → leaving waits client.new ≡ [] }
-    ensures fewer { result ≡ true → length (leaving waits client.new) < length (leaving waits client.old) }
-    ensures room { vec_len notes.new + length (leaving waits client.new) ≡ vec_len notes.old + length (leaving waits client.old) }
+)
+    requires some { 0 < length (leaving waits client.old) }
+    requires room { vec_len notes.old < vec_capacity notes.old }
+    ensures moved { MovesNote waits slot client.old notes.old.items client.new notes.new.items }
     ensures capacity { vec_capacity notes.new ≡ vec_capacity notes.old }
 {
-    let Some(client) = client else {
-        return false;
-    };
+    let Some(client) = client else { unreachable!() };
     let Some(happening) = client.take_note(waits) else {
-        return false;
+        unreachable!()
     };
     let id = ClientId::from_parts(slot, client.serial);
     notes.push_reserved(note_of(id, happening));
-    true
-}
-
-/// Moves all notes of the client of a slot.
-fn move_notes<T, U, C>(
-    slot: u32,
-    client: &mut Option<Client<T, U, C>>,
-    waits: bool,
-    notes: &mut Vec<Note<U>>,
-)
-    requires { vec_len notes.old + length (leaving waits client.old) ≤ vec_capacity notes.old }
-    ensures moved { MovesNotes waits slot client.old notes.old.items client.new notes.new.items }
-    ensures ended { leaving waits client.new ≡ [] }
-    ensures capacity { vec_capacity notes.new ≡ vec_capacity notes.old }
-{
-    loop {
-        if !move_note(slot, client, waits, notes) {
-            return;
-        }
-    }
 }
 
 /// Moves the notes of all clients behind these notes: those that were made, and behind them, where they are to be, those
-/// that wait; each in its order. There is room for them.
+/// that wait; each in its order. There is room for them. Over all clients they stand in this order, by the slots of their
+/// clients.
 pub fn gather<T, U, C>(
     clients: &mut Vec<Option<Client<T, U, C>>>,
     waits: bool,
-    order: &[NoteOrder],
+    order: &[NotePlace],
     notes: &mut Vec<Note<U>>,
 )
-    requires slots { length clients.old.items ≤ 0x100000000 }
+    requires order { IsOrderOf waits clients.old.items order.now }
     requires room { vec_len notes.old + count_leaving waits clients.old.items ≤ vec_capacity notes.old }
     ensures gathered { Gathers waits clients.old.items notes.old.items clients.new.items notes.new.items }
     ensures ended { AllLeft waits clients.new.items }
+    ensures along { map slot_of notes.new.items ≡ map slot_of notes.old.items ++ map (λ p. p.slot) order.now }
     ensures capacity { vec_capacity notes.new ≡ vec_capacity notes.old }
 {
-    for next in order {
-        let slot = next.2;
-        if (slot as usize) < clients.len() {
-            move_note(slot, &mut clients[slot as usize], waits, notes);
-        }
-    }
-    // Each note was moved. So nothing is left for this, which is for the proof that nothing is.
-    for slot in 0..clients.len() {
-        move_notes(slot as u32, &mut clients[slot], waits, notes);
+    for place in order {
+        let slot = place.slot();
+        move_note(slot, &mut clients[slot as usize], waits, notes);
     }
 }
 
@@ -136,39 +106,48 @@ pub fn count_notes<T, U, C>(clients: &[Option<Client<T, U, C>>], waits: bool) ->
     count
 }
 
-/// Puts the places of the notes of one client behind these.
-fn push_order<U>(
-    order: &mut Vec<NoteOrder>,
+/// Puts the places of the notes of the client of a slot that are gathered behind these places.
+fn put_places_at<T, U, C>(
+    client: &Option<Client<T, U, C>>,
     waits: bool,
     slot: u32,
-    notes: &VecDeque<(u128, Happening<U>)>,
-) -> Result<(), OutOfMemory> {
-    for (number, _) in notes.iter() {
-        order.push((waits, *number, slot))?;
+    order: &mut Vec<NotePlace>,
+) -> Result<(), OutOfMemory>
+    ensures { OnOk result ((k : ℕ) → places_at k order.new.items ≡ places_at k order.old.items + (if slot == k then length (leaving waits client.now) else 0)) }
+{
+    let Some(client) = client else {
+        return Ok(());
+    };
+    client.made.put_places(slot, order)?;
+    if waits {
+        client.waiting.put_places(slot, order)?;
     }
     Ok(())
 }
 
-/// The places of these notes, sorted. Memory is taken for so many at once.
+/// Puts the places in order of time.
+fn put_in_order(order: &mut Vec<NotePlace>)
+    ensures rise { Rise order.new.items }
+    ensures moved { IsPermutation order.old.items order.new.items }
+{
+    order.sort_unstable();
+}
+
+/// The places of all notes that are gathered, in order of time. Memory is taken for so many at once.
 pub fn order_of<T, U, C>(
     alloc: Global,
     clients: &[Option<Client<T, U, C>>],
     waits: bool,
     count: usize,
-) -> Result<Vec<NoteOrder>, OutOfMemory>
+) -> Result<Vec<NotePlace>, OutOfMemory>
     requires { length clients.now ≤ 0x100000000 }
+    ensures { IfOk result (λ order. IsOrderOf waits clients.now order.items) }
 {
     let mut order = Vec::with_capacity(alloc, count)?;
-    for (slot, place) in clients.iter().enumerate() {
-        let Some(client) = place else {
-            continue;
-        };
-        if waits {
-            push_order(&mut order, true, slot as u32, &client.waiting)?;
-        }
-        push_order(&mut order, false, slot as u32, &client.made)?;
+    for slot in 0..clients.len() {
+        put_places_at(&clients[slot], waits, slot as u32, &mut order)?;
     }
-    order.sort_unstable();
+    put_in_order(&mut order);
     Ok(order)
 }
 

@@ -2,6 +2,7 @@
 
 ghost use Rattle.wl_server.specs.Backend.{Calls};
 ghost use Rattle.wl_server.specs.PartStep.{over};
+ghost use Rattle.wl_server.specs.Plain.{TakesNotes};
 ghost use Rattle.wl_server.specs.declared.runs.step.Reply.TheVariants as reply;
 ghost use Rattle.wl_server.specs.declared.runs.step.Step.TheVariants as step;
 
@@ -17,7 +18,8 @@ impl<T: Transport + Drop, U: Drop, G: GlobalHandler<C> + Drop, C: Drop> Backend<
     /// Takes the notes that were made, the oldest first. Where there is no memory for the list, nothing changes. It asks for
     /// none where no note was made since the last call of this or of `cleanup`.
     pub fn take_notes(&mut self) -> Result<Vec<Note<U>>, OutOfMemory>
-        ensures { Calls (over T.sends T.receives G.views) self.old step.TakeNotes (reply.TakeNotes result) self.new }
+        ensures call { Calls (over T.sends T.receives G.views) self.old step.TakeNotes (reply.TakeNotes result) self.new }
+        ensures plain { TakesNotes self.old result self.new }
     {
         self.refused = false;
         match gather_made(&mut self.clients, &mut self.notes) {

@@ -6,6 +6,7 @@ ghost use Rattle.wl_server.specs.Inside.Client.{Does};
 ghost use Rattle.wl_server.specs.Inside.Creation.{LacksSerial};
 ghost use Rattle.wl_server.specs.Objects.{Creates};
 ghost use Rattle.wl_server.specs.PartStep.{lacks_create, over};
+ghost use Rattle.wl_server.specs.Plain.{CreatesObject};
 ghost use Rattle.wl_server.specs.declared.runs.step.Reply.TheVariants as reply;
 ghost use Rattle.wl_server.specs.declared.runs.step.Step.TheVariants as step;
 
@@ -89,7 +90,8 @@ impl<T: Transport + Drop, U: Drop, G: GlobalHandler<C> + Drop, C: Drop> Backend<
         version: u32,
         user_data: U,
     ) -> Result<ObjectId, CreateError>
-        ensures { Calls (over T.sends T.receives G.views) self.old (step.CreateObject client.now interface version user_data) (reply.CreateObject result) self.new }
+        ensures call { Calls (over T.sends T.receives G.views) self.old (step.CreateObject client.now interface version user_data) (reply.CreateObject result) self.new }
+        ensures plain { CreatesObject self.old client.now interface version user_data result self.new }
     {
         self.refused = false;
         if !self.is_stored(client) {

@@ -8,6 +8,7 @@ ghost use Rattle.wl_server.specs.Backend.{Calls};
 ghost use Rattle.wl_server.specs.Finish.{data_given};
 ghost use Rattle.wl_server.specs.Part.{named, note_of_end, registries_without, same_id, fresh_object as the_object, id_at as the_id};
 ghost use Rattle.wl_server.specs.PartStep.{over};
+ghost use Rattle.wl_server.specs.Plain.{SetsObjectData};
 ghost use Rattle.wl_server.specs.declared.runs.step.Reply.TheVariants as reply;
 ghost use Rattle.wl_server.specs.declared.runs.step.Step.TheVariants as step;
 
@@ -40,7 +41,8 @@ impl<T: Transport + Drop, U: Drop, G: GlobalHandler<C> + Drop, C: Drop> Backend<
     /// Gives the object that the id names this user data; what it had is dropped. `InvalidId` where its client is not
     /// stored, or the id names none. It takes no memory.
     pub fn set_object_data(&mut self, id: &ObjectId, user_data: U) -> Result<(), InvalidId>
-        ensures { Calls (over T.sends T.receives G.views) self.old (step.SetObjectData id.now user_data) (reply.SetObjectData result) self.new }
+        ensures call { Calls (over T.sends T.receives G.views) self.old (step.SetObjectData id.now user_data) (reply.SetObjectData result) self.new }
+        ensures plain { SetsObjectData self.old id.now user_data result self.new }
     {
         self.refused = false;
         let client = id.client();

@@ -7,6 +7,7 @@ ghost use Rattle.wl_server.specs.Inside.Destruction.{lacks_destroy};
 ghost use Rattle.wl_server.specs.Objects.{Destroys};
 ghost use Rattle.wl_server.specs.Part.{named};
 ghost use Rattle.wl_server.specs.PartStep.{over};
+ghost use Rattle.wl_server.specs.Plain.{DestroysObject};
 ghost use Rattle.wl_server.specs.declared.runs.step.Reply.TheVariants as reply;
 ghost use Rattle.wl_server.specs.declared.runs.step.Step.TheVariants as step;
 
@@ -16,7 +17,7 @@ use crate::error::DestroyError;
 use crate::events::display::{DISPLAY, is_out_of_memory, put_delete_id};
 use crate::globals::handler::GlobalHandler;
 use crate::ids::object_id::ObjectId;
-use crate::notes::NoteNumbers;
+use crate::notes::queues::NoteNumbers;
 use crate::objects::{Kept, named_in, reserve_note, take_out_noted};
 use wl_link::{Object, ObjectMap, Transport};
 use wl_wire::OutOfMemory;
@@ -82,7 +83,8 @@ impl<T: Transport + Drop, U: Drop, G: GlobalHandler<C> + Drop, C: Drop> Backend<
     /// note or the message: then the object stays, and what is sent to the client is as before but for what a flush sent
     /// or dropped of it and a storage that grew.
     pub fn destroy_object(&mut self, id: &ObjectId) -> Result<(), DestroyError>
-        ensures { Calls (over T.sends T.receives G.views) self.old (step.DestroyObject id.now) (reply.DestroyObject result) self.new }
+        ensures call { Calls (over T.sends T.receives G.views) self.old (step.DestroyObject id.now) (reply.DestroyObject result) self.new }
+        ensures plain { DestroysObject self.old id.now result self.new }
     {
         self.refused = false;
         let client = id.client();

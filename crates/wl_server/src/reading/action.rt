@@ -31,7 +31,7 @@ pub enum Action {
 }
 
 /// What the end of an action has to know of it.
-#[derive(Drop)]
+#[derive(Clone, Copy)]
 pub enum OpenAction {
     /// A request.
     Request {
@@ -76,11 +76,18 @@ pub enum Found {
     Bind(GlobalId, ObjectId),
 }
 
+impl Found {
+    /// What stands in the place of an action before one is found: a request of no object.
+    pub fn none() -> Self {
+        Found::Request(ObjectId::null(), 0, false, None)
+    }
+}
+
 /// What a turn came to.
 #[derive(Drop)]
 pub enum TurnEnd {
-    /// An action is there to hand out.
-    Acts(Found),
+    /// An action was found, and is to be handed out.
+    Acts,
     /// A message was handled, and the reading goes on.
     GoesOn,
     /// No message waits whole.

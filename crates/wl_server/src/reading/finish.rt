@@ -12,6 +12,7 @@ ghost use Rattle.wl_server.specs.Finish.{ended_by, FinishesBind, FinishesOpen, F
 ghost use Rattle.wl_server.specs.Inside.Finishing.{EndsSender, lacks_finish, part_closed};
 ghost use Rattle.wl_server.specs.Part.{note_of_end, registries_without};
 ghost use Rattle.wl_server.specs.PartStep.{Asked, over};
+ghost use Rattle.wl_server.specs.Plain.{EndsBind};
 ghost use Rattle.wl_server.specs.declared.reading.action.OpenAction.TheVariants as opened;
 ghost use Rattle.wl_server.specs.declared.runs.step.Reply.TheVariants as reply;
 ghost use Rattle.wl_server.specs.declared.runs.step.Step.TheVariants as step;
@@ -23,12 +24,12 @@ use crate::events::display::{is_out_of_memory, put_delete_id};
 use crate::globals::handler::GlobalHandler;
 use crate::ids::client_id::ClientId;
 use crate::ids::object_id::ObjectId;
-use crate::notes::{Happening, NoteNumbers, next_number};
+use crate::notes::Happening;
+use crate::notes::queues::{MadeNotes, NoteNumbers};
 use crate::objects::data::give_data;
 use crate::objects::{Kept, id_at, named_in, take_out};
 use crate::reading::action::OpenAction;
 use std::alloc::Global;
-use std::collections::VecDeque;
 use wl_link::{Object, ObjectMap, Transport};
 use wl_wire::{IoFault, OutOfMemory};
 
@@ -63,13 +64,13 @@ fn ended_in<'a, U: Drop>(
 
 /// Makes room for the note of this object, where it has user data, and for one more.
 fn reserve_end<U: Drop>(
-    made: &mut VecDeque<(u128, Happening<U>)>,
+    made: &mut MadeNotes<U>,
     object: &Object<Kept<U>>,
 ) -> Result<(), OutOfMemory>
-    ensures items { made.new.items ≡ made.old.items }
-    ensures len { deque_len made.new ≡ deque_len made.old }
-    ensures capacity { deque_capacity made.old ≤ deque_capacity made.new }
-    ensures room { OnOk result (IsSome object.now.value.user_data → deque_len made.new + 2 ≤ deque_capacity made.new) }
+    ensures items { made.new.queue.items ≡ made.old.queue.items }
+    ensures len { deque_len made.new.queue ≡ deque_len made.old.queue }
+    ensures capacity { deque_capacity made.old.queue ≤ deque_capacity made.new.queue }
+    ensures room { OnOk result (IsSome object.now.value.user_data → deque_len made.new.queue + 2 ≤ deque_capacity made.new.queue) }
     ensures asked { OnErr result (is_some object.now.value.user_data ≡ true) }
 {
     if object.value.user_data.is_some() {
@@ -82,27 +83,24 @@ fn reserve_end<U: Drop>(
 fn take_out_made<U: Drop>(
     objects: &mut ObjectMap<Kept<U>>,
     registries: &mut Vec<Registry>,
-    made: &mut VecDeque<(u128, Happening<U>)>,
+    made: &mut MadeNotes<U>,
     numbers: &mut NoteNumbers,
     client: &ClientId,
     number: u32,
 )
-    requires { (x : Object (Kept U)) → held objects.old.store number ≡ Some x → IsSome x.value.user_data → deque_len made.old + 2 ≤ deque_capacity made.old }
+    requires { (x : Object (Kept U)) → held objects.old.store number ≡ Some x → IsSome x.value.user_data → deque_len made.old.queue + 2 ≤ deque_capacity made.old.queue }
     ensures removed { objects.new.store ≡ removed objects.old.store number }
     ensures left { (x : Object (Kept U)) → held objects.old.store number ≡ Some x
         → (registries.new.items ≡ registries_without registries.old.items number x)
-        × (map (λ m. m.1) made.new.items ≡ map (λ m. m.1) made.old.items ++ note_of_end client.now number x) }
-    ensures room { deque_len made.old < deque_capacity made.old → deque_len made.new < deque_capacity made.new }
+        × (map (λ m. m.1) made.new.queue.items ≡ map (λ m. m.1) made.old.queue.items ++ note_of_end client.now number x) }
+    ensures room { deque_len made.old.queue < deque_capacity made.old.queue → deque_len made.new.queue < deque_capacity made.new.queue }
 {
     let Some(object) = take_out(objects, registries, number) else {
         return;
     };
     let id = id_at(client, number, &object);
     if let Some(user_data) = object.value.user_data {
-        made.push_back_reserved((
-            next_number(&mut numbers.made),
-            Happening::Destroyed(id, user_data),
-        ));
+        made.push(numbers, Happening::Destroyed(id, user_data));
     }
 }
 
@@ -280,6 +278,7 @@ impl<T: Transport + Drop, U: Drop, G: GlobalHandler<C> + Drop, C: Drop> Backend<
     pub fn finish_bind(&mut self, client: &ClientId, user_data: U) -> Result<(), FinishRefused<U>>
         ensures cutting { CallIsCut (over T.sends T.receives G.views) self.old.server (Asked (step.FinishBind client.now user_data) (reply.FinishBind result)) self.new.refused self.new.server }
         ensures finished { Calls (over T.sends T.receives G.views) self.old (step.FinishBind client.now user_data) (reply.FinishBind result) self.new }
+        ensures plain { EndsBind self.old client.now user_data result self.new }
     {
         self.refused = false;
         if !self.is_stored(client) {

@@ -11,6 +11,7 @@ ghost use Rattle.wl_link.specs.Store.{held};
 ghost use Rattle.wl_server.specs.Reading.{row_asks, row_in};
 ghost use Rattle.wl_wire.specs.declared.argument.Argument.{Argument as Arg};
 ghost use Rattle.wl_wire.specs.declared.argument.Token.{Token as TokenParts};
+ghost use Rattle.wl_server.specs.declared.reading.action.Found.{Found as FoundOf};
 ghost use Rattle.wl_server.specs.declared.reading.action.Reading.{Reading as ReadingOf};
 ghost use Rattle.wl_server.specs.Ids.{IdParts};
 ghost use Rattle.wl_server.specs.Inside.Responses.{HasNames, TookRequest};
@@ -19,10 +20,10 @@ ghost use Rattle.wl_server.specs.Inside.Turns.{IsHeader, Live, NotTaken, TookWit
 use crate::client::{Client, Registry};
 use crate::globals::handler::GlobalHandler;
 use crate::ids::object_id::ObjectId;
-use crate::notes::NoteNumbers;
+use crate::notes::queues::NoteNumbers;
 use crate::objects::Kept;
 use crate::reading::Surroundings;
-use crate::reading::action::{NoAction, Reading, TurnEnd};
+use crate::reading::action::{Found, NoAction, Reading, TurnEnd};
 use crate::reading::request::request;
 use crate::reading::response::Response;
 use smallvec::SmallVec;
@@ -166,66 +167,60 @@ fn take_request<'m, T: Drop, U: Drop, G: GlobalHandler<C> + Drop, C>(
     ))
 }
 
+/// Drops what is left of a message in its place, and a storage for more arguments than take no memory.
+fn empty(message: &mut Message<u32, Token>)
+    ensures { INLINE_ARGS ≤ message.new.args.capacity }
+{
+    if message.args.spilled() {
+        message.args = SmallVec::new(*message.args.allocator());
+    } else {
+        message.args.clear();
+    }
+}
+
 impl<T: Transport + Drop, U: Drop, C: Drop> Client<T, U, C> {
-    /// Takes the message at the front off the link and handles it. The arguments of a request that is handed out are in
-    /// `args` then.
+    /// Takes the message at the front off the link and handles it, in this place for a message. An action that is handed
+    /// out is in `found` then, and its arguments are in `args`.
     pub fn turn<G: GlobalHandler<C> + Drop>(
         &mut self,
         numbers: &mut NoteNumbers,
         around: &Surroundings<'_, G>,
         reading: &mut Reading,
+        message: &mut Message<u32, Token>,
+        found: &mut Found,
         args: &mut SmallVec<Argument<ObjectId, Token>, INLINE_ARGS>,
     ) -> TurnEnd
         requires live { Live self.old.part }
+        requires place { INLINE_ARGS ≤ message.old.args.capacity }
         requires inline { INLINE_ARGS ≤ args.old.capacity }
-        ensures turns { Turns T.sends T.receives (around_of G.views around.now) self.old reading.old (turned result args.new.items) self.new reading.new }
+        ensures turns { Turns T.sends T.receives (around_of G.views around.now) self.old reading.old (turned result found.new args.new.items) self.new reading.new }
+        ensures place { INLINE_ARGS ≤ message.new.args.capacity }
         ensures inline { INLINE_ARGS ≤ args.new.capacity }
     {
-        match self.socket.next_header() {
-            Some(header) => self.turn_at_header(numbers, around, reading, header, args),
-            None => TurnEnd::Lacks,
-        }
-    }
-
-    /// The same where this header waits. It is apart, since the place for a message is made only where a header waits.
-    #[inline(never)]
-    fn turn_at_header<G: GlobalHandler<C> + Drop>(
-        &mut self,
-        numbers: &mut NoteNumbers,
-        around: &Surroundings<'_, G>,
-        reading: &mut Reading,
-        header: (u32, u16),
-        args: &mut SmallVec<Argument<ObjectId, Token>, INLINE_ARGS>,
-    ) -> TurnEnd
-        requires live { Live self.old.part }
-        requires header { IsHeader self.old.part.link header }
-        requires inline { INLINE_ARGS ≤ args.old.capacity }
-        ensures turns { Turns T.sends T.receives (around_of G.views around.now) self.old reading.old (turned result args.new.items) self.new reading.new }
-        ensures inline { INLINE_ARGS ≤ args.new.capacity }
-    {
-        let mut message = Message {
-            sender_id: 0,
-            opcode: 0,
-            args: SmallVec::new(*self.registries.allocator()),
+        let Some(header) = self.socket.next_header() else {
+            return TurnEnd::Lacks;
         };
-        self.turn_with(numbers, around, reading, header, &mut message, args)
+        let end = self.turn_at(numbers, around, reading, header, message, found, args);
+        empty(message);
+        end
     }
 
-    /// The same with a place for the message that is taken. It is lent, so that an early return has nothing to drop.
-    fn turn_with<G: GlobalHandler<C> + Drop>(
+    /// The same where this header waits, and with what is left of the message in its place.
+    fn turn_at<G: GlobalHandler<C> + Drop>(
         &mut self,
         numbers: &mut NoteNumbers,
         around: &Surroundings<'_, G>,
         reading: &mut Reading,
         header: (u32, u16),
         message: &mut Message<u32, Token>,
+        found: &mut Found,
         args: &mut SmallVec<Argument<ObjectId, Token>, INLINE_ARGS>,
     ) -> TurnEnd
         requires live { Live self.old.part }
         requires header { IsHeader self.old.part.link header }
         requires place { INLINE_ARGS ≤ message.old.args.capacity }
         requires inline { INLINE_ARGS ≤ args.old.capacity }
-        ensures turns { Turns T.sends T.receives (around_of G.views around.now) self.old reading.old (turned result args.new.items) self.new reading.new }
+        ensures turns { Turns T.sends T.receives (around_of G.views around.now) self.old reading.old (turned result found.new args.new.items) self.new reading.new }
         ensures inline { INLINE_ARGS ≤ args.new.capacity }
     {
         let read = reading.read;
@@ -243,7 +238,7 @@ impl<T: Transport + Drop, U: Drop, C: Drop> Client<T, U, C> {
         ) {
             Ok(response) => {
                 reading.read = read.saturating_add(1);
-                self.respond(numbers, around, &response)
+                self.respond(numbers, around, &response, found)
             }
             Err(error) => self.not_taken(numbers, around, error),
         }
@@ -258,8 +253,8 @@ impl<T: Transport + Drop, U: Drop, C: Drop> Client<T, U, C> {
     ) -> TurnEnd
         requires live { Live self.old.part }
         requires not_taken { NotTaken around.now.protocol.now self.old.part.store self.old.part.link error }
-        ensures { (r : ReadingOf) (args : List (Arg IdParts TokenParts)) → r.read ≤ 0xFFFFFFFFFFFFFFFF
-            → Turns T.sends T.receives (around_of G.views around.now) self.old r (turned result args) self.new r }
+        ensures { (r : ReadingOf) (f : FoundOf) (args : List (Arg IdParts TokenParts)) → r.read ≤ 0xFFFFFFFFFFFFFFFF
+            → Turns T.sends T.receives (around_of G.views around.now) self.old r (turned result f args) self.new r }
     {
         match error {
             MessageParseError::MissingData | MessageParseError::MissingFD => TurnEnd::Lacks,

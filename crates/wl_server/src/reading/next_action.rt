@@ -1,6 +1,8 @@
 //! A reading: messages are handled, and more is received where none waits whole.
 
-ghost use Rattle.std.specs.Prelude.{◌≡◌, ◌≤◌, option_map};
+ghost use Rattle.std.specs.Prelude.{◌≡◌, ◌≤◌, Result, option_map};
+ghost use Rattle.wl_server.specs.declared.error.ActionError.{ActionError as ActionErrorOf};
+ghost use Rattle.wl_server.specs.declared.reading.action.Action.{Action as ActionOf};
 ghost use Rattle.wl_server.specs.declared.runs.step.Reply.TheVariants as reply;
 ghost use Rattle.wl_server.specs.declared.runs.step.Step.TheVariants as step;
 ghost use Rattle.wl_server.specs.Backend.{Calls};
@@ -8,9 +10,8 @@ ghost use Rattle.wl_server.specs.Inside.Client.{Does};
 ghost use Rattle.wl_server.specs.Cutting.{CallIsCut};
 ghost use Rattle.wl_server.specs.PartStep.{Asked, over};
 ghost use Rattle.wl_server.specs.Reading.{NextAction, action_content, new_reading};
-ghost use Rattle.wl_server.specs.Deeds.{handed};
 ghost use Rattle.wl_server.specs.Room.{HasRoom};
-ghost use Rattle.wl_server.specs.Inside.Turns.{EndsAs, Fills, Live, Waited, action_of, around_of, found_with};
+ghost use Rattle.wl_server.specs.Inside.Turns.{EndsAs, Fills, Live, Waited, action_of, around_of};
 
 use crate::backend::Backend;
 use crate::client::Client;
@@ -18,12 +19,14 @@ use crate::error::ActionError;
 use crate::globals::handler::GlobalHandler;
 use crate::ids::client_id::ClientId;
 use crate::ids::object_id::ObjectId;
-use crate::notes::{DisconnectReason, NoteNumbers};
+use crate::notes::DisconnectReason;
+use crate::notes::queues::NoteNumbers;
 use crate::reading::Surroundings;
 use crate::reading::action::{Action, Found, NoAction, Reading, TurnEnd};
+use crate::reading::place::MessagePlace;
 use smallvec::SmallVec;
 use wl_link::Transport;
-use wl_wire::{Argument, INLINE_ARGS, IoFault, Token};
+use wl_wire::{Argument, INLINE_ARGS, IoFault, Message, Token};
 
 /// How many receives a reading makes at most, where nothing else is said.
 pub const READ_TURNS: u32 = 64;
@@ -40,51 +43,32 @@ impl Reading {
     }
 }
 
-/// The action that is handed out, with the arguments of a request.
-fn with_args(found: &Found, args: SmallVec<Argument<ObjectId, Token>, INLINE_ARGS>) -> Action
-    ensures { handed result ≡ found_with found.now args.items }
-{
-    match found {
-        Found::Request(sender, opcode, is_destructor, created) => {
-            Action::Request {
-                sender: *sender,
-                opcode: *opcode,
-                args,
-                is_destructor: *is_destructor,
-                created: *created,
-            }
-        }
-        Found::Bind(global, object) => {
-            Action::Bind {
-                global: *global,
-                object: *object,
-            }
-        }
-    }
-}
-
 impl<T: Transport + Drop, U: Drop, C: Drop> Client<T, U, C> {
-    /// Handles messages until the reading ends, or no message waits whole. The arguments of a request that is handed out
-    /// are in `args` then.
+    /// Handles messages until the reading ends, or no message waits whole, each in this place for a message. An action that
+    /// is handed out is in `found` then, and its arguments are in `args`.
     fn handle_waiting<G: GlobalHandler<C> + Drop>(
         &mut self,
         numbers: &mut NoteNumbers,
         around: &Surroundings<'_, G>,
         reading: &mut Reading,
+        message: &mut Message<u32, Token>,
+        found: &mut Found,
         args: &mut SmallVec<Argument<ObjectId, Token>, INLINE_ARGS>,
-    ) -> Option<Result<Found, NoAction>>
+    ) -> Option<Result<(), NoAction>>
         requires live { Live self.old.part }
+        requires place { INLINE_ARGS ≤ message.old.args.capacity }
         requires inline { INLINE_ARGS ≤ args.old.capacity }
-        ensures waited { Waited T.sends T.receives (around_of G.views around.now) self.old reading.old (option_map (λ r. action_of r args.new.items) result) self.new reading.new }
+        ensures waited { Waited T.sends T.receives (around_of G.views around.now) self.old reading.old (option_map (λ r. action_of r found.new args.new.items) result) self.new reading.new }
+        ensures place { INLINE_ARGS ≤ message.new.args.capacity }
         ensures inline { INLINE_ARGS ≤ args.new.capacity }
     {
         // That the count is a number of 64 bits is known of this.
         let _read = reading.read;
         loop {
-            match self.turn(numbers, around, reading, args) {
+            match self.turn(numbers, around, reading, message, found, args) {
                 TurnEnd::GoesOn => {}
                 TurnEnd::Lacks => return None,
-                TurnEnd::Acts(found) => return Some(Ok(found)),
+                TurnEnd::Acts => return Some(Ok(())),
                 TurnEnd::Ends(end) => return Some(Err(end)),
             }
         }
@@ -117,47 +101,55 @@ impl<T: Transport + Drop, U: Drop, C: Drop> Client<T, U, C> {
         }
     }
 
-    /// Handles messages and receives, until there is an action or no receive is left. The arguments of a request that is
-    /// handed out are in `args` then.
+    /// Handles messages and receives, until there is an action or no receive is left; each message in this place for one. An
+    /// action that is handed out is in `found` then, and its arguments are in `args`.
     fn read<G: GlobalHandler<C> + Drop>(
         &mut self,
         numbers: &mut NoteNumbers,
         around: &Surroundings<'_, G>,
         reading: &mut Reading,
+        message: &mut Message<u32, Token>,
+        found: &mut Found,
         args: &mut SmallVec<Argument<ObjectId, Token>, INLINE_ARGS>,
-    ) -> Result<Found, NoAction>
+    ) -> Result<(), NoAction>
         requires live { Live self.old.part }
+        requires place { INLINE_ARGS ≤ message.old.args.capacity }
         requires inline { INLINE_ARGS ≤ args.old.capacity }
-        ensures { EndsAs T.sends T.receives (around_of G.views around.now) self.old reading.old (action_of result args.new.items) self.new reading.new }
+        ensures ends { EndsAs T.sends T.receives (around_of G.views around.now) self.old reading.old (action_of result found.new args.new.items) self.new reading.new }
+        ensures place { INLINE_ARGS ≤ message.new.args.capacity }
     {
         // That the count is a number of 64 bits is known of this.
         let _read = reading.read;
-        while reading.receives_left > 0 {
-            if let Some(end) = self.handle_waiting(numbers, around, reading, args) {
+        loop {
+            if let Some(end) = self.handle_waiting(numbers, around, reading, message, found, args) {
                 return end;
+            }
+            if reading.receives_left == 0 {
+                return Err(NoAction {
+                    fault: IoFault::WouldBlock,
+                    refused: false,
+                });
             }
             reading.receives_left -= 1;
             if let Some(end) = self.receive(numbers) {
                 return Err(end);
             }
         }
-        if let Some(end) = self.handle_waiting(numbers, around, reading, args) {
-            return end;
-        }
-        Err(NoAction {
-            fault: IoFault::WouldBlock,
-            refused: false,
-        })
     }
 
-    /// The next action of the client, which is open until it is finished, and whether memory was refused.
+    /// The next action of the client, which is open until it is finished, and whether memory was refused. The action is in
+    /// `found` then, and its arguments are in `args`.
     pub fn next_action<G: GlobalHandler<C> + Drop>(
         &mut self,
         numbers: &mut NoteNumbers,
         around: &Surroundings<'_, G>,
         reading: &mut Reading,
-    ) -> (Result<Action, ActionError>, bool)
-        ensures { Does self.old (λ p did q. NextAction T.sends T.receives (around_of G.views around.now) reading.old p (action_content result.0) reading.new result.1 did q) self.new }
+        place: &mut MessagePlace,
+        found: &mut Found,
+        args: &mut SmallVec<Argument<ObjectId, Token>, INLINE_ARGS>,
+    ) -> (Result<(), ActionError>, bool)
+        requires { INLINE_ARGS ≤ args.old.capacity }
+        ensures { Does self.old (λ p did q. NextAction T.sends T.receives (around_of G.views around.now) reading.old p (action_of result.0 found.new args.new.items) reading.new result.1 did q) self.new }
     {
         if self.action.is_some() {
             return (Err(ActionError::ActionOpen), false);
@@ -165,15 +157,11 @@ impl<T: Transport + Drop, U: Drop, C: Drop> Client<T, U, C> {
         if self.is_killed {
             return (Err(ActionError::Io(IoFault::Pipe)), false);
         }
-        let mut args = SmallVec::new(*self.registries.allocator());
-        match self.read(numbers, around, reading, &mut args) {
-            Ok(found) => (Ok(with_args(&found, args)), false),
-            Err(end) => {
-                // No request: the arguments that were already put there are dropped.
-                drop(args);
-                (Err(ActionError::Io(end.fault)), end.refused)
-            }
+        let message = &mut place.message;
+        if let Err(end) = self.read(numbers, around, reading, message, found, args) {
+            return (Err(ActionError::Io(end.fault)), end.refused);
         }
+        (Ok(()), false)
     }
 }
 
@@ -198,7 +186,21 @@ impl<T: Transport + Drop, U: Drop, G: GlobalHandler<C> + Drop, C: Drop> Backend<
         ensures cutting { CallIsCut (over T.sends T.receives G.views) self.old.server (Asked (step.NextAction id.now) (reply.NextAction result)) self.new.refused self.new.server }
     {
         let mut reading = Reading::new();
-        self.read_client(id, &mut reading)
+        let mut found = Found::none();
+        let mut args = SmallVec::new(*self.clients.allocator());
+        self.read_client(id, &mut reading, &mut found, &mut args)?;
+        match found {
+            Found::Request(sender, opcode, is_destructor, created) => {
+                Ok(Action::Request {
+                    sender,
+                    opcode,
+                    args,
+                    is_destructor,
+                    created,
+                })
+            }
+            Found::Bind(global, object) => Ok(Action::Bind { global, object }),
+        }
     }
 
     /// The same, which receives as often as the reading allows. `reading` then has the receives that are left, and counts
@@ -212,13 +214,36 @@ impl<T: Transport + Drop, U: Drop, G: GlobalHandler<C> + Drop, C: Drop> Backend<
         ensures room { HasRoom (over T.sends T.receives G.views) self.old.server (Asked (step.NextActionWithin id.now reading.old) (reply.NextActionWithin result reading.new)) self.new.server }
         ensures cutting { CallIsCut (over T.sends T.receives G.views) self.old.server (Asked (step.NextActionWithin id.now reading.old) (reply.NextActionWithin result reading.new)) self.new.refused self.new.server }
     {
-        self.read_client(id, reading)
+        let mut found = Found::none();
+        let mut args = SmallVec::new(*self.clients.allocator());
+        self.read_client(id, reading, &mut found, &mut args)?;
+        match found {
+            Found::Request(sender, opcode, is_destructor, created) => {
+                Ok(Action::Request {
+                    sender,
+                    opcode,
+                    args,
+                    is_destructor,
+                    created,
+                })
+            }
+            Found::Bind(global, object) => Ok(Action::Bind { global, object }),
+        }
     }
 
-    /// Reads the client, for each of the two calls.
-    fn read_client(&mut self, id: &ClientId, reading: &mut Reading) -> Result<Action, ActionError>
-        ensures fresh { reading.old ≡ new_reading → Calls (over T.sends T.receives G.views) self.old (step.NextAction id.now) (reply.NextAction result) self.new }
-        ensures within { Calls (over T.sends T.receives G.views) self.old (step.NextActionWithin id.now reading.old) (reply.NextActionWithin result reading.new) self.new }
+    /// Reads the client. An action that is handed out is in `found` then, and its arguments are in `args`.
+    fn read_client(
+        &mut self,
+        id: &ClientId,
+        reading: &mut Reading,
+        found: &mut Found,
+        args: &mut SmallVec<Argument<ObjectId, Token>, INLINE_ARGS>,
+    ) -> Result<(), ActionError>
+        requires { INLINE_ARGS ≤ args.old.capacity }
+        ensures fresh { (answer : Result ActionOf ActionErrorOf) → action_content answer ≡ action_of result found.new args.new.items → reading.old ≡ new_reading
+            → Calls (over T.sends T.receives G.views) self.old (step.NextAction id.now) (reply.NextAction answer) self.new }
+        ensures within { (answer : Result ActionOf ActionErrorOf) → action_content answer ≡ action_of result found.new args.new.items
+            → Calls (over T.sends T.receives G.views) self.old (step.NextActionWithin id.now reading.old) (reply.NextActionWithin answer reading.new) self.new }
     {
         self.refused = false;
         if !self.is_stored(id) {
@@ -231,7 +256,14 @@ impl<T: Transport + Drop, U: Drop, G: GlobalHandler<C> + Drop, C: Drop> Backend<
         };
         match &mut self.clients[id.slot() as usize] {
             Some(client) => {
-                let (answer, refused) = client.next_action(&mut self.numbers, &around, reading);
+                let (answer, refused) = client.next_action(
+                    &mut self.numbers,
+                    &around,
+                    reading,
+                    &mut self.place,
+                    found,
+                    args,
+                );
                 self.refused = refused;
                 answer
             }

@@ -6,6 +6,7 @@ ghost use Rattle.wl_wire.specs.declared.argument.Token.{Token as TokenParts};
 ghost use Rattle.wl_wire.specs.declared.error.IoFault.TheVariants as io;
 ghost use Rattle.wl_link.specs.Puts.{lacked_memory};
 ghost use Rattle.wl_server.specs.declared.notes.DisconnectReason.TheVariants.{ConnectionClosed};
+ghost use Rattle.wl_server.specs.declared.reading.action.Found.{Found as FoundOf};
 ghost use Rattle.wl_server.specs.declared.reading.action.TurnEnd.TheVariants as came;
 ghost use Rattle.wl_server.specs.Inside.Client.{Does};
 ghost use Rattle.wl_server.specs.Deeds.{Remembered};
@@ -22,7 +23,8 @@ use crate::events::display::{DISPLAY, put_done};
 use crate::globals::handler::GlobalHandler;
 use crate::globals::new_registry::put_globals;
 use crate::ids::object_id::ObjectId;
-use crate::notes::{DisconnectReason, NoteNumbers};
+use crate::notes::DisconnectReason;
+use crate::notes::queues::NoteNumbers;
 use crate::reading::Surroundings;
 use crate::reading::action::{Found, NoAction, OpenAction, TurnEnd};
 use crate::reading::response::{Breach, Response};
@@ -146,25 +148,26 @@ impl<T: Transport + Drop, U: Drop, C: Drop> Client<T, U, C> {
         registry: &ObjectId,
     ) -> TurnEnd
         requires { Live self.old.part }
-        ensures { (args : List (Arg IdParts TokenParts)) → IsHandled T.sends
+        ensures { (f : FoundOf) (args : List (Arg IdParts TokenParts)) → IsHandled T.sends
             (replies (core_of self.old.part) (map (global_message around.now.protocol.now (id_of registry.now)) (shown G.views (around_of G.views around.now).globals around.now.client self.old.part.info))
-            (Remembered (id_of registry.now) ∷ [])) self.old (turned result args) self.new }
+            (Remembered (id_of registry.now) ∷ [])) self.old (turned result f args) self.new }
     {
         let alloc = *self.registries.allocator();
         let wrote = put_globals(alloc, &mut self.socket, around, &self.info, registry);
         self.replied(numbers, wrote)
     }
 
-    /// Answers a request of a live client that was gone through.
+    /// Answers a request of a live client that was gone through. An action that is handed out is in `place` then.
     pub fn respond<G: GlobalHandler<C> + Drop>(
         &mut self,
         numbers: &mut NoteNumbers,
         around: &Surroundings<'_, G>,
         response: &Response<'_>,
+        place: &mut Found,
     ) -> TurnEnd
         requires live { Live self.old.part }
         requires names { HasNames response.now }
-        ensures { (args : List (Arg IdParts TokenParts)) → IsHandled T.sends (response_to (around_of G.views around.now) (core_of self.old.part) response.now args) self.old (turned result args) self.new }
+        ensures { (args : List (Arg IdParts TokenParts)) → IsHandled T.sends (response_to (around_of G.views around.now) (core_of self.old.part) response.now args) self.old (turned result place.new args) self.new }
     {
         match response {
             Response::Garbled => TurnEnd::Ends(self.garbled(numbers)),
@@ -177,7 +180,8 @@ impl<T: Transport + Drop, U: Drop, C: Drop> Client<T, U, C> {
             Response::Registers(registry) => self.registered(numbers, around, registry),
             Response::HandsOut(found) => {
                 self.action = Some(open_action(found));
-                TurnEnd::Acts(*found)
+                *place = *found;
+                TurnEnd::Acts
             }
         }
     }

@@ -61,9 +61,8 @@ fn given_name(alloc: Global, name: &Option<CString>) -> Result<String, OutOfMemo
     let Some(name) = name else {
         return Ok(String::new(alloc));
     };
-    // That no byte is zero is said of these.
-    let _bytes = name.as_bytes();
-    name.to_string_lossy(alloc)
+    let text = String::from_utf8_lossy(alloc, name.as_bytes())?;
+    Ok(text)
 }
 
 /// The text of a bind that is refused: of the interface that the client names, the version and the global's name.

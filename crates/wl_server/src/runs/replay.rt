@@ -1,19 +1,16 @@
 //! Runs of calls over transports by script.
 
 ghost use Rattle.std.specs.Prelude.{◌≡◌, ◌++◌, List, [], true, false, IfOk, IfErr, IsOk, is_err, length};
-ghost use Rattle.wl_wire.specs.Table.{InterfaceRow};
 ghost use Rattle.wl_link.specs.Runs.{AllSame, RunEntry, entries};
 ghost use Rattle.wl_link.specs.Script.{Script};
 ghost use Rattle.wl_server.specs.declared.runs.step.Reply.{Reply};
 ghost use Rattle.wl_server.specs.declared.runs.step.Step.{Step};
-ghost use Rattle.wl_server.specs.Accounts.{AccountsForStopped, AreAccountedFor};
 ghost use Rattle.wl_server.specs.Backend.{Calls};
 ghost use Rattle.wl_server.specs.Histories.{Extends, ExtendsUpTo};
 ghost use Rattle.wl_server.specs.PartStep.{over_scripts};
 ghost use Rattle.wl_server.specs.Inside.Performing.{IsOfAll, IsOfGlobals, IsOfObject, IsOfReading, IsOfScript};
-ghost use Rattle.wl_server.specs.Runs.{AreIsolated, Performs, StopsAt};
-ghost use Rattle.wl_server.specs.Server.{ServerState, new_server};
-ghost use Rattle.wl_server.specs.Stretches.{AreCut};
+ghost use Rattle.wl_server.specs.Runs.{Performs, StopsAt};
+ghost use Rattle.wl_server.specs.Server.{ServerState};
 ghost use Rattle.wl_server.specs.WholeOutcome.{SameServer, WholeReply};
 
 use crate::backend::Backend;
@@ -205,13 +202,13 @@ impl<U: Drop, G: GlobalHandler<C> + Drop, C: Drop> Backend<Memory, U, G, C> {
     /// where there was no room for the replies; nothing was done then. A run of no steps needs none.
     ///
     /// The run joins the runs before it, and extends each history that led to the server before it: calls, changes of a
-    /// client's transport by `transport_mut`, and other runs (`history`, `stopped_history`). So what is held of each client that was inserted since the server was made is
-    /// what its own steps and the shared ones lead to alone, begun with the id that it got; no other client's steps
-    /// matter to it. Each id of an object that was handed out names its own object and no later one, what a client's
-    /// transport took is what was put for it, what its registries announced is what it is shown, and each object that
-    /// left with user data is noted once. A stretch of a client's own steps in which bytes arrive, and actions are read and
-    /// finished, gives what is served of all that arrived, however it was cut. The same steps give the same replies of any
-    /// server that is the same to its program, and leave one that is, where neither run stops.
+    /// client's transport by `transport_mut`, and other runs (`history`, `stopped_history`). So what is held of each client
+    /// that was inserted since the server was made is what its own steps and the shared ones lead to alone, begun with the id
+    /// that it got; no other client's steps matter to it. Each id of an object that was handed out names its own object and no
+    /// later one, what a client's transport took is what was put for it, what its registries announced is what it is shown,
+    /// and each object that left with user data is noted once. A stretch of a client's own steps in which bytes arrive, and
+    /// actions are read and finished, gives what is served of all that arrived, however it was cut. The same steps give the
+    /// same replies of any server that is the same to its program, and leave one that is, if neither run stops.
     pub fn replay(
         &mut self,
         steps: Vec<Step<Memory, U, G, C>>,
@@ -222,23 +219,11 @@ impl<U: Drop, G: GlobalHandler<C> + Drop, C: Drop> Backend<Memory, U, G, C> {
         ensures joined { IfOk result (λ replies. (begun : ServerState Script U G C) (run : List (RunEntry (Step Script U G C) (Reply Script U))) →
             Performs (over_scripts G.views) begun run self.old.server →
             Performs (over_scripts G.views) begun (run ++ entries steps.items replies.items) self.new.server) }
-        ensures isolated { IfOk result (λ replies. (table : List InterfaceRow) (run : List (RunEntry (Step Script U G C) (Reply Script U))) →
-            Performs (over_scripts G.views) (new_server table) run self.old.server →
-            AreIsolated (over_scripts G.views) table (run ++ entries steps.items replies.items) self.new.server) }
-        ensures accounted { IfOk result (λ replies. (table : List InterfaceRow) (run : List (RunEntry (Step Script U G C) (Reply Script U))) →
-            Performs (over_scripts G.views) (new_server table) run self.old.server →
-            AreAccountedFor (over_scripts G.views) table (run ++ entries steps.items replies.items) self.new.server) }
         ensures history { IfOk result (λ replies. Extends G.views self.old.server (entries steps.items replies.items) self.new.server) }
         ensures outcome { IfOk result (λ replies. (same other : ServerState Script U G C) (others : List (Reply Script U)) →
             SameServer self.old.server same → length others ≡ length steps.items →
             Performs (over_scripts G.views) same (entries steps.items others) other →
             AllSame WholeReply replies.items others × SameServer self.new.server other) }
-        ensures cutting { IfOk result (λ replies. (begun : ServerState Script U G C) (run : List (RunEntry (Step Script U G C) (Reply Script U))) →
-            Performs (over_scripts G.views) begun run self.old.server →
-            AreCut G.views begun (run ++ entries steps.items replies.items) self.new.server) }
-        ensures stopped_accounts { IfErr result (λ stopped. (table : List InterfaceRow) (run : List (RunEntry (Step Script U G C) (Reply Script U))) →
-            Performs (over_scripts G.views) (new_server table) run self.old.server →
-            AccountsForStopped (over_scripts G.views) table run steps.items stopped.replies.items self.new.server) }
         ensures stopped_history { IfErr result (λ stopped. ExtendsUpTo G.views self.old.server steps.items stopped.replies.items self.new.server) }
         ensures stopped { IfErr result (λ stopped. StopsAt (over_scripts G.views) self.old.server steps.items stopped.step stopped.replies.items self.new.server) }
         ensures refused { self.new.refused ≡ is_err result }

@@ -17,7 +17,6 @@ use Rattle.wl_link.specs.Link.{EachWithin, LinkState, ReadOne, incoming_limit, w
 use Rattle.wl_link.proofs.Calls.QueueLaws.{joined_nothing}
 use Rattle.wl_link.proofs.Stretches.RanLaws.{ran}
 use Rattle.wl_link.specs.Reader.{Ends, Gives, Given, IsFed, Reads, Turn, came_by, ReaderState}
-use Rattle.wl_link.specs.Runs.{RunEntry}
 use Rattle.wl_link.specs.Script.{Script, ScriptReceives, ScriptSends}
 use Rattle.wl_link.specs.Served.{Served, state_as}
 use Rattle.wl_link.specs.Store.{Store, held}
@@ -43,7 +42,7 @@ use Rattle.wl_server.proofs.OverRuns.Moves.DoingsLaws.{deeds_both}
 use Rattle.wl_server.specs.Finish.{FinishesBind, FinishesRequest, refusal}
 use Rattle.wl_server.specs.Globals.{Offer}
 use Rattle.wl_server.specs.Ids.{ClientParts, GlobalParts}
-use Rattle.wl_server.proofs.OverRuns.Alone.IsolationLaw.{alone_run, performed}
+use Rattle.wl_server.proofs.OverRuns.Alone.IsolationLaw.{alone_run}
 use Rattle.wl_server.specs.Moves.{ArrivesWith, Becomes, done}
 use Rattle.wl_server.specs.Moves as moves
 use Rattle.wl_server.specs.Part.{Part, with_link}
@@ -51,10 +50,10 @@ use Rattle.wl_server.specs.PartStep.{Asked, Call, OfClient, PartCall, World, aro
 use Rattle.wl_server.proofs.OverRuns.Cut.ReaderLaws.{EndsAlike, bind_ends_alike, request_ends_alike}
 use Rattle.wl_server.specs.Reading.{Around, NextAction, ReadsNone, ReadsTo, action_content, answered as answered_so, exchanges_in, new_reading, reads_on, row_in, server}
 use Rattle.wl_server.proofs.OverRuns.Ids.ReplyLaws.{own_step}
-use Rattle.wl_server.specs.Runs.{Alone, Leads, Own, Performs, concerns, history, mine}
+use Rattle.wl_server.specs.Runs.{Alone, Leads, Own, concerns, history, mine}
 use Rattle.wl_server.specs.Server.{Seen, ServerState, seen}
 use Rattle.wl_server.specs.Steps.{offer_after, Entry}
-use Rattle.wl_server.specs.Stretches.{AllHeard, AreCut, EachIsCut, EachPartIsCut, EndsWaiting, IsHeard, StretchIsServed, IsStretch, IsStretchWithin, SameLeft, handed_out, answers_in, arrived, arrived_by, beside_exchanges, finished, finished_by, left_in, reading_by, told_by, was_killed}
+use Rattle.wl_server.specs.Stretches.{AllHeard, EachIsCut, EachPartIsCut, EndsWaiting, IsHeard, StretchIsServed, IsStretch, IsStretchWithin, SameLeft, handed_out, answers_in, arrived, arrived_by, beside_exchanges, finished, finished_by, left_in, reading_by, told_by, was_killed}
 use Rattle.wl_server.specs.Telling.{Core, Finish, OfBind, OfRequest, Told, core_of, deeds_in, deeds_of, end_deeds, part_of, reader_part}
 
 none_some : {A : Type 0} {x : A} → None ≡ Some x → ⊥
@@ -596,10 +595,3 @@ each_is_cut views begun after run leads id p q born there ends =
 pub each_part_is_cut : {U G C : Type 0} (views : G → ClientParts → C → GlobalParts → Bool) (begun : ServerState Script U G C) (run : List (Entry Script U G C))
     → EachPartIsCut views begun run
 each_part_is_cut views begun run earlier middle later first last split before part = each_is_cut views first last middle part
-
-pub are_cut : {U G C : Type 0} (views : G → ClientParts → C → GlobalParts → Bool) (begun after : ServerState Script U G C) (steps : List (RunEntry (Step Script U G C) (Reply Script U)))
-    → Performs (over_scripts views) begun steps after → AreCut views begun steps after
-are_cut views begun after steps performs = (
-  performed (over_scripts views) begun after steps performs,
-  λ run are leads. each_part_is_cut views begun run,
-)

@@ -44,7 +44,7 @@ ends_end U true reason = refl
 ends_end U false reason = refl
 
 module _ {U : Type 0} where
-  destroyed_both : (a b : List (Happening U)) → destroyed_in (a ++ b) ≡ destroyed_in a ++ destroyed_in b
+  pub destroyed_both : (a b : List (Happening U)) → destroyed_in (a ++ b) ≡ destroyed_in a ++ destroyed_in b
   destroyed_both [] b = refl
   destroyed_both (Destroyed o u ∷ a) b = ap (λ (l : List Id). id_of o ∷ l) (destroyed_both a b)
   destroyed_both (Initialized ∷ a) b = destroyed_both a b

@@ -1,4 +1,5 @@
 use Rattle.wl_server.proofs.OverRuns.Noted.NotedLaws.{each_is_noted, have_notes}
+use Rattle.wl_server.proofs.OverRuns.Noted.NotedEnds.{each_note_is_of_an_end, end_is_noted_at_once, have_notes_of_ends}
 use Rattle.wl_server.proofs.OverRuns.Noted.NotedSoon.{cleanup_notes_all, finish_notes_at_once}
 use Rattle.wl_server.proofs.laws.each_object_that_leaves_is_noted_once.Goals as goal
 
@@ -19,3 +20,15 @@ returns-clause-script_cleanup g c = λ before after e out by call id. cleanup_no
 
 pub returns-clause-script_finish : goal.returns-clause-script_finish
 returns-clause-script_finish g c = λ before after e target u answer by call id. finish_notes_at_once _ before after e target u answer by call id
+
+pub returns-clause-of_ends : goal.returns-clause-of_ends
+returns-clause-of_ends g c = λ table run after leads. each_note_is_of_an_end _ table run after leads
+
+pub returns-clause-at_once : goal.returns-clause-at_once
+returns-clause-at_once g c = λ before after e target u answer by call id. end_is_noted_at_once _ before after e target u answer by call id
+
+pub returns-clause-script_of_ends : goal.returns-clause-script_of_ends
+returns-clause-script_of_ends g c = λ table steps after performs. have_notes_of_ends _ table steps after performs
+
+pub returns-clause-script_at_once : goal.returns-clause-script_at_once
+returns-clause-script_at_once g c = λ before after e target u answer by call id. end_is_noted_at_once _ before after e target u answer by call id

@@ -6,30 +6,37 @@ use Rattle.wl_server.specs.Inside.Leaving.{collected, given_at}
 use Rattle.wl_server.proofs.CleanupSteps.CleanedSlots.{slots_cleaned}
 use Rattle.wl_server.proofs.CleanupSteps.CleaningUp.{cleaned_up, cleanup_starved}
 use Rattle.wl_server.proofs.CleanupSteps.Taken.{none_taken}
+use Rattle.wl_server.proofs.Plain.Cleanup.{cleans_up}
 use Rattle.wl_server.proofs.backend.Backend.cleanup.Goals as goal
 
 pub clean_up-self-inside-requires-clause-given : goal.clean_up-self-inside-requires-clause-given
 clean_up-self-inside-requires-clause-given g c =
     subst (λ xs. length (collected given_at 0 xs) ≤ vec_capacity c.in-Ok.memory.given) c.deref.ensures.value c.in-Ok.ensures.given
 
-pub returns-in-Ok : goal.returns-in-Ok
-returns-in-Ok g c =
+pub returns-in-Ok-clause-call : goal.returns-in-Ok-clause-call
+returns-in-Ok-clause-call g c =
     let by : CleansUp g.T.Transport.sends c.self.inside.clients.items c.self.inside.notes.items c.clean_up-self-inside.result c.clean_up-self-inside.new.clients.items
     c.clean_up-self-inside.new.notes.items c.clean_up-self-inside.new.memory.given.items =
     subst (λ ns. CleansUp g.T.Transport.sends c.self.inside.clients.items ns c.clean_up-self-inside.result c.clean_up-self-inside.new.clients.items
-    c.clean_up-self-inside.new.notes.items c.clean_up-self-inside.new.memory.given.items) c.memory_for.ensures.items c.clean_up-self-inside.ensures
+    c.clean_up-self-inside.new.notes.items c.clean_up-self-inside.new.memory.given.items) c.memory_for.ensures.items c.clean_up-self-inside.ensures.cleaned
     in
     rw (← c.self.view_is) (cleaned_up _ _ _ _ _ c.clean_up-self-inside.new.memory.given _ refl by)
 
-pub returns-in-Err : goal.returns-in-Err
-returns-in-Err g c =
+pub returns-in-Err-clause-call : goal.returns-in-Err-clause-call
+returns-in-Err-clause-call g c =
     let some = subst (λ xs. 0 < count_leaving true xs + length (collected given_at 0 xs)) c.deref.ensures.value c.in-Err.ensures.some in
     rw (← c.self.view_is) (cleanup_starved _ _ _ c.memory_for.new.notes.items c.memory_for.ensures.items some)
 
 pub invariant_of-self : goal.invariant_of-self
 invariant_of-self g c =
-    let same = slots_cleaned _ _ _ _ _ _ _ c.clean_up-self-inside.ensures in
+    let same = slots_cleaned _ _ _ _ _ _ _ c.clean_up-self-inside.ensures.cleaned in
     let before = c.self.inside.clients.ok.0 in
     let after = c.clean_up-self-inside.new.clients.ok.0 in
     let within = c.self.invariant.within in
     record { within = omega (arith, same, before, after, within); taken = none_taken _ }
+
+pub returns-in-Ok-clause-plain : goal.returns-in-Ok-clause-plain
+returns-in-Ok-clause-plain g c = cleans_up _ (returns-in-Ok-clause-call g c)
+
+pub returns-in-Err-clause-plain : goal.returns-in-Err-clause-plain
+returns-in-Err-clause-plain g c = cleans_up _ (returns-in-Err-clause-call g c)

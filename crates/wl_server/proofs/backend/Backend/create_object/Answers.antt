@@ -13,6 +13,7 @@ use Rattle.wl_server.specs.declared.runs.step.Step.TheVariants as step
 use Rattle.wl_server.proofs.CallSteps.OneClient.{IsOwn, done_at, not_stored}
 use Rattle.wl_server.proofs.CallSteps.Slots.{Kind, slot_in, slot_not_empty}
 use Rattle.wl_server.proofs.CleanupSteps.Taken.{slots_set}
+use Rattle.wl_server.proofs.Plain.Creation.{creates_object}
 use Rattle.wl_server.proofs.backend.Backend.create_object.Goals as goal
 
 abbrev creates : {T U C : Type 0} → List InterfaceRow → InterfaceId → ℕ → U → Result IdParts CreateError → Kind T U C
@@ -28,8 +29,8 @@ does : {T U C : Type 0} (table : List InterfaceRow) (id : ClientParts) (before a
     → Does before (λ p did q. creates table i version u answer id p lacked did q) after
 does table id before after i version u answer lacked refused (did, q, (none, makes), is) = (did, q, (refused, none, makes), is)
 
-pub returns-then-not-is_stored : goal.returns-then-not-is_stored
-returns-then-not-is_stored g c = rw (← c.self.view_is)
+pub returns-then-not-is_stored-clause-call : goal.returns-then-not-is_stored-clause-call
+returns-then-not-is_stored-clause-call g c = rw (← c.self.view_is)
     (not_stored _ _ _ _ (own _ _ _ _ _) c.args.client.now (creates _ c.args.interface c.args.version c.args.user_data (Err create.InvalidId))
     (◌≡◌ {A = Result IdParts CreateError} (Err create.InvalidId) (Err create.InvalidId)) (λ i l d b a h. (_, refl, h)) (sym c.is_stored.ensures.stored ∙ c.if-not-is_stored.true) refl)
 
@@ -40,8 +41,8 @@ pub unreachable-requires : goal.unreachable-requires
 unreachable-requires g c =
     slot_not_empty c.self.inside.clients.items c.args.client.now c.slot.result _ (sym c.is_stored.ensures.stored ∙ c.if-not-is_stored.false) c.slot.ensures c.index_mut.ensures.value c.in-None.is
 
-pub returns : goal.returns
-returns g c = rw (← c.self.view_is)
+pub returns-clause-call : goal.returns-clause-call
+returns-clause-call g c = rw (← c.self.view_is)
     (done_at _ _ _ _ (own _ _ _ _ _) c.args.client.now (creates _ c.args.interface c.args.version c.args.user_data c.create_object-answer.result)
     (c.create_object-answer.result ≡ Err create.InvalidId) (λ i l d b a h. (_, refl, h)) c.slot.result c.index_mut.result.now c.in-Some.stored c.create_object-answer.new.self
     c.lacks_memory-self-inside.result (sym c.is_stored.ensures.stored ∙ c.if-not-is_stored.false) c.slot.ensures c.index_mut.ensures.value c.in-Some.is
@@ -49,3 +50,9 @@ returns g c = rw (← c.self.view_is)
 
 pub invariant_of-self-in-Some : goal.invariant_of-self-in-Some
 invariant_of-self-in-Some g c = slots_set _ _ _ _ _ c.self.invariant
+
+pub returns-then-not-is_stored-clause-plain : goal.returns-then-not-is_stored-clause-plain
+returns-then-not-is_stored-clause-plain g c = creates_object _ _ _ _ _ (returns-then-not-is_stored-clause-call g c)
+
+pub returns-clause-plain : goal.returns-clause-plain
+returns-clause-plain g c = creates_object _ _ _ _ _ (returns-clause-call g c)

@@ -14,6 +14,7 @@ use Rattle.wl_server.specs.declared.runs.step.Step.TheVariants as step
 use Rattle.wl_server.proofs.CallSteps.OneClient.{IsOwn, done_at, not_stored}
 use Rattle.wl_server.proofs.CallSteps.Slots.{Kind, slot_in, slot_not_empty, stored_by}
 use Rattle.wl_server.proofs.CleanupSteps.Taken.{slots_set}
+use Rattle.wl_server.proofs.Plain.Destruction.{destroys_object}
 use Rattle.wl_server.proofs.backend.Backend.destroy_object.Goals as goal
 
 abbrev destroys : {T U C : Type 0} → (T → Queue → Result ℕ IoFault → T → Type 0) → IdParts → Result (Unit {0}) DestroyError → Kind T U C
@@ -29,8 +30,8 @@ does : {T U C : Type 0} (sends : T → Queue → Result ℕ IoFault → T → Ty
     → Does before (λ p did q. destroys sends o answer o.client p lacked did q) after
 does sends o before after answer lacked is done = subst (λ (b : Bool). Does before (λ p did q. Destroys sends o.client p o answer b did q) after) (sym is) done
 
-pub returns-then-not-is_stored : goal.returns-then-not-is_stored
-returns-then-not-is_stored g c = rw (← c.self.view_is)
+pub returns-then-not-is_stored-clause-call : goal.returns-then-not-is_stored-clause-call
+returns-then-not-is_stored-clause-call g c = rw (← c.self.view_is)
     (not_stored _ _ _ _ (own _ _) c.args.id.now.client (destroys _ c.args.id.now (Err destroy.InvalidId)) (◌≡◌ {A = Result (Unit {0}) DestroyError} (Err destroy.InvalidId) (Err destroy.InvalidId))
     (λ i l d b a h. (_, refl, h)) (stored_by _ _ _ _ c.client-client.ensures c.is_stored.ensures.stored ∙ c.if-not-is_stored.true) refl)
 
@@ -43,8 +44,8 @@ unreachable-requires g c =
     (stored_by _ _ _ _ c.client-client.ensures c.is_stored.ensures.stored ∙ c.if-not-is_stored.false) (c.slot.ensures ∙ ap (λ t. t.slot) c.client-client.ensures)
     c.index_mut.ensures.value c.in-None.is
 
-pub returns : goal.returns
-returns g c = rw (← c.self.view_is)
+pub returns-clause-call : goal.returns-clause-call
+returns-clause-call g c = rw (← c.self.view_is)
     (done_at _ _ _ _ (own _ _) c.args.id.now.client (destroys g.T.Transport.sends c.args.id.now c.destroy_object-answer.result) (c.destroy_object-answer.result ≡ Err destroy.InvalidId)
     (λ i l d b a h. (_, refl, h)) c.slot.result c.index_mut.result.now c.in-Some.client c.destroy_object-answer.new.self c.lacks_memory-self-inside.result
     (stored_by _ _ _ _ c.client-client.ensures c.is_stored.ensures.stored ∙ c.if-not-is_stored.false) (c.slot.ensures ∙ ap (λ t. t.slot) c.client-client.ensures)
@@ -52,3 +53,9 @@ returns g c = rw (← c.self.view_is)
 
 pub invariant_of-self-in-Some : goal.invariant_of-self-in-Some
 invariant_of-self-in-Some g c = slots_set _ _ _ _ _ c.self.invariant
+
+pub returns-then-not-is_stored-clause-plain : goal.returns-then-not-is_stored-clause-plain
+returns-then-not-is_stored-clause-plain g c = destroys_object _ _ (returns-then-not-is_stored-clause-call g c)
+
+pub returns-clause-plain : goal.returns-clause-plain
+returns-clause-plain g c = destroys_object _ _ (returns-clause-call g c)

@@ -9,6 +9,7 @@ use Rattle.wl_server.proofs.CallSteps.OneClient.{IsOwn, done_at, not_stored}
 use Rattle.wl_server.proofs.CallSteps.Feeling.{IsFelt, felt_call}
 use Rattle.wl_server.proofs.CallSteps.Slots.{slot_in, slot_not_empty}
 use Rattle.wl_server.proofs.CleanupSteps.Taken.{slots_set, taken_felt}
+use Rattle.wl_server.proofs.Plain.Sending.{flushes_clients}
 use Rattle.wl_server.proofs.backend.Backend.flush.Goals as goal
 
 own : {T U G C : Type 0} (client : Option ClientParts) (answer : _) → IsOwn {T = T} {U = U} {G = G} {C = C} (Asked (step.Flush client) (reply.Flush answer))
@@ -17,8 +18,8 @@ own client answer = record { offer = λ o. refl; last = refl; client = λ b. tt;
 felt : {T U G C : Type 0} (client : Option ClientParts) (answer : _) → IsFelt {T = T} {U = U} {G = G} {C = C} (Asked (step.Flush client) (reply.Flush answer))
 felt client answer = record { last = refl; client = λ b. tt; order = tt; room = λ b. tt }
 
-pub returns-in_default : goal.returns-in_default
-returns-in_default g c =
+pub returns-in_default-clause-call : goal.returns-in_default-clause-call
+returns-in_default-clause-call g c =
     rw (← c.self.view_is, c.in_default.is)
     (felt_call _ _ _ _ (felt _ _) (λ id p lacked did q. FlushesLive g.T.Transport.sends p lacked did q) c.flush_each-self-inside.result _ c.flush_each-self-inside.new.clients.items
     refl tt refl (λ i l d b a h. (_, refl, (refl, h))) c.flush_each-self-inside.ensures)
@@ -32,8 +33,8 @@ invariant_of-self g c =
     let within = c.self.invariant.within in
     record { within = omega (arith, same, before, after, within); taken = taken_felt _ _ _ _ _ all c.self.invariant.taken }
 
-pub returns-then-not-is_stored : goal.returns-then-not-is_stored
-returns-then-not-is_stored g c = rw (← c.self.view_is, c.in-Some.is)
+pub returns-then-not-is_stored-clause-call : goal.returns-then-not-is_stored-clause-call
+returns-then-not-is_stored-clause-call g c = rw (← c.self.view_is, c.in-Some.is)
     (not_stored _ _ _ _ (own _ _) c.in-Some.id (λ i p lacked did q. FlushedTo g.T.Transport.sends p (Ok tt) lacked did q) (Ok tt ≡ Ok tt) (λ i l d b a h. (_, refl, h))
     (sym c.is_stored.ensures.stored ∙ c.if-not-is_stored.true) refl)
 
@@ -44,8 +45,8 @@ pub unreachable-requires : goal.unreachable-requires
 unreachable-requires g c =
     slot_not_empty c.self.inside.clients.items c.in-Some.id c.slot.result _ (sym c.is_stored.ensures.stored ∙ c.if-not-is_stored.false) c.slot.ensures c.index_mut.ensures.value c.in-None.is
 
-pub returns : goal.returns
-returns g c =
+pub returns-clause-call : goal.returns-clause-call
+returns-clause-call g c =
     let does : Does c.in-Some-index_mut.client (λ p did q. FlushedTo g.T.Transport.sends p c.flush-answer.result c.is_out_of_memory-self-inside.result did q) c.flush-answer.new.self =
     subst (λ (l : Bool). Does c.in-Some-index_mut.client (λ p did q. FlushedTo g.T.Transport.sends p c.flush-answer.result l did q) c.flush-answer.new.self)
     (sym c.is_out_of_memory-self-inside.ensures) c.flush-answer.ensures in
@@ -56,3 +57,12 @@ returns g c =
 
 pub invariant_of-self-in-Some-index_mut : goal.invariant_of-self-in-Some-index_mut
 invariant_of-self-in-Some-index_mut g c = slots_set _ _ _ _ _ c.self.invariant
+
+pub returns-in_default-clause-plain : goal.returns-in_default-clause-plain
+returns-in_default-clause-plain g c = flushes_clients _ _ (returns-in_default-clause-call g c)
+
+pub returns-then-not-is_stored-clause-plain : goal.returns-then-not-is_stored-clause-plain
+returns-then-not-is_stored-clause-plain g c = flushes_clients _ _ (returns-then-not-is_stored-clause-call g c)
+
+pub returns-clause-plain : goal.returns-clause-plain
+returns-clause-plain g c = flushes_clients _ _ (returns-clause-call g c)

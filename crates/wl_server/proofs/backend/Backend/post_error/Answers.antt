@@ -1,4 +1,8 @@
-use Rattle.std.proofs.Common.{◌∙◌, ℕ, List, Result, refl, ap}
+use Rattle.std.proofs.Common.{◌≡◌, ◌∙◌, ℕ, List, Option, None, Some, Result, false, is_some, refl, sym, ap, true≢false}
+use Rattle.std.specs.Option.{option_map}
+use Rattle.wl_server.specs.Posted.{PostsOn}
+use Rattle.wl_server.specs.Server.{client_at}
+use Rattle.wl_server.proofs.ObjectCalls.Told.{at_slot}
 use Rattle.wl_wire.specs.declared.error.IoFault.{IoFault}
 use Rattle.wl_wire.specs.Table.{InterfaceRow}
 use Rattle.wl_link.specs.Exchange.{Queue}
@@ -12,14 +16,18 @@ use Rattle.wl_server.proofs.CallSteps.Slots.{Kind, slot_in, slot_not_empty, stor
 use Rattle.wl_server.proofs.CleanupSteps.Taken.{slots_set}
 use Rattle.wl_server.proofs.backend.Backend.post_error.Goals as goal
 
+mapped_some : {A B : Type 0} (f : A → B) (o : Option A) → is_some (option_map f o) ≡ is_some o
+mapped_some f (Some x) = refl
+mapped_some f None = refl
+
 abbrev posts : {T U C : Type 0} → (T → Queue → Result ℕ IoFault → T → Type 0) → List InterfaceRow → IdParts → ℕ → List ℕ → Kind T U C
 posts sends table o code text id p lacked did q = PostsError sends table p o code text lacked did q
 
 own : {T U G C : Type 0} (o : IdParts) (code : ℕ) (text : List ℕ) → IsOwn {T = T} {U = U} {G = G} {C = C} (Asked (step.PostError o code text) reply.PostError)
 own o code text = record { offer = λ o. refl; last = refl; client = λ b. tt; global = λ o. tt; order = tt; room = λ b. tt; growth = refl }
 
-pub returns-then-not-is_stored : goal.returns-then-not-is_stored
-returns-then-not-is_stored g c = rw (← c.self.view_is)
+pub returns-then-not-is_stored-clause-call : goal.returns-then-not-is_stored-clause-call
+returns-then-not-is_stored-clause-call g c = rw (← c.self.view_is)
     (not_stored _ _ _ _ (own _ _ _) c.args.id.now.client (posts g.T.Transport.sends c.self.inside.protocol c.args.id.now c.args.code c.args.text) (Unit {0})
     (λ i l d b a h. (refl, h)) (stored_by _ _ _ _ c.client-client.ensures c.is_stored.ensures.stored ∙ c.if-not-is_stored.true) tt)
 
@@ -32,12 +40,26 @@ unreachable-requires g c =
     (stored_by _ _ _ _ c.client-client.ensures c.is_stored.ensures.stored ∙ c.if-not-is_stored.false) (c.slot.ensures ∙ ap (λ t. t.slot) c.client-client.ensures)
     c.index_mut.ensures.value c.in-None.is
 
-pub returns : goal.returns
-returns g c = rw (← c.self.view_is)
+pub returns-clause-call : goal.returns-clause-call
+returns-clause-call g c = rw (← c.self.view_is)
     (done_at _ _ _ _ (own _ _ _) c.args.id.now.client (posts g.T.Transport.sends c.self.inside.protocol c.args.id.now c.args.code c.args.text) (Unit {0})
     (λ i l d b a h. (refl, h)) c.slot.result c.index_mut.result.now c.in-Some.client c.post_error-self-inside.new.self c.post_error-self-inside.result
     (stored_by _ _ _ _ c.client-client.ensures c.is_stored.ensures.stored ∙ c.if-not-is_stored.false) (c.slot.ensures ∙ ap (λ t. t.slot) c.client-client.ensures)
-    c.index_mut.ensures.value c.in-Some.is c.post_error-self-inside.ensures)
+    c.index_mut.ensures.value c.in-Some.is c.post_error-self-inside.ensures.does)
 
 pub invariant_of-self-in-Some : goal.invariant_of-self-in-Some
 invariant_of-self-in-Some g c = slots_set _ _ _ _ _ c.self.invariant
+
+pub returns-then-not-is_stored-clause-exactly : goal.returns-then-not-is_stored-clause-exactly
+returns-then-not-is_stored-clause-exactly g c = λ p q before after.
+    let none : is_some (client_at c.args.id.now.client c.args.self.now.server.clients) ≡ false =
+    rw (← c.self.view_is) (stored_by _ _ _ _ c.client-client.ensures c.is_stored.ensures.stored ∙ c.if-not-is_stored.true) in
+    absurd (true≢false (sym (ap is_some before) ∙ (mapped_some _ _ ∙ none)))
+
+pub returns-clause-exactly : goal.returns-clause-exactly
+returns-clause-exactly g c = rw (← c.self.view_is)
+    (at_slot (λ p q. PostsOn g.T.Transport.sends p c.args.id.now c.args.code c.args.text c.post_error-self-inside.result q) c.self.inside.clients.items c.args.id.now.client
+    c.slot.result c.index_mut.result.now c.in-Some.client c.post_error-self-inside.new.self
+    (λ p did q. PostsError g.T.Transport.sends c.self.inside.protocol p c.args.id.now c.args.code c.args.text c.post_error-self-inside.result did q)
+    (stored_by _ _ _ _ c.client-client.ensures c.is_stored.ensures.stored ∙ c.if-not-is_stored.false) (c.slot.ensures ∙ ap (λ t. t.slot) c.client-client.ensures)
+    c.index_mut.ensures.value c.in-Some.is c.post_error-self-inside.ensures.does c.post_error-self-inside.ensures.exactly)

@@ -16,6 +16,7 @@ use Rattle.wl_server.proofs.CallSteps.OneClient.{IsOwn, done_at, not_stored}
 use Rattle.wl_server.proofs.CallSteps.Doing.{does_quietly}
 use Rattle.wl_server.proofs.CallSteps.Slots.{Kind, slot_in, slot_not_empty, stored_by}
 use Rattle.wl_server.proofs.CleanupSteps.Taken.{slots_set}
+use Rattle.wl_server.proofs.Plain.Data.{sets_object_data}
 use Rattle.wl_server.proofs.backend.Backend.set_object_data.Goals as goal
 
 abbrev sets : {T U C : Type 0} → IdParts → U → Result (Unit {0}) InvalidId → Kind T U C
@@ -45,8 +46,8 @@ set_does : {T U C : Type 0} (s : Stored T U C) (id : IdParts) (u : U) (answer : 
 set_does s id u answer store answered given =
     does_quietly s (λ p did q. Quietly false did (DataSet p id u answer q)) _ (refl, refl, data_set s.part id u answer store answered given)
 
-pub returns-then-not-is_stored : goal.returns-then-not-is_stored
-returns-then-not-is_stored g c = rw (← c.self.view_is)
+pub returns-then-not-is_stored-clause-call : goal.returns-then-not-is_stored-clause-call
+returns-then-not-is_stored-clause-call g c = rw (← c.self.view_is)
     (not_stored _ _ _ _ (own _ _ _) c.args.id.now.client (sets c.args.id.now c.args.user_data (Err _)) (◌≡◌ {A = Result (Unit {0}) InvalidId} (Err _) (Err _))
     (λ i l d b a h. (_, refl, h)) (stored_by _ _ _ _ c.client-client.ensures c.is_stored.ensures.stored ∙ c.if-not-is_stored.true) refl)
 
@@ -59,8 +60,8 @@ unreachable-requires g c =
     (stored_by _ _ _ _ c.client-client.ensures c.is_stored.ensures.stored ∙ c.if-not-is_stored.false) (c.slot.ensures ∙ ap (λ t. t.slot) c.client-client.ensures)
     c.index_mut.ensures.value c.in-None.is
 
-pub returns : goal.returns
-returns g c = rw (← c.self.view_is)
+pub returns-clause-call : goal.returns-clause-call
+returns-clause-call g c = rw (← c.self.view_is)
     (done_at _ _ _ _ (own _ _ _) c.args.id.now.client (sets c.args.id.now c.args.user_data c.give_data.result) (c.give_data.result ≡ Err _)
     (λ i l d b a h. (_, refl, h)) c.slot.result c.index_mut.result.now c.in-Some.stored _ false
     (stored_by _ _ _ _ c.client-client.ensures c.is_stored.ensures.stored ∙ c.if-not-is_stored.false) (c.slot.ensures ∙ ap (λ t. t.slot) c.client-client.ensures)
@@ -69,3 +70,9 @@ returns g c = rw (← c.self.view_is)
 
 pub invariant_of-self-2 : goal.invariant_of-self-2
 invariant_of-self-2 g c = slots_set _ _ _ _ _ c.self.invariant
+
+pub returns-then-not-is_stored-clause-plain : goal.returns-then-not-is_stored-clause-plain
+returns-then-not-is_stored-clause-plain g c = sets_object_data _ _ _ (returns-then-not-is_stored-clause-call g c)
+
+pub returns-clause-plain : goal.returns-clause-plain
+returns-clause-plain g c = sets_object_data _ _ _ (returns-clause-call g c)

@@ -2,16 +2,17 @@ use Rattle.std.proofs.Common.{◌∙◌, Vec, ap, arith}
 use Rattle.wl_server.proofs.CleanupSteps.GatheredSlots.{slots_kept}
 use Rattle.wl_server.proofs.CleanupSteps.TakingNotes.{notes_starved, notes_taken}
 use Rattle.wl_server.proofs.CleanupSteps.Taken.{taken_kept}
+use Rattle.wl_server.proofs.Plain.Cleanup.{takes_notes}
 use Rattle.wl_server.proofs.backend.Backend.take_notes.Goals as goal
 
-pub returns-in-Ok : goal.returns-in-Ok
-returns-in-Ok g c = rw (← c.self.view_is)
+pub returns-in-Ok-clause-call : goal.returns-in-Ok-clause-call
+returns-in-Ok-clause-call g c = rw (← c.self.view_is)
     (notes_taken _ _ c.gather_made.new.clients.items c.gather_made.new.notes.items c.replace.result c.replace.new.dest.items
     (ap (λ (v : Vec _ _). v.items) c.replace.ensures.value) (ap (λ (v : Vec _ _). v.items) c.replace.ensures.after ∙ c.new-none.ensures.items)
     c.in-Ok.ensures.gathered c.in-Ok.ensures.ended)
 
-pub returns-in-Err : goal.returns-in-Err
-returns-in-Err g c = rw (← c.self.view_is) (notes_starved _ _ _ _ _ c.in-Err.ensures.unchanged.0 c.in-Err.ensures.unchanged.1 c.in-Err.ensures.some)
+pub returns-in-Err-clause-call : goal.returns-in-Err-clause-call
+returns-in-Err-clause-call g c = rw (← c.self.view_is) (notes_starved _ _ _ _ _ c.in-Err.ensures.unchanged.0 c.in-Err.ensures.unchanged.1 c.in-Err.ensures.some)
 
 pub invariant_of-self : goal.invariant_of-self
 invariant_of-self g c =
@@ -23,3 +24,9 @@ invariant_of-self g c =
       within = omega (arith, same, before, after, within);
       taken = taken_kept _ _ _ _ _ _ c.gather_made.ensures.gathered c.gather_made.ensures.unchanged c.self.invariant.taken;
     }
+
+pub returns-in-Ok-clause-plain : goal.returns-in-Ok-clause-plain
+returns-in-Ok-clause-plain g c = takes_notes _ (returns-in-Ok-clause-call g c)
+
+pub returns-in-Err-clause-plain : goal.returns-in-Err-clause-plain
+returns-in-Err-clause-plain g c = takes_notes _ (returns-in-Err-clause-call g c)

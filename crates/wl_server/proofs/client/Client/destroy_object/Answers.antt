@@ -14,19 +14,19 @@ returns-in_default g c =
 pub returns-in-Err : goal.returns-in-Err
 returns-in-Err g c = rw (← c.self.view_is)
     (starved g.T.Transport.sends _ c.args.id.now c.in-Some.object.now (sym c.in-Some.ensures)
-    (map (λ w. w.1) c.reserve_note.new.waiting.items) (ap (map (λ w. w.1)) c.reserve_note.ensures.items) c.in-Err.ensures.asked)
+    (map (λ w. w.1) c.reserve_note.new.waiting.queue.items) (ap (map (λ w. w.1)) c.reserve_note.ensures.items) c.in-Err.ensures.asked)
 
 pub returns-then-is_out_of_memory : goal.returns-then-is_out_of_memory
 returns-then-is_out_of_memory g c = rw (← c.self.view_is)
     (untold g.T.Transport.sends _ c.args.id.now c.in-Some.object.now (sym c.in-Some.ensures)
-    c.put_delete_id-wrote.new.socket (map (λ w. w.1) c.reserve_note.new.waiting.items) c.protocol_id.result c.put_delete_id-wrote.result
+    c.put_delete_id-wrote.new.socket (map (λ w. w.1) c.reserve_note.new.waiting.queue.items) c.protocol_id.result c.put_delete_id-wrote.result
     (ap (map (λ w. w.1)) c.reserve_note.ensures.items) c.protocol_id.ensures c.put_delete_id-wrote.ensures (sym c.is_out_of_memory.ensures ∙ c.if-is_out_of_memory.true))
 
 pub returns : goal.returns
 returns g c = rw (← c.self.view_is)
     (destroyed g.T.Transport.sends _ c.args.id.now c.in-Some.object.now (sym c.in-Some.ensures)
     c.put_delete_id-wrote.new.socket c.protocol_id.result c.take_out_noted.new.objects.store c.take_out_noted.new.registries.items
-    (map (λ w. w.1) c.reserve_note.new.waiting.items) (map (λ w. w.1) c.take_out_noted.new.waiting.items) c.put_delete_id-wrote.result c.kill_unless_written.new.self
+    (map (λ w. w.1) c.reserve_note.new.waiting.queue.items) (map (λ w. w.1) c.take_out_noted.new.waiting.queue.items) c.put_delete_id-wrote.result c.kill_unless_written.new.self
     c.protocol_id.ensures c.put_delete_id-wrote.ensures (sym c.is_out_of_memory.ensures ∙ c.if-is_out_of_memory.false)
     c.take_out_noted.ensures.removed c.take_out_noted.ensures.registries c.take_out_noted.ensures.noted (ap (map (λ w. w.1)) c.reserve_note.ensures.items)
     c.kill_unless_written.ensures.closed)

@@ -6,7 +6,7 @@ use Rattle.wl_server.proofs.client.Client.ends_by.Goals as goal
 pub returns : goal.returns
 returns g c =
     rw (← c.in-Ok.ensures.text, ← c.in-Ok.ensures.code) (broke g.T.Transport.sends (around_of g.G.GlobalHandler.views c.args.around.now) c.args.self.now c.posts-refused.new.self c.in-Ok.code c.in-Ok.text c.posts-refused.result
-    (rw c.from_parts-display.ensures at c.posts-refused.ensures))
+    (rw c.from_parts-display.ensures at c.posts-refused.ensures.carried))
 
 pub returns-in_default : goal.returns-in_default
 returns-in_default g c =

@@ -16,4 +16,4 @@ returns-then-self g c =
 pub returns : goal.returns
 returns g c =
     rw (← c.self.view_is, c.if-self.false)
-    (_, _, (refl, refl), with_made _ _ _ _ (ap (map (λ m. m.1)) c.push_back_reserved.ensures.items ∙ map-append _ _ _))
+    (_, _, (refl, refl), with_made _ _ _ _ (ap (map (λ m. m.1)) c.push.ensures.items ∙ map-append _ _ _))

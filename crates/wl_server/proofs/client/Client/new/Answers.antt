@@ -15,7 +15,7 @@ returns g c = (
       is_killed = false;
       action = None;
       registries = c.new.ensures.items i;
-      waiting = map (λ w. w.1) (c.new-2.ensures.items i);
+      waiting = map (λ w. w.1) (c.new-2.ensures i);
     };
     made = c.in_ok-socket.ensures.notes i;
   },

@@ -1,5 +1,9 @@
-use Rattle.std.proofs.Common.{◌≡◌, ℕ, Bool, true, false, List, Result, MatchBool, refl, sym, eq-eqb}
-use Rattle.std.specs.Prelude.{◌↔◌, ◌==◌, IsTrue}
+use Rattle.std.proofs.Common.{◌≡◌, ◌∙◌, None, is_some, ap, ℕ, Bool, true, false, List, Result, MatchBool, refl, sym, eq-eqb}
+use Rattle.std.specs.Prelude.{◌↔◌, ◌==◌, IsTrue, if◌then◌else◌}
+use Rattle.wl_link.specs.Identity.{named_in}
+use Rattle.wl_link.specs.Store.{Store, held}
+use Rattle.wl_server.specs.declared.objects.Kept.{Kept}
+use Rattle.wl_server.specs.Part.{id_of, named, serial_of}
 use Rattle.std.proofs.lemmas.Bool.{false≢true, ne_eqb}
 use Rattle.wl_wire.specs.declared.error.IoFault.{IoFault}
 use Rattle.wl_wire.specs.Table.{InterfaceRow}
@@ -19,6 +23,10 @@ null_is : (b : Bool) (n : ℕ) → (IsTrue b ↔ (n ≡ 0)) → (n == 0) ≡ b
 null_is true n h = eq-eqb n 0 (h.0 refl)
 null_is false n h = ne_eqb n 0 (λ zero. false≢true (h.1 zero))
 
+-- a null id names nothing
+null_none : {U : Type 0} (store : Store (Kept U)) (id : IdParts) → (id.number == 0) ≡ true → is_some (named store id) ≡ false
+null_none store id null = ap (λ (b : Bool). is_some (if b then None else named_in serial_of (id_of id) (held store id.number))) null
+
 where_false : (A B : Type 0) (b : Bool) → b ≡ false → B → MatchBool b A B
 where_false A B true is h = absurd (false≢true (sym is))
 where_false A B false is h = h
@@ -35,11 +43,14 @@ module _ {T U C : Type 0} (sends : T → Queue → Result ℕ IoFault → T → 
   post_error_posts after refused object carried =
       let t = tells_carried sends (posts table (core_of s.part) id code text) s after refused carried in (t.0, t.1, where_false _ _ (id.number == 0) object t.2, t.3)
 
-pub returns-then-is_null : goal.returns-then-is_null
-returns-then-is_null g c =
+pub returns-then-is_null-clause-does : goal.returns-then-is_null-clause-does
+returns-then-is_null-clause-does g c =
     post_error_null g.T.Transport.sends c.args.protocol.now c.args.self.now c.args.id.now c.args.code c.args.text (null_is true _ c.if-is_null.ensures)
 
-pub returns : goal.returns
-returns g c =
+pub returns-clause-does : goal.returns-clause-does
+returns-clause-does g c =
     post_error_posts g.T.Transport.sends c.args.protocol.now c.args.self.now c.args.id.now c.args.code c.args.text c.posts.new.self c.posts.result
-    (null_is false _ c.if-is_null.ensures) c.posts.ensures
+    (null_is false _ c.if-is_null.ensures) c.posts.ensures.carried
+
+pub returns-then-is_null-clause-exactly : goal.returns-then-is_null-clause-exactly
+returns-then-is_null-clause-exactly g c = λ live kept. absurd (false≢true (sym (null_none c.args.self.now.part.store c.args.id.now (null_is true _ c.if-is_null.ensures)) ∙ kept))

@@ -8,9 +8,9 @@ use Rattle.wl_server.proofs.Readings.Handling.{remembered_quiet, replied}
 use Rattle.wl_server.proofs.client.Client.registered.Goals as goal
 
 pub returns : goal.returns
-returns g c args =
+returns g c f args =
     rw (← c.self.view_is)
     (replied g.T.Transport.sends _ _ c.put_globals-wrote.new.socket
     (map (global_message c.args.around.now.protocol.now (id_of c.args.registry.now)) (shown g.G.GlobalHandler.views (around_of g.G.GlobalHandler.views c.args.around.now).globals c.args.around.now.client c.self.inside.info))
-    (Remembered (id_of c.args.registry.now) ∷ []) c.put_globals-wrote.result c.replied.result args (remembered_quiet _)
+    (Remembered (id_of c.args.registry.now) ∷ []) c.put_globals-wrote.result c.replied.result f args (remembered_quiet _)
     (rw (← c.self.view_is) at c.requires) c.put_globals-wrote.ensures c.replied.ensures)

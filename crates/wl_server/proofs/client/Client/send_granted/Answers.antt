@@ -35,8 +35,8 @@ returns g c = λ sender is.
     let registries = of_sender c.self.inside.objects.store c.args.message.now.sender_id sender
     (λ x. c.end_sender.new.registries.items ≡ registries_ending c.args.ends c.self.inside.registries.items c.args.message.now.sender_id.number x) here c.end_sender.ensures.registries in
     let waiting = of_sender c.self.inside.objects.store c.args.message.now.sender_id sender
-    (λ x. map (λ w. w.1) c.end_sender.new.waiting.items
-    ≡ map (λ w. w.1) c.make_room-room.new.waiting.items ++ notes_ending c.args.ends c.args.message.now.sender_id.client c.args.message.now.sender_id.number x) here c.end_sender.ensures.waiting in
+    (λ x. map (λ w. w.1) c.end_sender.new.waiting.queue.items
+    ≡ map (λ w. w.1) c.make_room-room.new.waiting.queue.items ++ notes_ending c.args.ends c.args.message.now.sender_id.client c.args.message.now.sender_id.number x) here c.end_sender.ensures.waiting in
     sent c.args.message.now.sender_id.client (session_content c.args.message.now) sender g.T.Transport.sends c.args.self.now _ c.tell_end.new.self c.args.ends c.protocol_id.result
     c.write_numbered-written.new.self c.write_numbered-written.result c.tell_end.result
     (rw (← c.self.view_is)

@@ -21,4 +21,4 @@ loop-place-preserved g c = elim c.match-live_at.branch [
 ]
 
 pub returns : goal.returns
-returns g c = (c.loop-place.f, c.loop-place.invariant.2 c.loop-place.f (rw (nil_from_length _ c.in_default.ensures.cases) refl))
+returns g c = c.loop-place.invariant.2 c.loop-place.f (rw (nil_from_length _ c.in_default.ensures.cases) refl)

@@ -1,14 +1,15 @@
-use Rattle.std.proofs.Common.{◌∙◌, ◌++◌, length, arith, ap}
+use Rattle.std.proofs.Common.{◌∙◌, ◌++◌, List, length, arith, ap, subst, sym, true}
+use Rattle.wl_server.specs.declared.notes.queues.NotePlace.{NotePlace}
+use Rattle.wl_server.specs.Inside.NoteOrder.{IsOrderOf}
 use Rattle.wl_server.specs.Inside.Leaving.{collected, given_at}
 use Rattle.wl_server.proofs.CleanupSteps.Gathering.{gathers_length}
-use Rattle.wl_server.proofs.CleanupSteps.Rooms.{flushed_counts, gathered_ends, gathered_given}
+use Rattle.wl_server.proofs.CleanupSteps.Rooms.{flushed_counts, flushed_order, gathered_ends, gathered_given}
 use Rattle.wl_server.proofs.notes.cleanup.clean_up.Goals as goal
 
-pub gather-requires-clause-slots : goal.gather-requires-clause-slots
-gather-requires-clause-slots g c =
-    let len = c.flush_each-refused.ensures.len in
-    let few = c.requires.slots in
-    omega (arith, len, few)
+pub gather-requires-clause-order : goal.gather-requires-clause-order
+gather-requires-clause-order g c =
+    subst (λ (l : List NotePlace). IsOrderOf true c.flush_each-refused.new.clients.items l) (sym c.deref.ensures.value)
+    (flushed_order g.T.Transport.sends _ _ _ _ c.flush_each-refused.ensures c.requires.order)
 
 pub gather-requires-clause-room : goal.gather-requires-clause-room
 gather-requires-clause-room g c =
@@ -52,8 +53,8 @@ leave_all-requires-clause-given g c =
     let fits = c.requires.given in
     omega (arith, same, gathered, none, long, fits)
 
-pub returns : goal.returns
-returns g c = record {
+pub returns-clause-cleaned : goal.returns-clause-cleaned
+returns-clause-cleaned g c = record {
   flushed = c.flush_each-refused.new.clients.items;
   left = c.gather.new.clients.items;
   told = c.gather.new.notes.items;

@@ -2,7 +2,8 @@ use Rattle.std.proofs.Common.{length, true}
 use Rattle.std.specs.Vec.{vec_capacity, vec_len}
 use Rattle.wl_server.specs.Inside.Gathering.{count_leaving}
 use Rattle.wl_server.specs.Inside.Leaving.{collected, ends_at, given_at}
-use Rattle.wl_server.proofs.CleanupSteps.Asking.{at_most, none_both, none_ends, none_of, on_err, room_of_none, some_of}
+use Rattle.wl_server.proofs.CleanupSteps.Asking.{at_most, none_both, none_ends, none_leaving, none_of, on_err, room_of_none, some_of}
+use Rattle.wl_server.proofs.CleanupSteps.Ordering.{none_order}
 use Rattle.wl_server.proofs.notes.cleanup.memory_for.Goals as goal
 
 pub returns-then-count-eq0-clause-notes : goal.returns-then-count-eq0-clause-notes
@@ -42,3 +43,9 @@ returns-in_err-given-clause-some g c =
     on_err c.from_residual-in_err-given.result
     (some_of c.count_notes-gathered.result c.count_given-leaving.result c.saturating_add-count.result (count_leaving true c.args.clients.now)
     (length (collected given_at 0 c.args.clients.now)) c.saturating_add-count.ensures c.if-count-eq0.false c.count_notes-gathered.ensures.no_more c.count_given-leaving.ensures.no_more)
+
+pub returns-then-count-eq0-clause-order : goal.returns-then-count-eq0-clause-order
+returns-then-count-eq0-clause-order g c =
+    let none = none_both c.count_notes-gathered.result c.count_given-leaving.result c.saturating_add-count.result c.saturating_add-count.ensures c.if-count-eq0.true in
+    let notes = none_of c.count_notes-gathered.result (count_leaving true c.args.clients.now) none.0 c.count_notes-gathered.ensures.all in
+    none_order true c.args.clients.now c.new.result.items c.new.ensures.items (none_leaving true c.args.clients.now notes)

@@ -11,7 +11,7 @@ pub returns-in-RemoveGlobal : goal.returns-in-RemoveGlobal
 returns-in-RemoveGlobal g c = rw c.in-RemoveGlobal.is (over_script g.G.GlobalHandler.views _ _ _ _ c.remove_global.ensures)
 
 pub returns-in-KillClient : goal.returns-in-KillClient
-returns-in-KillClient g c = rw c.in-KillClient.is (over_script g.G.GlobalHandler.views _ _ _ _ c.kill_client.ensures)
+returns-in-KillClient g c = rw c.in-KillClient.is (over_script g.G.GlobalHandler.views _ _ _ _ c.kill_client.ensures.call)
 
 pub returns-in-SetClientMaxBufferSize : goal.returns-in-SetClientMaxBufferSize
 returns-in-SetClientMaxBufferSize g c = rw c.in-SetClientMaxBufferSize.is (over_script g.G.GlobalHandler.views _ _ _ _ c.set_client_max_buffer_size.ensures)

@@ -5,13 +5,13 @@ pub returns-in-InsertClient : goal.returns-in-InsertClient
 returns-in-InsertClient g c = rw c.in-InsertClient.is (over_script g.G.GlobalHandler.views _ _ _ _ c.insert_client.ensures)
 
 pub returns-in-Flush : goal.returns-in-Flush
-returns-in-Flush g c = rw c.in-Flush.is (over_script g.G.GlobalHandler.views _ _ _ _ c.flush.ensures)
+returns-in-Flush g c = rw c.in-Flush.is (over_script g.G.GlobalHandler.views _ _ _ _ c.flush.ensures.call)
 
 pub returns-in-SetDefaultMaxBufferSize : goal.returns-in-SetDefaultMaxBufferSize
 returns-in-SetDefaultMaxBufferSize g c = rw c.in-SetDefaultMaxBufferSize.is (over_script g.G.GlobalHandler.views _ _ _ _ c.set_default_max_buffer_size.ensures)
 
 pub returns-in-Cleanup : goal.returns-in-Cleanup
-returns-in-Cleanup g c = rw c.in-Cleanup.is (over_script g.G.GlobalHandler.views _ _ _ _ c.cleanup.ensures)
+returns-in-Cleanup g c = rw c.in-Cleanup.is (over_script g.G.GlobalHandler.views _ _ _ _ c.cleanup.ensures.call)
 
 pub returns-in-TakeNotes : goal.returns-in-TakeNotes
-returns-in-TakeNotes g c = rw c.in-TakeNotes.is (over_script g.G.GlobalHandler.views _ _ _ _ c.take_notes.ensures)
+returns-in-TakeNotes g c = rw c.in-TakeNotes.is (over_script g.G.GlobalHandler.views _ _ _ _ c.take_notes.ensures.call)

@@ -2,15 +2,10 @@ use Rattle.std.proofs.Common.{ℕ, ◌++◌, ◌∙◌, ap, length, subst, sym}
 use Rattle.std.proofs.lemmas.Bool.{false≢true}
 use Rattle.wl_link.proofs.OverRuns.RunLaws.{joins}
 use Rattle.wl_link.specs.Runs.{entries}
-use Rattle.wl_link.specs.ScriptLaws.{script_within_offer}
-use Rattle.wl_server.proofs.OverRuns.Alone.AccountLaws.{accounts_for_stopped, are_accounted_for}
 use Rattle.wl_server.proofs.OverRuns.Alone.HistoryLaws.{extends, extends_up_to}
-use Rattle.wl_server.proofs.OverRuns.Alone.IsolationLaw.{are_isolated}
 use Rattle.wl_server.proofs.OverRuns.Outcome.MoveLaws.{scripts_determined}
 use Rattle.wl_server.specs.PartStep.{over_scripts}
 use Rattle.wl_server.specs.Runs.{StopsAt}
-use Rattle.wl_server.specs.Server.{new_server}
-use Rattle.wl_server.proofs.OverRuns.Cut.StretchLaws.{are_cut}
 use Rattle.wl_server.specs.Steps.{StepOf}
 use Rattle.wl_server.proofs.OverRuns.Outcome.WholeRuns.{performance_one}
 use Rattle.wl_server.proofs.runs.replay.Backend+Memory+U+G+C.replay.Goals as goal
@@ -20,12 +15,6 @@ returns-then-self-clause-stopped g c =
     subst (λ (n : ℕ). StopsAt (over_scripts g.G.GlobalHandler.views) c.args.self.now.server c.args.steps.items n c.perform_all.new.replies.items c.perform_all.new.self.server)
     (sym (c.len.ensures ∙ c.perform_all.new.replies.ok.0))
     (c.perform_all.ensures.stopped (sym (ap (λ s. s.refused) c.self-2.view_is) ∙ c.if-self.true))
-
-pub returns-then-self-clause-stopped_accounts : goal.returns-then-self-clause-stopped_accounts
-returns-then-self-clause-stopped_accounts g c table run before =
-    accounts_for_stopped (over_scripts g.G.GlobalHandler.views) (record { law = script_within_offer }) c.args.self.now.server c.perform_all.new.self.server
-    c.args.steps.items (length c.perform_all.new.replies.items) c.perform_all.new.replies.items
-    (c.perform_all.ensures.stopped (sym (ap (λ s. s.refused) c.self-2.view_is) ∙ c.if-self.true)) table run before
 
 pub returns-then-self-clause-none : goal.returns-then-self-clause-none
 returns-then-self-clause-none g c none =
@@ -42,27 +31,11 @@ returns-clause-joined g c begun run before =
     joins (StepOf (over_scripts g.G.GlobalHandler.views)) begun c.args.self.now.server c.perform_all.new.self.server run (entries c.args.steps.items c.perform_all.new.replies.items) before
     (returns-clause-steps g c)
 
-pub returns-clause-isolated : goal.returns-clause-isolated
-returns-clause-isolated g c table run before =
-    are_isolated (over_scripts g.G.GlobalHandler.views) table (run ++ entries c.args.steps.items c.perform_all.new.replies.items) c.perform_all.new.self.server
-    (returns-clause-joined g c (new_server table) run before)
-
-pub returns-clause-accounted : goal.returns-clause-accounted
-returns-clause-accounted g c table run before =
-    are_accounted_for (over_scripts g.G.GlobalHandler.views) (record { law = script_within_offer }) table
-    (run ++ entries c.args.steps.items c.perform_all.new.replies.items) c.perform_all.new.self.server
-    (returns-clause-joined g c (new_server table) run before)
-
 pub returns-clause-outcome : goal.returns-clause-outcome
 returns-clause-outcome g c same other others alike many leads =
     performance_one (over_scripts g.G.GlobalHandler.views) (scripts_determined g.G.GlobalHandler.views)
     c.args.self.now.server same c.perform_all.new.self.server other c.args.steps.items c.perform_all.new.replies.items others
     (returns-clause-count g c) many alike (returns-clause-steps g c) leads
-
-pub returns-clause-cutting : goal.returns-clause-cutting
-returns-clause-cutting g c begun run before =
-    are_cut g.G.GlobalHandler.views begun c.perform_all.new.self.server (run ++ entries c.args.steps.items c.perform_all.new.replies.items)
-    (returns-clause-joined g c begun run before)
 
 pub returns-clause-history : goal.returns-clause-history
 returns-clause-history g c =

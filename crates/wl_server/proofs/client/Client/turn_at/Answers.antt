@@ -1,7 +1,7 @@
 use Rattle.std.proofs.Common.{refl}
 use Rattle.wl_server.specs.Inside.Turns.{around_of}
 use Rattle.wl_server.proofs.Readings.Turning.{turn_taken}
-use Rattle.wl_server.proofs.client.Client.turn_with.Goals as goal
+use Rattle.wl_server.proofs.client.Client.turn_at.Goals as goal
 
 pub returns-in-Ok-clause-turns : goal.returns-in-Ok-clause-turns
 returns-in-Ok-clause-turns g c =

@@ -1,0 +1,298 @@
+-- The places of the notes that are gathered: how many there are of each slot, and how many are left.
+use Rattle.std.proofs.Common.{◌≡◌, ◌≢◌, ℕ, get_or, zero, suc, ◌+◌, ◌<◌, ◌≤◌, Bool, true, false, List, [], ◌∷◌, ◌++◌, length, map, drop, take, Option, None, Some, is_some, refl, sym, ap, subst, ◌∙◌, append_assoc, append-nil, arith}
+use mathlib.Core.Logic.{inl, inr}
+use Rattle.std.specs.Option.{option_map_or}
+use Rattle.std.specs.Prelude.{◌⊎◌, ◌==◌, if◌then◌else◌, slice_get, slice_set}
+use Rattle.std.specs.List.Sorted.{IsPermutation}
+use Rattle.std.proofs.lemmas.Bool.{eqb-true, eq-eqb, false≢true}
+use Rattle.std.proofs.lemmas.List.{length-append, length-map, map-append, nil_from_length}
+use Rattle.std.proofs.lemmas.List.Sorted.{sum_by-IsPermutation}
+use Rattle.std.proofs.lemmas.List.Sums.{sum_by-append, sum_by-cons}
+use Rattle.std.proofs.lemmas.Option.{same_Some, slice_get-get_or}
+use Rattle.wl_server.specs.declared.notes.Happening.{Happening}
+use Rattle.wl_server.specs.declared.notes.Happening.TheVariants as happened
+use Rattle.wl_server.specs.declared.notes.Note.{Note}
+use Rattle.wl_server.specs.declared.notes.queues.NotePlace.{NotePlace}
+use Rattle.wl_server.specs.Inside.Gathering.{AllLeft, MovesNote, leaving}
+use Rattle.wl_server.specs.Inside.NoteOrder.{IsOrderOf, place_of, places_at, slot_of}
+use Rattle.wl_server.specs.Ids.{ClientParts}
+use Rattle.wl_server.specs.Server.{Stored, note_of, stored_at}
+use Rattle.wl_server.proofs.CallSteps.Slots.{get_set_other, get_set_same, other_of}
+
+-- ---- lists of places
+
+places_cons : (k : ℕ) (p : NotePlace) (order : List NotePlace) → places_at k (p ∷ order) ≡ (if p.slot == k then 1 else 0) + places_at k order
+places_cons k p order = sum_by-cons (λ (q : NotePlace). if q.slot == k then 1 else 0) p order
+
+places_more : (order : List NotePlace) (i k : ℕ) (p : NotePlace) → slice_get order i ≡ Some p
+    → places_at k (drop i order) ≡ (if p.slot == k then 1 else 0) + places_at k (drop (suc i) order)
+places_more [] i k p here = absurd (false≢true (ap is_some here))
+places_more (q ∷ order) zero k p here =
+    places_cons k q order ∙ ap (λ (r : NotePlace). (if r.slot == k then 1 else 0) + places_at k order) (same_Some q p here)
+places_more (q ∷ order) (suc i) k p here = places_more order i k p here
+
+places_drop : (order : List NotePlace) (i k : ℕ) (p : NotePlace) → slice_get order i ≡ Some p
+    → places_at k (drop i order) ≡ (if p.slot == k then 1 else 0) + places_at k (drop (i + 1) order)
+places_drop order i k p here =
+    let next : suc i ≡ i + 1 = omega arith in
+    subst (λ (n : ℕ). places_at k (drop i order) ≡ (if p.slot == k then 1 else 0) + places_at k (drop n order)) next (places_more order i k p here)
+
+slots_more : (order : List NotePlace) (i : ℕ) (p : NotePlace) → slice_get order i ≡ Some p
+    → map (λ q. q.slot) (take (suc i) order) ≡ map (λ q. q.slot) (take i order) ++ p.slot ∷ []
+slots_more [] i p here = absurd (false≢true (ap is_some here))
+slots_more (q ∷ order) zero p here = ap (λ (r : NotePlace). r.slot ∷ []) (same_Some q p here)
+slots_more (q ∷ order) (suc i) p here = ap (λ (l : List ℕ). q.slot ∷ l) (slots_more order i p here)
+
+pub slots_take : (order : List NotePlace) (i : ℕ) (p : NotePlace) → slice_get order i ≡ Some p
+    → map (λ q. q.slot) (take (i + 1) order) ≡ map (λ q. q.slot) (take i order) ++ p.slot ∷ []
+slots_take order i p here =
+    let next : suc i ≡ i + 1 = omega arith in
+    subst (λ (n : ℕ). map (λ (q : NotePlace). q.slot) (take n order) ≡ map (λ (q : NotePlace). q.slot) (take i order) ++ p.slot ∷ []) next (slots_more order i p here)
+
+pub places_moved : (k : ℕ) (order order' : List NotePlace) → IsPermutation order order' → places_at k order' ≡ places_at k order
+places_moved k order order' moves = sum_by-IsPermutation (λ (p : NotePlace). if p.slot == k then 1 else 0) order order' moves
+
+-- ---- the places of a client's notes
+
+module _ {U : Type 0} (slot k : ℕ) where
+  each_place : (waits b : Bool) → (slot == k) ≡ b → (notes : List (ℕ × Happening U)) → places_at k (map (place_of waits slot) notes) ≡ (if b then length notes else 0)
+  each_place waits true is [] = refl
+  each_place waits false is [] = refl
+  each_place waits true is (n ∷ notes) =
+      let one : places_at k (map (place_of waits slot) (n ∷ notes)) ≡ 1 + places_at k (map (place_of waits slot) notes) =
+      places_cons k (place_of waits slot n) (map (place_of waits slot) notes)
+      ∙ ap (λ (b : Bool). (if b then 1 else 0) + places_at k (map (place_of waits slot) notes)) is
+      in
+      let more = each_place waits true is notes in omega (arith, one, more)
+  each_place waits false is (n ∷ notes) =
+      let one : places_at k (map (place_of waits slot) (n ∷ notes)) ≡ 0 + places_at k (map (place_of waits slot) notes) =
+      places_cons k (place_of waits slot n) (map (place_of waits slot) notes)
+      ∙ ap (λ (b : Bool). (if b then 1 else 0) + places_at k (map (place_of waits slot) notes)) is
+      in
+      let more = each_place waits false is notes in omega (arith, one, more)
+
+  put : (waits : Bool) (notes : List (ℕ × Happening U)) (order order' : List NotePlace) → order' ≡ order ++ map (place_of waits slot) notes
+      → places_at k order' ≡ places_at k order + (if slot == k then length notes else 0)
+  put waits notes order order' is =
+      ap (places_at k) is
+      ∙ (sum_by-append (λ (p : NotePlace). if p.slot == k then 1 else 0) order (map (place_of waits slot) notes)
+      ∙ ap (λ (n : ℕ). places_at k order + n) (each_place waits (slot == k) refl notes))
+
+  pub put_made : (made : List (ℕ × Happening U)) (order order' : List NotePlace) → order' ≡ order ++ map (place_of false slot) made
+      → places_at k order' ≡ places_at k order + (if slot == k then length (map (λ n. n.1) made ++ []) else 0)
+  put_made made order order' is =
+      put false made order order' is
+      ∙ ap (λ (n : ℕ). places_at k order + (if slot == k then n else 0)) (sym (ap length (append-nil (map (λ n. n.1) made)) ∙ length-map made (λ n. n.1)))
+
+  pub put_both : (made waiting : List (ℕ × Happening U)) (order order' order'' : List NotePlace) → order' ≡ order ++ map (place_of false slot) made
+      → order'' ≡ order' ++ map (place_of true slot) waiting
+      → places_at k order'' ≡ places_at k order + (if slot == k then length (map (λ n. n.1) made ++ map (λ n. n.1) waiting) else 0)
+  put_both made waiting order order' order'' is is' = at (slot == k) (put false made order order' is) (put true waiting order' order'' is')
+    where
+      at : (b : Bool) → places_at k order' ≡ places_at k order + (if b then length made else 0) → places_at k order'' ≡ places_at k order' + (if b then length waiting else 0)
+          → places_at k order'' ≡ places_at k order + (if b then length (map (λ n. n.1) made ++ map (λ n. n.1) waiting) else 0)
+      at true first second =
+          let both = length-append (map (λ n. n.1) made) (map (λ n. n.1) waiting) in
+          let m = length-map made (λ n. n.1) in
+          let w = length-map waiting (λ n. n.1) in
+          omega (arith, first, second, both, m, w)
+      at false first second = omega (arith, first, second)
+
+-- the note of a client has its slot
+slot_told : {U : Type 0} (id : ClientParts) (h : Happening U) → slot_of (note_of id h) ≡ id.slot
+slot_told id happened.Initialized = refl
+slot_told id (happened.Disconnected reason) = refl
+slot_told id (happened.Destroyed object u) = refl
+
+-- ---- the places of all clients
+
+pub split : (a b : ℕ) → (a < b) ⊎ (b ≤ a)
+split zero zero = inr (omega arith)
+split zero (suc b) = inl (omega arith)
+split (suc a) zero = inr (omega arith)
+split (suc a) (suc b) = go (split a b)
+  where
+    go : (a < b) ⊎ (b ≤ a) → (suc a < suc b) ⊎ (suc b ≤ suc a)
+    go (inl below) = inl (omega (arith, below))
+    go (inr past) = inr (omega (arith, past))
+
+module _ {T U C : Type 0} (waits : Bool) where
+  -- each slot below this one has as many places as its client has notes, and the others have none
+  pub record Placed (clients : List (Option (Stored T U C))) (slot : ℕ) (order : List NotePlace) : Type 0 where
+    pub below : (k : ℕ) → k < slot → places_at k order ≡ length (leaving waits (stored_at k clients))
+    pub past : (k : ℕ) → slot ≤ k → places_at k order ≡ 0
+
+  pub stored_is : (clients : List (Option (Stored T U C))) (k : ℕ) (x : Option (Stored T U C)) → slice_get clients k ≡ Some x → stored_at k clients ≡ x
+  stored_is clients k x here = ap (λ (o : Option (Option (Stored T U C))). option_map_or (λ s. s) o None) here
+
+  none_stored : (clients : List (Option (Stored T U C))) (k : ℕ) → length clients ≤ k → stored_at k clients ≡ None
+  none_stored [] k past = refl
+  none_stored (x ∷ clients) zero past = absurd (omega (arith, past))
+  none_stored (x ∷ clients) (suc k) past = none_stored clients k (omega (arith, past))
+
+  pub placed_none : (clients : List (Option (Stored T U C))) (order : List NotePlace) → order ≡ [] → Placed clients 0 order
+  placed_none clients order none = record { below = λ k below. absurd (omega (arith, below)); past = λ k past. ap (places_at k) none }
+
+  pub placed_more : (clients : List (Option (Stored T U C))) (slot : ℕ) (x : Option (Stored T U C)) (order order' : List NotePlace) → slice_get clients slot ≡ Some x
+      → Placed clients slot order → ((k : ℕ) → places_at k order' ≡ places_at k order + (if slot == k then length (leaving waits x) else 0))
+      → Placed clients (slot + 1) order'
+  placed_more clients slot x order order' here placed put = record {
+    below = λ k below. at k below (slot == k) refl;
+    past = λ k past. none k past (slot == k) refl;
+  }
+    where
+      added : (k : ℕ) (b : Bool) → (slot == k) ≡ b → places_at k order' ≡ places_at k order + (if b then length (leaving waits x) else 0)
+      added k b is = put k ∙ ap (λ (b : Bool). places_at k order + (if b then length (leaving waits x) else 0)) is
+
+      at : (k : ℕ) → k < slot + 1 → (b : Bool) → (slot == k) ≡ b → places_at k order' ≡ length (leaving waits (stored_at k clients))
+      at k below true is =
+          let same = eqb-true slot k is in
+          let more = added k true is in
+          let none = placed.past k (omega (arith, same)) in
+          let there : length (leaving waits (stored_at k clients)) ≡ length (leaving waits x) =
+          ap (λ (o : Option (Stored T U C)). length (leaving waits o)) (subst (λ (n : ℕ). stored_at n clients ≡ x) same (stored_is clients slot x here))
+          in
+          omega (arith, more, none, there)
+      at k below false is =
+          let differ = other_of slot k is in
+          let more = added k false is in
+          let before = placed.below k (omega (arith, below, differ)) in
+          omega (arith, more, before)
+
+      none : (k : ℕ) → slot + 1 ≤ k → (b : Bool) → (slot == k) ≡ b → places_at k order' ≡ 0
+      none k past true is = let same = eqb-true slot k is in absurd (omega (arith, same, past))
+      none k past false is =
+          let more = added k false is in
+          let before = placed.past k (omega (arith, past)) in
+          omega (arith, more, before)
+
+  pub placed_all : (clients : List (Option (Stored T U C))) (slot : ℕ) (order : List NotePlace) → length clients ≤ slot → Placed clients slot order → (k : ℕ)
+      → places_at k order ≡ length (leaving waits (stored_at k clients))
+  placed_all clients slot order ends placed k = at (split k slot)
+    where
+      at : (k < slot) ⊎ (slot ≤ k) → places_at k order ≡ length (leaving waits (stored_at k clients))
+      at (inl below) = placed.below k below
+      at (inr past) =
+          placed.past k past
+          ∙ sym (ap (λ (o : Option (Stored T U C)). length (leaving waits o)) (none_stored clients k (omega (arith, ends, past))))
+
+  -- where there is no note, there is no place
+  pub none_placed : (clients : List (Option (Stored T U C))) → AllLeft waits clients → (k : ℕ) → places_at k [] ≡ length (leaving waits (stored_at k clients))
+  none_placed clients none k = at (slice_get clients k) refl
+    where
+      at : (o : Option (Option (Stored T U C))) → slice_get clients k ≡ o → 0 ≡ length (leaving waits (option_map_or (λ s. s) o None))
+      at None here = refl
+      at (Some x) here = sym (ap length (none k x here))
+
+  -- ---- places that are left
+
+  -- each slot has as many places left as its client has notes
+  abbrev pub Left : List (Option (Stored T U C)) → List NotePlace → Type 0
+  Left clients order = (k : ℕ) → places_at k order ≡ length (leaving waits (stored_at k clients))
+
+  next_count : (clients : List (Option (Stored T U C))) (order : List NotePlace) (i k : ℕ) (p : NotePlace) (b : Bool) → slice_get order i ≡ Some p → Left clients (drop i order)
+      → (p.slot == k) ≡ b → length (leaving waits (stored_at k clients)) ≡ (if b then 1 else 0) + places_at k (drop (i + 1) order)
+  next_count clients order i k p b here left is =
+      sym (left k) ∙ (places_drop order i k p here ∙ ap (λ (b : Bool). (if b then 1 else 0) + places_at k (drop (i + 1) order)) is)
+
+  -- the client at the next place has a note
+  pub next_some : (clients : List (Option (Stored T U C))) (order : List NotePlace) (i : ℕ) (p : NotePlace) → slice_get order i ≡ Some p → Left clients (drop i order)
+      → 0 < length (leaving waits (stored_at p.slot clients))
+  next_some clients order i p here left = let count = next_count clients order i p.slot p true here left (eq-eqb p.slot p.slot refl) in omega (arith, count)
+
+  pub next_within : (clients : List (Option (Stored T U C))) (order : List NotePlace) (i : ℕ) (p : NotePlace) → slice_get order i ≡ Some p → Left clients (drop i order)
+      → p.slot < length clients
+  next_within clients order i p here left = at (split p.slot (length clients))
+    where
+      at : (p.slot < length clients) ⊎ (length clients ≤ p.slot) → p.slot < length clients
+      at (inl within) = within
+      at (inr past) =
+          let some = next_some clients order i p here left in
+          let none : length (leaving waits (stored_at p.slot clients)) ≡ 0 = ap (λ (o : Option (Stored T U C)). length (leaving waits o)) (none_stored clients p.slot past) in
+          absurd (omega (arith, some, none))
+
+  pub left_after : (clients : List (Option (Stored T U C))) (notes notes' : List (Note U)) (order : List NotePlace) (i : ℕ) (p : NotePlace) (x x' : Option (Stored T U C))
+      → slice_get order i ≡ Some p → slice_get clients p.slot ≡ Some x → MovesNote waits p.slot x notes x' notes' → Left clients (drop i order)
+      → Left (slice_set clients p.slot x') (drop (i + 1) order)
+  left_after clients notes notes' order i p x x' here there (h, one, rest, is) left k = at (p.slot == k) refl
+    where
+      at : (b : Bool) → (p.slot == k) ≡ b → places_at k (drop (i + 1) order) ≡ length (leaving waits (stored_at k (slice_set clients p.slot x')))
+      at true same =
+          let at_slot = eqb-true p.slot k same in
+          let count = next_count clients order i k p true here left same in
+          let before : length (leaving waits (stored_at k clients)) ≡ length (leaving waits x) =
+          ap (λ (o : Option (Stored T U C)). length (leaving waits o)) (subst (λ (n : ℕ). stored_at n clients ≡ x) at_slot (stored_is clients p.slot x there))
+          in
+          let fewer : length (leaving waits x) ≡ suc (length (leaving waits x')) = ap length one in
+          let after : length (leaving waits (stored_at k (slice_set clients p.slot x'))) ≡ length (leaving waits x') =
+          ap (λ (o : Option (Stored T U C)). length (leaving waits o))
+          (subst (λ (n : ℕ). stored_at n (slice_set clients p.slot x') ≡ x') at_slot
+          (stored_is (slice_set clients p.slot x') p.slot x' (get_set_same clients p.slot x x' there)))
+          in
+          omega (arith, count, before, fewer, after)
+      at false other =
+          let count = next_count clients order i k p false here left other in
+          let same : length (leaving waits (stored_at k (slice_set clients p.slot x'))) ≡ length (leaving waits (stored_at k clients)) =
+          ap (λ (o : Option (Option (Stored T U C))). length (leaving waits (option_map_or (λ s. s) o None))) (get_set_other clients p.slot k x' (other_of p.slot k other))
+          in
+          omega (arith, count, same)
+
+  pub none_left : (clients : List (Option (Stored T U C))) (order : List NotePlace) → order ≡ [] → Left clients order → AllLeft waits clients
+  none_left clients order none left slot x here =
+      let count = left slot in
+      let no : places_at slot order ≡ 0 = ap (places_at slot) none in
+      let there : length (leaving waits (stored_at slot clients)) ≡ length (leaving waits x) =
+      ap (λ (o : Option (Stored T U C)). length (leaving waits o)) (stored_is clients slot x here)
+      in
+      nil_from_length (leaving waits x) (omega (arith, count, no, there))
+
+  -- ---- the slots of the notes
+
+  pub slots_after : (notes notes' : List (Note U)) (slot : ℕ) (x x' : Option (Stored T U C)) → MovesNote waits slot x notes x' notes'
+      → map slot_of notes' ≡ map slot_of notes ++ slot ∷ []
+  slots_after notes notes' slot None x' (h, one, rest, is) = absurd (nil_cons one)
+    where
+      nil_cons : [] ≡ h ∷ leaving waits x' → ⊥
+      nil_cons e = cc
+  slots_after notes notes' slot (Some s) x' (h, one, rest, is) =
+      ap (map slot_of) is
+      ∙ (map-append slot_of notes (note_of (record { slot = slot; serial = s.serial }) h ∷ [])
+      ∙ ap (λ (n : ℕ). map slot_of notes ++ n ∷ []) (slot_told (record { slot = slot; serial = s.serial }) h))
+
+  -- ---- a round of the loop that gathers
+
+  pub place_within : (clients : List (Option (Stored T U C))) (order : List NotePlace) (i n : ℕ) (d : NotePlace) → i < length order → n ≡ (get_or order i d).slot
+      → Left clients (drop i order) → n < length clients
+  place_within clients order i n d within is left =
+      subst (λ (m : ℕ). m < length clients) (sym is) (next_within clients order i (get_or order i d) (slice_get-get_or order i d within) left)
+
+  pub place_some : (clients : List (Option (Stored T U C))) (order : List NotePlace) (i n : ℕ) (d : NotePlace) (x : Option (Stored T U C)) → i < length order
+      → n ≡ (get_or order i d).slot → slice_get clients n ≡ Some x → Left clients (drop i order) → 0 < length (leaving waits x)
+  place_some clients order i n d x within is there left =
+      subst (λ (o : Option (Stored T U C)). 0 < length (leaving waits o)) (stored_is clients n x there)
+      (subst (λ (m : ℕ). 0 < length (leaving waits (stored_at m clients))) (sym is)
+      (next_some clients order i (get_or order i d) (slice_get-get_or order i d within) left))
+
+  pub place_left : (clients : List (Option (Stored T U C))) (notes notes' : List (Note U)) (order : List NotePlace) (i n : ℕ) (d : NotePlace) (x x' : Option (Stored T U C))
+      → i < length order → n ≡ (get_or order i d).slot → slice_get clients n ≡ Some x → MovesNote waits n x notes x' notes' → Left clients (drop i order)
+      → Left (slice_set clients n x') (drop (i + 1) order)
+  place_left clients notes notes' order i n d x x' within is there moved left =
+      let p : NotePlace = get_or order i d in
+      subst (λ (m : ℕ). Left (slice_set clients m x') (drop (i + 1) order)) (sym is)
+      (left_after clients notes notes' order i p x x' (slice_get-get_or order i d within) (subst (λ (m : ℕ). slice_get clients m ≡ Some x) is there)
+      (subst (λ (m : ℕ). MovesNote waits m x notes x' notes') is moved) left)
+
+  -- there is no place where there is no note
+  pub none_order : (clients : List (Option (Stored T U C))) (order : List NotePlace) → order ≡ [] → AllLeft waits clients → IsOrderOf waits clients order
+  none_order clients order none left =
+      subst (λ (l : List NotePlace). IsOrderOf waits clients l) (sym none)
+      (record { rise = λ k d below. absurd (omega (arith, below)); each = none_placed clients left })
+
+pub along_more : (start now now' : List ℕ) (order : List NotePlace) (i n : ℕ) (d : NotePlace) → i < length order → n ≡ (get_or order i d).slot
+    → now ≡ start ++ map (λ q. q.slot) (take i order) → now' ≡ now ++ n ∷ [] → now' ≡ start ++ map (λ q. q.slot) (take (i + 1) order)
+along_more start now now' order i n d within is before after =
+    after
+    ∙ (ap (λ (l : List ℕ). l ++ n ∷ []) before
+    ∙ (append_assoc start (map (λ q. q.slot) (take i order)) (n ∷ [])
+    ∙ ap (λ (l : List ℕ). start ++ l)
+    (ap (λ (m : ℕ). map (λ q. q.slot) (take i order) ++ m ∷ []) is ∙ sym (slots_take order i (get_or order i d) (slice_get-get_or order i d within)))))

@@ -1,0 +1,68 @@
+-- What the post of an error makes of the link of a live client whose object is kept.
+use Rattle.std.proofs.Common.{◌≡◌, ◌∙◌, ℕ, Bool, true, false, ◌||◌, List, Option, Some, is_some, Result, Ok, Err, MatchResult, refl, sym, ap, subst, inl, inr, true≢false}
+use Rattle.std.specs.Option.{option_map}
+use Rattle.std.specs.Prelude.{slice_get, slice_index_or, slice_set}
+use Rattle.std.proofs.lemmas.Option.{same_Some}
+use Rattle.wl_wire.specs.declared.error.IoFault.{IoFault}
+use Rattle.wl_link.specs.Exchange.{Queue, Sending}
+use Rattle.wl_link.specs.Link.{LinkState, Wrote}
+use Rattle.wl_link.specs.Puts.{FlushesOut, lacked_memory}
+use Rattle.wl_server.specs.declared.notes.DisconnectReason.{DisconnectReason}
+use Rattle.wl_server.specs.declared.notes.DisconnectReason.TheVariants.{ConnectionClosed}
+use Rattle.wl_server.specs.Ids.{ClientParts}
+use Rattle.wl_server.specs.Inside.Client.{Does}
+use Rattle.wl_server.specs.Part.{Part}
+use Rattle.wl_server.specs.Posted.{TellsOrLacks}
+use Rattle.wl_server.specs.Server.{Stored, client_at}
+use Rattle.wl_server.specs.Telling.{Kills, error_message}
+use Rattle.wl_server.proofs.CallSteps.Slots.{client_present, get_set_same, slot_has}
+use Rattle.wl_server.proofs.ObjectCalls.Posting.{kills_is}
+
+module _ {T U C : Type 0} where
+  -- a client that is killed keeps its link
+  pub kills_link : (s after : Stored T U C) (reason : DisconnectReason) → Does s (λ p did q. Kills p reason did q) after → after.part.link ≡ s.part.link
+  kills_link s after reason kills = ap (λ (x : Stored T U C). x.part.link) (kills_is s after reason kills)
+
+  told_link : (s after : Stored T U C) (wrote : Result (Unit {0}) IoFault)
+      → MatchResult wrote (λ _. after ≡ s) (λ _. Does s (λ p did q. Kills p ConnectionClosed did q) after) → after.part.link ≡ s.part.link
+  told_link s after (Ok u) same = ap (λ (x : Stored T U C). x.part.link) same
+  told_link s after (Err f) kills = kills_link s after ConnectionClosed kills
+
+  -- the error was written, and what waits was flushed
+  pub told_exactly : (sends : T → Queue → Result ℕ IoFault → T → Type 0) (before : LinkState T) (put flushed told after : Stored T U C) (reason : DisconnectReason)
+      (n code : ℕ) (text : List ℕ) (wrote : Result (Unit {0}) IoFault) (es : List Sending) (refused lacked : Bool)
+      → Wrote sends before (error_message n code text).message wrote put.part.link → FlushesOut sends true put.part.link es lacked flushed.part.link
+      → refused ≡ lacked_memory wrote → MatchResult wrote (λ _. told ≡ flushed) (λ _. Does flushed (λ p did q. Kills p ConnectionClosed did q) told)
+      → Does told (λ p did q. Kills p reason did q) after → TellsOrLacks sends before n code text (refused || lacked) after.part.link
+  told_exactly sends before put flushed told after reason n code text wrote es refused lacked wrote-is flushes refused-is tells kills =
+      let same : after.part.link ≡ flushed.part.link = kills_link told after reason kills ∙ told_link flushed told wrote tells in
+      subst (λ (l : LinkState T). TellsOrLacks sends before n code text (refused || lacked) l) (sym same)
+      (inl (wrote, put.part.link, es, lacked, wrote-is, flushes, ap (λ (b : Bool). b || lacked) refused-is))
+
+  -- there was no memory for the texts
+  pub lacked_exactly : (sends : T → Queue → Result ℕ IoFault → T → Type 0) (s after : Stored T U C) (n code : ℕ) (text : List ℕ)
+      → Does s (λ p did q. Kills p ConnectionClosed did q) after → TellsOrLacks sends s.part.link n code text true after.part.link
+  lacked_exactly sends s after n code text kills = inr (refl, kills_link s after ConnectionClosed kills)
+
+  -- a killed client is not live
+  pub not_live : {P : Type 0} (p : Part T U C) → p.is_killed ≡ true → p.is_killed ≡ false → P
+  not_live p dead live = absurd (true≢false (sym dead ∙ live))
+
+  -- ---- at the slot of the client
+
+  does_serial : (c c' : Stored T U C) (R : Part T U C → List _ → Part T U C → Type 0) → Does c R c' → c'.serial ≡ c.serial
+  does_serial c c' R (did, q, does, is) = ap (λ (s : Stored T U C). s.serial) is
+
+  -- what is so of the client before the call and after it is so of what is held of its id
+  pub at_slot : (Q : Part T U C → Part T U C → Type 0) (clients : List (Option (Stored T U C))) (target : ClientParts) (n : ℕ) (x : Option (Stored T U C)) (c c' : Stored T U C)
+      (R : Part T U C → List _ → Part T U C → Type 0) → is_some (client_at target clients) ≡ true → n ≡ target.slot → x ≡ slice_index_or clients n x → x ≡ Some c
+      → Does c R c' → Q c.part c'.part → (p q : Part T U C) → option_map (λ s. s.part) (client_at target clients) ≡ Some p
+      → option_map (λ s. s.part) (client_at target (slice_set clients n (Some c'))) ≡ Some q → Q p q
+  at_slot Q clients target n x c c' R some at value is does holds p q before after =
+      let has = slot_has clients target n x c some at value is in
+      let first : Some c.part ≡ Some p = sym (ap (option_map (λ (s : Stored T U C). s.part)) (client_present target clients c has.0 has.1)) ∙ before in
+      let there : slice_get (slice_set clients n (Some c')) target.slot ≡ Some (Some c') =
+      subst (λ (i : ℕ). slice_get (slice_set clients i (Some c')) target.slot ≡ Some (Some c')) (sym at) (get_set_same clients target.slot (Some c) (Some c') has.0) in
+      let second : Some c'.part ≡ Some q =
+      sym (ap (option_map (λ (s : Stored T U C). s.part)) (client_present target (slice_set clients n (Some c')) c' there (does_serial c c' R does ∙ has.1))) ∙ after in
+      subst (λ (y : Part T U C). Q p y) (same_Some c'.part q second) (subst (λ (y : Part T U C). Q y c'.part) (same_Some c.part p first) holds)

@@ -1,0 +1,205 @@
+-- That each note of a destroyed object is of one that left, and that the end of a request notes at once what leaves by it.
+use Rattle.std.proofs.Common.{◌≡◌, ℕ, Bool, true, false, List, [], ◌∷◌, ◌++◌, map, Option, None, Some, Result, is_some, refl, sym, ap, subst, ◌∙◌, arith}
+use mathlib.Core.Logic.{inl, inr}
+use Rattle.std.specs.Prelude.{◌⊎◌, Contains, if◌then◌else◌}
+use Rattle.std.proofs.lemmas.Bool.{false≢true}
+use Rattle.std.proofs.lemmas.List.Elements.{Contains-append_cases, Contains-append_left, Contains-append_right, Contains-push, Contains-push_cases}
+use Rattle.std.proofs.lemmas.List.Sorted.{Contains-permutation, IsPermutation-sym}
+use Rattle.wl_wire.specs.declared.error.IoFault.{IoFault}
+use Rattle.wl_wire.specs.Table.{InterfaceRow}
+use Rattle.wl_link.specs.declared.object.Object.{Object}
+use Rattle.wl_link.proofs.Calls.Branches.{either_option}
+use Rattle.wl_link.specs.Exchange.{Queue, Sending}
+use Rattle.wl_link.specs.Identity.{Id}
+use Rattle.wl_link.specs.Puts.{Said}
+use Rattle.wl_link.specs.Reader.{CarriesOut, Given, Verdict, came_to}
+use Rattle.wl_link.specs.Runs.{RunEntry}
+use Rattle.wl_server.specs.declared.error.FinishRefused.{FinishRefused}
+use Rattle.wl_server.specs.declared.notes.DisconnectReason.{DisconnectReason}
+use Rattle.wl_server.specs.declared.notes.Happening.{Happening}
+use Rattle.wl_server.specs.declared.notes.Happening.TheVariants.{Destroyed, Disconnected, Initialized}
+use Rattle.wl_server.specs.declared.objects.Kept.{Kept}
+use Rattle.wl_server.specs.declared.reading.action.OpenAction.TheVariants as opened
+use Rattle.wl_server.specs.declared.runs.step.Reply.{Reply}
+use Rattle.wl_server.specs.declared.runs.step.Step.{Step}
+use Rattle.wl_server.specs.Deeds.{Deed, Noted, Put, Sent, left_if, left_in, notes_in, taken_in}
+use Rattle.wl_server.specs.Finish.{FinishesRequest, ended_by, ending, ends, refusal}
+use Rattle.wl_server.specs.Globals.{Offer, new_offer}
+use Rattle.wl_server.specs.Identified.{waiting_of}
+use Rattle.wl_server.specs.Ids.{ClientParts, IdParts, same_client}
+use Rattle.wl_server.specs.NotedEnds.{EachNoteIsOfAnEnd, EndIsNotedAtOnce, HaveNotesOfEnds}
+use Rattle.wl_server.specs.NotedOnce.{destroyed_in}
+use Rattle.wl_server.specs.Part.{Part, end_note, id_at, id_of, named, note_of_end}
+use Rattle.wl_server.specs.PartStep.{OfClient, PartCall, World}
+use Rattle.wl_server.specs.Runs.{Leads, Performs, history, mine, offer_over}
+use Rattle.wl_server.specs.Server.{Seen, ServerState, new_server, seen}
+use Rattle.wl_server.specs.Steps.{Entry}
+use Rattle.wl_server.specs.Telling.{Core, Did, Tells, Told, core_of, deeds_in, end_deeds, speaker}
+use Rattle.wl_server.proofs.OverRuns.Alone.IsolationLaw.{are_isolated, is_isolated}
+use Rattle.wl_server.proofs.OverRuns.Alone.OwnRuns.{are_mine}
+use Rattle.wl_server.proofs.OverRuns.Ids.IdentityLaws.{own_ids}
+use Rattle.wl_server.proofs.OverRuns.Moves.BaseMoves.{Doings}
+use Rattle.wl_server.proofs.OverRuns.Moves.DoingsLaws.{deeds_given, done_both, told_deeds}
+use Rattle.wl_server.proofs.OverRuns.Moves.MovesOfCalls.{ended_named, named_serial}
+use Rattle.wl_server.proofs.OverRuns.Noted.NotedLaws.{destroyed_both, each_is_noted}
+
+-- ---- each note is of an object that left
+
+-- one of a list stands at its front or behind that
+in_cons : {A : Type 0} (x y : A) (xs : List A) → Contains (y ∷ xs) x → (y ≡ x) ⊎ Contains xs x
+in_cons x y xs among = elim (Contains-append_cases (y ∷ []) xs x among) [
+  | inl here ↦ elim (Contains-push_cases [] y x here) [ inl never ↦ inr (Contains-append_left [] xs x never) | inr is ↦ inl is ]
+  | inr behind ↦ inr behind
+]
+
+at_front : {A : Type 0} (x : A) (xs : List A) → Contains (x ∷ xs) x
+at_front x xs = Contains-append_left (x ∷ []) xs x (Contains-push [] x)
+
+module _ {U : Type 0} where
+  abbrev is_destroyed : Happening U → Bool
+  is_destroyed (Destroyed o u) = true
+  is_destroyed Initialized = false
+  is_destroyed (Disconnected reason) = false
+
+  abbrev destroyed_id : IdParts → Happening U → IdParts
+  destroyed_id d (Destroyed o u) = o
+  destroyed_id d Initialized = d
+  destroyed_id d (Disconnected reason) = d
+
+  destroyed_among : (notes : List (Happening U)) (o : IdParts) (u : U) → Contains notes (Destroyed o u) → Contains (destroyed_in notes) (id_of o)
+  destroyed_among [] o u (k, below, is) = absurd (omega (arith, below))
+  destroyed_among (Initialized ∷ notes) o u among =
+      elim (in_cons (Destroyed o u) Initialized notes among) [
+        | inl is ↦ absurd (false≢true (ap is_destroyed is))
+        | inr behind ↦ destroyed_among notes o u behind
+      ]
+  destroyed_among (Disconnected reason ∷ notes) o u among =
+      elim (in_cons (Destroyed o u) (Disconnected reason) notes among) [
+        | inl is ↦ absurd (false≢true (ap is_destroyed is))
+        | inr behind ↦ destroyed_among notes o u behind
+      ]
+  destroyed_among (Destroyed a v ∷ notes) o u among =
+      elim (in_cons (Destroyed o u) (Destroyed a v) notes among) [
+        | inl is ↦ subst (λ (i : IdParts). Contains (id_of a ∷ destroyed_in notes) (id_of i)) (ap (destroyed_id a) is) (at_front (id_of a) (destroyed_in notes))
+        | inr behind ↦ Contains-append_right (id_of a ∷ []) (destroyed_in notes) (id_of o) (destroyed_among notes o u behind)
+      ]
+
+module _ {T U G C : Type 0} where
+  pub each_note_is_of_an_end : (w : World T G C) (table : List InterfaceRow) (run : List (Entry T U G C)) (after : ServerState T U G C) → Leads w (new_server table) run after
+      → EachNoteIsOfAnEnd run after
+  each_note_is_of_an_end w table run after leads id transport info earlier later e split inserts o u among =
+      let (link, fresh, alone) = (is_isolated w table run after leads).each id transport info earlier later e split inserts in
+      let offer : Offer G = offer_over (new_offer table) (earlier ++ e ∷ []) in
+      let ids = own_ids w id offer link info (mine id later) (seen id after) (are_mine id later) alone in
+      let notes = each_is_noted w table run after leads id transport info earlier later e split inserts in
+      let told : List (Happening U) = taken_in (history (mine id later)) ++ ((seen id after).made ++ waiting_of (seen id after).part) in (
+        (ids.noted o u among).0,
+        Contains-permutation (destroyed_in told) (left_in (history (mine id later))) (id_of o)
+            (IsPermutation-sym (left_in (history (mine id later))) (destroyed_in told) notes.destroyed) (destroyed_among told o u among),
+      )
+
+  pub have_notes_of_ends : (w : World T G C) (table : List InterfaceRow) (steps : List (RunEntry (Step T U G C) (Reply T U))) (after : ServerState T U G C)
+      → Performs w (new_server table) steps after → HaveNotesOfEnds w table steps after
+  have_notes_of_ends w table steps after performs =
+      let (run, are, leads, isolated) = are_isolated w table steps after performs in (run, are, leads, each_note_is_of_an_end w table run after leads)
+
+-- ---- the end of a request
+
+module _ {U : Type 0} where
+  -- the objects that leave are those that the notes tell of
+  abbrev SameEnds : List (Deed U) → Type 0
+  SameEnds did = left_in did ≡ destroyed_in (notes_in did)
+
+  same_none : (did : List (Deed U)) → did ≡ [] → SameEnds did
+  same_none did none = ap left_in none ∙ sym (ap (λ (d : List (Deed U)). destroyed_in (notes_in d)) none)
+
+  same_both : (a b : List (Deed U)) → SameEnds a → SameEnds b → SameEnds (a ++ b)
+  same_both a b one two =
+      let left : left_in (a ++ b) ≡ left_in a ++ left_in b = ap (λ (d : Doings U). d.left) (done_both a b) in
+      let notes : notes_in (a ++ b) ≡ notes_in a ++ notes_in b = ap (λ (d : Doings U). d.notes) (done_both a b) in
+      left
+      ∙ (ap (λ (l : List Id). l ++ left_in b) one ∙ ap (λ (l : List Id). destroyed_in (notes_in a) ++ l) two)
+      ∙ sym (ap destroyed_in notes ∙ destroyed_both (notes_in a) (notes_in b))
+
+same_sends : (U : Type 0) (es : List Sending) → SameEnds {U = U} (map Sent es)
+same_sends U [] = refl
+same_sends U (e ∷ es) = same_sends U es
+
+same_puts : (U : Type 0) (put : List Said) → SameEnds {U = U} (map Put put)
+same_puts U [] = refl
+same_puts U (m ∷ put) = same_puts U put
+
+same_end : (U : Type 0) (o : Option DisconnectReason) → SameEnds {U = U} (end_deeds o)
+same_end U None = refl
+same_end U (Some reason) = refl
+
+module _ {U : Type 0} where
+  same_deeds : (es : List Sending) (gave : List (Given (Told U))) (o : Option DisconnectReason) → SameEnds (deeds_in gave)
+      → SameEnds (map Sent es ++ (deeds_in gave ++ end_deeds o))
+  same_deeds es gave o same = same_both (map Sent es) (deeds_in gave ++ end_deeds o) (same_sends U es) (same_both (deeds_in gave) (end_deeds o) same (same_end U o))
+
+  -- the note of the object that an id names is of that id
+  same_object : (client : ClientParts) (id : IdParts) (x : Object (Kept U)) (u : Option U) → x.value.serial ≡ id.serial
+      → SameEnds (told_deeds (map Did (map Noted (end_note (id_at client id.number x) u) ++ left_if (id_of id) u)))
+  same_object client id x None serial = refl
+  same_object client id x (Some u) serial = ap (λ (s : ℕ). let i : Id = record { number = id.number; serial = s } in i ∷ []) (sym serial)
+
+  module _ {C : Type 0} where
+    same_ending : (client : ClientParts) (id : IdParts) (x : Object (Kept U)) (c : Core U C) → x.value.serial ≡ id.serial → SameEnds (told_deeds (ending client id x c))
+    same_ending client id x c serial = at (is_some (named c.store id))
+      where
+        at : (b : Bool)
+            → SameEnds (told_deeds (if b then [] else map Did (map Noted (note_of_end client id.number x) ++ left_if (id_of id) x.value.user_data)))
+        at true = refl
+        at false = same_object client id x x.value.user_data serial
+
+    same_events : (client : ClientParts) (c : Core U C) (id : IdParts) (o : Option (Object (Kept U))) (created : Option IdParts) (u : Option U)
+        → ((x : Object (Kept U)) → o ≡ Some x → x.value.serial ≡ id.serial) → (d : Core U C) → SameEnds (told_deeds ((ends client c id o created u).events d))
+    same_events client c id None created u serial d = refl
+    same_events client c id (Some x) created u serial d = same_ending client id x d (serial x refl)
+
+module _ {T U C : Type 0} (sends : T → Queue → Result ℕ IoFault → T → Type 0) where
+  same_told : (p : Part T U C) (v : Verdict (Core U C) (Told U)) (lacked : Bool) (did : List (Deed U)) (q : Part T U C)
+      → ((d : Core U C) → SameEnds (told_deeds (v.events d))) → Tells sends v p.link lacked did q → SameEnds did
+  same_told p v lacked did q events (es, gave, end, by, did_so, same) =
+      subst (λ (d : List (Deed U)). SameEnds d) (sym did_so) (same_deeds es gave end.core.ended (given by))
+    where
+      given : CarriesOut sends speaker v p.link es gave lacked end → SameEnds (deeds_in gave)
+      given (inl (first, others, put, wrote, mid, lacks, puts, flushes, sent, is, gives, no_memory)) =
+          subst (λ (d : List (Deed U)). SameEnds d) (sym (ap deeds_in gives ∙ deeds_given put (v.events (came_to speaker v wrote))))
+          (same_both (map Put put) (told_deeds (v.events (came_to speaker v wrote))) (same_puts U put) (events (came_to speaker v wrote)))
+      given (inr (asks, is, none, gives, starves)) = subst (λ (d : List (Deed U)). SameEnds d) (sym (ap deeds_in gives)) (events v.starved)
+
+  finish_same : (client : ClientParts) (p : Part T U C) (u : Option U) (answer : Result (Unit {0}) (FinishRefused (Option U))) (lacked : Bool) (did : List (Deed U)) (q : Part T U C)
+      → FinishesRequest sends client p u answer lacked did q → SameEnds did
+  finish_same client p u answer lacked did q h =
+      elim (either_option p.action h) [
+        | inl (none, (is, no_memory, nothing, same)) ↦ same_none did nothing
+        | inr (opened.Bind object, is_open, (is, no_memory, nothing, same)) ↦ same_none did nothing
+        | inr (opened.Request sender b created, is_open, g) ↦
+            elim (either_option (refusal p.is_killed created u) g) [
+              | inr (e, why, (is, no_memory, nothing, same)) ↦ same_none did nothing
+              | inl (none, (is, tells')) ↦
+                  same_told p (ends client (core_of p) sender (ended_by p.store sender b) created u) lacked did q
+                  (same_events client (core_of p) sender (ended_by p.store sender b) created u
+                  (λ x some. named_serial p.store sender x (ended_named p.store sender b x some)))
+                  tells'
+            ]
+      ]
+
+module _ {T U C : Type 0} where
+  part_same : (b : Bool) (s : Seen T U C) (R : Part T U C → Part T U C → Type 0) (missing : Type 0) (lacked : Bool) (did : List (Deed U)) (t : Seen T U C)
+      → ((p q : Part T U C) → R p q → SameEnds did) → OfClient b s R missing lacked did t → SameEnds did
+  part_same false s R missing lacked did t same (no_memory, nothing, is) = same_none did nothing
+  part_same true s R missing lacked did t same h =
+      elim (either_option s.part h) [
+        | inl (none, (m, (no_memory, nothing, is))) ↦ same_none did nothing
+        | inr (p, there, (q, r, is)) ↦ same p q r
+      ]
+
+module _ {T U G C : Type 0} (w : World T G C) where
+  pub end_is_noted_at_once : EndIsNotedAtOnce U w
+  end_is_noted_at_once before after e target u answer by call id =
+      let (r, is, h) = subst (λ c. PartCall w id before.offer c (seen id before) (e.lacks id) (e.did id) (seen id after)) call (by.each id) in
+      part_same (same_client target id) (seen id before) _ _ (e.lacks id) (e.did id) (seen id after)
+      (λ p q f. finish_same w.sends id p u r (e.lacks id) (e.did id) q f) h

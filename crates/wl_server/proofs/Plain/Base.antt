@@ -1,0 +1,196 @@
+-- What a call is of each client, and what a step leaves of one as it was.
+use Rattle.std.proofs.Common.{◌≡◌, ℕ, ◌+◌, Bool, true, false, List, [], ◌++◌, append-nil, Option, None, Some, refl, sym, ap, subst, ◌∙◌, arith, true≢false}
+use mathlib.Core.Logic.{inl, inr}
+use Rattle.std.specs.Prelude.{◌⊎◌, ◌&&◌, MatchBool}
+use Rattle.wl_link.proofs.Calls.Branches.{either_option}
+use Rattle.wl_server.specs.declared.notes.Happening.{Happening}
+use Rattle.wl_server.specs.declared.runs.step.Reply.{Reply}
+use Rattle.wl_server.specs.declared.runs.step.Step.{Step}
+use Rattle.wl_server.specs.Backend.{BackendState, Calls}
+use Rattle.wl_server.specs.Deeds.{Deed, notes_in}
+use Rattle.wl_server.specs.Ids.{ClientParts, same_client}
+use Rattle.wl_server.specs.Part.{Part}
+use Rattle.wl_server.specs.PartStep.{Asked, Call, OfClient, OnPart, PartCall, PartStep, World}
+use Rattle.wl_server.specs.Plain.{IsUnchanged}
+use Rattle.wl_server.specs.Server.{Seen, seen}
+use Rattle.wl_server.specs.Steps.{Entry, OneStep, inserted_by, lacks_growth, offer_after}
+use Rattle.wl_server.proofs.CallSteps.Slots.{Are, Serials, Slots, compare, same_parts, same_self, same_serials, same_slots}
+
+-- ---- a choice that is known
+
+pub when_true : {P : Type 0} (Q : Type 0) (b : Bool) → b ≡ true → MatchBool b P Q → P
+when_true Q true is h = h
+when_true Q false is h = absurd (true≢false (sym is))
+
+pub when_false : {Q : Type 0} (P : Type 0) (b : Bool) → b ≡ false → MatchBool b P Q → Q
+when_false P true is h = absurd (true≢false is)
+when_false P false is h = h
+
+pub one_value : {A : Type 0} {a b : A} (o : Option A) → o ≡ Some a → o ≡ Some b → a ≡ b
+one_value o is other = cc
+
+pub none_and_some : {A : Type 0} {a : A} (o : Option A) → o ≡ None → o ≡ Some a → ⊥
+none_and_some o none is = absurd cc
+
+-- ---- a call
+
+module _ {T U G C : Type 0} {w : World T G C} {before after : BackendState T U G C} {s : Step T U G C} {answer : Reply T U} (call : Calls w before s answer after) where
+  abbrev Each : ClientParts → Type 0
+  Each id = (lacked : Bool) × (did : List (Deed U)) × PartStep w id before.server.offer s answer (seen id before.server) lacked did (seen id after.server)
+
+  each_in : (id : ClientParts) (e : Entry T U G C) → e.call ≡ Asked s answer → OneStep w before.server e after.server
+      → PartStep w id before.server.offer s answer (seen id before.server) (e.lacks id) (e.did id) (seen id after.server)
+  each_in id e is by =
+      subst (λ (c : Call T U G C). PartCall w id before.server.offer c (seen id before.server) (e.lacks id) (e.did id) (seen id after.server)) is (by.each id)
+
+  -- what the call is of one client
+  pub of_each : (id : ClientParts) → Each id
+  of_each id = let (e, is, refused, by) = call.step in (e.lacks id, e.did id, each_in id e is by)
+
+  -- nothing has changed
+  pub unchanged : offer_after before.server.offer (Asked s answer) ≡ before.server.offer → inserted_by (Asked s answer) ≡ 0
+      → ((id : ClientParts) → seen id after.server ≡ seen id before.server) → IsUnchanged before after
+  unchanged offer none each =
+      let (e, is, refused, by) = call.step in
+      let last : after.server.last_client ≡ before.server.last_client + inserted_by (Asked s answer) =
+      subst (λ (c : Call T U G C). after.server.last_client ≡ before.server.last_client + inserted_by c) is by.last in
+      record {
+        offer = subst (λ (c : Call T U G C). after.server.offer ≡ offer_after before.server.offer c) is by.offer ∙ offer;
+        last = omega (arith, last, none);
+        each = each;
+      }
+
+  -- ---- whether memory was refused
+
+  abbrev NeverLacks : Type 0
+  NeverLacks =
+      (id : ClientParts) (lacked : Bool) (did : List (Deed U))
+      → PartStep w id before.server.offer s answer (seen id before.server) lacked did (seen id after.server) → lacked ≡ false
+
+  calm_entry : (e : Entry T U G C) → e.call ≡ Asked s answer → OneStep w before.server e after.server → lacks_growth (Asked s answer) ≡ false → NeverLacks → e.refused ≡ false
+  calm_entry e is by growth never = at e.refused refl
+    where
+      nobody : (lacks_growth e.call ≡ true) ⊎ ((id : ClientParts) × (e.lacks id ≡ true)) → ⊥
+      nobody (inl grows) = true≢false (sym (subst (λ (c : Call T U G C). lacks_growth c ≡ true) is grows) ∙ growth)
+      nobody (inr (id, lacks)) = true≢false (sym lacks ∙ never id (e.lacks id) (e.did id) (each_in id e is by))
+
+      at : (b : Bool) → e.refused ≡ b → b ≡ false
+      at false known = refl
+      at true known = absurd (nobody (by.refused.0 known))
+
+  -- to nobody
+  pub calm : lacks_growth (Asked s answer) ≡ false → NeverLacks → after.refused ≡ false
+  calm growth never = let (e, is, refused, by) = call.step in sym refused ∙ calm_entry e is by growth never
+
+  -- to this client
+  pub refused_to : (id : ClientParts)
+      → ((lacked : Bool) (did : List (Deed U)) → PartStep w id before.server.offer s answer (seen id before.server) lacked did (seen id after.server) → lacked ≡ true)
+      → after.refused ≡ true
+  refused_to id lacks =
+      let (e, is, refused, by) = call.step in sym refused ∙ by.refused.1 (inr (id, lacks (e.lacks id) (e.did id) (each_in id e is by)))
+
+  -- for what the call makes of its own
+  pub refused_growth : lacks_growth (Asked s answer) ≡ true → after.refused ≡ true
+  refused_growth growth =
+      let (e, is, refused, by) = call.step in
+      sym refused ∙ by.refused.1 (inl (subst (λ (c : Call T U G C). lacks_growth c ≡ true) (sym is) growth))
+
+-- of two ids that differ, and have one client, the number or the serial differs
+pub ids_differ : (b : Bool) {c : Bool} → b ≡ true → (b && c) ≡ false → c ≡ false
+ids_differ true is differ = differ
+ids_differ false is differ = absurd (true≢false (sym is))
+
+-- ---- what is held of one client
+
+module _ {T U C : Type 0} where
+  -- the part stays, and nothing is noted
+  pub nothing_new : (s t : Seen T U C) (p q : Part T U C) (did : List (Deed U)) → s.part ≡ Some p → q ≡ p → notes_in did ≡ []
+      → t ≡ record { part = Some q; made = s.made ++ notes_in did } → t ≡ s
+  nothing_new s t p q did there same none is =
+      is ∙ ap (λ (x : Part T U C). with_part (Some x) (s.made ++ notes_in did)) same
+      ∙ ap (λ (o : Option (Part T U C)). with_part o (s.made ++ notes_in did)) (sym there)
+      ∙ ap (λ (n : List (Happening U)). with_part s.part (s.made ++ n)) none ∙ ap (with_part s.part) (append-nil s.made)
+    where
+      with_part : Option (Part T U C) → List (Happening U) → Seen T U C
+      with_part o made = record { part = o; made = made }
+
+module _ {T U C : Type 0} (b : Bool) (s : Seen T U C) (R : Part T U C → Part T U C → Type 0) (missing : Type 0) (lacked : Bool) (did : List (Deed U)) (t : Seen T U C) where
+  -- a step about a client is one of its part
+  pub meant : b ≡ true → OfClient b s R missing lacked did t → OnPart s R missing lacked did t
+  meant is h = at b is h
+    where
+      at : (b : Bool) → b ≡ true → OfClient b s R missing lacked did t → OnPart s R missing lacked did t
+      at true is h = h
+      at false is h = absurd (true≢false (sym is))
+
+  -- another client stays
+  pub other_stays : b ≡ false → OfClient b s R missing lacked did t → t ≡ s
+  other_stays is h = at b is h
+    where
+      at : (b : Bool) → b ≡ false → OfClient b s R missing lacked did t → t ≡ s
+      at true is h = absurd (true≢false is)
+      at false is (calm, none, same) = same
+
+  -- what each such step of the part leaves as it was stays
+  pub keeps : {A : Type 0} (f : Option (Part T U C) → A) → (b ≡ true → (p q : Part T U C) → R p q → f (Some q) ≡ f (Some p)) → OfClient b s R missing lacked did t
+      → f t.part ≡ f s.part
+  keeps {A = A} f each h = at b each h
+    where
+      at : (b : Bool) → (b ≡ true → (p q : Part T U C) → R p q → f (Some q) ≡ f (Some p)) → OfClient b s R missing lacked did t → f t.part ≡ f s.part
+      at false each (calm, none, same) = ap (λ (x : Seen T U C). f x.part) same
+      at true each h =
+          elim (either_option s.part h) [
+            | inl (none, (m, (calm, nothing, same))) ↦ ap (λ (x : Seen T U C). f x.part) same
+            | inr (p, there, (q, r, same)) ↦ ap (λ (x : Seen T U C). f x.part) same ∙ each refl p q r ∙ sym (ap f there)
+          ]
+
+  -- so do the notes that were made, where such a step notes nothing
+  pub notes_stay : ((p q : Part T U C) → R p q → notes_in did ≡ []) → OfClient b s R missing lacked did t → t.made ≡ s.made
+  notes_stay silent h = at b h
+    where
+      at : (b : Bool) → OfClient b s R missing lacked did t → t.made ≡ s.made
+      at false (calm, none, same) = ap (λ (x : Seen T U C). x.made) same
+      at true h =
+          elim (either_option s.part h) [
+            | inl (none, (m, (calm, nothing, same))) ↦ ap (λ (x : Seen T U C). x.made) same
+            | inr (p, there, (q, r, same)) ↦
+                ap (λ (x : Seen T U C). x.made) same ∙ ap (λ (n : List (Happening U)). s.made ++ n) (silent p q r) ∙ append-nil s.made
+          ]
+
+  -- no memory is refused to it, where none is in such a step
+  pub never : ((p q : Part T U C) → R p q → lacked ≡ false) → OfClient b s R missing lacked did t → lacked ≡ false
+  never so h = at b h
+    where
+      at : (b : Bool) → OfClient b s R missing lacked did t → lacked ≡ false
+      at false (calm, none, same) = calm
+      at true h =
+          elim (either_option s.part h) [
+            | inl (none, (m, (calm, nothing, same))) ↦ calm
+            | inr (p, there, (q, r, same)) ↦ so p q r
+          ]
+
+  -- so is a client that is not stored
+  pub missing_stays : (b ≡ true → s.part ≡ None) → OfClient b s R missing lacked did t → t ≡ s
+  missing_stays absent h = at b absent h
+    where
+      at : (b : Bool) → (b ≡ true → s.part ≡ None) → OfClient b s R missing lacked did t → t ≡ s
+      at false absent (calm, none, same) = same
+      at true absent h =
+          elim (either_option s.part h) [
+            | inl (none, (m, (calm, nothing, same))) ↦ same
+            | inr (p, there, (q, r, same)) ↦ absurd (none_and_some s.part (absent refl) there)
+          ]
+
+-- two ids that are the same are one
+pub same_is : (a b : ClientParts) → same_client a b ≡ true → a ≡ b
+same_is a b is =
+    elim (compare a b) [
+      | Are slot serial ↦ same_parts a b slot serial
+      | Slots slot ↦ absurd (true≢false (sym is ∙ same_slots a b slot))
+      | Serials slot serial ↦ absurd (true≢false (sym is ∙ same_serials a b slot serial))
+    ]
+
+-- a step about this very client
+pub own : {T U C : Type 0} (id : ClientParts) (s : Seen T U C) (R : Part T U C → Part T U C → Type 0) (missing : Type 0) (lacked : Bool) (did : List (Deed U)) (t : Seen T U C)
+    → OfClient (same_client id id) s R missing lacked did t → OnPart s R missing lacked did t
+own id s R missing lacked did t h = meant (same_client id id) s R missing lacked did t (same_self id) h

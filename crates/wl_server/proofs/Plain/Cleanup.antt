@@ -1,0 +1,127 @@
+-- Killed clients leave, and notes are handed out.
+use Rattle.std.proofs.Common.{◌≡◌, ℕ, Bool, true, false, List, [], ◌∷◌, ◌++◌, map, Option, None, Some, Result, Ok, Err, refl, sym, ap, subst, ◌∙◌}
+use mathlib.Core.Logic.{inl, inr}
+use Rattle.std.specs.Prelude.{Vec}
+use Rattle.std.specs.Global.{Global}
+use Rattle.wl_wire.specs.declared.error.OutOfMemory.{OutOfMemory}
+use Rattle.wl_link.proofs.Calls.Branches.{either_option}
+use Rattle.wl_server.specs.declared.notes.Happening.{Happening}
+use Rattle.wl_server.specs.declared.notes.Note.{Note}
+use Rattle.wl_server.specs.declared.runs.step.Reply.{Reply}
+use Rattle.wl_server.specs.declared.runs.step.Reply.TheVariants as reply
+use Rattle.wl_server.specs.declared.runs.step.Step.TheVariants as step
+use Rattle.wl_server.specs.Backend.{BackendState, Calls}
+use Rattle.wl_server.specs.Deeds.{Deed, Noted, notes_in}
+use Rattle.wl_server.specs.Felt.{Cleaned}
+use Rattle.wl_server.specs.Globals.{Offer}
+use Rattle.wl_server.specs.Ids.{ClientParts}
+use Rattle.wl_server.specs.Lookups.{and_then}
+use Rattle.wl_server.specs.Part.{Part, named}
+use Rattle.wl_server.specs.PartStep.{Call, CleanedAs, NotesTaken, World, share_of}
+use Rattle.wl_server.specs.Plain.{CleansUpClients, HandsOut, TakesNotes}
+use Rattle.wl_server.specs.Server.{Seen, seen}
+use Rattle.wl_server.specs.Steps.{RiseBySlot, RisesBySlot}
+use Rattle.wl_server.proofs.Plain.Base.{calm, none_and_some, of_each, one_value, refused_growth, unchanged, when_false, when_true}
+
+all_noted : {U : Type 0} (notes : List (Happening U)) → notes_in (map Noted notes) ≡ notes
+all_noted [] = refl
+all_noted (n ∷ notes) = ap (λ (ns : List (Happening _)). n ∷ ns) (all_noted notes)
+
+-- ---- a cleanup
+
+module _ {T U G C : Type 0} (w : World T G C) (id : ClientParts) (offer : Offer G) (out : Vec (ClientParts × T) Global) (s t : Seen T U C) (lacked : Bool) (did : List (Deed U)) where
+  -- a stored client
+  cleaned : (p : Part T U C) → s.part ≡ Some p → CleanedAs w id offer (Ok out) s lacked did t
+      → (q : Option (Part T U C)) × Cleaned w.sends id p lacked did (share_of id out.items) q × (t ≡ record { part = q; made = s.made ++ notes_in did })
+  cleaned p there h =
+      elim (either_option s.part h) [
+        | inl (none, rest) ↦ absurd (none_and_some s.part none there)
+        | inr (r, here, found) ↦
+            subst (λ (x : Part T U C). (q : Option (Part T U C)) × Cleaned w.sends id x lacked did (share_of id out.items) q × (t ≡ record { part = q; made = s.made ++ notes_in did }))
+            (one_value s.part here there) found
+      ]
+
+  cleaned_killed : (p : Part T U C) → s.part ≡ Some p → p.is_killed ≡ true → CleanedAs w id offer (Ok out) s lacked did t → HandsOut w.sends p (share_of id out.items) t.part
+  cleaned_killed p there killed h =
+      let (q, cleans, same) = cleaned p there h in
+      let (sent, answer, end, (es, link, by, memory, did_so, is), did_all, handed, gone) = when_true _ p.is_killed killed cleans in
+      (answer, link, (es, by), handed ∙ ap (λ (x : Part T U C). x.link.transport ∷ []) is, ap (λ (x : Seen T U C). x.part) same ∙ gone)
+
+  cleaned_live : (p : Part T U C) → s.part ≡ Some p → p.is_killed ≡ false → CleanedAs w id offer (Ok out) s lacked did t
+      → (share_of id out.items ≡ []) × (t.part ≡ Some (record p { waiting = [] })) × (t.made ≡ s.made ++ p.waiting)
+  cleaned_live p there live h =
+      let (q, cleans, same) = cleaned p there h in
+      let (memory, did_so, handed, is) = when_false _ p.is_killed live cleans in (
+        handed,
+        ap (λ (x : Seen T U C). x.part) same ∙ is,
+        ap (λ (x : Seen T U C). x.made) same ∙ ap (λ (d : List (Deed U)). s.made ++ notes_in d) did_so ∙ ap (λ (n : List (Happening U)). s.made ++ n) (all_noted p.waiting),
+      )
+
+  cleaned_none : s.part ≡ None → CleanedAs w id offer (Ok out) s lacked did t → (share_of id out.items ≡ []) × (t ≡ s)
+  cleaned_none none h =
+      elim (either_option s.part h) [
+        | inl (absent, (nothing, (memory, nobody, same))) ↦ (nothing, same)
+        | inr (p, there, found) ↦ absurd (none_and_some s.part none there)
+      ]
+
+module _ {T U G C : Type 0} {w : World T G C} {before after : BackendState T U G C} where
+  cleanup_each : (answer : Result (Vec (ClientParts × T) Global) OutOfMemory) → Calls w before step.Cleanup (reply.Cleanup answer) after → (id : ClientParts)
+      → (lacked : Bool) × (did : List (Deed U)) × CleanedAs w id before.server.offer answer (seen id before.server) lacked did (seen id after.server)
+  cleanup_each answer call id =
+      let (lacked, did, (r, is, h)) = of_each call id in (
+        lacked,
+        did,
+        subst (λ (a : Result (Vec (ClientParts × T) Global) OutOfMemory). CleanedAs w id before.server.offer a (seen id before.server) lacked did (seen id after.server)) (sym (inside r is)) h,
+      )
+    where
+      inside : (r : Result (Vec (ClientParts × T) Global) OutOfMemory) → ◌≡◌ {A = Reply T U} (reply.Cleanup answer) (reply.Cleanup r) → answer ≡ r
+      inside r is = cc
+
+  rises : (out : Vec (ClientParts × T) Global) → Calls w before step.Cleanup (reply.Cleanup (Ok out)) after → RiseBySlot out.items
+  rises out call = let (e, is, refused, by) = call.step in subst (λ (c : Call T U G C). RisesBySlot c) is by.order
+
+  pub cleans_up : (answer : Result (Vec (ClientParts × T) Global) OutOfMemory) → Calls w before step.Cleanup (reply.Cleanup answer) after → CleansUpClients w.sends before answer after
+  cleans_up (Ok out) call = record {
+    killed = λ id p there killed. let (lacked, did, h) = cleanup_each (Ok out) call id in cleaned_killed w id before.server.offer out _ _ lacked did p there killed h;
+    live = λ id p there live. let (lacked, did, h) = cleanup_each (Ok out) call id in cleaned_live w id before.server.offer out _ _ lacked did p there live h;
+    unknown = λ id none. let (lacked, did, h) = cleanup_each (Ok out) call id in cleaned_none w id before.server.offer out _ _ lacked did none h;
+    by_slot = rises out call;
+  }
+  cleans_up (Err e) call = (
+    unchanged call refl refl (λ id. let (lacked, did, (memory, none, same)) = cleanup_each (Err e) call id in same),
+    refused_growth call refl,
+  )
+
+  -- ---- notes
+
+  notes_each : (answer : Result (Vec (Note U) Global) OutOfMemory) → Calls w before step.TakeNotes (reply.TakeNotes answer) after → (id : ClientParts)
+      → (lacked : Bool) × (did : List (Deed U)) × NotesTaken w id before.server.offer answer (seen id before.server) lacked did (seen id after.server)
+  notes_each answer call id =
+      let (lacked, did, (r, is, h)) = of_each call id in (
+        lacked,
+        did,
+        subst (λ (a : Result (Vec (Note U) Global) OutOfMemory). NotesTaken w id before.server.offer a (seen id before.server) lacked did (seen id after.server)) (sym (inside r is)) h,
+      )
+    where
+      inside : (r : Result (Vec (Note U) Global) OutOfMemory) → ◌≡◌ {A = Reply T U} (reply.TakeNotes answer) (reply.TakeNotes r) → answer ≡ r
+      inside r is = cc
+
+  pub takes_notes : (answer : Result (Vec (Note U) Global) OutOfMemory) → Calls w before step.TakeNotes (reply.TakeNotes answer) after → TakesNotes before answer after
+  takes_notes (Ok out) call = record {
+    taken = λ id. let (lacked, did, (all, memory, did_so, same)) = notes_each (Ok out) call id in all;
+    left = λ id. let (lacked, did, (all, memory, did_so, same)) = notes_each (Ok out) call id in ap (λ (x : Seen T U C). x.made) same;
+    clients = λ id. let (lacked, did, (all, memory, did_so, same)) = notes_each (Ok out) call id in ap (λ (x : Seen T U C). x.part) same;
+    objects = λ o.
+        let (lacked, did, (all, memory, did_so, same)) = notes_each (Ok out) call o.client in ap (λ (x : Seen T U C). and_then x.part (λ p. named p.store o)) same;
+    memory = calm call refl (λ id lacked did is. took_calm out id lacked did is);
+  }
+    where
+      took_calm : (out : Vec (Note U) Global) (id : ClientParts) (lacked : Bool) (did : List (Deed U))
+          → (r : Result (Vec (Note U) Global) OutOfMemory) × (◌≡◌ {A = Reply T U} (reply.TakeNotes (Ok out)) (reply.TakeNotes r))
+          × NotesTaken w id before.server.offer r (seen id before.server) lacked did (seen id after.server) → lacked ≡ false
+      took_calm out id lacked did (Ok other, is, (all, memory, did_so, same)) = memory
+      took_calm out id lacked did (Err e, is, (memory, none, same)) = memory
+  takes_notes (Err e) call = (
+    unchanged call refl refl (λ id. let (lacked, did, (memory, none, same)) = notes_each (Err e) call id in same),
+    refused_growth call refl,
+  )

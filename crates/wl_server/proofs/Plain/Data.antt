@@ -1,0 +1,123 @@
+-- An object that gets data.
+use Rattle.std.proofs.Common.{◌≡◌, ℕ, Bool, true, false, List, [], Option, None, Some, Result, Ok, Err, MatchOption, MatchResult, refl, sym, ap, subst, ◌∙◌, true≢false}
+use mathlib.Core.Logic.{inl, inr}
+use Rattle.std.specs.Prelude.{◌&&◌, is_ok}
+use Rattle.wl_link.proofs.Calls.Branches.{either_option}
+use Rattle.wl_link.specs.declared.object.Object.{Object}
+use Rattle.wl_link.specs.Store.{rewritten}
+use Rattle.wl_server.specs.declared.error.InvalidId.{InvalidId}
+use Rattle.wl_server.specs.declared.objects.Kept.{Kept}
+use Rattle.wl_server.specs.declared.runs.step.Reply.{Reply}
+use Rattle.wl_server.specs.declared.runs.step.Reply.TheVariants as reply
+use Rattle.wl_server.specs.declared.runs.step.Step.TheVariants as step
+use Rattle.wl_server.specs.Backend.{BackendState, Calls}
+use Rattle.wl_server.specs.Deeds.{Deed, notes_in}
+use Rattle.wl_server.specs.Identified.{named_of}
+use Rattle.wl_server.specs.Ids.{ClientParts, IdParts, same_client}
+use Rattle.wl_server.specs.Lookups.{and_then}
+use Rattle.wl_server.specs.Objects.{DataSet}
+use Rattle.wl_server.specs.Part.{Part, id_of, named, same_id, with_user_data}
+use Rattle.wl_server.specs.PartStep.{OfClient, Quietly, World}
+use Rattle.wl_server.specs.Plain.{IsUnchanged, SetsObjectData, same_object}
+use Rattle.wl_server.specs.Server.{Seen, seen}
+use Rattle.wl_server.proofs.Plain.Base.{calm, ids_differ, keeps, never, notes_stay, nothing_new, of_each, other_stays, own, unchanged}
+use Rattle.wl_server.proofs.Plain.Naming.{names_so, rewritten_named, rewritten_others}
+
+abbrev Refused : Result (Unit {0}) InvalidId → Type 0
+Refused answer = answer ≡ Err _
+
+not_both : {answer : Result (Unit {0}) InvalidId} → answer ≡ Ok tt → Refused answer → ⊥
+not_both ok refused = absurd cc
+
+module _ {T U C : Type 0} (o : IdParts) (u : U) (answer : Result (Unit {0}) InvalidId) where
+  abbrev Sets : Bool → List (Deed U) → Part T U C → Part T U C → Type 0
+  Sets lacked did p q = Quietly lacked did (DataSet p o u answer q)
+
+  -- an id of another number or serial
+  set_others : (lacked : Bool) (did : List (Deed U)) (p q : Part T U C) → Sets lacked did p q → (other : IdParts) → same_id (id_of o) (id_of other) ≡ false
+      → named q.store other ≡ named p.store other
+  set_others lacked did p q (calm, none, h) other differ =
+      elim (either_option (named p.store o) h) [
+        | inl (unknown, (is, same)) ↦ ap (λ (x : Part T U C). named x.store other) same
+        | inr (x, is, (ok, same)) ↦
+            ap (λ (x : Part T U C). named x.store other) same
+            ∙ rewritten_others p.store o x (with_user_data u x) (names_so p.store o x is) refl other differ
+      ]
+
+  -- the object of the id
+  set_here : (lacked : Bool) (did : List (Deed U)) (s t : Seen T U C) → OfClient (same_client o.client o.client) s (Sets lacked did) (Refused answer) lacked did t
+      → MatchResult answer (λ _. (x : Object (Kept U)) × (named_of s o ≡ Some x) × (named_of t o ≡ Some (with_user_data u x))) (λ _. named_of s o ≡ None)
+  set_here lacked did s t h =
+      elim (either_option s.part (own o.client s (Sets lacked did) (Refused answer) lacked did t h)) [
+        | inl (none, (is, rest)) ↦ refused is (ap (λ (x : Option (Part T U C)). and_then x (λ p. named p.store o)) none)
+        | inr (p, there, (q, (calm, none, set), same)) ↦
+            elim (either_option (named p.store o) set) [
+              | inl (unknown, (is, stays)) ↦ refused is (ap (λ (x : Option (Part T U C)). and_then x (λ p. named p.store o)) there ∙ unknown)
+              | inr (x, is, (ok, changed)) ↦
+                  accepted ok (
+                    x,
+                    ap (λ (x : Option (Part T U C)). and_then x (λ p. named p.store o)) there ∙ is,
+                    ap (λ (x : Seen T U C). named_of x o) same ∙ ap (λ (x : Part T U C). named x.store o) changed
+                        ∙ rewritten_named p.store o x (with_user_data u x) (names_so p.store o x is) refl,
+                  )
+            ]
+      ]
+    where
+      refused : Refused answer → named_of s o ≡ None
+          → MatchResult answer (λ _. (x : Object (Kept U)) × (named_of s o ≡ Some x) × (named_of t o ≡ Some (with_user_data u x))) (λ _. named_of s o ≡ None)
+      refused is none = rw is none
+
+      accepted : ◌≡◌ {A = Result (Unit {0}) InvalidId} answer (Ok tt) → (x : Object (Kept U)) × (named_of s o ≡ Some x) × (named_of t o ≡ Some (with_user_data u x))
+          → MatchResult answer (λ _. (x : Object (Kept U)) × (named_of s o ≡ Some x) × (named_of t o ≡ Some (with_user_data u x))) (λ _. named_of s o ≡ None)
+      accepted is found = rw is found
+
+  -- a refusal changes nothing
+  set_refused : Refused answer → (b : Bool) (lacked : Bool) (did : List (Deed U)) (s t : Seen T U C) → OfClient b s (Sets lacked did) (Refused answer) lacked did t → t ≡ s
+  set_refused refused false lacked did s t (calm, none, same) = same
+  set_refused refused true lacked did s t h =
+      elim (either_option s.part h) [
+        | inl (none, (is, (calm, nothing, same))) ↦ same
+        | inr (p, there, (q, (calm, none, set), same)) ↦
+            elim (either_option (named p.store o) set) [
+              | inl (unknown, (is, stays)) ↦ nothing_new s t p q did there stays (ap notes_in none) same
+              | inr (x, is, (ok, changed)) ↦ absurd (not_both ok refused)
+            ]
+      ]
+
+abbrev Set : {T U C : Type 0} → IdParts → U → Result (Unit {0}) InvalidId → ClientParts → Seen T U C → Bool → List (Deed U) → Seen T U C → Type 0
+Set o u answer id s lacked did t = OfClient (same_client o.client id) s (Sets o u answer lacked did) (Refused answer) lacked did t
+
+module _ {T U G C : Type 0} {w : World T G C} {before after : BackendState T U G C} where
+  set_each : (o : IdParts) (u : U) (answer : Result (Unit {0}) InvalidId) → Calls w before (step.SetObjectData o u) (reply.SetObjectData answer) after → (id : ClientParts)
+      → (lacked : Bool) × (did : List (Deed U)) × Set o u answer id (seen id before.server) lacked did (seen id after.server)
+  set_each o u answer call id =
+      let (lacked, did, (r, is, h)) = of_each call id in (lacked, did, subst (λ (a : Result (Unit {0}) InvalidId). Set o u a id (seen id before.server) lacked did (seen id after.server)) (sym (inside r is)) h)
+    where
+      inside : (r : Result (Unit {0}) InvalidId) → ◌≡◌ {A = Reply T U} (reply.SetObjectData answer) (reply.SetObjectData r) → answer ≡ r
+      inside r is = cc
+
+  pub sets_object_data : (o : IdParts) (u : U) (answer : Result (Unit {0}) InvalidId) → Calls w before (step.SetObjectData o u) (reply.SetObjectData answer) after
+      → SetsObjectData before o u answer after
+  sets_object_data o u answer call = record {
+    object = object answer call (let (lacked, did, h) = set_each o u answer call o.client in set_here o u answer lacked did _ _ h);
+    objects = λ other differ.
+        let (lacked, did, h) = set_each o u answer call other.client in
+        keeps (same_client o.client other.client) _ _ _ lacked did _ (λ x. and_then x (λ p. named p.store other))
+        (λ about p q r. set_others o u answer lacked did p q r other (ids_differ (same_client o.client other.client) about differ)) h;
+    clients = λ other differ. let (lacked, did, h) = set_each o u answer call other in other_stays (same_client o.client other) _ _ _ lacked did _ differ h;
+    notes = λ client.
+        let (lacked, did, h) = set_each o u answer call client in
+        notes_stay (same_client o.client client) _ _ _ lacked did _ (λ p q r. ap notes_in r.1) h;
+    memory = calm call refl (λ id lacked did (r, is, h). never (same_client o.client id) _ _ _ lacked did _ (λ p q set. set.0) h);
+  }
+    where
+      object : (answer : Result (Unit {0}) InvalidId) → Calls w before (step.SetObjectData o u) (reply.SetObjectData answer) after
+          → MatchResult answer (λ _. (x : Object (Kept U)) × (named_of (seen o.client before.server) o ≡ Some x) × (named_of (seen o.client after.server) o ≡ Some (with_user_data u x)))
+          (λ _. named_of (seen o.client before.server) o ≡ None)
+          → MatchResult answer (λ _. (x : Object (Kept U)) × (named_of (seen o.client before.server) o ≡ Some x) × (named_of (seen o.client after.server) o ≡ Some (with_user_data u x)))
+          (λ _. (named_of (seen o.client before.server) o ≡ None) × IsUnchanged before after)
+      object (Ok ok) call found = found
+      object (Err e) call none = (
+        none,
+        unchanged call refl refl (λ id. let (lacked, did, h) = set_each o u (Err e) call id in set_refused o u (Err e) refl (same_client o.client id) lacked did _ _ h),
+      )

@@ -1,0 +1,241 @@
+-- An object that the program destroys.
+use Rattle.std.proofs.Common.{◌≡◌, ℕ, Bool, true, false, cond, eqb-true, List, [], ◌++◌, Option, None, Some, is_some, Result, Ok, Err, MatchOption, refl, sym, ap, subst, ◌∙◌, true≢false}
+use mathlib.Core.Logic.{inl, inr}
+use Rattle.std.specs.Prelude.{◌⊎◌, ◌&&◌, ◌||◌, ◌==◌, MatchBool}
+use Rattle.wl_wire.specs.declared.error.IoFault.{IoFault}
+use Rattle.wl_link.proofs.Calls.Branches.{either_option}
+use Rattle.wl_link.specs.declared.object.Object.{Object}
+use Rattle.wl_link.specs.Exchange.{Queue}
+use Rattle.wl_link.specs.Store.{Store, removed}
+use Rattle.wl_server.specs.declared.error.DestroyError.{DestroyError}
+use Rattle.wl_server.specs.declared.error.DestroyError.TheVariants as destroy
+use Rattle.wl_server.specs.declared.objects.Kept.{Kept}
+use Rattle.wl_server.specs.declared.runs.step.Reply.{Reply}
+use Rattle.wl_server.specs.declared.runs.step.Reply.TheVariants as reply
+use Rattle.wl_server.specs.declared.runs.step.Step.TheVariants as step
+use Rattle.wl_server.specs.Backend.{BackendState, Calls}
+use Rattle.wl_server.specs.Deeds.{Deed, notes_in}
+use Rattle.wl_server.specs.Identified.{named_of, waiting_of}
+use Rattle.wl_server.specs.Ids.{ClientParts, IdParts, same_client}
+use Rattle.wl_server.specs.Lookups.{and_then}
+use Rattle.wl_server.specs.Objects.{Destroys, destroyable, destroys, unless_refused}
+use Rattle.wl_server.specs.Part.{Part, id_of, named, note_of_end, same_id}
+use Rattle.wl_server.specs.PartStep.{OfClient, World}
+use Rattle.wl_server.specs.Plain.{DestroyedAs, DestroysObject, IsUnchanged}
+use Rattle.wl_server.specs.Server.{Seen, seen}
+use Rattle.wl_server.specs.Telling.{Tells, core_of}
+use Rattle.wl_server.proofs.Plain.Base.{calm, ids_differ, keeps, never, nothing_new, of_each, other_stays, own, refused_to, unchanged}
+use Rattle.wl_server.proofs.Plain.Naming.{names_so, removed_named, removed_others}
+use Rattle.wl_server.proofs.Plain.Verdicts.{told}
+
+abbrev Refused : Result (Unit {0}) DestroyError → Type 0
+Refused answer = answer ≡ Err destroy.InvalidId
+
+ok_refused : {answer : Result (Unit {0}) DestroyError} → answer ≡ Ok tt → Refused answer → ⊥
+ok_refused ok refused = absurd cc
+
+starved_refused : {answer : Result (Unit {0}) DestroyError} → answer ≡ Err destroy.OutOfMemory → Refused answer → ⊥
+starved_refused starved refused = absurd cc
+
+-- an accepted call met no want of memory, and one that was refused for that did
+ok_calm : (lacked : Bool) → ◌≡◌ {A = Result (Unit {0}) DestroyError} (Ok tt) (unless_refused destroy.OutOfMemory lacked) → lacked ≡ false
+ok_calm true is = absurd cc
+ok_calm false is = refl
+
+starved_lacks : (lacked : Bool) → ◌≡◌ {A = Result (Unit {0}) DestroyError} (Err destroy.OutOfMemory) (unless_refused destroy.OutOfMemory lacked) → lacked ≡ true
+starved_lacks true is = refl
+starved_lacks false is = absurd cc
+
+never_refused : (lacked : Bool) → ◌≡◌ {A = Result (Unit {0}) DestroyError} (Err destroy.InvalidId) (unless_refused destroy.OutOfMemory lacked) → ⊥
+never_refused true is = absurd cc
+never_refused false is = absurd cc
+
+module _ {T U C : Type 0} where
+  destroyable_named : (p : Part T U C) (o : IdParts) (x : Object (Kept U)) → destroyable p o ≡ Some x → named p.store o ≡ Some x
+  destroyable_named p o x = at (o.number == 1)
+    where
+      at : (b : Bool) → cond b None (named p.store o) ≡ Some x → named p.store o ≡ Some x
+      at true is = absurd cc
+      at false is = is
+
+  not_destroyable : (p : Part T U C) (o : IdParts) → destroyable p o ≡ None → (o.number ≡ 1) ⊎ (named p.store o ≡ None)
+  not_destroyable p o = at (o.number == 1) refl
+    where
+      at : (b : Bool) → (o.number == 1) ≡ b → cond b None (named p.store o) ≡ None → (o.number ≡ 1) ⊎ (named p.store o ≡ None)
+      at true one is = inl (eqb-true o.number 1 one)
+      at false one is = inr is
+
+module _ {T U C : Type 0} (sends : T → Queue → Result ℕ IoFault → T → Type 0) (o : IdParts) (client : ClientParts) where
+  abbrev Does : Result (Unit {0}) DestroyError → Bool → List (Deed U) → Part T U C → Part T U C → Type 0
+  Does answer lacked did p q = Destroys sends client p o answer lacked did q
+
+  -- what is left of its store, and which notes wait
+  left_store : (p : Part T U C) (x : Object (Kept U)) (lacked : Bool) (did : List (Deed U)) (q : Part T U C) → Tells sends (destroys client (core_of p) o x) p.link lacked did q
+      → q.store ≡ cond lacked p.store (removed p.store o.number)
+  left_store p x lacked did q h =
+      told sends (λ c. c.store) (λ q. q.store) (λ e. refl) (destroys client (core_of p) o x) refl (λ c. refl) (λ c. refl) p.link lacked did q h
+
+  left_waiting : (p : Part T U C) (x : Object (Kept U)) (lacked : Bool) (did : List (Deed U)) (q : Part T U C) → Tells sends (destroys client (core_of p) o x) p.link lacked did q
+      → q.waiting ≡ cond lacked p.waiting (p.waiting ++ note_of_end client o.number x)
+  left_waiting p x lacked did q h =
+      told sends (λ c. c.waiting) (λ q. q.waiting) (λ e. refl) (destroys client (core_of p) o x) refl (λ c. refl) (λ c. refl) p.link lacked did q h
+
+  -- an id of another number or serial
+  destroy_others : (answer : Result (Unit {0}) DestroyError) (lacked : Bool) (did : List (Deed U)) (p q : Part T U C) → Does answer lacked did p q → (other : IdParts)
+      → same_id (id_of o) (id_of other) ≡ false → named q.store other ≡ named p.store other
+  destroy_others answer lacked did p q h other differ =
+      elim (either_option (destroyable p o) h) [
+        | inl (unknown, (is, calm, none, same)) ↦ ap (λ (x : Part T U C). named x.store other) same
+        | inr (x, is, (answered, tells)) ↦
+            ap (λ (s : Store (Kept U)). named s other) (left_store p x lacked did q tells)
+            ∙ at lacked (removed_others p.store o x (names_so p.store o x (destroyable_named p o x is)) other differ)
+      ]
+    where
+      at : (b : Bool) → named (removed p.store o.number) other ≡ named p.store other → named (cond b p.store (removed p.store o.number)) other ≡ named p.store other
+      at true is = refl
+      at false is = is
+
+  -- no memory is refused where the answer is another
+  destroy_calm : (answer : Result (Unit {0}) DestroyError) → ((lacked : Bool) → answer ≡ unless_refused destroy.OutOfMemory lacked → lacked ≡ false) → (lacked : Bool)
+      (did : List (Deed U)) (p q : Part T U C) → Does answer lacked did p q → lacked ≡ false
+  destroy_calm answer so lacked did p q h =
+      elim (either_option (destroyable p o) h) [
+        | inl (unknown, (is, calm, none, same)) ↦ calm
+        | inr (x, is, (answered, tells)) ↦ so lacked answered
+      ]
+
+  abbrev Of : Result (Unit {0}) DestroyError → Bool → Seen T U C → Bool → List (Deed U) → Seen T U C → Type 0
+  Of answer b s lacked did t = OfClient b s (Does answer lacked did) (Refused answer) lacked did t
+
+  -- a refusal changes nothing
+  destroy_refused : (b : Bool) (lacked : Bool) (did : List (Deed U)) (s t : Seen T U C) → Of (Err destroy.InvalidId) b s lacked did t → t ≡ s
+  destroy_refused false lacked did s t (calm, none, same) = same
+  destroy_refused true lacked did s t h =
+      elim (either_option s.part h) [
+        | inl (none, (is, (calm, nothing, same))) ↦ same
+        | inr (p, there, (q, r, same)) ↦
+            elim (either_option (destroyable p o) r) [
+              | inl (unknown, (is, calm, none, stays)) ↦ nothing_new s t p q did there stays (ap notes_in none) same
+              | inr (x, is, (answered, tells)) ↦ absurd (never_refused lacked answered)
+            ]
+      ]
+
+-- ---- what the id named, and names
+
+module _ {T U C : Type 0} (sends : T → Queue → Result ℕ IoFault → T → Type 0) (o : IdParts) (s t : Seen T U C) (lacked : Bool) (did : List (Deed U)) where
+  abbrev Own : Result (Unit {0}) DestroyError → Type 0
+  Own answer = Of sends o o.client answer (same_client o.client o.client) s lacked did t
+
+  in_part : (f : Part T U C → Option (Object (Kept U))) (p : Part T U C) → s.part ≡ Some p → and_then s.part f ≡ f p
+  in_part f p there = ap (λ (x : Option (Part T U C)). and_then x f) there
+
+  destroyed_ok : Own (Ok tt)
+      → (x : Object (Kept U)) × (named_of s o ≡ Some x) × (named_of t o ≡ None) × (waiting_of t.part ≡ waiting_of s.part ++ note_of_end o.client o.number x)
+  destroyed_ok h =
+      elim (either_option s.part (own o.client s (Does sends o o.client (Ok tt) lacked did) (Refused (Ok tt)) lacked did t h)) [
+        | inl (none, (is, rest)) ↦ absurd (ok_refused refl is)
+        | inr (p, there, (q, r, same)) ↦
+            elim (either_option (destroyable p o) r) [
+              | inl (unknown, (is, calm, nothing, stays)) ↦ absurd (ok_refused refl is)
+              | inr (x, is, (answered, tells)) ↦ (
+                x,
+                in_part (λ p. named p.store o) p there ∙ destroyable_named p o x is,
+                ap (λ (y : Seen T U C). named_of y o) same
+                    ∙ ap (λ (st : Store (Kept U)). named st o) (left_store sends o o.client p x lacked did q tells ∙ ap (λ (b : Bool). cond b p.store (removed p.store o.number)) (ok_calm lacked answered))
+                    ∙ removed_named p.store o,
+                ap (λ (y : Seen T U C). waiting_of y.part) same
+                    ∙ left_waiting sends o o.client p x lacked did q tells
+                    ∙ ap (λ (b : Bool). cond b p.waiting (p.waiting ++ note_of_end o.client o.number x)) (ok_calm lacked answered)
+                    ∙ ap (λ (w : Option (Part T U C)). waiting_of w ++ note_of_end o.client o.number x) (sym there),
+              )
+            ]
+      ]
+
+  destroyed_unknown : Own (Err destroy.InvalidId) → (o.number ≡ 1) ⊎ (named_of s o ≡ None)
+  destroyed_unknown h =
+      elim (either_option s.part (own o.client s (Does sends o o.client (Err destroy.InvalidId) lacked did) (Refused (Err destroy.InvalidId)) lacked did t h)) [
+        | inl (none, (is, rest)) ↦ inr (ap (λ (x : Option (Part T U C)). and_then x (λ p. named p.store o)) none)
+        | inr (p, there, (q, r, same)) ↦
+            elim (either_option (destroyable p o) r) [
+              | inl (unknown, (is, calm, nothing, stays)) ↦
+                  elim (not_destroyable p o unknown) [ inl one ↦ inl one | inr none ↦ inr (in_part (λ p. named p.store o) p there ∙ none) ]
+              | inr (x, is, (answered, tells)) ↦ absurd (never_refused lacked answered)
+            ]
+      ]
+
+  destroyed_starved : Own (Err destroy.OutOfMemory) → (named_of t o ≡ named_of s o) × (lacked ≡ true)
+  destroyed_starved h =
+      elim (either_option s.part (own o.client s (Does sends o o.client (Err destroy.OutOfMemory) lacked did) (Refused (Err destroy.OutOfMemory)) lacked did t h)) [
+        | inl (none, (is, rest)) ↦ absurd (starved_refused refl is)
+        | inr (p, there, (q, r, same)) ↦
+            elim (either_option (destroyable p o) r) [
+              | inl (unknown, (is, calm, nothing, stays)) ↦ absurd (starved_refused refl is)
+              | inr (x, is, (answered, tells)) ↦ (
+                ap (λ (y : Seen T U C). named_of y o) same
+                    ∙ ap (λ (st : Store (Kept U)). named st o)
+                    (left_store sends o o.client p x lacked did q tells ∙ ap (λ (b : Bool). cond b p.store (removed p.store o.number)) (starved_lacks lacked answered))
+                    ∙ sym (in_part (λ p. named p.store o) p there),
+                starved_lacks lacked answered,
+              )
+            ]
+      ]
+
+module _ {T U G C : Type 0} {w : World T G C} {before after : BackendState T U G C} (o : IdParts) where
+  destroy_each : (answer : Result (Unit {0}) DestroyError) → Calls w before (step.DestroyObject o) (reply.DestroyObject answer) after → (id : ClientParts)
+      → (lacked : Bool) × (did : List (Deed U)) × Of w.sends o id answer (same_client o.client id) (seen id before.server) lacked did (seen id after.server)
+  destroy_each answer call id =
+      let (lacked, did, (r, is, h)) = of_each call id in
+      (lacked, did, subst (λ (a : Result (Unit {0}) DestroyError). Of w.sends o id a (same_client o.client id) (seen id before.server) lacked did (seen id after.server)) (sym (inside r is)) h)
+    where
+      inside : (r : Result (Unit {0}) DestroyError) → ◌≡◌ {A = Reply T U} (reply.DestroyObject answer) (reply.DestroyObject r) → answer ≡ r
+      inside r is = cc
+
+  destroy_memory : (answer : Result (Unit {0}) DestroyError) → ((lacked : Bool) → answer ≡ unless_refused destroy.OutOfMemory lacked → lacked ≡ false)
+      → Calls w before (step.DestroyObject o) (reply.DestroyObject answer) after → after.refused ≡ false
+  destroy_memory answer so call =
+      calm call refl (λ id lacked did (r, is, h).
+      never (same_client o.client id) _ _ _ lacked did _
+      (λ p q d. destroy_calm w.sends o id r (λ l h. so l (inside r is ∙ h)) lacked did p q d) h)
+    where
+      inside : (r : Result (Unit {0}) DestroyError) → ◌≡◌ {A = Reply T U} (reply.DestroyObject answer) (reply.DestroyObject r) → answer ≡ r
+      inside r is = cc
+
+  destroyed_as : (answer : Result (Unit {0}) DestroyError) → Calls w before (step.DestroyObject o) (reply.DestroyObject answer) after → DestroyedAs before o answer after
+  destroyed_as (Ok ok) call =
+      let (lacked, did, h) = destroy_each (Ok tt) call o.client in
+      let (x, was, gone, notes) = destroyed_ok w.sends o _ _ lacked did h in
+      (x, was, gone, notes, destroy_memory (Ok tt) (λ l is. ok_calm l is) call)
+  destroyed_as (Err destroy.InvalidId) call =
+      let (lacked, did, h) = destroy_each (Err destroy.InvalidId) call o.client in (
+        destroyed_unknown w.sends o _ _ lacked did h,
+        unchanged call refl refl (λ id.
+            let (lacked, did, h) = destroy_each (Err destroy.InvalidId) call id in destroy_refused w.sends o id (same_client o.client id) lacked did _ _ h),
+        destroy_memory (Err destroy.InvalidId) (λ l is. absurd (never_refused l is)) call,
+      )
+  destroyed_as (Err destroy.OutOfMemory) call =
+      let (lacked, did, h) = destroy_each (Err destroy.OutOfMemory) call o.client in (
+        (destroyed_starved w.sends o _ _ lacked did h).0,
+        refused_to call o.client (λ lacked did (r, is, h). (destroyed_starved w.sends o _ _ lacked did (as_starved lacked did r is h)).1),
+      )
+    where
+      as_starved : (lacked : Bool) (did : List (Deed U)) (r : Result (Unit {0}) DestroyError) → ◌≡◌ {A = Reply T U} (reply.DestroyObject (Err destroy.OutOfMemory)) (reply.DestroyObject r)
+          → Of w.sends o o.client r (same_client o.client o.client) (seen o.client before.server) lacked did (seen o.client after.server)
+          → Of w.sends o o.client (Err destroy.OutOfMemory) (same_client o.client o.client) (seen o.client before.server) lacked did (seen o.client after.server)
+      as_starved lacked did r is h =
+          subst (λ (a : Result (Unit {0}) DestroyError). Of w.sends o o.client a (same_client o.client o.client) (seen o.client before.server) lacked did (seen o.client after.server))
+          (inside is) h
+        where
+          inside : ◌≡◌ {A = Reply T U} (reply.DestroyObject (Err destroy.OutOfMemory)) (reply.DestroyObject r) → ◌≡◌ {A = Result (Unit {0}) DestroyError} r (Err destroy.OutOfMemory)
+          inside is = cc
+
+  pub destroys_object : (answer : Result (Unit {0}) DestroyError) → Calls w before (step.DestroyObject o) (reply.DestroyObject answer) after → DestroysObject before o answer after
+  destroys_object answer call = record {
+    object = destroyed_as answer call;
+    objects = λ other differ.
+        let (lacked, did, h) = destroy_each answer call other.client in
+        keeps (same_client o.client other.client) _ _ _ lacked did _ (λ x. and_then x (λ p. named p.store other))
+        (λ about p q r. destroy_others w.sends o other.client answer lacked did p q r other (ids_differ (same_client o.client other.client) about differ)) h;
+    clients = λ other differ. let (lacked, did, h) = destroy_each answer call other in other_stays (same_client o.client other) _ _ _ lacked did _ differ h;
+    stored = λ client.
+        let (lacked, did, h) = destroy_each answer call client in keeps (same_client o.client client) _ _ _ lacked did _ (λ x. is_some x) (λ about p q r. refl) h;
+  }

@@ -1,0 +1,165 @@
+-- The end of an action.
+use Rattle.std.proofs.Common.{◌≡◌, ℕ, Bool, true, false, cond, List, [], Option, None, Some, Result, Ok, Err, MatchOption, refl, sym, ap, subst, ◌∙◌}
+use mathlib.Core.Logic.{inl, inr}
+use Rattle.std.specs.Prelude.{option_map}
+use Rattle.wl_wire.specs.declared.error.IoFault.{IoFault}
+use Rattle.wl_link.proofs.Calls.Branches.{either_option}
+use Rattle.wl_link.specs.declared.object.Object.{Object}
+use Rattle.wl_link.specs.Store.{Store}
+use Rattle.wl_server.specs.declared.error.FinishError.{FinishError}
+use Rattle.wl_server.specs.declared.error.FinishError.TheVariants as finish
+use Rattle.wl_server.specs.declared.error.FinishRefused.{FinishRefused}
+use Rattle.wl_server.specs.declared.objects.Kept.{Kept}
+use Rattle.wl_server.specs.declared.reading.action.OpenAction.{OpenAction}
+use Rattle.wl_server.specs.declared.reading.action.OpenAction.TheVariants as opened
+use Rattle.wl_server.specs.declared.runs.step.Reply.{Reply}
+use Rattle.wl_server.specs.declared.runs.step.Reply.TheVariants as reply
+use Rattle.wl_server.specs.declared.runs.step.Step.TheVariants as step
+use Rattle.wl_server.specs.Backend.{BackendState, Calls}
+use Rattle.wl_server.specs.Deeds.{Deed, notes_in}
+use Rattle.wl_server.specs.Finish.{FinishesBind, data_given}
+use Rattle.wl_server.specs.Ids.{ClientParts, IdParts, same_client}
+use Rattle.wl_server.specs.Lookups.{and_then}
+use Rattle.wl_server.specs.Part.{Part, id_of, named, same_id, with_user_data}
+use Rattle.wl_server.specs.PartStep.{OfClient, World}
+use Rattle.wl_server.specs.Plain.{BindEndedAs, EndsBind}
+use Rattle.wl_server.specs.Server.{Seen, seen}
+use Rattle.wl_server.proofs.Plain.Base.{calm, never, notes_stay, nothing_new, of_each, other_stays, own, unchanged}
+use Rattle.wl_server.proofs.Plain.Naming.{names_so, rewritten_named, rewritten_others}
+
+-- ---- data are given to the object that an id names
+
+module _ {U : Type 0} (store : Store (Kept U)) (id : IdParts) (u : U) where
+  pub given_named : named (data_given store id.number (named store id) u) id ≡ option_map (with_user_data u) (named store id)
+  given_named = at (named store id) refl
+    where
+      at : (o : Option (Object (Kept U))) → named store id ≡ o → named (data_given store id.number o u) id ≡ option_map (with_user_data u) o
+      at None none = none
+      at (Some x) is = rewritten_named store id x (with_user_data u x) (names_so store id x is) refl
+
+  pub given_others : (other : IdParts) → same_id (id_of id) (id_of other) ≡ false → named (data_given store id.number (named store id) u) other ≡ named store other
+  given_others other differ = at (named store id) refl
+    where
+      at : (o : Option (Object (Kept U))) → named store id ≡ o → named (data_given store id.number o u) other ≡ named store other
+      at None none = refl
+      at (Some x) is = rewritten_others store id x (with_user_data u x) (names_so store id x is) refl other differ
+
+-- ---- a bind
+
+abbrev Unknown : {U : Type 0} → U → Result (Unit {0}) (FinishRefused U) → Type 0
+Unknown u answer = answer ≡ Err (record { error = finish.InvalidId; user_data = u })
+
+abbrev Bound : {T U C : Type 0} → U → Result (Unit {0}) (FinishRefused U) → Bool → List (Deed U) → Part T U C → Part T U C → Type 0
+Bound u answer lacked did p q = FinishesBind p u answer lacked did q
+
+-- the bind that is ended, and what the client is after it
+record HasBound {T U C : Type 0} (p : Part T U C) (u : U) (did : List (Deed U)) (q : Part T U C) : Type 0 where
+  object : IdParts
+  open_is : p.action ≡ Some (opened.Bind object)
+  did_is : did ≡ []
+  part_is : q ≡ record p { action = None; store = data_given p.store object.number (named p.store object) u }
+
+ok_refused : {U : Type 0} {e : FinishError} {u : U} → ◌≡◌ {A = Result (Unit {0}) (FinishRefused U)} (Ok tt) (Err (record { error = e; user_data = u })) → ⊥
+ok_refused is = absurd cc
+
+refused_ok : {U : Type 0} {r : FinishRefused U} → ◌≡◌ {A = Result (Unit {0}) (FinishRefused U)} (Err r) (Ok tt) → ⊥
+refused_ok is = absurd cc
+
+given_back : {U : Type 0} {r : FinishRefused U} {e : FinishError} {u : U} → ◌≡◌ {A = Result (Unit {0}) (FinishRefused U)} (Err r) (Err (record { error = e; user_data = u })) → r.user_data ≡ u
+given_back {U} {r} {e} {u} is = ap (λ (x : FinishRefused U). x.user_data) (inside is)
+  where
+    inside : ◌≡◌ {A = Result (Unit {0}) (FinishRefused U)} (Err r) (Err (record { error = e; user_data = u })) → r ≡ record { error = e; user_data = u }
+    inside is = cc
+
+module _ {T U C : Type 0} (u : U) (lacked : Bool) (did : List (Deed U)) (p q : Part T U C) where
+  bound_ok : Bound u (Ok tt) lacked did p q → HasBound p u did q
+  bound_ok h =
+      elim (either_option p.action h) [
+        | inl (none, (is, calm, nothing, same)) ↦ absurd (ok_refused is)
+        | inr (opened.Request sender b created, is_open, (is, calm, nothing, same)) ↦ absurd (ok_refused is)
+        | inr (opened.Bind object, is_open, (is, calm, nothing, same)) ↦ record { object = object; open_is = is_open; did_is = nothing; part_is = same }
+      ]
+
+  bound_refused : (r : FinishRefused U) → Bound u (Err r) lacked did p q → (r.user_data ≡ u) × (did ≡ []) × (q ≡ p)
+  bound_refused r h =
+      elim (either_option p.action h) [
+        | inl (none, (is, calm, nothing, same)) ↦ (given_back is, nothing, same)
+        | inr (opened.Request sender b created, is_open, (is, calm, nothing, same)) ↦ (given_back is, nothing, same)
+        | inr (opened.Bind object, is_open, (is, calm, nothing, same)) ↦ absurd (refused_ok is)
+      ]
+
+  bound_quietly : (answer : Result (Unit {0}) (FinishRefused U)) → Bound u answer lacked did p q → (lacked ≡ false) × (did ≡ [])
+  bound_quietly answer h =
+      elim (either_option p.action h) [
+        | inl (none, (is, calm, nothing, same)) ↦ (calm, nothing)
+        | inr (opened.Request sender b created, is_open, (is, calm, nothing, same)) ↦ (calm, nothing)
+        | inr (opened.Bind object, is_open, (is, calm, nothing, same)) ↦ (calm, nothing)
+      ]
+
+abbrev OfBind : {T U C : Type 0} → ClientParts → ClientParts → U → Result (Unit {0}) (FinishRefused U) → Seen T U C → Bool → List (Deed U) → Seen T U C → Type 0
+OfBind target client u answer s lacked did t = OfClient (same_client target client) s (Bound u answer lacked did) (Unknown u answer) lacked did t
+
+module _ {T U C : Type 0} (client : ClientParts) (u : U) (s t : Seen T U C) (lacked : Bool) (did : List (Deed U)) where
+  bind_ended : OfBind client client u (Ok tt) s lacked did t
+      → (object : IdParts) × (and_then s.part (λ p. p.action) ≡ Some (opened.Bind object)) × (and_then t.part (λ p. p.action) ≡ None)
+      × (and_then t.part (λ p. named p.store object) ≡ option_map (with_user_data u) (and_then s.part (λ p. named p.store object)))
+      × ((other : IdParts) → same_id (id_of object) (id_of other) ≡ false → and_then t.part (λ p. named p.store other) ≡ and_then s.part (λ p. named p.store other))
+  bind_ended h =
+      elim (either_option s.part (own client s (Bound u (Ok tt) lacked did) (Unknown u (Ok tt)) lacked did t h)) [
+        | inl (none, (is, rest)) ↦ absurd (ok_refused is)
+        | inr (p, there, (q, binds, same)) ↦
+            let b = bound_ok u lacked did p q binds in (
+              b.object,
+              ap (λ (x : Option (Part T U C)). and_then x (λ p. p.action)) there ∙ b.open_is,
+              ap (λ (x : Seen T U C). and_then x.part (λ p. p.action)) same ∙ ap (λ (x : Part T U C). x.action) b.part_is,
+              ap (λ (x : Seen T U C). and_then x.part (λ p. named p.store b.object)) same ∙ ap (λ (x : Part T U C). named x.store b.object) b.part_is
+                  ∙ given_named p.store b.object u ∙ ap (λ (x : Option (Part T U C)). option_map (with_user_data u) (and_then x (λ p. named p.store b.object))) (sym there),
+              λ other differ.
+                  ap (λ (x : Seen T U C). and_then x.part (λ p. named p.store other)) same ∙ ap (λ (x : Part T U C). named x.store other) b.part_is
+                  ∙ given_others p.store b.object u other differ ∙ ap (λ (x : Option (Part T U C)). and_then x (λ p. named p.store other)) (sym there),
+            )
+      ]
+
+  bind_given_back : (r : FinishRefused U) → OfBind client client u (Err r) s lacked did t → r.user_data ≡ u
+  bind_given_back r h =
+      elim (either_option s.part (own client s (Bound u (Err r) lacked did) (Unknown u (Err r)) lacked did t h)) [
+        | inl (none, (is, rest)) ↦ given_back is
+        | inr (p, there, (q, binds, same)) ↦ (bound_refused u lacked did p q r binds).0
+      ]
+
+bind_refused : {T U C : Type 0} (b : Bool) (u : U) (r : FinishRefused U) (s t : Seen T U C) (lacked : Bool) (did : List (Deed U))
+    → OfClient b s (Bound u (Err r) lacked did) (Unknown u (Err r)) lacked did t → t ≡ s
+bind_refused false u r s t lacked did (calm, none, same) = same
+bind_refused true u r s t lacked did h =
+    elim (either_option s.part h) [
+      | inl (none, (is, (calm, nothing, same))) ↦ same
+      | inr (p, there, (q, binds, same)) ↦
+          let (back, nothing, stays) = bound_refused u lacked did p q r binds in nothing_new s t p q did there stays (ap notes_in nothing) same
+    ]
+
+module _ {T U G C : Type 0} {w : World T G C} {before after : BackendState T U G C} (target : ClientParts) (u : U) where
+  bind_each : (answer : Result (Unit {0}) (FinishRefused U)) → Calls w before (step.FinishBind target u) (reply.FinishBind answer) after → (id : ClientParts)
+      → (lacked : Bool) × (did : List (Deed U)) × OfBind target id u answer (seen id before.server) lacked did (seen id after.server)
+  bind_each answer call id =
+      let (lacked, did, (r, is, h)) = of_each call id in
+      (lacked, did, subst (λ (a : Result (Unit {0}) (FinishRefused U)). OfBind target id u a (seen id before.server) lacked did (seen id after.server)) (sym (inside r is)) h)
+    where
+      inside : (r : Result (Unit {0}) (FinishRefused U)) → ◌≡◌ {A = Reply T U} (reply.FinishBind answer) (reply.FinishBind r) → answer ≡ r
+      inside r is = cc
+
+  bind_ended_as : (answer : Result (Unit {0}) (FinishRefused U)) → Calls w before (step.FinishBind target u) (reply.FinishBind answer) after → BindEndedAs before target u answer after
+  bind_ended_as (Ok ok) call = let (lacked, did, h) = bind_each (Ok tt) call target in bind_ended target u _ _ lacked did h
+  bind_ended_as (Err r) call = (
+    (let (lacked, did, h) = bind_each (Err r) call target in bind_given_back target u _ _ lacked did r h),
+    unchanged call refl refl (λ id. let (lacked, did, h) = bind_each (Err r) call id in bind_refused (same_client target id) u r _ _ lacked did h),
+  )
+
+  pub ends_bind : (answer : Result (Unit {0}) (FinishRefused U)) → Calls w before (step.FinishBind target u) (reply.FinishBind answer) after → EndsBind before target u answer after
+  ends_bind answer call = record {
+    bind = bind_ended_as answer call;
+    clients = λ other differ. let (lacked, did, h) = bind_each answer call other in other_stays (same_client target other) _ _ _ lacked did _ differ h;
+    notes = λ other.
+        let (lacked, did, h) = bind_each answer call other in
+        notes_stay (same_client target other) _ _ _ lacked did _ (λ p q r. ap notes_in (bound_quietly u lacked did p q answer r).1) h;
+    memory = calm call refl (λ id lacked did (r, is, h). never (same_client target id) _ _ _ lacked did _ (λ p q b. (bound_quietly u lacked did p q r b).0) h);
+  }

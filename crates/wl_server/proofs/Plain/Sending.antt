@@ -1,0 +1,134 @@
+-- What waits for clients is flushed.
+use Rattle.std.proofs.Common.{◌≡◌, ℕ, Bool, true, false, List, [], ◌∷◌, map, Option, None, Some, Result, Ok, Err, MatchOption, refl, sym, ap, subst, ◌∙◌}
+use mathlib.Core.Logic.{inl, inr}
+use Rattle.std.specs.Prelude.{option_map}
+use Rattle.wl_wire.specs.declared.error.IoFault.{IoFault}
+use Rattle.wl_link.proofs.Calls.Branches.{either_bool, either_option}
+use Rattle.wl_link.specs.Exchange.{Queue, Sending}
+use Rattle.wl_link.specs.Link.{Flushed, LinkState}
+use Rattle.wl_server.specs.declared.runs.step.Reply.{Reply}
+use Rattle.wl_server.specs.declared.runs.step.Reply.TheVariants as reply
+use Rattle.wl_server.specs.declared.runs.step.Step.TheVariants as step
+use Rattle.wl_server.specs.Backend.{BackendState, Calls}
+use Rattle.wl_server.specs.Deeds.{Deed, Sent, notes_in}
+use Rattle.wl_server.specs.Felt.{FlushedTo, FlushesLive}
+use Rattle.wl_server.specs.Globals.{Offer}
+use Rattle.wl_server.specs.Ids.{ClientParts, same_client}
+use Rattle.wl_server.specs.Lookups.{and_then, client_of}
+use Rattle.wl_server.specs.Part.{Part, named, with_link}
+use Rattle.wl_server.specs.PartStep.{FlushedFor, OfClient, World}
+use Rattle.wl_server.specs.Plain.{FlushedAs, FlushesClients, IsUnchanged}
+use Rattle.wl_server.specs.Server.{Seen, seen}
+use Rattle.wl_server.specs.Telling.{core_of}
+use Rattle.wl_server.proofs.Plain.Base.{keeps, missing_stays, none_and_some, notes_stay, nothing_new, of_each, one_value, other_stays, own, same_is, unchanged, when_true}
+
+silent : {U : Type 0} (es : List Sending) → notes_in {U = U} (map Sent es) ≡ []
+silent [] = refl
+silent (e ∷ es) = silent es
+
+module _ {T U C : Type 0} (sends : T → Queue → Result ℕ IoFault → T → Type 0) (lacked : Bool) (did : List (Deed U)) (p q : Part T U C) where
+  flushed_keeps : {A : Type 0} (f : Part T U C → A) (answer : Result (Unit {0}) IoFault) → ((link : LinkState T) → f (with_link p link) ≡ f p)
+      → FlushedTo sends p answer lacked did q → f q ≡ f p
+  flushed_keeps f answer stays (es, link, by, memory, did_so, same) = ap f same ∙ stays link
+
+  live_keeps : {A : Type 0} (f : Part T U C → A) → ((link : LinkState T) → f (with_link p link) ≡ f p) → FlushesLive sends p lacked did q → f q ≡ f p
+  live_keeps f stays h =
+      elim (either_bool p.is_killed h) [
+        | inl (calm, none, same) ↦ ap f same
+        | inr (answer, flushed) ↦ flushed_keeps f answer stays flushed
+      ]
+
+  flushed_silent : (answer : Result (Unit {0}) IoFault) → FlushedTo sends p answer lacked did q → notes_in did ≡ []
+  flushed_silent answer (es, link, by, memory, did_so, same) = ap notes_in did_so ∙ silent es
+
+  live_silent : FlushesLive sends p lacked did q → notes_in did ≡ []
+  live_silent h =
+      elim (either_bool p.is_killed h) [
+        | inl (calm, none, same) ↦ ap notes_in none
+        | inr (answer, flushed) ↦ flushed_silent answer flushed
+      ]
+
+module _ {T U G C : Type 0} (w : World T G C) (id : ClientParts) (offer : Offer G) (s t : Seen T U C) (lacked : Bool) (did : List (Deed U)) where
+  -- a part of each client that its link does not change
+  pub flush_keeps : {A : Type 0} (f : Option (Part T U C) → A) → ((p : Part T U C) (link : LinkState T) → f (Some (with_link p link)) ≡ f (Some p))
+      → (target : Option ClientParts) (answer : Result (Unit {0}) IoFault) → FlushedFor w id offer target answer s lacked did t → f t.part ≡ f s.part
+  flush_keeps f stays None answer (ok, h) =
+      keeps true s _ (Unit {0}) lacked did t f (λ about p q r. live_keeps w.sends lacked did p q (λ x. f (Some x)) (stays p) r) h
+  flush_keeps f stays (Some target) answer h =
+      keeps (same_client target id) s _ _ lacked did t f (λ about p q r. flushed_keeps w.sends lacked did p q (λ x. f (Some x)) answer (stays p) r) h
+
+  flush_notes : (target : Option ClientParts) (answer : Result (Unit {0}) IoFault) → FlushedFor w id offer target answer s lacked did t → t.made ≡ s.made
+  flush_notes None answer (ok, h) = notes_stay true s _ (Unit {0}) lacked did t (λ p q r. live_silent w.sends lacked did p q r) h
+  flush_notes (Some target) answer h = notes_stay (same_client target id) s _ _ lacked did t (λ p q r. flushed_silent w.sends lacked did p q answer r) h
+
+  -- a killed client is not flushed with all
+  killed_stays : (answer : Result (Unit {0}) IoFault) (p : Part T U C) → s.part ≡ Some p → p.is_killed ≡ true → FlushedFor w id offer None answer s lacked did t → t ≡ s
+  killed_stays answer p there killed (ok, h) =
+      elim (either_option s.part h) [
+        | inl (none, (m, (calm, nothing, same))) ↦ same
+        | inr (r, here, (q, flushes, same)) ↦
+            let (calm, none, stays) = when_true _ r.is_killed (ap (λ (x : Part T U C). x.is_killed) (one_value s.part here there) ∙ killed) flushes in
+            nothing_new s t r q did here stays (ap notes_in none) same
+      ]
+
+module _ {T U G C : Type 0} {w : World T G C} {before after : BackendState T U G C} where
+  flush_each : (target : Option ClientParts) (answer : Result (Unit {0}) IoFault) → Calls w before (step.Flush target) (reply.Flush answer) after → (id : ClientParts)
+      → (lacked : Bool) × (did : List (Deed U)) × FlushedFor w id before.server.offer target answer (seen id before.server) lacked did (seen id after.server)
+  flush_each target answer call id =
+      let (lacked, did, (r, is, h)) = of_each call id in
+      (lacked, did, subst (λ (a : Result (Unit {0}) IoFault). FlushedFor w id before.server.offer target a (seen id before.server) lacked did (seen id after.server)) (sym (inside r is)) h)
+    where
+      inside : (r : Result (Unit {0}) IoFault) → ◌≡◌ {A = Reply T U} (reply.Flush answer) (reply.Flush r) → answer ≡ r
+      inside r is = cc
+
+  flushed_as : (target : Option ClientParts) (answer : Result (Unit {0}) IoFault) → Calls w before (step.Flush target) (reply.Flush answer) after
+      → FlushedAs w.sends before target answer after
+  flushed_as None answer call = (
+    (let (lacked, did, h) = flush_each None answer call (record { slot = 0; serial = 0 }) in h.0),
+    λ id p there killed. let (lacked, did, h) = flush_each None answer call id in killed_stays w id before.server.offer _ _ lacked did answer p there killed h,
+  )
+  flushed_as (Some id) answer call = (
+    at (client_of before.server id) refl,
+    λ other differ. let (lacked, did, h) = flush_each (Some id) answer call other in other_stays (same_client id other) _ _ _ lacked did _ differ h,
+  )
+    where
+      absent : client_of before.server id ≡ None → (other : ClientParts) → same_client id other ≡ true → client_of before.server other ≡ None
+      absent none other is = subst (λ (i : ClientParts). client_of before.server i ≡ None) (same_is id other is) none
+
+      at : (o : Option (Part T U C)) → client_of before.server id ≡ o
+          → MatchOption o ((answer ≡ Ok tt) × IsUnchanged before after)
+          (λ p. (link : LinkState T) × Flushed w.sends p.link answer link × (client_of after.server id ≡ Some (with_link p link)))
+      at None none = (
+        (let (lacked, did, h) = flush_each (Some id) answer call id in
+            elim (either_option (client_of before.server id) (own id _ _ _ lacked did _ h)) [
+              | inl (none, (is, rest)) ↦ is
+              | inr (p, there, rest) ↦ absurd (none_and_some (client_of before.server id) none there)
+            ]),
+        unchanged call refl refl (λ other.
+            let (lacked, did, h) = flush_each (Some id) answer call other in missing_stays (same_client id other) _ _ _ lacked did _ (λ about. absent none other about) h),
+      )
+      at (Some p) there =
+          let (lacked, did, h) = flush_each (Some id) answer call id in
+          elim (either_option (client_of before.server id) (own id _ _ _ lacked did _ h)) [
+            | inl (none, rest) ↦ absurd (none_and_some (client_of before.server id) none there)
+            | inr (r, here, (q, (es, link, by, memory, did_so, is), same)) ↦
+                of_one r (one_value (client_of before.server id) here there) (link, (es, by), ap (λ (x : Seen T U C). x.part) same ∙ ap Some is)
+          ]
+        where
+          of_one : (r : Part T U C) → r ≡ p → (link : LinkState T) × Flushed w.sends r.link answer link × (client_of after.server id ≡ Some (with_link r link))
+              → (link : LinkState T) × Flushed w.sends p.link answer link × (client_of after.server id ≡ Some (with_link p link))
+          of_one r same gone =
+              subst (λ (x : Part T U C). (link : LinkState T) × Flushed w.sends x.link answer link × (client_of after.server id ≡ Some (with_link x link))) same gone
+
+  pub flushes_clients : (target : Option ClientParts) (answer : Result (Unit {0}) IoFault) → Calls w before (step.Flush target) (reply.Flush answer) after
+      → FlushesClients w.sends before target answer after
+  flushes_clients target answer call = record {
+    answered = flushed_as target answer call;
+    cores = λ id.
+        let (lacked, did, h) = flush_each target answer call id in
+        flush_keeps w id before.server.offer _ _ lacked did (option_map core_of) (λ p link. refl) target answer h;
+    notes = λ id. let (lacked, did, h) = flush_each target answer call id in flush_notes w id before.server.offer _ _ lacked did target answer h;
+    objects = λ o.
+        let (lacked, did, h) = flush_each target answer call o.client in
+        flush_keeps w o.client before.server.offer _ _ lacked did (λ x. and_then x (λ p. named p.store o)) (λ p link. refl) target answer h;
+  }

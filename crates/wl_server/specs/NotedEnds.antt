@@ -1,0 +1,44 @@
+-- Which objects the notes of a client tell of: those that ended.
+use Rattle.std.specs.Prelude.{◌≡◌, List, ◌∷◌, ◌++◌, Contains, Ok}
+use Rattle.wl_server.specs.declared.notes.Happening.TheVariants.{Destroyed}
+use Rattle.wl_server.specs.declared.runs.step.Reply.{Reply}
+use Rattle.wl_server.specs.declared.runs.step.Reply.TheVariants as reply
+use Rattle.wl_server.specs.declared.runs.step.Step.TheVariants as step
+use Rattle.wl_link.specs.Runs.{RunEntry}
+use Rattle.wl_wire.specs.Table.{InterfaceRow}
+use Rattle.wl_server.specs.declared.runs.step.Step.{Step}
+use Rattle.wl_server.specs.Deeds.{Deed, left_in, notes_in, taken_in}
+use Rattle.wl_server.specs.Identified.{waiting_of}
+use Rattle.wl_server.specs.Ids.{ClientParts, IdParts}
+use Rattle.wl_server.specs.NotedOnce.{destroyed_in}
+use Rattle.wl_server.specs.Part.{id_of}
+use Rattle.wl_server.specs.PartStep.{Asked, World}
+use Rattle.wl_server.specs.Runs.{AreOf, Leads, history, mine}
+use Rattle.wl_server.specs.Server.{Seen, ServerState, new_server, seen}
+use Rattle.wl_server.specs.Steps.{Entry, OneStep}
+
+-- Each note of a destroyed object, whether it was handed out, was made or waits, has the id of an object of this client that
+-- left with user data by these deeds.
+abbrev pub NotesAreOfEnds : {T U C : Type 0} → ClientParts → List (Deed U) → Seen T U C → Type 0
+NotesAreOfEnds {U = U} client did s =
+    (o : IdParts) (u : U) → Contains (taken_in did ++ (s.made ++ waiting_of s.part)) (Destroyed o u) → (o.client ≡ client) × Contains (left_in did) (id_of o)
+
+module _ {T U G C : Type 0} where
+  -- so it is of each client that was inserted in the run, since then
+  abbrev pub EachNoteIsOfAnEnd : List (Entry T U G C) → ServerState T U G C → Type 0
+  EachNoteIsOfAnEnd run after =
+      (id : ClientParts) (transport : T) (info : C) (earlier later : List (Entry T U G C)) (e : Entry T U G C) →
+      run ≡ earlier ++ e ∷ later → e.call ≡ Asked (step.InsertClient transport info) (reply.InsertClient (Ok id)) →
+      NotesAreOfEnds id (history (mine id later)) (seen id after)
+
+  -- steps of a new server, with these replies, are the calls of a run in which that is so
+  abbrev pub HaveNotesOfEnds : World T G C → List InterfaceRow → List (RunEntry (Step T U G C) (Reply T U)) → ServerState T U G C → Type 0
+  HaveNotesOfEnds w table steps after =
+      (run : List (Entry T U G C)) × AreOf steps run × Leads w (new_server table) run after × EachNoteIsOfAnEnd run after
+
+-- The objects that leave with user data by the end of a request are those that the notes made in that call tell of: each is
+-- among the made notes at once.
+abbrev pub EndIsNotedAtOnce : {T G C : Type 0} (U : Type 0) → World T G C → Type 0
+EndIsNotedAtOnce {T} {G} {C} U w =
+    (before after : ServerState T U G C) (e : Entry T U G C) (target : ClientParts) (u : _) (answer : Reply T U) → OneStep w before e after
+    → e.call ≡ Asked (step.FinishRequest target u) answer → (id : ClientParts) → left_in (e.did id) ≡ destroyed_in (notes_in (e.did id))

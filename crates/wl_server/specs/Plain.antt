@@ -1,0 +1,213 @@
+-- What a call answers of one object, one client or the notes, and that the others are as before: in the words of the look-ups.
+--
+-- A call whose contract cites one of these has the clause `call` beside it, which says all that the call does, as a step. What
+-- stands here follows from that, and can be used without it.
+use Rattle.std.specs.Prelude.{◌≡◌, ◌⊎◌, ℕ, List, [], ◌∷◌, ◌++◌, Bool, true, false, ◌&&◌, if◌then◌else◌, Option, None, Some, is_some, Result, Ok, Err, MatchOption, MatchResult, Vec, option_map}
+use Rattle.std.specs.Global.{Global}
+use Rattle.wl_wire.specs.declared.error.IoFault.{IoFault}
+use Rattle.wl_wire.specs.declared.error.OutOfMemory.{OutOfMemory}
+use Rattle.wl_wire.specs.declared.interface.InterfaceId.{InterfaceId}
+use Rattle.wl_link.specs.declared.object.Object.{Object}
+use Rattle.wl_link.specs.Exchange.{Queue}
+use Rattle.wl_link.specs.Link.{Flushed, LinkState}
+use Rattle.wl_server.specs.declared.error.CreateError.{CreateError}
+use Rattle.wl_server.specs.declared.error.DestroyError.{DestroyError}
+use Rattle.wl_server.specs.declared.error.DestroyError.TheVariants as destroy
+use Rattle.wl_server.specs.declared.error.FinishRefused.{FinishRefused}
+use Rattle.wl_server.specs.declared.error.InvalidId.{InvalidId}
+use Rattle.wl_server.specs.declared.notes.DisconnectReason.{DisconnectReason}
+use Rattle.wl_server.specs.declared.notes.Happening.{Happening}
+use Rattle.wl_server.specs.declared.notes.Happening.TheVariants.{Disconnected}
+use Rattle.wl_server.specs.declared.notes.Note.{Note}
+use Rattle.wl_server.specs.declared.objects.Kept.{Kept}
+use Rattle.wl_server.specs.declared.reading.action.OpenAction.{OpenAction}
+use Rattle.wl_server.specs.declared.reading.action.OpenAction.TheVariants as opened
+use Rattle.wl_server.specs.Backend.{BackendState}
+use Rattle.wl_server.specs.Identified.{waiting_of}
+use Rattle.wl_server.specs.Ids.{ClientParts, IdParts, same_client}
+use Rattle.wl_server.specs.Lookups.{and_then, client_of, object_of}
+use Rattle.wl_server.specs.Part.{Part, fresh_object, id_of, named, note_of_end, same_id, with_user_data}
+use Rattle.wl_server.specs.PartStep.{share_of}
+use Rattle.wl_server.specs.Server.{notes_of, seen}
+use Rattle.wl_server.specs.Steps.{RiseBySlot}
+use Rattle.wl_server.specs.Telling.{core_of}
+use Rattle.wl_server.specs.WholeOutcome.{SameServer}
+
+-- both ids name in one client, by the same number and serial
+abbrev pub same_object : IdParts → IdParts → Bool
+same_object a b = same_client a.client b.client && same_id (id_of a) (id_of b)
+
+module _ {T U C : Type 0} where
+  abbrev pub as_killed : Part T U C → Part T U C
+  as_killed p = record p { is_killed = true }
+
+  -- the note that a client is killed, which only a stored and live one gets
+  abbrev pub end_note_of : Option (Part T U C) → DisconnectReason → List (Happening U)
+  end_note_of None reason = []
+  end_note_of (Some p) reason = if p.is_killed then [] else (Disconnected reason ∷ [])
+
+  -- A killed client is handed out, once, with its transport, over which what waited was flushed; and it is stored no more.
+  abbrev pub HandsOut : (T → Queue → Result ℕ IoFault → T → Type 0) → Part T U C → List T → Option (Part T U C) → Type 0
+  HandsOut sends p out after =
+      (answer : Result (Unit {0}) IoFault) × (link : LinkState T) × Flushed sends p.link answer link × (out ≡ link.transport ∷ []) × (after ≡ None)
+
+module _ {T U G C : Type 0} where
+  -- ---- what a program finds
+
+  -- the client, while it is stored
+  abbrev pub client_in : BackendState T U G C → ClientParts → Option (Part T U C)
+  client_in b id = client_of b.server id
+
+  -- the object that the id names
+  abbrev pub object_in : BackendState T U G C → IdParts → Option (Object (Kept U))
+  object_in b id = object_of b.server id
+
+  -- the notes of a client that the next `take_notes` hands out, and those that wait for a cleanup
+  abbrev pub notes_made_in : BackendState T U G C → ClientParts → List (Happening U)
+  notes_made_in b id = (seen id b.server).made
+
+  abbrev pub notes_waiting_in : BackendState T U G C → ClientParts → List (Happening U)
+  notes_waiting_in b id = waiting_of (client_in b id)
+
+  -- ---- what is as before
+
+  -- nothing has changed, but that the call says whether memory was refused
+  abbrev pub IsUnchanged : BackendState T U G C → BackendState T U G C → Type 0
+  IsUnchanged before after = SameServer after.server before.server
+
+  -- all that is held of each other client is as before
+  abbrev pub OtherClientsStay : BackendState T U G C → ClientParts → BackendState T U G C → Type 0
+  OtherClientsStay before id after = (other : ClientParts) → same_client id other ≡ false → seen other after.server ≡ seen other before.server
+
+  -- each id but this one names what it named before
+  abbrev pub OtherObjectsStay : BackendState T U G C → IdParts → BackendState T U G C → Type 0
+  OtherObjectsStay before id after = (other : IdParts) → same_object id other ≡ false → object_in after other ≡ object_in before other
+
+  -- each id names what it named before
+  abbrev pub ObjectsStay : BackendState T U G C → BackendState T U G C → Type 0
+  ObjectsStay before after = (id : IdParts) → object_in after id ≡ object_in before id
+
+  -- ---- the calls on objects
+
+  -- The object that the id names has the data, and is else as it was. Or the id names none, and nothing has changed.
+  pub record SetsObjectData (before : BackendState T U G C) (id : IdParts) (u : U) (answer : Result (Unit {0}) InvalidId) (after : BackendState T U G C) : Type 0 where
+    pub object : MatchResult answer
+        (λ _. (x : Object (Kept U)) × (object_in before id ≡ Some x) × (object_in after id ≡ Some (with_user_data u x)))
+        (λ _. (object_in before id ≡ None) × IsUnchanged before after)
+    pub objects : OtherObjectsStay before id after
+    pub clients : OtherClientsStay before id.client after
+    pub notes : (client : ClientParts) → notes_made_in after client ≡ notes_made_in before client
+    pub memory : after.refused ≡ false
+
+  -- The object is gone, and if it had data, its note waits for the next cleanup. Or there is no such object, or it is the
+  -- display. Or there was no memory, and it is as before.
+  abbrev pub DestroyedAs : BackendState T U G C → IdParts → Result (Unit {0}) DestroyError → BackendState T U G C → Type 0
+  DestroyedAs before id (Ok _) after =
+      (x : Object (Kept U)) × (object_in before id ≡ Some x) × (object_in after id ≡ None)
+      × (notes_waiting_in after id.client ≡ notes_waiting_in before id.client ++ note_of_end id.client id.number x)
+      × (after.refused ≡ false)
+  DestroyedAs before id (Err destroy.InvalidId) after =
+      ((id.number ≡ 1) ⊎ (object_in before id ≡ None)) × IsUnchanged before after × (after.refused ≡ false)
+  DestroyedAs before id (Err destroy.OutOfMemory) after = (object_in after id ≡ object_in before id) × (after.refused ≡ true)
+
+  pub record DestroysObject (before : BackendState T U G C) (id : IdParts) (answer : Result (Unit {0}) DestroyError) (after : BackendState T U G C) : Type 0 where
+    pub object : DestroyedAs before id answer after
+    pub objects : OtherObjectsStay before id after
+    pub clients : OtherClientsStay before id.client after
+    pub stored : (client : ClientParts) → is_some (client_in after client) ≡ is_some (client_in before client)
+
+  -- The answer is the id of a new object of that interface and version, with the data. Or nothing has changed.
+  abbrev pub CreatedAs : BackendState T U G C → ClientParts → InterfaceId → ℕ → U → Result IdParts CreateError → BackendState T U G C → Type 0
+  CreatedAs before client i version u (Ok id) after =
+      (id.client ≡ client) × (id.interface ≡ i) × (object_in before id ≡ None) × (object_in after id ≡ Some (fresh_object i version id.serial (Some u)))
+      × OtherObjectsStay before id after
+  CreatedAs before client i version u (Err e) after = IsUnchanged before after
+
+  pub record CreatesObject (before : BackendState T U G C) (client : ClientParts) (i : InterfaceId) (version : ℕ) (u : U) (answer : Result IdParts CreateError)
+      (after : BackendState T U G C) : Type 0 where
+    pub object : CreatedAs before client i version u answer after
+    pub clients : OtherClientsStay before client after
+    pub notes : (other : ClientParts) → notes_made_in after other ≡ notes_made_in before other
+
+  -- ---- the ends of actions
+
+  -- the action of the client that is open
+  abbrev pub action_in : BackendState T U G C → ClientParts → Option OpenAction
+  action_in b client = and_then (client_in b client) (λ p. p.action)
+
+  -- the object of the client that the id names
+  abbrev pub object_of_client : BackendState T U G C → ClientParts → IdParts → Option (Object (Kept U))
+  object_of_client b client id = and_then (client_in b client) (λ p. named p.store id)
+
+  -- A bind is ended: no action is open any more, and the object that it made has the data, if it is still kept. Or the data are
+  -- given back, and nothing has changed.
+  abbrev pub BindEndedAs : BackendState T U G C → ClientParts → U → Result (Unit {0}) (FinishRefused U) → BackendState T U G C → Type 0
+  BindEndedAs before client u (Ok _) after =
+      (object : IdParts) × (action_in before client ≡ Some (opened.Bind object)) × (action_in after client ≡ None)
+      × (object_of_client after client object ≡ option_map (with_user_data u) (object_of_client before client object))
+      × ((other : IdParts) → same_id (id_of object) (id_of other) ≡ false → object_of_client after client other ≡ object_of_client before client other)
+  BindEndedAs before client u (Err refused) after = (refused.user_data ≡ u) × IsUnchanged before after
+
+  pub record EndsBind (before : BackendState T U G C) (client : ClientParts) (u : U) (answer : Result (Unit {0}) (FinishRefused U)) (after : BackendState T U G C) : Type 0 where
+    pub bind : BindEndedAs before client u answer after
+    pub clients : OtherClientsStay before client after
+    pub notes : (other : ClientParts) → notes_made_in after other ≡ notes_made_in before other
+    pub memory : after.refused ≡ false
+
+  -- ---- the calls on clients
+
+  -- The client is killed, if it is stored, and else as it was.
+  pub record KillsClient (before : BackendState T U G C) (id : ClientParts) (reason : DisconnectReason) (after : BackendState T U G C) : Type 0 where
+    pub client : client_in after id ≡ option_map as_killed (client_in before id)
+    pub noted : notes_made_in after id ≡ notes_made_in before id ++ end_note_of (client_in before id) reason
+    pub objects : ObjectsStay before after
+    pub clients : OtherClientsStay before id after
+    pub memory : after.refused ≡ false
+
+  -- what a flush is answered: of all clients always `Ok`, and so of one that is not stored
+  abbrev pub FlushedAs : (T → Queue → Result ℕ IoFault → T → Type 0) → BackendState T U G C → Option ClientParts → Result (Unit {0}) IoFault → BackendState T U G C
+      → Type 0
+  FlushedAs sends before None answer after =
+      (answer ≡ Ok tt)
+      × ((id : ClientParts) (p : Part T U C) → client_in before id ≡ Some p → p.is_killed ≡ true → seen id after.server ≡ seen id before.server)
+  FlushedAs sends before (Some id) answer after =
+      MatchOption (client_in before id) ((answer ≡ Ok tt) × IsUnchanged before after)
+      (λ p. (link : LinkState T) × Flushed sends p.link answer link × (client_in after id ≡ Some (record p { link = link })))
+      × OtherClientsStay before id after
+
+  -- A flush changes no more of a client than its link: its transport, and what waits to be sent.
+  pub record FlushesClients (sends : T → Queue → Result ℕ IoFault → T → Type 0) (before : BackendState T U G C) (target : Option ClientParts) (answer : Result (Unit {0}) IoFault)
+      (after : BackendState T U G C) : Type 0 where
+    pub answered : FlushedAs sends before target answer after
+    pub cores : (id : ClientParts) → option_map core_of (client_in after id) ≡ option_map core_of (client_in before id)
+    pub notes : (id : ClientParts) → notes_made_in after id ≡ notes_made_in before id
+    pub objects : ObjectsStay before after
+
+  -- ---- a cleanup
+
+  -- Each killed client is handed out. A live one stays, and its notes that waited are made. The others are not there.
+  pub record CleansTo (sends : T → Queue → Result ℕ IoFault → T → Type 0) (before : BackendState T U G C) (out : List (ClientParts × T)) (after : BackendState T U G C) : Type 0 where
+    pub killed : (id : ClientParts) (p : Part T U C) → client_in before id ≡ Some p → p.is_killed ≡ true → HandsOut sends p (share_of id out) (client_in after id)
+    pub live : (id : ClientParts) (p : Part T U C) → client_in before id ≡ Some p → p.is_killed ≡ false
+        → (share_of id out ≡ []) × (client_in after id ≡ Some (record p { waiting = [] })) × (notes_made_in after id ≡ notes_made_in before id ++ p.waiting)
+    pub unknown : (id : ClientParts) → client_in before id ≡ None → (share_of id out ≡ []) × (seen id after.server ≡ seen id before.server)
+    pub by_slot : RiseBySlot out
+
+  abbrev pub CleansUpClients : (T → Queue → Result ℕ IoFault → T → Type 0) → BackendState T U G C → Result (Vec (ClientParts × T) Global) OutOfMemory → BackendState T U G C
+      → Type 0
+  CleansUpClients sends before answer after =
+      MatchResult answer (λ out. CleansTo sends before out.items after) (λ _. IsUnchanged before after × (after.refused ≡ true))
+
+  -- ---- notes
+
+  -- The notes that were made are handed out, of each client in order, and none is left. Else is all as before.
+  pub record TakesAll (before : BackendState T U G C) (out : List (Note U)) (after : BackendState T U G C) : Type 0 where
+    pub taken : (id : ClientParts) → notes_of id out ≡ notes_made_in before id
+    pub left : (id : ClientParts) → notes_made_in after id ≡ []
+    pub clients : (id : ClientParts) → client_in after id ≡ client_in before id
+    pub objects : ObjectsStay before after
+    pub memory : after.refused ≡ false
+
+  abbrev pub TakesNotes : BackendState T U G C → Result (Vec (Note U) Global) OutOfMemory → BackendState T U G C → Type 0
+  TakesNotes before answer after =
+      MatchResult answer (λ out. TakesAll before out.items after) (λ _. IsUnchanged before after × (after.refused ≡ true))

@@ -1,0 +1,211 @@
+//! The notes that stand with a client, each with its number.
+//!
+//! The numbers and the queues are private to this file. So a note gets its number where it is put into a queue, and the place of
+//! a note in the order of time has the number that stands with it.
+
+ghost use Rattle.std.specs.Prelude.{◌≡◌, ◌+◌, ◌++◌, ◌∷◌, ◌<◌, ◌≤◌, [], false, true, length, map, IfOk, MatchOption, OnOk};
+ghost use Rattle.std.specs.VecDeque.{deque_capacity, deque_len};
+ghost use Rattle.wl_server.specs.Inside.NoteOrder.{number_behind, place_of};
+
+use crate::notes::Happening;
+use std::alloc::Global;
+use std::collections::VecDeque;
+use wl_wire::OutOfMemory;
+
+/// The numbers that the next notes get. Notes stand with their client; by their numbers they are put in order of time
+/// over all clients.
+#[derive(Drop)]
+pub struct NoteNumbers {
+    /// That of the next note that waits for a cleanup: how many wait.
+    waiting: u128,
+    /// That of the next note that is made.
+    made: u128,
+}
+
+/// The next number. From then on the one behind it is the next.
+fn next_number(next: &mut u128) -> u128
+    ensures given { result ≡ next.old }
+    ensures counted { next.new ≡ number_behind next.old }
+{
+    let number = *next;
+    *next = number.saturating_add(1);
+    number
+}
+
+impl NoteNumbers {
+    /// Those of a server without notes.
+    pub fn new() -> Self
+        ensures { result ≡ record { waiting = 0; made = 0 } }
+    {
+        NoteNumbers {
+            waiting: 0,
+            made: 0,
+        }
+    }
+
+    /// No note waits any more: the numbers of those that wait begin anew.
+    pub fn begin_waiting_anew(&mut self)
+        ensures { self.new ≡ record self.old { waiting = 0 } }
+    {
+        self.waiting = 0;
+    }
+}
+
+/// Where a note stands in time: those that were made before those that wait, each by its number; and the slot of its client.
+#[derive(Drop, PartialEq, Eq, PartialOrd, Ord)]
+pub struct NotePlace {
+    waits: bool,
+    number: u128,
+    slot: u32,
+}
+
+impl NotePlace {
+    /// The slot of its client.
+    pub fn slot(&self) -> u32
+        ensures { result ≡ self.now.slot }
+    {
+        self.slot
+    }
+}
+
+/// Puts the places of these notes, which wait or not, behind those places.
+fn put_places<U>(
+    queue: &VecDeque<(u128, Happening<U>)>,
+    waits: bool,
+    slot: u32,
+    order: &mut Vec<NotePlace>,
+) -> Result<(), OutOfMemory>
+    ensures { OnOk result (order.new.items ≡ order.old.items ++ map (place_of waits slot) queue.now.items) }
+{
+    for (number, _) in queue.iter() {
+        let number = *number;
+        order.push(NotePlace {
+            waits,
+            number,
+            slot,
+        })?;
+    }
+    Ok(())
+}
+
+/// The notes of a client that were made and not gathered yet, in order.
+#[derive(Drop)]
+pub struct MadeNotes<U> {
+    queue: VecDeque<(u128, Happening<U>)>,
+}
+
+impl<U> MadeNotes<U> {
+    /// None, with room for so many.
+    pub fn with_capacity(alloc: Global, count: usize) -> Result<Self, OutOfMemory>
+        ensures none { IfOk result (λ notes. notes.queue.items ≡ []) }
+        ensures len { IfOk result (λ notes. deque_len notes.queue ≡ 0) }
+        ensures room { IfOk result (λ notes. count ≤ deque_capacity notes.queue) }
+    {
+        let queue = VecDeque::with_capacity(alloc, count)?;
+        Ok(MadeNotes { queue })
+    }
+
+    /// Makes room for so many more.
+    pub fn reserve(&mut self, additional: usize) -> Result<(), OutOfMemory>
+        ensures items { self.new.queue.items ≡ self.old.queue.items }
+        ensures len { deque_len self.new.queue ≡ deque_len self.old.queue }
+        ensures capacity { deque_capacity self.old.queue ≤ deque_capacity self.new.queue }
+        ensures room { OnOk result (deque_len self.new.queue + additional ≤ deque_capacity self.new.queue) }
+    {
+        Ok(self.queue.reserve(additional)?)
+    }
+
+    /// A note is made. It gets the next number of those that are made.
+    pub fn push(&mut self, numbers: &mut NoteNumbers, happening: Happening<U>)
+        requires { deque_len self.old.queue < deque_capacity self.old.queue }
+        ensures items { self.new.queue.items ≡ self.old.queue.items ++ (numbers.old.made, happening) ∷ [] }
+        ensures numbers { numbers.new ≡ record numbers.old { made = number_behind numbers.old.made } }
+        ensures len { deque_len self.new.queue ≡ deque_len self.old.queue + 1 }
+        ensures capacity { deque_capacity self.new.queue ≡ deque_capacity self.old.queue }
+    {
+        let number = next_number(&mut numbers.made);
+        self.queue.push_back_reserved((number, happening));
+    }
+
+    /// Takes the oldest one.
+    pub fn pop(&mut self) -> Option<Happening<U>>
+        ensures oldest { MatchOption result ((self.old.queue.items ≡ []) × (self.new.queue.items ≡ []))
+            (λ h. map (λ n. n.1) self.old.queue.items ≡ h ∷ map (λ n. n.1) self.new.queue.items) }
+        ensures room { deque_len self.old.queue < deque_capacity self.old.queue → deque_len self.new.queue < deque_capacity self.new.queue }
+    {
+        let (_, happening) = self.queue.pop_front()?;
+        Some(happening)
+    }
+
+    /// How many they are.
+    pub fn len(&self) -> usize
+        ensures { result ≡ length self.now.queue.items }
+    {
+        self.queue.len()
+    }
+
+    /// Puts their places behind these.
+    pub fn put_places(&self, slot: u32, order: &mut Vec<NotePlace>) -> Result<(), OutOfMemory>
+        ensures { OnOk result (order.new.items ≡ order.old.items ++ map (place_of false slot) self.now.queue.items) }
+    {
+        put_places(&self.queue, false, slot, order)
+    }
+}
+
+/// The notes of a client that wait for the next cleanup, in order.
+#[derive(Drop)]
+pub struct WaitingNotes<U> {
+    queue: VecDeque<(u128, Happening<U>)>,
+}
+
+impl<U> WaitingNotes<U> {
+    /// None.
+    pub fn new(alloc: Global) -> Self
+        ensures { result.queue.items ≡ [] }
+    {
+        WaitingNotes {
+            queue: VecDeque::new(alloc),
+        }
+    }
+
+    /// Makes room for one more.
+    pub fn reserve(&mut self) -> Result<(), OutOfMemory>
+        ensures items { self.new.queue.items ≡ self.old.queue.items }
+        ensures room { OnOk result (deque_len self.new.queue < deque_capacity self.new.queue) }
+    {
+        Ok(self.queue.reserve(1)?)
+    }
+
+    /// A note begins to wait. It gets the next number of those that wait.
+    pub fn push(&mut self, numbers: &mut NoteNumbers, happening: Happening<U>)
+        requires { deque_len self.old.queue < deque_capacity self.old.queue }
+        ensures items { self.new.queue.items ≡ self.old.queue.items ++ (numbers.old.waiting, happening) ∷ [] }
+        ensures numbers { numbers.new ≡ record numbers.old { waiting = number_behind numbers.old.waiting } }
+    {
+        let number = next_number(&mut numbers.waiting);
+        self.queue.push_back_reserved((number, happening));
+    }
+
+    /// Takes the oldest one.
+    pub fn pop(&mut self) -> Option<Happening<U>>
+        ensures { MatchOption result ((self.old.queue.items ≡ []) × (self.new.queue.items ≡ []))
+            (λ h. map (λ n. n.1) self.old.queue.items ≡ h ∷ map (λ n. n.1) self.new.queue.items) }
+    {
+        let (_, happening) = self.queue.pop_front()?;
+        Some(happening)
+    }
+
+    /// How many they are.
+    pub fn len(&self) -> usize
+        ensures { result ≡ length self.now.queue.items }
+    {
+        self.queue.len()
+    }
+
+    /// Puts their places behind these.
+    pub fn put_places(&self, slot: u32, order: &mut Vec<NotePlace>) -> Result<(), OutOfMemory>
+        ensures { OnOk result (order.new.items ≡ order.old.items ++ map (place_of true slot) self.now.queue.items) }
+    {
+        put_places(&self.queue, true, slot, order)
+    }
+}
