@@ -6,7 +6,10 @@ mod Lines
 mod Making
 mod OneCommand
 mod Numbers
+mod Others
 mod Places
+mod Recordings
 mod Rows
 mod RunLines
 mod Sharing
+mod Slots

@@ -8,7 +8,7 @@ use Rattle.wl_bench.specs.Commands.{Finds, IsClientCommand, IsCommand, IsLine, w
 use Rattle.wl_bench.specs.declared.command.ClientCommand.{ClientCommand}
 use Rattle.wl_bench.specs.declared.command.ClientCommand.TheVariants.{Arrive, Read, Finish, Kill, Accept, FailIn, FailOut}
 use Rattle.wl_bench.specs.declared.command.Command.{Command}
-use Rattle.wl_bench.specs.declared.command.Command.TheVariants.{Insert, Client, Create, Disable, Remove, Flush, Cleanup, Notes}
+use Rattle.wl_bench.specs.declared.command.Command.TheVariants.{Insert, Client, Dispatch, Create, Disable, Remove, Flush, Cleanup, Notes}
 
 -- a command has one word at least, and four at most
 abbrev IsFewWords : List (List ℕ) → Type 0
@@ -26,6 +26,7 @@ few_of_client ws slot (FailOut fault) h = let n = ap length h.1 in (omega arith,
 few_words : (ws : List (List ℕ)) (c : Command) → IsCommand c ws → IsFewWords ws
 few_words ws Insert h = let n = ap length h in (omega arith, omega arith)
 few_words ws (Client slot c) h = few_of_client ws slot c h.1
+few_words ws (Dispatch slots) h = let n = ap length h.1 in (omega arith, omega arith)
 few_words ws (Create name version) h = let n = ap length h.2 in (omega arith, omega arith)
 few_words ws (Disable name) h = let n = ap length h.1 in (omega arith, omega arith)
 few_words ws (Remove name) h = let n = ap length h.1 in (omega arith, omega arith)

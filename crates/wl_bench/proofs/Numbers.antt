@@ -14,7 +14,7 @@ use Rattle.std.proofs.lemmas.Str.Parse.{IsNumeralModel, numerals_by_value, tells
 use Rattle.wl_wire.specs.declared.argument.Token.{Token}
 use Rattle.wl_bench.specs.Commands.{AreNumbers, AreTokens, Finds, FindsAll, IsNumber, IsTokenNumber, parts, token}
 
-own : IsNumeralModel (AllDigits 10) (digits_value 10)
+pub own : IsNumeralModel (AllDigits 10) (digits_value 10)
 own = numerals_by_value (AllDigits 10) tells_digits
 
 -- a number begins with a digit

@@ -11,7 +11,7 @@ use Rattle.wl_bench.specs.Hex.{hex_digits}
 use Rattle.wl_bench.specs.declared.command.ClientCommand.{ClientCommand}
 use Rattle.wl_bench.specs.declared.command.ClientCommand.TheVariants.{Arrive, Read, Finish, Kill, Accept, FailIn, FailOut}
 use Rattle.wl_bench.specs.declared.command.Command.{Command}
-use Rattle.wl_bench.specs.declared.command.Command.TheVariants.{Insert, Client, Create, Disable, Remove, Flush, Cleanup, Notes}
+use Rattle.wl_bench.specs.declared.command.Command.TheVariants.{Insert, Client, Dispatch, Create, Disable, Remove, Flush, Cleanup, Notes}
 use Rattle.wl_wire.specs.declared.argument.Token.{Token}
 use Rattle.wl_wire.specs.declared.error.IoFault.{IoFault}
 use Rattle.wl_wire.specs.declared.error.IoFault.TheVariants.{WouldBlock, Pipe, TooBig, Proto, InvalidInput, OutOfMemory, Other}
@@ -200,6 +200,7 @@ one_of_client ws slot slot' (FailOut fault) (FailOut fault') h k = same_fault fa
 one_of_words : (ws : List (List ℕ)) (c d : Command) → IsCommand c ws → IsCommand d ws → AskSame c d
 one_of_words ws Insert Insert h k = tt
 one_of_words ws Insert (Client slot' d) h k = absurd (apart ws slot' d _ k.1 (ap first_mark h) refl)
+one_of_words ws Insert (Dispatch slots') h k = absurd (clash (first_mark ws) _ _ (ap first_mark h) (ap first_mark k.1) refl)
 one_of_words ws Insert (Create name' version') h k = absurd (clash (first_mark ws) _ _ (ap first_mark h) (ap first_mark k.2) refl)
 one_of_words ws Insert (Disable name') h k = absurd (clash (first_mark ws) _ _ (ap first_mark h) (ap first_mark k.1) refl)
 one_of_words ws Insert (Remove name') h k = absurd (clash (first_mark ws) _ _ (ap first_mark h) (ap first_mark k.1) refl)
@@ -209,14 +210,26 @@ one_of_words ws Insert Notes h k = absurd (clash (first_mark ws) _ _ (ap first_m
 one_of_words ws (Client slot c) Insert h k = absurd (apart ws slot c _ h.1 (ap first_mark k) refl)
 one_of_words ws (Client slot c) (Client slot' d) h k =
     (same_number slot slot' h.0 k.0 (sym (slot_word ws slot c h.1) ∙ slot_word ws slot' d k.1), one_of_client ws slot slot' c d h.1 k.1)
+one_of_words ws (Client slot c) (Dispatch slots') h k = absurd (apart ws slot c _ h.1 (ap first_mark k.1) refl)
 one_of_words ws (Client slot c) (Create name' version') h k = absurd (apart ws slot c _ h.1 (ap first_mark k.2) refl)
 one_of_words ws (Client slot c) (Disable name') h k = absurd (apart ws slot c _ h.1 (ap first_mark k.1) refl)
 one_of_words ws (Client slot c) (Remove name') h k = absurd (apart ws slot c _ h.1 (ap first_mark k.1) refl)
 one_of_words ws (Client slot c) Flush h k = absurd (apart ws slot c _ h.1 (ap first_mark k) refl)
 one_of_words ws (Client slot c) Cleanup h k = absurd (apart ws slot c _ h.1 (ap first_mark k) refl)
 one_of_words ws (Client slot c) Notes h k = absurd (apart ws slot c _ h.1 (ap first_mark k) refl)
+one_of_words ws (Dispatch slots) Insert h k = absurd (clash (first_mark ws) _ _ (ap first_mark h.1) (ap first_mark k) refl)
+one_of_words ws (Dispatch slots) (Client slot' d) h k = absurd (apart ws slot' d _ k.1 (ap first_mark h.1) refl)
+one_of_words ws (Dispatch slots) (Dispatch slots') h k =
+    unique slots.items slots'.items (parts 44 h.0) h.2 (subst (λ (w : List ℕ). AreNumbers slots'.items w) (ap (word_at 1) (sym k.1 ∙ h.1)) k.2)
+one_of_words ws (Dispatch slots) (Create name' version') h k = absurd (clash (first_mark ws) _ _ (ap first_mark h.1) (ap first_mark k.2) refl)
+one_of_words ws (Dispatch slots) (Disable name') h k = absurd (clash (first_mark ws) _ _ (ap first_mark h.1) (ap first_mark k.1) refl)
+one_of_words ws (Dispatch slots) (Remove name') h k = absurd (clash (first_mark ws) _ _ (ap first_mark h.1) (ap first_mark k.1) refl)
+one_of_words ws (Dispatch slots) Flush h k = absurd (clash (first_mark ws) _ _ (ap first_mark h.1) (ap first_mark k) refl)
+one_of_words ws (Dispatch slots) Cleanup h k = absurd (clash (first_mark ws) _ _ (ap first_mark h.1) (ap first_mark k) refl)
+one_of_words ws (Dispatch slots) Notes h k = absurd (clash (first_mark ws) _ _ (ap first_mark h.1) (ap first_mark k) refl)
 one_of_words ws (Create name version) Insert h k = absurd (clash (first_mark ws) _ _ (ap first_mark h.2) (ap first_mark k) refl)
 one_of_words ws (Create name version) (Client slot' d) h k = absurd (apart ws slot' d _ k.1 (ap first_mark h.2) refl)
+one_of_words ws (Create name version) (Dispatch slots') h k = absurd (clash (first_mark ws) _ _ (ap first_mark h.2) (ap first_mark k.1) refl)
 one_of_words ws (Create name version) (Create name' version') h k = (ap (word_at 1) (sym h.2 ∙ k.2), same_number version version' h.0 k.0 (ap (word_at 2) (sym h.2 ∙ k.2)))
 one_of_words ws (Create name version) (Disable name') h k = absurd (clash (first_mark ws) _ _ (ap first_mark h.2) (ap first_mark k.1) refl)
 one_of_words ws (Create name version) (Remove name') h k = absurd (clash (first_mark ws) _ _ (ap first_mark h.2) (ap first_mark k.1) refl)
@@ -225,6 +238,7 @@ one_of_words ws (Create name version) Cleanup h k = absurd (clash (first_mark ws
 one_of_words ws (Create name version) Notes h k = absurd (clash (first_mark ws) _ _ (ap first_mark h.2) (ap first_mark k) refl)
 one_of_words ws (Disable name) Insert h k = absurd (clash (first_mark ws) _ _ (ap first_mark h.1) (ap first_mark k) refl)
 one_of_words ws (Disable name) (Client slot' d) h k = absurd (apart ws slot' d _ k.1 (ap first_mark h.1) refl)
+one_of_words ws (Disable name) (Dispatch slots') h k = absurd (clash (first_mark ws) _ _ (ap first_mark h.1) (ap first_mark k.1) refl)
 one_of_words ws (Disable name) (Create name' version') h k = absurd (clash (first_mark ws) _ _ (ap first_mark h.1) (ap first_mark k.2) refl)
 one_of_words ws (Disable name) (Disable name') h k = same_number name name' h.0 k.0 (ap (word_at 1) (sym h.1 ∙ k.1))
 one_of_words ws (Disable name) (Remove name') h k = absurd (clash (first_mark ws) _ _ (ap first_mark h.1) (ap first_mark k.1) refl)
@@ -233,6 +247,7 @@ one_of_words ws (Disable name) Cleanup h k = absurd (clash (first_mark ws) _ _ (
 one_of_words ws (Disable name) Notes h k = absurd (clash (first_mark ws) _ _ (ap first_mark h.1) (ap first_mark k) refl)
 one_of_words ws (Remove name) Insert h k = absurd (clash (first_mark ws) _ _ (ap first_mark h.1) (ap first_mark k) refl)
 one_of_words ws (Remove name) (Client slot' d) h k = absurd (apart ws slot' d _ k.1 (ap first_mark h.1) refl)
+one_of_words ws (Remove name) (Dispatch slots') h k = absurd (clash (first_mark ws) _ _ (ap first_mark h.1) (ap first_mark k.1) refl)
 one_of_words ws (Remove name) (Create name' version') h k = absurd (clash (first_mark ws) _ _ (ap first_mark h.1) (ap first_mark k.2) refl)
 one_of_words ws (Remove name) (Disable name') h k = absurd (clash (first_mark ws) _ _ (ap first_mark h.1) (ap first_mark k.1) refl)
 one_of_words ws (Remove name) (Remove name') h k = same_number name name' h.0 k.0 (ap (word_at 1) (sym h.1 ∙ k.1))
@@ -241,6 +256,7 @@ one_of_words ws (Remove name) Cleanup h k = absurd (clash (first_mark ws) _ _ (a
 one_of_words ws (Remove name) Notes h k = absurd (clash (first_mark ws) _ _ (ap first_mark h.1) (ap first_mark k) refl)
 one_of_words ws Flush Insert h k = absurd (clash (first_mark ws) _ _ (ap first_mark h) (ap first_mark k) refl)
 one_of_words ws Flush (Client slot' d) h k = absurd (apart ws slot' d _ k.1 (ap first_mark h) refl)
+one_of_words ws Flush (Dispatch slots') h k = absurd (clash (first_mark ws) _ _ (ap first_mark h) (ap first_mark k.1) refl)
 one_of_words ws Flush (Create name' version') h k = absurd (clash (first_mark ws) _ _ (ap first_mark h) (ap first_mark k.2) refl)
 one_of_words ws Flush (Disable name') h k = absurd (clash (first_mark ws) _ _ (ap first_mark h) (ap first_mark k.1) refl)
 one_of_words ws Flush (Remove name') h k = absurd (clash (first_mark ws) _ _ (ap first_mark h) (ap first_mark k.1) refl)
@@ -249,6 +265,7 @@ one_of_words ws Flush Cleanup h k = absurd (clash (first_mark ws) _ _ (ap first_
 one_of_words ws Flush Notes h k = absurd (clash (first_mark ws) _ _ (ap first_mark h) (ap first_mark k) refl)
 one_of_words ws Cleanup Insert h k = absurd (clash (first_mark ws) _ _ (ap first_mark h) (ap first_mark k) refl)
 one_of_words ws Cleanup (Client slot' d) h k = absurd (apart ws slot' d _ k.1 (ap first_mark h) refl)
+one_of_words ws Cleanup (Dispatch slots') h k = absurd (clash (first_mark ws) _ _ (ap first_mark h) (ap first_mark k.1) refl)
 one_of_words ws Cleanup (Create name' version') h k = absurd (clash (first_mark ws) _ _ (ap first_mark h) (ap first_mark k.2) refl)
 one_of_words ws Cleanup (Disable name') h k = absurd (clash (first_mark ws) _ _ (ap first_mark h) (ap first_mark k.1) refl)
 one_of_words ws Cleanup (Remove name') h k = absurd (clash (first_mark ws) _ _ (ap first_mark h) (ap first_mark k.1) refl)
@@ -257,6 +274,7 @@ one_of_words ws Cleanup Cleanup h k = tt
 one_of_words ws Cleanup Notes h k = absurd (clash (first_mark ws) _ _ (ap first_mark h) (ap first_mark k) refl)
 one_of_words ws Notes Insert h k = absurd (clash (first_mark ws) _ _ (ap first_mark h) (ap first_mark k) refl)
 one_of_words ws Notes (Client slot' d) h k = absurd (apart ws slot' d _ k.1 (ap first_mark h) refl)
+one_of_words ws Notes (Dispatch slots') h k = absurd (clash (first_mark ws) _ _ (ap first_mark h) (ap first_mark k.1) refl)
 one_of_words ws Notes (Create name' version') h k = absurd (clash (first_mark ws) _ _ (ap first_mark h) (ap first_mark k.2) refl)
 one_of_words ws Notes (Disable name') h k = absurd (clash (first_mark ws) _ _ (ap first_mark h) (ap first_mark k.1) refl)
 one_of_words ws Notes (Remove name') h k = absurd (clash (first_mark ws) _ _ (ap first_mark h) (ap first_mark k.1) refl)

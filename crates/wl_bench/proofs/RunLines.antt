@@ -7,12 +7,12 @@ use Rattle.std.specs.List.{flat_map}
 use Rattle.std.proofs.lemmas.Grind.{flat_map-append}
 use mathlib.Core.Logic.{inl, inr}
 use Rattle.wl_bench.specs.declared.command.Command.{Command}
-use Rattle.wl_bench.specs.declared.command.Command.TheVariants.{Insert, Client, Create, Disable, Remove, Flush, Cleanup, Notes}
+use Rattle.wl_bench.specs.declared.command.Command.TheVariants.{Insert, Client, Dispatch, Create, Disable, Remove, Flush, Cleanup, Notes}
 use Rattle.wl_bench.specs.declared.commands.Form.{Form}
 use Rattle.wl_bench.specs.declared.stop.Stop.{Stop}
 use Rattle.wl_bench.specs.declared.stop.Stop.TheVariants.{BadLine, Failed, Usage, Differs}
 use Rattle.wl_bench.specs.Answers.{Line}
-use Rattle.wl_bench.specs.Bench.{BenchState, Does, NamesNone, latest}
+use Rattle.wl_bench.specs.Bench.{BenchState, Does, LacksClient, NamesNone, latest}
 use Rattle.wl_bench.specs.Commands.{AskSame, IsLine}
 use Rattle.wl_bench.specs.Record.{Answers, AreOf, IsBad, Leads, Runs, StopsAt, Told, fed, lines, text_of, written, written_of}
 use Rattle.wl_bench.proofs.InputLines.{first_line, is_first, some_input}
@@ -41,7 +41,7 @@ keeps_same (Some xs) = refl
 
 -- ---- commands behind commands
 
-leads_more : (before mid after : BenchState) (told others : List Told) → Leads before told mid → Leads mid others after → Leads before (told ++ others) after
+pub leads_more : (before mid after : BenchState) (told others : List Told) → Leads before told mid → Leads mid others after → Leads before (told ++ others) after
 leads_more before mid after [] others same k = subst (λ (b : BenchState). Leads b others after) same k
 leads_more before mid after (t ∷ told) others (command, is, next, does, rest) k =
     (command, is, next, does, leads_more next mid after told others rest k)
@@ -91,7 +91,7 @@ at_end f n (Some input) now begun bench held held' (rest, e, front, told, same, 
     (told, bench, subst (λ (l : List Line). AreOf 1 l told) (sym all) are, leads, appends)
 
 -- the line that is read, and those behind it
-abbrev IsReadOf : List ℕ → Line → Option (List ℕ) → Type 0
+abbrev pub IsReadOf : List ℕ → Line → Option (List ℕ) → Type 0
 IsReadOf rest line next = (lines rest ≡ line ∷ lines (drop_through 10 rest)) × (next ≡ Some (drop_through 10 rest))
 
 pub is_read : (now next : Option (List ℕ)) (rest before line front : List ℕ) → now ≡ Some rest → before ≡ [] → 0 < length line
@@ -188,12 +188,22 @@ answered f n before after line command answer text held mid held' some is does s
 pub same_none : (b : BenchState) (c d : Command) → AskSame c d → NamesNone b c → NamesNone b d
 same_none b (Client slot c) (Client slot' d) same none = subst (λ (s : ℕ). latest s b.clients ≡ None) same.0 none
 same_none b (Client slot c) Insert same none = absurd same
+same_none b (Client slot c) (Dispatch slots) same none = absurd same
 same_none b (Client slot c) (Create name version) same none = absurd same
 same_none b (Client slot c) (Disable name) same none = absurd same
 same_none b (Client slot c) (Remove name) same none = absurd same
 same_none b (Client slot c) Flush same none = absurd same
 same_none b (Client slot c) Cleanup same none = absurd same
 same_none b (Client slot c) Notes same none = absurd same
+same_none b (Dispatch slots) (Dispatch slots') same none = subst (λ (xs : List ℕ). LacksClient b xs) same none
+same_none b (Dispatch slots) (Client slot c) same none = absurd same
+same_none b (Dispatch slots) Insert same none = absurd same
+same_none b (Dispatch slots) (Create name version) same none = absurd same
+same_none b (Dispatch slots) (Disable name) same none = absurd same
+same_none b (Dispatch slots) (Remove name) same none = absurd same
+same_none b (Dispatch slots) Flush same none = absurd same
+same_none b (Dispatch slots) Cleanup same none = absurd same
+same_none b (Dispatch slots) Notes same none = absurd same
 same_none b Insert d same none = absurd none
 same_none b (Create name version) d same none = absurd none
 same_none b (Disable name) d same none = absurd none

@@ -164,6 +164,10 @@ client_text id = codes "client " ++ decimal id.slot ++ codes " " ++ decimal id.s
 abbrev pub global_text : GlobalParts → Line
 global_text id = codes "global " ++ decimal id.name ++ codes " " ++ decimal id.serial
 
+-- how many requests a dispatch read
+abbrev pub dispatched_text : ℕ → Line
+dispatched_text count = codes "dispatched " ++ decimal count
+
 -- the line of a reply
 abbrev pub answer_text : Reply Script ℕ → Line
 answer_text (reply.InsertClient (Ok id)) = client_text id

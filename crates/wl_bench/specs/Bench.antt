@@ -1,32 +1,37 @@
--- What a bench holds, and what a command does: the steps of the server that it is, and what it prints.
+-- What a bench holds, and what a command does: the steps of the server that it is, or a dispatch, and what it prints.
 use Rattle.std.specs.Prelude.{⊤, ◌≡◌, ℕ, zero, suc, ◌+◌, List, [], ◌∷◌, ◌++◌, length, map, option_map, if◌then◌else◌, Option, None, Some, is_some, true, false, Ok, Err, slice_get}
-use Rattle.std.specs.List.{flat_map}
+use Rattle.std.specs.List.{Contains, flat_map}
 use Rattle.std.specs.Option.{option_map_or, option_to_list}
 use Rattle.std.specs.Str.{bytes_eq}
 use Rattle.std.specs.String.{string_bytes}
 use Rattle.wl_wire.specs.Table.{InterfaceRow}
+use Rattle.wl_wire.specs.declared.argument.Argument.{Argument}
+use Rattle.wl_wire.specs.declared.argument.Token.{Token}
 use Rattle.wl_wire.specs.declared.interface.InterfaceId.{InterfaceId}
 use Rattle.wl_link.specs.Runs.{entries}
-use Rattle.wl_link.specs.Script.{Script}
+use Rattle.wl_link.specs.Script.{Script, ScriptReceives, ScriptSends}
 use Rattle.wl_server.specs.declared.globals.handler.ShownToAll.{ShownToAll}
 use Rattle.wl_server.specs.declared.notes.DisconnectReason.TheVariants as ended
 use Rattle.wl_server.specs.declared.runs.step.Reply.{Reply}
 use Rattle.wl_server.specs.declared.runs.step.Reply.TheVariants as reply
 use Rattle.wl_server.specs.declared.runs.step.Step.{Step}
 use Rattle.wl_server.specs.declared.runs.step.Step.TheVariants as step
+use Rattle.wl_server.specs.Backend.{BackendState}
 use Rattle.wl_server.specs.Deeds.{Bind, Handed, Request, handed}
-use Rattle.wl_server.specs.Ids.{ClientParts, GlobalParts}
-use Rattle.wl_server.specs.PartStep.{World, over_scripts}
+use Rattle.wl_server.specs.Dispatch.{Answering, DispatchesAll, answering}
+use Rattle.wl_server.specs.Ids.{ClientParts, GlobalParts, IdParts}
+use Rattle.wl_server.specs.PartStep.{World, over, over_scripts}
 use Rattle.wl_server.specs.Runs.{Performs}
 use Rattle.wl_server.specs.Server.{ServerState, new_server}
 use Rattle.wl_bench.specs.declared.bench.Open.{Open}
 use Rattle.wl_bench.specs.declared.bench.Open.TheVariants as opened
 use Rattle.wl_bench.specs.declared.bench.Seat.{Seat}
+use Rattle.wl_bench.specs.declared.bench.dispatch.LineHandler.{LineHandler}
 use Rattle.wl_bench.specs.declared.command.ClientCommand.{ClientCommand}
 use Rattle.wl_bench.specs.declared.command.ClientCommand.TheVariants.{Arrive, Read, Finish, Kill, Accept, FailIn, FailOut}
 use Rattle.wl_bench.specs.declared.command.Command.{Command}
-use Rattle.wl_bench.specs.declared.command.Command.TheVariants.{Insert, Client, Create, Disable, Remove, Flush, Cleanup, Notes}
-use Rattle.wl_bench.specs.Answers.{Line, answer_lines, records_lines, taken_out_lines}
+use Rattle.wl_bench.specs.declared.command.Command.TheVariants.{Insert, Client, Dispatch, Create, Disable, Remove, Flush, Cleanup, Notes}
+use Rattle.wl_bench.specs.Answers.{Line, answer_lines, dispatched_text, records_lines, taken_out_lines}
 
 -- ---- what was made last under each number
 
@@ -90,9 +95,10 @@ interface_of name rows = record { 0 = place_of name rows }
 abbrev pub global_of : BenchState → ℕ → GlobalParts
 global_of b name = option_map_or (λ g. g) (latest name b.globals) (record { name = name; serial = 0 })
 
--- a command about no one client
+-- a command that is one step of the server, and about no one client
 abbrev pub IsShared : Command → Type 0
 IsShared (Client slot command) = ⊥
+IsShared (Dispatch slots) = ⊥
 IsShared command = ⊤
 
 -- a command about a client that is one call
@@ -127,10 +133,11 @@ client_calls seat n (FailOut fault) = step.AcceptFault seat.client fault ∷ []
 abbrev pub empty_script : Script
 empty_script = record { arrivals = []; answers = []; sent = [] }
 
--- the call of a command about no one client
+-- the call of such a command
 abbrev pub shared_call : BenchState → Command → Option BenchStep
 shared_call b Insert = Some (step.InsertClient empty_script tt)
 shared_call b (Client slot command) = None
+shared_call b (Dispatch slots) = None
 shared_call b (Create name version) = Some (step.CreateGlobal (interface_of (string_bytes name) b.server.offer.table) version (record {}))
 shared_call b (Disable name) = Some (step.DisableGlobal (global_of b name))
 shared_call b (Remove name) = Some (step.RemoveGlobal (global_of b name))
@@ -138,13 +145,17 @@ shared_call b Flush = Some (step.Flush None)
 shared_call b Cleanup = Some step.Cleanup
 shared_call b Notes = Some step.TakeNotes
 
+-- the clients of all slots
+abbrev pub all_clients : BenchState → List ClientParts
+all_clients b = map client_of (all_latest b.clients)
+
 -- The clients that such a command may have sent something to, by slot: of these the records are taken behind it. A cleanup
 -- sends only to clients that it takes out, and hands out their transports.
 abbrev pub heard_by : BenchState → Command → List ClientParts
-heard_by b (Create name version) = map client_of (all_latest b.clients)
-heard_by b (Disable name) = map client_of (all_latest b.clients)
-heard_by b (Remove name) = map client_of (all_latest b.clients)
-heard_by b Flush = map client_of (all_latest b.clients)
+heard_by b (Create name version) = all_clients b
+heard_by b (Disable name) = all_clients b
+heard_by b (Remove name) = all_clients b
+heard_by b Flush = all_clients b
 heard_by b command = []
 
 abbrev pub take_step : ClientParts → BenchStep
@@ -172,6 +183,41 @@ clients_after _ clients = clients
 abbrev pub globals_after : BenchReply → List (Option GlobalParts) → List (Option GlobalParts)
 globals_after (reply.CreateGlobal (Ok global)) globals = with_latest global.name global globals
 globals_after _ globals = globals
+
+-- ---- dispatches
+
+abbrev pub BenchBackend : Type 0
+BenchBackend = BackendState Script ℕ ShownToAll (Unit {0})
+
+-- The handler of a dispatch gives each object that is made or bound the number of the command as its data. It makes no call.
+abbrev pub answers_request : LineHandler → BenchBackend → ClientParts → IdParts → ℕ → List (Argument IdParts Token) → Option IdParts → Option ℕ
+    → LineHandler → BenchBackend → Type 0
+answers_request h before client sender opcode args created u h' after = (u ≡ option_map (λ _. h.number) created) × (h' ≡ h) × (after ≡ before)
+
+abbrev pub answers_bind : LineHandler → BenchBackend → ClientParts → GlobalParts → IdParts → ℕ → LineHandler → BenchBackend → Type 0
+answers_bind h before client global object u h' after = (u ≡ h.number) × (h' ≡ h) × (after ≡ before)
+
+abbrev pub line_answers : Answering LineHandler Script ℕ ShownToAll (Unit {0})
+line_answers = answering answers_request answers_bind
+
+abbrev pub line_handler : ℕ → LineHandler
+line_handler n = record { number = n }
+
+-- These clients are dispatched by the command of that number, and so many requests are read. No memory was refused. No
+-- script is changed in a dispatch.
+abbrev pub Dispatches : BenchServer → ℕ → List ClientParts → ℕ → BenchServer → Type 0
+Dispatches before n clients count after =
+    (h : LineHandler)
+    × DispatchesAll (over ScriptSends ScriptReceives (λ _ _ _ _. true)) line_answers clients (line_handler n) before (Ok count) h
+    (record { server = after; refused = false })
+
+-- the client that was inserted last at a slot, if one was
+abbrev pub client_at : BenchState → ℕ → Option ClientParts
+client_at b slot = option_map client_of (latest slot b.clients)
+
+-- at one of the slots none was
+abbrev pub LacksClient : BenchState → List ℕ → Type 0
+LacksClient b slots = (slot : ℕ) × Contains slots slot × (latest slot b.clients ≡ None)
 
 -- ---- what a command does
 
@@ -209,12 +255,29 @@ DoesForAll before command out after =
     × (out ≡ printed (heard_by before command) answer taken)
     × (after.clients ≡ clients_after answer before.clients) × (after.globals ≡ globals_after answer before.globals)
 
+-- the records of what these clients were sent are taken, with these replies
+abbrev pub TakesRecords : BenchServer → List ClientParts → List BenchReply → BenchServer → Type 0
+TakesRecords before heard taken after =
+    (length taken ≡ length heard) × Performs bench_world before (entries (map take_step heard) taken) after
+
+-- A dispatch of the clients that were inserted last at the slots. It prints how many requests were read, and a line for each
+-- client that was sent something, but for those that it took out, whose transports are gone with what they had been sent.
+abbrev pub DoesDispatch : BenchState → ℕ → List ℕ → List Line → BenchState → Type 0
+DoesDispatch before n slots out after =
+    (clients : List ClientParts) × (map Some clients ≡ map (client_at before) slots)
+    × (count : ℕ) × (mid : BenchServer) × Dispatches before.server n clients count mid
+    × (taken : List BenchReply) × TakesRecords mid (all_clients before) taken after.server
+    × (out ≡ dispatched_text count ∷ records_lines (all_clients before) taken)
+    × (after.clients ≡ before.clients) × (after.globals ≡ before.globals)
+
 -- a command under its number, the lines that it prints, and what is held before and after
 abbrev pub Does : BenchState → ℕ → Command → List Line → BenchState → Type 0
 Does before n (Client slot command) out after = DoesFor before n slot command out after
+Does before n (Dispatch slots) out after = DoesDispatch before n slots.items out after
 Does before n command out after = DoesForAll before command out after
 
 -- the command names a slot at which no client was inserted
 abbrev pub NamesNone : BenchState → Command → Type 0
 NamesNone b (Client slot command) = latest slot b.clients ≡ None
+NamesNone b (Dispatch slots) = LacksClient b slots.items
 NamesNone b command = ⊥

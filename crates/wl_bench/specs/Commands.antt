@@ -9,7 +9,7 @@ use Rattle.wl_bench.specs.Hex.{hex_digits}
 use Rattle.wl_bench.specs.declared.command.ClientCommand.{ClientCommand}
 use Rattle.wl_bench.specs.declared.command.ClientCommand.TheVariants.{Arrive, Read, Finish, Kill, Accept, FailIn, FailOut}
 use Rattle.wl_bench.specs.declared.command.Command.{Command}
-use Rattle.wl_bench.specs.declared.command.Command.TheVariants.{Insert, Client, Create, Disable, Remove, Flush, Cleanup, Notes}
+use Rattle.wl_bench.specs.declared.command.Command.TheVariants.{Insert, Client, Dispatch, Create, Disable, Remove, Flush, Cleanup, Notes}
 use Rattle.wl_wire.specs.declared.error.IoFault.{IoFault}
 use Rattle.wl_wire.specs.declared.error.IoFault.TheVariants.{WouldBlock, Pipe, TooBig, Proto, InvalidInput, OutOfMemory, Other}
 use Rattle.wl_wire.specs.declared.argument.Token.{Token}
@@ -84,6 +84,7 @@ IsClientCommand slot (FailOut fault) ws =
 abbrev pub IsCommand : Command → List (List ℕ) → Type 0
 IsCommand Insert ws = ws ≡ codes "client" ∷ []
 IsCommand (Client slot command) ws = (slot ≤ 4294967295) × IsClientCommand slot command ws
+IsCommand (Dispatch slots) ws = (word : List ℕ) × (ws ≡ codes "dispatch" ∷ word ∷ []) × AreNumbers slots.items word
 IsCommand (Create name version) ws =
     (version ≤ 4294967295) × (0 < length (string_bytes name)) × (ws ≡ codes "global" ∷ string_bytes name ∷ decimal version ∷ [])
 IsCommand (Disable name) ws = (name ≤ 4294967295) × (ws ≡ codes "disable" ∷ decimal name ∷ [])
@@ -107,10 +108,11 @@ AskSameOfClient (FailIn fault) (FailIn fault') = fault ≡ fault'
 AskSameOfClient (FailOut fault) (FailOut fault') = fault ≡ fault'
 AskSameOfClient c d = ⊥
 
--- two commands ask for the same
+-- two commands ask for the same; here, too, how their vectors were allocated is no matter
 abbrev pub AskSame : Command → Command → Type 0
 AskSame Insert Insert = ⊤
 AskSame (Client slot c) (Client slot' d) = (slot ≡ slot') × AskSameOfClient c d
+AskSame (Dispatch slots) (Dispatch slots') = slots.items ≡ slots'.items
 AskSame (Create name version) (Create name' version') = (string_bytes name ≡ string_bytes name') × (version ≡ version')
 AskSame (Disable name) (Disable name') = name ≡ name'
 AskSame (Remove name) (Remove name') = name ≡ name'

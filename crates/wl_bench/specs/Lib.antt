@@ -1,7 +1,9 @@
 pub mod Answers
+pub mod Apart
 pub mod Bench
 pub mod Commands
 pub mod Hex
+pub mod Inside
 pub mod Record
 pub mod Rows
 pub mod Sync

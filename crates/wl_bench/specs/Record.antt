@@ -117,6 +117,61 @@ StopsAt n b line Differs held held' = ⊥
 
 -- ---- recordings
 
+-- the numbers of commands, each greater than the one before; that of the first is greater than this
+abbrev pub Ascend : ℕ → List Told → Type 0
+Ascend last [] = ⊤
+Ascend last (t ∷ told) = (last < t.number) × (t.number ≤ 4294967295) × Ascend t.number told
+
+-- the number of the last of them, or this where there is none
+abbrev pub last_number : ℕ → List Told → ℕ
+last_number last [] = last
+last_number last (t ∷ told) = last_number t.number told
+
+-- The lines are the record of these commands, whose numbers ascend from 1 on, but that these lines of output are missing at
+-- its end. They are of the last command, since no line of a command begins with `> `. What each command printed is what this
+-- run printed: the order of the notes of two clients is that which it gave.
+abbrev pub IsRecord : BenchState → List Line → List Told → List Line → BenchState → Type 0
+IsRecord before all told missing after =
+    (recording_of told ≡ all ++ map quoted missing) × Ascend 0 told × Leads before told after
+
+-- a line of output
+abbrev pub IsOutput : Line → Type 0
+IsOutput line = (output : Line) × (line ≡ quoted output)
+
+-- The line is no command behind the one of this number: it is not a greater number, a space and a command, or that names a
+-- slot at which no client was inserted.
+abbrev pub IsNoCommand : ℕ → BenchState → Line → Type 0
+IsNoCommand last b line =
+    (n : ℕ) → last < n → n ≤ 4294967295 → (text : Line) → line ≡ decimal n ++ 32 ∷ text
+    → (command : Command) → IsLine command text → NamesNone b command
+
+-- another line than the output that is missing; or output, where none is
+abbrev pub IsAnother : List Line → Line → Type 0
+IsAnother [] line = IsOutput line
+IsAnother (output ∷ missing) line = line ≢ quoted output
+
+-- and what goes on otherwise than by the missing output: it ends, or its first line is another
+abbrev pub GoesOff : List Line → List Line → Type 0
+GoesOff missing [] = missing ≢ []
+GoesOff missing (line ∷ rest) = IsAnother missing line
+
+-- What a recording of these lines comes to. It is the same where it is a record of its own commands, which are so many. It
+-- differs at the first line that is another than in that record, also where that goes on behind the last one. And it is bad at
+-- the first line that is no command, where no output is missing. Of a replay that failed nothing is said.
+abbrev pub Replays : BenchState → List Line → Result Replayed Stop → Type 0
+Replays before all (Ok (replayed.Same count)) =
+    (told : List Told) × (after : BenchState) × IsRecord before all told [] after × (count ≡ length told)
+Replays before all (Ok (replayed.Differs place)) =
+    (front rest : List Line) × (told : List Told) × (missing : List Line) × (after : BenchState)
+    × (all ≡ front ++ rest) × (place ≡ suc (length front)) × IsRecord before front told missing after × GoesOff missing rest
+Replays before all (Err (BadLine place)) =
+    (front rest : List Line) × (line : Line) × (told : List Told) × (after : BenchState)
+    × (all ≡ front ++ line ∷ rest) × (place ≡ suc (length front)) × IsRecord before front told [] after
+    × ¬ (IsOutput line) × IsNoCommand (last_number 0 told) after line
+Replays before all (Err Failed) = ⊤
+Replays before all (Err Usage) = ⊥
+Replays before all (Err Differs) = ⊥
+
 -- the line that says what a recording came to
 abbrev pub verdict_text : Replayed → Line
 verdict_text (replayed.Same count) = codes "same " ++ decimal count

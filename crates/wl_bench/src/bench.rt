@@ -1,11 +1,13 @@
-//! A server that is driven by commands: the steps that each command is, and what it prints.
+//! A server that is driven by commands: the steps that each command is, or a dispatch, and what it prints.
 
 ghost use Rattle.std.specs.Prelude.{List, ◌≡◌, ◌∷◌, ◌++◌, [], IfErr, IfOk, MatchOption, None, Ok, OnOk, Some, map};
 ghost use Rattle.std.specs.String.{string_bytes};
 ghost use Rattle.wl_server.specs.Deeds.{handed};
-ghost use Rattle.wl_bench.specs.Bench.{BenchReply, Does, DoesFor, DoesForAll, IsOneCall, IsShared, NamesNone, Replies, accept_step, all_latest, client_calls, client_of, clients_after, finish_step, global_of, globals_after, heard_by, latest, new_bench, opened_by, printed, seat_told, shared_call, take_step, with_latest};
+ghost use Rattle.wl_bench.specs.Bench.{BenchReply, Does, DoesFor, DoesForAll, IsOneCall, IsShared, NamesNone, Replies, accept_step, all_clients, client_calls, clients_after, finish_step, global_of, globals_after, heard_by, latest, new_bench, opened_by, printed, seat_told, shared_call, take_step, with_latest};
 ghost use Rattle.wl_bench.specs.Table.{bench_rows};
 ghost use Rattle.wl_bench.specs.declared.stop.Stop.TheVariants.{Failed};
+
+mod dispatch;
 
 use crate::answer::{Told, push_answer, push_records, push_taken_out};
 use crate::command::{ClientCommand, Command};
@@ -104,6 +106,7 @@ impl Bench {
                 let lines = self.carry_out_for(alloc, slot, &seat, command, number)?;
                 Ok(Some(lines))
             }
+            Command::Dispatch(slots) => self.carry_out_dispatch(alloc, slots.as_slice(), number),
             _ => {
                 let lines = self.carry_out_for_all(alloc, command)?;
                 Ok(Some(lines))
@@ -174,7 +177,7 @@ impl Bench {
         self.perform(alloc, step, &[client])
     }
 
-    /// Carries out a command about no one client. The transports of all clients are looked at behind one that they may
+    /// Carries out a command that is one step, and about no one client. The transports of all clients are looked at behind one that they may
     /// feel; a cleanup hands out those over which it sent.
     fn carry_out_for_all(&mut self, alloc: Global, command: Command) -> Result<Vec<String>, Stop>
         requires { IsShared command }
@@ -209,8 +212,8 @@ impl Bench {
     }
 
     /// The clients of all slots.
-    fn all_clients(&self, alloc: Global) -> Result<Vec<ClientId>, AllocError>
-        ensures { IfOk result (λ clients. clients.items ≡ map client_of (all_latest self.now.clients)) }
+    pub fn all_clients(&self, alloc: Global) -> Result<Vec<ClientId>, AllocError>
+        ensures { IfOk result (λ clients. clients.items ≡ all_clients self.now) }
     {
         let seats = self.clients.all(alloc)?;
         let mut clients = Vec::new(alloc);
@@ -228,9 +231,11 @@ impl Bench {
             Command::Create(..) | Command::Disable(_) | Command::Remove(_) | Command::Flush => {
                 self.all_clients(alloc)
             }
-            Command::Insert | Command::Notes | Command::Cleanup | Command::Client(..) => {
-                Ok(Vec::new(alloc))
-            }
+            Command::Insert
+            | Command::Notes
+            | Command::Cleanup
+            | Command::Dispatch(_)
+            | Command::Client(..) => Ok(Vec::new(alloc)),
         }
     }
 
@@ -261,7 +266,7 @@ impl Bench {
             Command::Flush => Step::Flush(None),
             Command::Cleanup => Step::Cleanup,
             Command::Notes => Step::TakeNotes,
-            Command::Client(..) => unreachable!(),
+            Command::Client(..) | Command::Dispatch(_) => unreachable!(),
         })
     }
 
@@ -319,7 +324,7 @@ impl Bench {
 }
 
 /// Puts the steps that take the records of what these clients were sent behind the others.
-fn push_takes(steps: &mut Vec<Made>, clients: &[ClientId]) -> Result<(), Stop>
+pub fn push_takes(steps: &mut Vec<Made>, clients: &[ClientId]) -> Result<(), Stop>
     ensures steps { OnOk result (steps.new.items ≡ steps.old.items ++ map take_step clients.now) }
     ensures failed { IfErr result (λ stop. stop ≡ Failed) }
 {

@@ -3,7 +3,7 @@
 //! A line is UTF-8 and is cut at its spaces (the byte 32), and its words are those of one command or of none: so a word
 //! is never empty. Numbers are decimal, without a sign or leading zeros, and at most 4294967295.
 
-ghost use Rattle.std.specs.Prelude.{◌∷◌, ℕ, [], List, map, codes, IfOk};
+ghost use Rattle.std.specs.Prelude.{◌∷◌, ◌≢◌, ℕ, [], List, map, codes, IfOk};
 ghost use Rattle.std.specs.Borrow.{Bor};
 ghost use Rattle.wl_bench.specs.Commands.{AskSame, Finds, IsCommand, IsLine};
 ghost use Rattle.wl_bench.specs.declared.command.Command.{Command as TheCommand};
@@ -19,6 +19,8 @@ pub enum Command {
     Insert,
     /// A command about the client that was inserted last at a slot.
     Client(u32, ClientCommand),
+    /// `dispatch <slots>`: reads of the clients that were inserted last at these slots, and ends each of their actions.
+    Dispatch(Vec<u32>),
     /// `global <interface> <version>`: creates a global, by its interface's name.
     Create(String, u32),
     /// `disable <name>`: the global of that name is announced no more.
@@ -65,8 +67,19 @@ fn bare(name: &str) -> Option<Command>
     }
 }
 
-/// The command of a word and a number.
+/// The command `dispatch`, of this argument.
+fn dispatch(alloc: Global, slots: &str) -> Result<Option<Command>, AllocError>
+    ensures { IfOk result (Finds IsCommand (codes "dispatch" ∷ slots.now ∷ [])) }
+{
+    match numbers(alloc, slots)? {
+        Some(slots) => Ok(Some(Command::Dispatch(slots))),
+        None => Ok(None),
+    }
+}
+
+/// The command of a word, but of `dispatch`, and a number.
 fn numbered(name: &str, word: &str) -> Option<Command>
+    requires { name.now ≢ codes "dispatch" }
     ensures { Finds IsCommand (name.now ∷ word.now ∷ []) result }
 {
     let number = number(word)?;
@@ -141,6 +154,16 @@ fn arrive(
     }
 }
 
+/// The command of two words.
+fn of_two(alloc: Global, name: &str, word: &str) -> Result<Option<Command>, AllocError>
+    ensures { IfOk result (Finds IsCommand (name.now ∷ word.now ∷ [])) }
+{
+    match name {
+        "dispatch" => dispatch(alloc, word),
+        _ => Ok(numbered(name, word)),
+    }
+}
+
 /// The command of three words.
 fn of_three(
     alloc: Global,
@@ -184,7 +207,7 @@ fn command_of(alloc: Global, words: &[&str]) -> Result<Option<Command>, AllocErr
     match *words {
         [] => Ok(None),
         [name] => Ok(bare(name)),
-        [name, word] => Ok(numbered(name, word)),
+        [name, word] => of_two(alloc, name, word),
         [name, first, second] => of_three(alloc, name, first, second),
         [name, first, second, third] => of_four(alloc, name, first, second, third),
         _ => Ok(None),

@@ -14,6 +14,7 @@ mod command;
 mod commands;
 mod hex;
 mod latest;
+mod laws;
 mod replay;
 mod stop;
 mod sync;

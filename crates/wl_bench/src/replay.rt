@@ -1,8 +1,13 @@
 //! Recordings: their commands are carried out again, and what is printed now is compared with what was printed then.
 
-ghost use Rattle.std.specs.Prelude.{IfOk};
+ghost use Rattle.std.specs.Prelude.{◌≡◌, ◌++◌, ◌∷◌, ◌↔◌, [], IfErr, IfOk, IfSome, IsTrue, MatchBool, MatchOption};
 ghost use Rattle.std.specs.Io.KnownBytes.{Appends};
-ghost use Rattle.wl_bench.specs.Record.{fed, verdict_text};
+ghost use Rattle.wl_bench.specs.Bench.{new_bench};
+ghost use Rattle.wl_bench.specs.Commands.{Finds, IsNumber};
+ghost use Rattle.wl_bench.specs.Inside.Comparing.{CarriesOut, EndsWith, GoesOn, IsBadAt, IsNumbered, IsWord, missing_in};
+ghost use Rattle.wl_bench.specs.Record.{IsAnother, IsNoCommand, IsOutput, Replays, Told, fed, lines, quoted, verdict_text};
+ghost use Rattle.wl_bench.specs.Table.{bench_rows};
+ghost use Rattle.wl_bench.specs.declared.stop.Stop.TheVariants.{Failed};
 
 use crate::bench::Bench;
 use crate::command::{Command, parse_line};
@@ -36,18 +41,27 @@ struct Comparison {
 }
 
 /// The parts of a line before and behind its first space.
-fn cut(line: &[u8]) -> Option<(&[u8], &[u8])> {
+fn cut(line: &[u8]) -> Option<(&[u8], &[u8])>
+    ensures { MatchOption result (IsWord line.now) (λ parts. (line.now ≡ parts.0.now ++ 32 ∷ parts.1.now) × IsWord parts.0.now) }
+{
     let place = line.iter().position(|byte| *byte == b' ')?;
     Some((&line[..place], &line[place + 1..]))
 }
 
 /// The number that the bytes are, as text.
-fn number_of(bytes: &[u8]) -> Option<u32> {
-    number(str::from_utf8(bytes).ok()?)
+fn number_of(bytes: &[u8]) -> Option<u32>
+    ensures { Finds IsNumber bytes.now result }
+{
+    let Ok(text) = str::from_utf8(bytes) else {
+        return None;
+    };
+    number(text)
 }
 
 /// The number and the command of a line of a recording, if it has both.
-fn numbered_command(alloc: Global, line: &[u8]) -> Result<Option<(u32, Command)>, AllocError> {
+fn numbered_command(alloc: Global, line: &[u8]) -> Result<Option<(u32, Command)>, AllocError>
+    ensures { IfOk result (Finds IsNumbered line.now) }
+{
     let Some((word, text)) = cut(line) else {
         return Ok(None);
     };
@@ -60,17 +74,32 @@ fn numbered_command(alloc: Global, line: &[u8]) -> Result<Option<(u32, Command)>
     }
 }
 
-/// Whether the line of a recording is this line of output.
-fn is_quoted(line: &[u8], output: &str) -> bool {
+/// Whether the line of a recording is output.
+fn is_output(line: &[u8]) -> bool
+    ensures { IsTrue result ↔ IsOutput line.now }
+{
     match line {
-        [b'>', b' ', rest @ ..] => rest == output.as_bytes(),
+        [b'>', b' ', ..] => true,
         _ => false,
+    }
+}
+
+/// Whether the line of a recording is this line of output.
+fn is_quoted(line: &[u8], output: &str) -> bool
+    ensures { IsTrue result ↔ (line.now ≡ quoted output.now) }
+{
+    match line.strip_prefix(b"> ") {
+        Some(rest) => rest == output.as_bytes(),
+        None => false,
     }
 }
 
 impl Comparison {
     /// A comparison that has come to no line.
-    fn new(alloc: Global) -> Result<Self, Stop> {
+    fn new(alloc: Global) -> Result<Self, Stop>
+        ensures new { IfOk result (λ c. (c.bench ≡ new_bench bench_rows) × (c.last ≡ 0) × (c.count ≡ 0) × (missing_in c ≡ [])) }
+        ensures failed { IfErr result (λ stop. stop ≡ Failed) }
+    {
         Ok(Comparison {
             bench: Bench::new(alloc)?,
             last: 0,
@@ -80,8 +109,11 @@ impl Comparison {
         })
     }
 
-    /// Carries out the command of a line, in whose place no output is due. It answers whether there was one.
-    fn command(&mut self, alloc: Global, line: &[u8]) -> Result<bool, Stop> {
+    /// Carries out the command of a line, in whose place no output is missing. It answers whether there was one.
+    fn command(&mut self, alloc: Global, line: &[u8]) -> Result<bool, Stop>
+        ensures carries { IfOk result (λ is. MatchBool is ((t : Told) × CarriesOut self.old line.now t self.new) (IsNoCommand self.old.last self.old.bench line.now)) }
+        ensures failed { IfErr result (λ stop. stop ≡ Failed) }
+    {
         let Some((number, command)) = numbered_command(alloc, line)? else {
             return Ok(false);
         };
@@ -102,13 +134,16 @@ impl Comparison {
     }
 
     /// Looks at a line of this place. It answers whether the recording is the same so far.
-    fn line(&mut self, alloc: Global, line: &[u8], place: u64) -> Result<bool, Stop> {
+    fn line(&mut self, alloc: Global, line: &[u8], place: u64) -> Result<bool, Stop>
+        ensures goes { IfOk result (λ same. MatchBool same (GoesOn self.old line.now self.new) (IsAnother (missing_in self.old) line.now)) }
+        ensures stops { IfErr result (IsBadAt self.old line.now place) }
+    {
         if let Some(output) = self.lines.get(self.found) {
             let is_same = is_quoted(line, output.as_str());
             self.found += 1;
             return Ok(is_same);
         }
-        if line.starts_with(b"> ") {
+        if is_output(line) {
             return Ok(false);
         }
         if self.command(alloc, line)? {
@@ -119,7 +154,9 @@ impl Comparison {
     }
 
     /// What the replay comes to at the end of the recording, the place behind its last line.
-    fn end(&self, place: u64) -> Replayed {
+    fn end(&self, place: u64) -> Replayed
+        ensures { EndsWith self.now place result }
+    {
         if self.found < self.lines.len() {
             Replayed::Differs(place)
         } else {
@@ -129,7 +166,9 @@ impl Comparison {
 }
 
 /// Looks at the lines of a recording up to the end, or to the first that differs or is bad.
-fn replay_lines<R: BufRead>(alloc: Global, reader: &mut R) -> Result<Replayed, Stop> {
+fn replay_lines<R: BufRead>(alloc: Global, reader: &mut R) -> Result<Replayed, Stop>
+    ensures { IfSome (R.remaining reader.old) (λ input. Replays (new_bench bench_rows) (lines input) result) }
+{
     let mut comparison = Comparison::new(alloc)?;
     let mut line = Vec::new(alloc);
     for place in 1..u64::MAX {
@@ -156,6 +195,7 @@ pub fn replay<R: BufRead, W: Write>(
     reader: &mut R,
     writer: &mut W,
 ) -> Result<Replayed, Stop>
+    ensures replays { IfSome (R.remaining reader.old) (λ input. Replays (new_bench bench_rows) (lines input) result) }
     ensures told { IfOk result (λ verdict. Appends (W.contents writer.old) (W.contents writer.new) (fed (verdict_text verdict))) }
 {
     let replayed = replay_lines(alloc, reader)?;

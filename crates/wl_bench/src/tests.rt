@@ -20,3 +20,15 @@ fn tells(rt: &impl Abort, log: Result<String, Fail>, text: &str) -> Result<(), F
     assert_eq!(rt; log?.as_str(), text);
     Ok(())
 }
+
+/// Which two of the ids are equal: each to itself alone, where none is there twice.
+fn each_is_itself<T: Eq>(ids: &[T]) -> bool {
+    for i in 0..ids.len() {
+        for j in 0..ids.len() {
+            if (ids[i] == ids[j]) != (i == j) {
+                return false;
+            }
+        }
+    }
+    true
+}

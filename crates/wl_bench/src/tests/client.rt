@@ -9,6 +9,7 @@ mod drill;
 mod events;
 mod example;
 mod faults;
+mod ids;
 mod objects;
 mod replayed;
 mod requests;

@@ -4,6 +4,7 @@ mod bad;
 mod broken;
 mod calls;
 mod conversations;
+mod dispatches;
 mod drill;
 
 use crate::commands::run_commands;

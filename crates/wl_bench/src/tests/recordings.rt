@@ -3,6 +3,7 @@
 mod clients;
 mod conversations;
 mod differences;
+mod dispatches;
 mod quads;
 
 use crate::commands::record;

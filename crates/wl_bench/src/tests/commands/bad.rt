@@ -35,6 +35,9 @@ fn empty_words(rt: HostRuntime) -> Result<(), Fail> {
             b"fail 0 in ",
             b"global  ",
             b"disable ",
+            b"dispatch ",
+            b"dispatch 0 ",
+            b"dispatch  0",
         ],
     )
 }
@@ -71,6 +74,8 @@ fn unknown_words(rt: HostRuntime) -> Result<(), Fail> {
             b"fail 0 in",
             b"fail 0 in Pipe 5",
             b"read 0 0",
+            b"dispatch",
+            b"dispatch 0 0",
         ],
     )
 }
@@ -78,10 +83,10 @@ fn unknown_words(rt: HostRuntime) -> Result<(), Fail> {
 /// A line with a command of another program.
 #[test]
 fn other_programs(rt: HostRuntime) -> Result<(), Fail> {
-    are_bad(&rt, &[b"dispatch 0", b"record", b"replay", b"1 client"])
+    are_bad(&rt, &[b"record", b"replay", b"1 client"])
 }
 
-/// A line with a number that is written otherwise.
+/// A line with a number, or numbers, written otherwise.
 #[test]
 fn numbers(rt: HostRuntime) -> Result<(), Fail> {
     are_bad(
@@ -106,6 +111,14 @@ fn numbers(rt: HostRuntime) -> Result<(), Fail> {
             b"accept 0 -",
             b"accept 0 4294967296",
             b"finish 00",
+            b"dispatch 00",
+            b"dispatch -",
+            b"dispatch 0,",
+            b"dispatch ,0",
+            b"dispatch 0,,0",
+            b"dispatch 0;0",
+            b"dispatch 0,+0",
+            b"dispatch 4294967296",
         ],
     )
 }
@@ -218,6 +231,10 @@ fn slots(rt: HostRuntime) -> Result<(), Fail> {
             b"fail 1 in Pipe",
             b"fail 1 out Pipe",
             b"read 4294967295",
+            b"dispatch 1",
+            b"dispatch 0,1",
+            b"dispatch 1,0",
+            b"dispatch 4294967295",
         ],
     )
 }

@@ -1,4 +1,4 @@
-//! Each want of memory in turn: a run of lines that judges itself whatever is refused.
+//! Each want of memory in turn: runs of lines that judge themselves whatever is refused.
 
 use crate::commands::run_commands;
 use crate::stop::Stop;
@@ -42,22 +42,59 @@ initialized 0
 destroyed 0 3 9
 ";
 
+/// The same in one dispatch, with a second client that breaks the protocol.
+const DISPATCHED_LINES: &[u8] = b"client
+client
+global quad 3
+in 0 0100000001000c000200000002000000000020000100000005000000717561640000000003000000030000000300000002000800 -
+in 1 0100000000000c0005000000 -
+dispatch 0,1
+flush
+notes
+";
+
+/// What is printed of those.
+const DISPATCHED: &[u8] = b"client 0 1
+client 1 2
+global 1 1
+ok
+ok
+dispatched 3
+ok
+out 0 0200000000001c0001000000050000007175616400000000030000000100000001000c0003000000 -
+initialized 0
+initialized 1
+destroyed 0 3 6
+disconnected 1 error 0 1 wl_display 496e76616c6964206e65775f69643a20352e
+";
+
 /// Runs the lines, and answers how that ended.
-fn run(alloc: Global, output: &mut Vec<u8>) -> Result<(), Stop> {
-    let mut input = LINES;
+fn run(alloc: Global, lines: &[u8], output: &mut Vec<u8>) -> Result<(), Stop> {
+    let mut input = lines;
     run_commands(alloc, &mut input, output)
 }
 
 /// Where memory is refused the run ends as failed, behind whole answers; again, it prints all.
-#[test]
-fn drill_of_lines(rt: HostRuntime) {
+fn drill(rt: &(impl Abort + AllocGlobal), lines: &[u8], printed: &[u8]) {
     let mut output = Vec::new(rt.alloc());
-    if let Err(stop) = run(rt.alloc(), &mut output) {
+    if let Err(stop) = run(rt.alloc(), lines, &mut output) {
         assert_eq!(rt; stop, Stop::Failed);
-        assert!(rt; PRINTED.starts_with(output.as_slice()));
+        assert!(rt; printed.starts_with(output.as_slice()));
         assert!(rt; matches!(output.last(), None | Some(b'\n')));
         output.clear();
-        assert!(rt; run(rt.alloc(), &mut output).is_ok());
+        assert!(rt; run(rt.alloc(), lines, &mut output).is_ok());
     }
-    assert_eq!(rt; output.as_slice(), PRINTED);
+    assert_eq!(rt; output.as_slice(), printed);
+}
+
+/// A client's conversation, line by line.
+#[test]
+fn drill_of_lines(rt: HostRuntime) {
+    drill(&rt, LINES, PRINTED);
+}
+
+/// Two clients in one dispatch.
+#[test]
+fn drill_of_dispatches(rt: HostRuntime) {
+    drill(&rt, DISPATCHED_LINES, DISPATCHED);
 }

@@ -1,10 +1,11 @@
 //! Dispatches of a server, each over scripts, with what was before it and what it left.
 
-use super::arrivals::{BIND, GET_REGISTRY, SYNC};
-use super::handlers::{Killing, Numbering};
+use super::arrivals::{BIND, DESTROY, GET_REGISTRY, MAKE_BY_SERVER, SYNC};
+use super::handlers::{Contrary, Killing, Numbering, TakingOut, Working};
+use super::hostile::BOUND as WITH_A_QUAD;
 use super::run::{Act, Look, Server, perform_all};
 use super::steps::Call;
-use super::values::{FIRST, SECOND, Shown};
+use super::values::{FIRST, SECOND, Shown, Thing};
 use crate::tests::quad::{QUAD, quad_table};
 use crate::tests::tells;
 use std::alloc::Global;
@@ -175,5 +176,201 @@ fn handler_is_called_for_each_action(rt: HostRuntime) -> Result<(), Fail> {
         &rt,
         log_of_first(rt.alloc(), &mut Numbering(4), (&before, &after)),
         "client 0, 1\nglobal 1, 1\ndispatched 3\ndone\n02 00 00 00 00 00 1c 00 01 00 00 00 05 00 00 00 71 75 61 64 00 00 00 00 03 00 00 00 01 00 00 00 01 00 0c 00 03 00 00 00\ninitialized 0, 1\ndestroyed 3, 2, 4 of 0 with 4\n",
+    )
+}
+
+/// A handler calls the server for the client that binds and for another: each is sent an event, gets an object and loses one.
+/// What a request ends is noted at once, and what the program destroys, by the cleanup at the end.
+#[test]
+fn handler_works_for_two_clients(rt: HostRuntime) -> Result<(), Fail> {
+    let before = [
+        Act::Do(Call::Insert(true)),
+        Act::Do(Call::Insert(true)),
+        Act::Do(Call::Global(QUAD, 3)),
+        Act::Do(Call::Create(FIRST, QUAD, 3, 11)),
+        Act::Do(Call::Create(SECOND, QUAD, 3, 12)),
+        Act::Do(Call::Arrive(FIRST, &BIND_AND_DESTROY)),
+    ];
+    let after = [
+        Act::Do(Call::FlushAll),
+        Act::Do(Call::TakeSent(FIRST)),
+        Act::Do(Call::TakeSent(SECOND)),
+        Act::Do(Call::Notes),
+        Act::Look(Look::Data(Thing(FIRST, 0xFF00_0001, 4, QUAD))),
+        Act::Look(Look::Data(Thing(SECOND, 0xFF00_0001, 2, QUAD))),
+        Act::Look(Look::Data(Thing(FIRST, 0xFF00_0000, 1, QUAD))),
+        Act::Look(Look::Data(Thing(SECOND, 0xFF00_0000, 1, QUAD))),
+    ];
+    let mut handler = Working {
+        data: 4,
+        own: Thing(FIRST, 0xFF00_0000, 1, QUAD).id(),
+        other: Thing(SECOND, 0xFF00_0000, 1, QUAD).id(),
+        alloc: rt.alloc(),
+    };
+    tells(
+        &rt,
+        log_of_first(rt.alloc(), &mut handler, (&before, &after)),
+        "client 0, 1\nclient 1, 2\nglobal 1, 1\ncreated 4278190080, 1, 4 of 0\ncreated 4278190080, 1, 4 of 1\ndispatched 3\ndone\n02 00 00 00 00 00 1c 00 01 00 00 00 05 00 00 00 71 75 61 64 00 00 00 00 03 00 00 00 03 00 00 00 00 00 0c 00 07 00 00 00 01 00 00 00 01 00 0c 00 03 00 00 00\n00 00 00 ff 00 00 0c 00 07 00 00 00\ninitialized 0, 1\ninitialized 1, 2\ndestroyed 3, 3, 4 of 0 with 4\ndestroyed 4278190080, 1, 4 of 0 with 11\ndestroyed 4278190080, 1, 4 of 1 with 12\ndata 8\ndata 6\nInvalid Id\nInvalid Id\n",
+    )
+}
+
+/// An answer without data for a new object ends nothing: the dispatch ends there, and the action stays open.
+#[test]
+fn answer_lacks_data(rt: HostRuntime) -> Result<(), Fail> {
+    let before = [
+        Act::Do(Call::Insert(true)),
+        Act::Do(Call::Create(FIRST, QUAD, 3, 9)),
+        Act::Do(Call::Arrive(FIRST, &MAKE_BY_SERVER)),
+    ];
+    let after = [
+        Act::Do(Call::Next(FIRST)),
+        Act::Do(Call::Finish(FIRST, Some(5))),
+        Act::Look(Look::Data(Thing(FIRST, 2, 2, QUAD))),
+    ];
+    tells(
+        &rt,
+        log_of_first(rt.alloc(), &mut Contrary(4), (&before, &after)),
+        "client 0, 1\ncreated 4278190080, 1, 4 of 0\ninvalid input\nan action is open\nfinished\ndata 5\n",
+    )
+}
+
+/// Neither does one with data where there is no new object.
+#[test]
+fn answer_has_data_for_no_object(rt: HostRuntime) -> Result<(), Fail> {
+    let before = [
+        Act::Do(Call::Insert(true)),
+        Act::Do(Call::Global(QUAD, 3)),
+        Act::Do(Call::Arrive(FIRST, &BIND_AND_DESTROY)),
+    ];
+    let after = [
+        Act::Do(Call::Next(FIRST)),
+        Act::Do(Call::Finish(FIRST, None)),
+        Act::Do(Call::Notes),
+    ];
+    tells(
+        &rt,
+        log_of_first(rt.alloc(), &mut Contrary(4), (&before, &after)),
+        "client 0, 1\nglobal 1, 1\ninvalid input\nan action is open\nfinished\ninitialized 0, 1\ndestroyed 3, 2, 4 of 0 with 4\n",
+    )
+}
+
+/// A handler takes the client out that binds: its answer has nothing to end.
+#[test]
+fn handler_takes_its_client_out(rt: HostRuntime) -> Result<(), Fail> {
+    let before = [
+        Act::Do(Call::Insert(true)),
+        Act::Do(Call::Global(QUAD, 3)),
+        Act::Do(Call::Arrive(FIRST, &BIND_AND_DESTROY)),
+    ];
+    let after = [Act::Do(Call::Next(FIRST)), Act::Do(Call::Notes)];
+    tells(
+        &rt,
+        log_of_first(rt.alloc(), &mut TakingOut(7), (&before, &after)),
+        "client 0, 1\nglobal 1, 1\ninvalid input\nIo error: invalid input\ninitialized 0, 1\ndisconnected 0, 1: closed\n",
+    )
+}
+
+/// The end of an action finds no memory, since 4088 bytes wait that the transport does not take for want of it: the action
+/// stays open, and its data are gone. Later it is ended.
+#[test]
+fn end_without_memory(rt: HostRuntime) -> Result<(), Fail> {
+    let before = [
+        Act::Quietly(&WITH_A_QUAD),
+        Act::Globals(146),
+        Act::Do(Call::Arrive(FIRST, &DESTROY)),
+        Act::Do(Call::AcceptFault(FIRST, IoFault::OutOfMemory)),
+    ];
+    let after = [
+        Act::Do(Call::Next(FIRST)),
+        Act::Do(Call::Finish(FIRST, None)),
+        Act::Do(Call::Flush(FIRST)),
+        Act::Look(Look::Lengths(FIRST)),
+    ];
+    tells(
+        &rt,
+        log_of_first(rt.alloc(), &mut Numbering(4), (&before, &after)),
+        "out of memory\nan action is open\nfinished\ndone\n4088 bytes\n12 bytes\n",
+    )
+}
+
+/// A reading finds no memory; the next goes on.
+#[test]
+fn reading_without_memory(rt: HostRuntime) -> Result<(), Fail> {
+    let before = [
+        Act::Do(Call::Insert(true)),
+        Act::Do(Call::Arrive(FIRST, &SYNC)),
+        Act::Do(Call::ArriveFault(FIRST, IoFault::OutOfMemory)),
+        Act::Do(Call::Arrive(FIRST, &SYNC)),
+    ];
+    let after = [
+        Act::Do(Call::NextWithin(FIRST, 64)),
+        Act::Look(Look::Arrivals(FIRST)),
+        Act::Do(Call::Notes),
+    ];
+    tells(
+        &rt,
+        log_of_first(rt.alloc(), &mut Numbering(4), (&before, &after)),
+        "client 0, 1\nout of memory\nIo error: would block\n62 left, 1 read\n0 arrivals\ninitialized 0, 1\n",
+    )
+}
+
+/// An action that is open when the dispatch begins stays open.
+#[test]
+fn action_is_open_at_the_start(rt: HostRuntime) -> Result<(), Fail> {
+    let before = [
+        Act::Do(Call::Insert(true)),
+        Act::Do(Call::Global(QUAD, 3)),
+        Act::Do(Call::Arrive(FIRST, &BIND_AND_DESTROY)),
+        Act::Do(Call::Next(FIRST)),
+    ];
+    let after = [
+        Act::Do(Call::FinishBind(FIRST, 9)),
+        Act::Do(Call::Next(FIRST)),
+    ];
+    tells(
+        &rt,
+        log_of_first(rt.alloc(), &mut Numbering(4), (&before, &after)),
+        "client 0, 1\nglobal 1, 1\nglobal 1, 1 bound as 3, 2, 4 of 0\ninvalid input\nfinished\nrequest 2 to 3, 2, 4 of 0, which ends it\n",
+    )
+}
+
+/// Nothing waits; a client was killed, and is taken out; a client is not stored.
+#[test]
+fn nothing_is_read(rt: HostRuntime) -> Result<(), Fail> {
+    let alloc = rt.alloc();
+    let inserted = [Act::Do(Call::Insert(true))];
+    tells(
+        &rt,
+        log_of_first(alloc, &mut Numbering(4), (&inserted, &[])),
+        "client 0, 1\nwould block\n",
+    )?;
+    let killed = [Act::Do(Call::Insert(true)), Act::Do(Call::Kill(FIRST))];
+    let next = [Act::Do(Call::Next(FIRST))];
+    tells(
+        &rt,
+        log_of_first(alloc, &mut Numbering(4), (&killed, &next)),
+        "client 0, 1\nbroken pipe\nIo error: invalid input\n",
+    )?;
+    tells(
+        &rt,
+        log_of_first(alloc, &mut Numbering(4), (&[], &next)),
+        "invalid input\nIo error: invalid input\n",
+    )
+}
+
+/// The fault of one client is dropped, and the requests of the other count.
+#[test]
+fn fault_of_one_client(rt: HostRuntime) -> Result<(), Fail> {
+    let before = [
+        Act::Do(Call::Insert(true)),
+        Act::Do(Call::Insert(true)),
+        Act::Do(Call::Arrive(FIRST, &SYNC_AND_SYNC_AT_5)),
+        Act::Do(Call::Arrive(SECOND, &SYNC)),
+    ];
+    let after = [Act::Do(Call::Next(FIRST)), Act::Do(Call::Next(SECOND))];
+    tells(
+        &rt,
+        log_of_both(rt.alloc(), &mut Numbering(4), (&before, &after)),
+        "client 0, 1\nclient 1, 2\ndispatched 1\nIo error: invalid input\nIo error: would block\n",
     )
 }

@@ -3,13 +3,14 @@
 ghost use Rattle.std.specs.Prelude.{◌≤◌, IfOk, length};
 
 use smallvec::SmallVec;
-use std::alloc::Global;
+use std::alloc::{AllocError, Global};
 use std::collections::VecDeque;
 use std::test::Fail;
 use wl_link::Transport;
-use wl_server::{Action, ActionError, Backend, ClientId, GlobalId, ObjectId, ShownToAll};
+use wl_server::{Backend, ClientId, GlobalId, Handler, ObjectId, ShownToAll};
 use wl_wire::{
-    Argument, ArgumentType, Interface, InterfaceId, IoFault, Message, MessageDesc, Protocol, Token,
+    Argument, ArgumentType, INLINE_ARGS, Interface, InterfaceId, IoFault, Message, MessageDesc,
+    Protocol, Token,
 };
 
 /// Plays back what a client once sent, and keeps what it is sent. It carries no descriptors.
@@ -123,7 +124,7 @@ fn changed(
     alloc: Global,
     counter: &ObjectId,
     count: i32,
-) -> Result<Message<ObjectId, Token>, Fail> {
+) -> Result<Message<ObjectId, Token>, AllocError> {
     let mut changed = Message {
         sender_id: *counter,
         opcode: 0,
@@ -133,52 +134,72 @@ fn changed(
     Ok(changed)
 }
 
-/// Tells the counter's client what it is now.
-fn tell(
+/// What the program does with the requests of its clients.
+#[derive(Drop)]
+struct Counters {
     alloc: Global,
-    server: &mut Server<'_>,
-    counter: &ObjectId,
-    count: i32,
-) -> Result<(), Fail> {
-    Ok(server.send_event(changed(alloc, counter, count)?)?)
+    /// Whether a client could not be told what its counter is, for want of memory.
+    is_behind: bool,
 }
 
-/// Adds to a counter, tells its client, and ends the request.
-fn add_to(
-    alloc: Global,
-    server: &mut Server<'_>,
-    counter: &ObjectId,
-    value: i32,
-) -> Result<(), Fail> {
-    let count = server.get_object_data(counter)?.wrapping_add(value);
-    server.set_object_data(counter, count)?;
-    tell(alloc, server, counter, count)?;
-    Ok(server.finish_request(&counter.client(), None)?)
-}
+impl<'a> Handler<Playback<'a>, i32, ShownToAll, ()> for Counters {
+    ghost use Rattle.std.specs.Prelude.{◌≡◌, None, pos};
 
-/// Does what the action asks for, and ends it: a new counter is 0, and a request adds to its counter.
-fn act(
-    alloc: Global,
-    server: &mut Server<'_>,
-    client: &ClientId,
-    action: Action,
-) -> Result<(), Fail> {
-    match action {
-        Action::Bind { .. } => Ok(server.finish_bind(client, 0)?),
-        Action::Request { sender, args, .. } => {
-            add_to(alloc, server, &sender, asked(args.as_slice()))
-        }
+    ghost requests = { λ h b id sender opcode args created answer h' b'. answer ≡ None };
+
+    ghost binds = { λ h b id global object answer h' b'. (answer ≡ pos 0) × (h' ≡ h) × (b' ≡ b) };
+
+    /// Adds to a counter, and tells its client.
+    fn request(
+        &mut self,
+        server: &mut Server<'a>,
+        _client: &ClientId,
+        counter: ObjectId,
+        _opcode: u16,
+        args: SmallVec<Argument<ObjectId, Token>, INLINE_ARGS>,
+        _created: Option<ObjectId>,
+    ) -> Option<i32> {
+        let count = sum(server, &counter, asked(args.as_slice()));
+        let Ok(event) = changed(self.alloc, &counter, count) else {
+            self.is_behind = true;
+            return None;
+        };
+        // Both calls are refused only if the counter is gone, the second also for want of memory.
+        let is_set = server.set_object_data(&counter, count).is_ok();
+        let is_told = server.send_event(event).is_ok();
+        self.is_behind = self.is_behind || !(is_set && is_told);
+        None
+    }
+
+    /// A new counter is 0.
+    fn bind(
+        &mut self,
+        _server: &mut Server<'a>,
+        _client: &ClientId,
+        _global: GlobalId,
+        _counter: ObjectId,
+    ) -> i32 {
+        0
     }
 }
 
-/// Does what the client asks for, until nothing more of it is there; a client gets eight turns.
+/// What the counter comes to with this value.
+fn sum(server: &Server<'_>, counter: &ObjectId, value: i32) -> i32 {
+    match server.get_object_data(counter) {
+        Ok(count) => count.wrapping_add(value),
+        Err(_) => value,
+    }
+}
+
+/// Does what the client asks for, until nothing more of it is there.
 fn serve(alloc: Global, server: &mut Server<'_>, client: &ClientId) -> Result<(), Fail> {
-    for _ in 0..8 {
-        match server.next_action(client) {
-            Ok(action) => act(alloc, server, client, action)?,
-            Err(ActionError::Io(IoFault::WouldBlock)) => return Ok(()),
-            Err(error) => Err(error)?,
-        }
+    let mut counters = Counters {
+        alloc,
+        is_behind: false,
+    };
+    server.dispatch_single_client(&mut counters, client)?;
+    if counters.is_behind {
+        Err(IoFault::OutOfMemory)?
     }
     Ok(())
 }

@@ -1,24 +1,13 @@
 //! Ids of clients, globals and objects: which are equal, which are null, and in a set.
 
 use super::values::{FIRST, SECOND, Who};
+use crate::tests::each_is_itself;
 use crate::tests::quad::{PAIR, QUAD};
 use std::alloc::Global;
 use std::collections::HashSet;
 use std::test::Fail;
 use wl_server::{ClientId, GlobalId, ObjectId};
 use wl_wire::ANONYMOUS_INTERFACE;
-
-/// Which two of the ids are equal: each to itself alone, where none is there twice.
-fn each_is_itself<T: Eq>(ids: &[T]) -> bool {
-    for i in 0..ids.len() {
-        for j in 0..ids.len() {
-            if (ids[i] == ids[j]) != (i == j) {
-                return false;
-            }
-        }
-    }
-    true
-}
 
 /// Ids are equal where all their parts are.
 #[test]
@@ -71,7 +60,7 @@ fn objects_of_the_same_client(rt: HostRuntime) {
 }
 
 /// Puts the ids into a set, and answers how many are then there.
-fn in_a_set(alloc: Global, ids: &[ObjectId]) -> Result<usize, Fail> {
+fn objects_in_a_set(alloc: Global, ids: &[ObjectId]) -> Result<usize, Fail> {
     let mut set = HashSet::new(alloc);
     for id in ids {
         set.insert(*id)?;
@@ -88,6 +77,48 @@ fn ids_in_a_set(rt: HostRuntime) -> Result<(), Fail> {
         ObjectId::from_parts(3, 2, FIRST.id(), PAIR),
         ObjectId::from_parts(3, 2, SECOND.id(), QUAD),
     ];
-    assert_eq!(rt; in_a_set(rt.alloc(), &ids)?, 3);
+    assert_eq!(rt; objects_in_a_set(rt.alloc(), &ids)?, 3);
+    Ok(())
+}
+
+/// Puts the ids into a set, and answers how many are then there.
+fn clients_in_a_set(alloc: Global, ids: &[ClientId]) -> Result<usize, Fail> {
+    let mut set = HashSet::new(alloc);
+    for id in ids {
+        set.insert(*id)?;
+    }
+    Ok(set.len())
+}
+
+#[test]
+fn client_ids_in_a_set(rt: HostRuntime) -> Result<(), Fail> {
+    let ids = [
+        ClientId::from_parts(0, 1),
+        ClientId::from_parts(0, 2),
+        ClientId::from_parts(0, 1),
+        ClientId::from_parts(1, 1),
+    ];
+    assert_eq!(rt; clients_in_a_set(rt.alloc(), &ids)?, 3);
+    Ok(())
+}
+
+/// Puts the ids into a set, and answers how many are then there.
+fn globals_in_a_set(alloc: Global, ids: &[GlobalId]) -> Result<usize, Fail> {
+    let mut set = HashSet::new(alloc);
+    for id in ids {
+        set.insert(*id)?;
+    }
+    Ok(set.len())
+}
+
+#[test]
+fn global_ids_in_a_set(rt: HostRuntime) -> Result<(), Fail> {
+    let ids = [
+        GlobalId::from_parts(1, 1),
+        GlobalId::from_parts(1, 2),
+        GlobalId::from_parts(2, 1),
+        GlobalId::from_parts(1, 2),
+    ];
+    assert_eq!(rt; globals_in_a_set(rt.alloc(), &ids)?, 3);
     Ok(())
 }
