@@ -1,0 +1,4 @@
+mod Destroyed
+mod Ended
+mod Handing
+mod Offered

@@ -1,0 +1,3 @@
+pub mod Announcement
+pub mod Destruction
+pub mod Proxy

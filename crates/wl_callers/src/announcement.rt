@@ -1,0 +1,24 @@
+//! The registries of a client were told of a global that the client may see.
+
+ghost use Rattle.std.specs.Prelude.{IfOk};
+ghost use Rattle.wl_server.specs.PartStep.{over};
+ghost use Rattle.wl_callers.specs.Announcement.{IsOffered};
+
+use wl_link::Transport;
+use wl_server::laws::registries_announce_what_is_shown;
+use wl_server::{Backend, GlobalError, GlobalHandler, GlobalId};
+use wl_wire::InterfaceId;
+
+/// Offers a global. If that succeeds, each registry of a live client that may see it was told of it, with its name, its interface
+/// and its version: each that was made for the client, and that the program left alone.
+pub fn offer<T: Transport + Drop, U: Drop, G: GlobalHandler<C> + Drop, C: Drop>(
+    server: &mut Backend<T, U, G, C>,
+    interface: InterfaceId,
+    version: u32,
+    handler: G,
+) -> Result<GlobalId, GlobalError>
+    ensures { IfOk result (λ global. IsOffered (over T.sends T.receives G.views) handler interface version global server.new.server) }
+{
+    registries_announce_what_is_shown::<T, U, G, C>();
+    server.create_global(interface, version, handler)
+}

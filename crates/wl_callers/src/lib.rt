@@ -1,0 +1,10 @@
+//! Callers of `wl_server` and `wl_client` that are proved from the public contracts alone.
+//!
+//! Each is a function that a program might have, with the contract that its user wants. `README.md` says which to read first.
+#![tactic(auto)]
+
+pub mod announcement;
+pub mod data;
+pub mod destruction;
+pub mod ending;
+pub mod proxy;
