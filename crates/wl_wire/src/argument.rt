@@ -19,26 +19,26 @@ pub enum AllowNull {
 /// The type of one argument in the signature of a request or an event.
 #[derive(Clone, Copy, Debug, PartialEq, Eq)]
 pub enum ArgumentType {
-    /// A signed number of 32 bits.
+    /// A signed integer of 32 bits.
     Int,
-    /// An unsigned number of 32 bits.
+    /// An unsigned integer of 32 bits.
     Uint,
-    /// A signed number of 24.8 bits: the value times 256.
+    /// A signed fixed-point number with 24 bits before the point and 8 after it. It is kept as its value times 256.
     Fixed,
-    /// A string of bytes without a zero, or null.
+    /// A string, which has no zero byte in it, or null. It need not be UTF-8.
     Str(AllowNull),
-    /// The number of an object, where 0 is null.
+    /// The number of an object. 0 is null.
     Object(AllowNull),
     /// The number of an object that the message creates.
     NewId,
-    /// Any bytes.
+    /// An array of bytes.
     Array,
-    /// A file descriptor, which takes no bytes on the wire.
+    /// A file descriptor. It takes no bytes on the wire: the transport carries it beside them.
     Fd,
 }
 
 impl ArgumentType {
-    /// Whether both are the same type, whatever they say of null.
+    /// Whether both are the same type, no matter which of them allows null.
     pub fn same_type(self, other: Self) -> bool
         ensures { IsTrue result ↔ (kind_of self ≡ kind_of other) }
     {
@@ -50,35 +50,36 @@ impl ArgumentType {
     }
 }
 
-/// A file descriptor as this core knows it: a number that the transport gives and takes.
+/// A *token*: a number that stands for a file descriptor.
 ///
-/// The layer above opens, duplicates and closes what stands behind it.
+/// This core knows a file descriptor only by its token, which the transport gives and takes. The layer above opens,
+/// duplicates and closes the file descriptor itself.
 #[derive(Clone, Copy, Debug, PartialEq, Eq, Hash)]
 pub struct Token(pub i32);
 
-/// An argument of a message, over the type `Id` of object ids and `Fd` of descriptors.
+/// An argument of a message. `Id` is the type of object ids, and `Fd` that of file descriptors.
 #[derive(PartialEq, Eq, Drop)]
 pub enum Argument<Id, Fd> {
-    /// A signed number.
+    /// A signed integer.
     Int(i32),
-    /// An unsigned number.
+    /// An unsigned integer.
     Uint(u32),
-    /// A signed number of 24.8 bits: the value times 256.
+    /// A signed fixed-point number with 24 bits before the point and 8 after it, kept as its value times 256.
     Fixed(i32),
-    /// A string, or null.
+    /// A string, or null (`None`).
     Str(Option<CString>),
-    /// An object.
+    /// An object. The id may be null.
     Object(Id),
     /// The object that the message creates.
     NewId(Id),
-    /// Any bytes.
+    /// An array of bytes.
     Array(ByteArray),
     /// A file descriptor.
     Fd(Fd),
 }
 
 impl<Id, Fd> Argument<Id, Fd> {
-    /// The type of the argument. A string or an object is of a type that allows null.
+    /// The type of the argument. For a string and for an object it is the type that allows null.
     pub fn get_type(&self) -> ArgumentType
         ensures { result ≡ type_of self.now }
     {
@@ -95,7 +96,7 @@ impl<Id, Fd> Argument<Id, Fd> {
     }
 }
 
-/// Writes a variant of that name with its one value.
+/// Writes the name of a variant, and its one value in parentheses.
 fn write_variant<W: fmt::Write, T: fmt::Debug>(
     f: &mut fmt::Formatter<W>,
     name: &str,
@@ -119,7 +120,7 @@ impl<Id: fmt::Debug, Fd: fmt::Debug> fmt::Debug for Argument<Id, Fd> {
     }
 }
 
-/// What an unused inline place of a message's list of arguments holds.
+/// The value 0, which fills the inline places of a message's arguments that are not in use.
 impl<Id, Fd> Default for Argument<Id, Fd> {
     ghost use Rattle.std.specs.Prelude.{◌≡◌, pos};
     ghost use Rattle.wl_wire.specs.declared.argument.Argument.TheVariants.{Int};

@@ -7,7 +7,7 @@ ghost use Rattle.std.specs.Str.{bytes_eq};
 
 use std::marker::Model;
 
-/// The bytes of an array argument: a `Vec<u8>`, which contracts see as the list of its bytes.
+/// The bytes of an array argument: a `Vec<u8>`. In contracts it is the list of its bytes.
 #[derive(Debug, Drop)]
 pub struct ByteArray {
     bytes: Vec<u8>,
@@ -22,7 +22,7 @@ impl Model for ByteArray {
 }
 
 impl ByteArray {
-    /// The array of these bytes. It takes no memory.
+    /// The array of these bytes. It allocates nothing.
     pub fn new(bytes: Vec<u8>) -> Self
         ensures { result ≡ bytes.items }
     {
@@ -36,7 +36,7 @@ impl ByteArray {
         self.bytes.as_slice()
     }
 
-    /// The bytes as the vector that the array was made from. It takes no memory.
+    /// The bytes, as the vector that the array was made from. It allocates nothing.
     pub fn into_vec(self) -> Vec<u8>
         ensures { result.items ≡ self }
     {

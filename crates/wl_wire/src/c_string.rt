@@ -14,14 +14,14 @@ use std::alloc::{AllocError, Global};
 use std::marker::Model;
 use thiserror::Error;
 
-/// A string would have had a zero byte in it.
+/// The error of [`CString::new`]: there is a zero byte among the bytes.
 #[derive(Clone, Copy, Debug, PartialEq, Eq, Error)]
 #[error("a string holds a zero byte")]
 pub struct ZeroByte;
 
-/// The bytes of a string argument, without the zero that ends it on the wire.
+/// The bytes of a string argument, without the zero byte that ends it on the wire.
 ///
-/// No byte of it is zero; it need not be UTF-8.
+/// None of the bytes is zero. They need not be UTF-8. In contracts a string is the list of its bytes.
 #[derive(Debug, Drop)]
 pub struct CString {
     bytes: Vec<u8>,
@@ -39,7 +39,9 @@ impl Model for CString {
 }
 
 impl CString {
-    /// The string of these bytes, which takes no memory; `ZeroByte` where one of them is zero.
+    /// The string of these bytes. It allocates nothing.
+    ///
+    /// The error is `ZeroByte` if one of the bytes is zero.
     pub fn new(bytes: Vec<u8>) -> Result<Self, ZeroByte>
         ensures bytes { IfOk result (λ s. s ≡ bytes.items) }
         ensures zero { IsErr result ↔ Contains bytes.items 0 }
@@ -50,7 +52,7 @@ impl CString {
         Ok(CString { bytes })
     }
 
-    /// The string of a copy of these bytes.
+    /// A string with a copy of these bytes, none of which is zero. The error says that there was no memory for it.
     pub(crate) fn copied(alloc: Global, bytes: &[u8]) -> Result<Self, AllocError>
         requires { HasNoZero bytes.now }
         ensures { IfOk result (λ s. s ≡ bytes.now) }
@@ -59,7 +61,7 @@ impl CString {
         Ok(CString { bytes })
     }
 
-    /// The bytes, without a zero at the end.
+    /// The bytes, without a zero byte at the end.
     pub fn as_bytes(&self) -> &[u8]
         ensures bytes { result.now ≡ self.now }
         ensures no_zero { HasNoZero self.now }
@@ -67,7 +69,9 @@ impl CString {
         self.bytes.as_slice()
     }
 
-    /// The bytes as text, with U+FFFD for each piece of them that is not UTF-8.
+    /// The bytes as text, with U+FFFD in place of each piece that is not UTF-8.
+    ///
+    /// The error is `OutOfMemory` if there is no memory for the text.
     pub fn to_string_lossy(&self, alloc: Global) -> Result<String, OutOfMemory>
         ensures { IfOk result (λ text. string_bytes text ≡ utf8_lossy self.now) }
     {

@@ -1,4 +1,4 @@
-//! The fixed interfaces of the protocol, which each table begins with.
+//! The four fixed interfaces, with which each table begins.
 
 ghost use Rattle.std.specs.Prelude.{[], ◌≡◌, ◌++◌, ◌∷◌, IfOk, OnOk, map};
 ghost use Rattle.wl_wire.specs.Table.{anonymous_row, callback_row, display_row, first_message, fixed_rows, interface_row, interface_rows, message_row, registry_row};
@@ -10,7 +10,8 @@ use crate::interface::{
 };
 use std::alloc::{AllocError, Global};
 
-/// A message that the first version has, and that ends no object.
+/// A message with that name, signature and interfaces. It is there from version 1 of its interface on, and it ends no
+/// object.
 fn first_message(
     alloc: Global,
     name: &str,
@@ -30,7 +31,7 @@ fn first_message(
     })
 }
 
-/// Puts a message that the first version has, and that ends no object, behind the others.
+/// Appends such a message, as `first_message` makes it.
 fn push_first(
     messages: &mut Vec<MessageDesc>,
     name: &str,
@@ -47,7 +48,7 @@ fn push_first(
     Ok(())
 }
 
-/// An interface that has no messages yet.
+/// An interface with that name and version, and no messages yet.
 fn named(alloc: Global, name: &str, version: u32) -> Result<Interface, AllocError>
     ensures { IfOk result (λ i. interface_row i ≡ record { name = name.now; version = version; requests = []; events = [] }) }
 {
@@ -59,7 +60,7 @@ fn named(alloc: Global, name: &str, version: u32) -> Result<Interface, AllocErro
     })
 }
 
-/// Puts the requests of `wl_display` behind the others.
+/// Appends the requests of `wl_display`.
 fn push_display_requests(messages: &mut Vec<MessageDesc>) -> Result<(), AllocError>
     ensures { OnOk result (map message_row messages.new.items ≡ map message_row messages.old.items ++ display_row.requests) }
 {
@@ -70,7 +71,7 @@ fn push_display_requests(messages: &mut Vec<MessageDesc>) -> Result<(), AllocErr
     Ok(())
 }
 
-/// Puts the events of `wl_display` behind the others.
+/// Appends the events of `wl_display`.
 fn push_display_events(messages: &mut Vec<MessageDesc>) -> Result<(), AllocError>
     ensures { OnOk result (map message_row messages.new.items ≡ map message_row messages.old.items ++ display_row.events) }
 {
@@ -85,7 +86,7 @@ fn push_display_events(messages: &mut Vec<MessageDesc>) -> Result<(), AllocError
     Ok(())
 }
 
-/// `wl_display`.
+/// The interface `wl_display`.
 fn display(alloc: Global) -> Result<Interface, AllocError>
     ensures { IfOk result (λ i. interface_row i ≡ display_row) }
 {
@@ -95,7 +96,7 @@ fn display(alloc: Global) -> Result<Interface, AllocError>
     Ok(display)
 }
 
-/// Puts the requests of `wl_registry` behind the others.
+/// Appends the requests of `wl_registry`.
 fn push_registry_requests(messages: &mut Vec<MessageDesc>) -> Result<(), AllocError>
     ensures { OnOk result (map message_row messages.new.items ≡ map message_row messages.old.items ++ registry_row.requests) }
 {
@@ -108,7 +109,7 @@ fn push_registry_requests(messages: &mut Vec<MessageDesc>) -> Result<(), AllocEr
     push_first(messages, "bind", &name_interface_version_object, None, &[])
 }
 
-/// Puts the events of `wl_registry` behind the others.
+/// Appends the events of `wl_registry`.
 fn push_registry_events(messages: &mut Vec<MessageDesc>) -> Result<(), AllocError>
     ensures { OnOk result (map message_row messages.new.items ≡ map message_row messages.old.items ++ registry_row.events) }
 {
@@ -122,7 +123,7 @@ fn push_registry_events(messages: &mut Vec<MessageDesc>) -> Result<(), AllocErro
     Ok(())
 }
 
-/// `wl_registry`.
+/// The interface `wl_registry`.
 fn registry(alloc: Global) -> Result<Interface, AllocError>
     ensures { IfOk result (λ i. interface_row i ≡ registry_row) }
 {
@@ -132,7 +133,7 @@ fn registry(alloc: Global) -> Result<Interface, AllocError>
     Ok(registry)
 }
 
-/// `wl_callback`.
+/// The interface `wl_callback`.
 fn callback(alloc: Global) -> Result<Interface, AllocError>
     ensures { IfOk result (λ i. interface_row i ≡ callback_row) }
 {
@@ -143,7 +144,7 @@ fn callback(alloc: Global) -> Result<Interface, AllocError>
     Ok(callback)
 }
 
-/// Puts the interface of objects of which nothing more is known, and `wl_display`, behind the others.
+/// Appends the anonymous interface and `wl_display`.
 fn push_display(interfaces: &mut Vec<Interface>) -> Result<(), AllocError>
     ensures { OnOk result (interface_rows interfaces.new.items ≡ interface_rows interfaces.old.items ++ anonymous_row ∷ display_row ∷ []) }
 {
@@ -153,7 +154,7 @@ fn push_display(interfaces: &mut Vec<Interface>) -> Result<(), AllocError>
     Ok(())
 }
 
-/// Puts `wl_registry` and `wl_callback` behind the others.
+/// Appends `wl_registry` and `wl_callback`.
 fn push_registry(interfaces: &mut Vec<Interface>) -> Result<(), AllocError>
     ensures { OnOk result (interface_rows interfaces.new.items ≡ interface_rows interfaces.old.items ++ registry_row ∷ callback_row ∷ []) }
 {
@@ -163,7 +164,7 @@ fn push_registry(interfaces: &mut Vec<Interface>) -> Result<(), AllocError>
     Ok(())
 }
 
-/// The fixed interfaces, in the order of their ids.
+/// The four fixed interfaces, in the order of their ids. The error says that there was no memory for them.
 pub(crate) fn fixed_interfaces(alloc: Global) -> Result<Vec<Interface>, AllocError>
     ensures { IfOk result (λ v. interface_rows v.items ≡ fixed_rows) }
 {

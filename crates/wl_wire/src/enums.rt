@@ -1,4 +1,4 @@
-//! The enums of the protocol: values that numbers stand for.
+//! The enums of the protocol, whose values stand for numbers.
 
 ghost use Rattle.std.specs.Prelude.{◌≡◌, ◌<◌, ◌^◌, ℕ, Option, IfOk, IfErr, IfSome};
 ghost use Rattle.wl_wire.specs.Enum.{number_of, read_as};
@@ -8,7 +8,7 @@ use thiserror::Error;
 
 /// An enum of the protocol.
 ///
-/// A value that was read from a number turns back into that number.
+/// Each number stands for one value at most. A value that was made of a number turns back into that number.
 pub trait WaylandEnum: Sized {
     /// The enum's name in the protocol.
     const NAME: &'static str;
@@ -17,7 +17,7 @@ pub trait WaylandEnum: Sized {
 
     ghost number: { Self → ℕ };
 
-    /// The value that the number stands for, if there is one.
+    /// The value that the number stands for; `None` if it stands for none.
     fn from_u32(value: u32) -> Option<Self>
         ensures { result ≡ read value };
 
@@ -31,24 +31,24 @@ pub trait WaylandEnum: Sized {
 /// A value of an enum, or a number that stands for none of its values.
 #[derive(Clone, Copy, Debug, PartialEq, Eq)]
 pub enum WEnum<T> {
-    /// The value that was read.
+    /// The value that the number stands for.
     Value(T),
-    /// The number that was read.
+    /// The number, which stands for no value of the enum.
     Unknown(u32),
 }
 
-/// A number stands for no value of an enum.
+/// The error of [`WEnum::into_result`]: the number stands for no value of the enum.
 #[derive(Clone, Copy, Debug, PartialEq, Eq, Error)]
 #[error("Unknown numeric value {value} for enum {name}")]
 pub struct WEnumError {
-    /// The enum's name.
+    /// The name of the enum in the protocol.
     pub name: &'static str,
     /// The number.
     pub value: u32,
 }
 
 impl<T: WaylandEnum> WEnum<T> {
-    /// The value, or an error that tells the unknown number.
+    /// The value. The error names the enum and the number, if the number stands for no value.
     pub fn into_result(self) -> Result<T, WEnumError>
         ensures value { IfOk result (λ value. self ≡ Value value) }
         ensures unknown { IfErr result (λ e. self ≡ Unknown e.value) }

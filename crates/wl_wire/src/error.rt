@@ -1,11 +1,11 @@
-//! Why a call of this crate, or of the crates above it, was refused.
+//! The errors of this crate and of the crates above it.
 
 use crate::text::Text;
 use std::alloc::{AllocError, AllocFailed};
 use std::fmt;
 use thiserror::Error;
 
-/// There was no memory.
+/// There was no memory: an allocation failed.
 #[derive(Clone, Copy, Debug, PartialEq, Eq, Error)]
 #[error("out of memory")]
 pub struct OutOfMemory;
@@ -22,22 +22,23 @@ impl<T: Drop> From<AllocFailed<T>> for OutOfMemory {
     }
 }
 
-/// What a transport answers where it could not send or receive, and what a session adds to it.
+/// Why a transport could not send or receive, or why a session could not. It stands for the `std::io::Error` of
+/// `wayland-backend`.
 #[derive(Clone, Copy, Debug, PartialEq, Eq)]
 pub enum IoFault {
-    /// Nothing can be sent or received now.
+    /// Nothing can be sent or received now. The call may be made again later.
     WouldBlock,
-    /// The other side is gone.
+    /// The connection has ended: the other side closed it, or the client was killed.
     Pipe,
-    /// A message is longer than a message or the buffer may be.
+    /// A message takes more than 65535 bytes, or more than the buffer may hold.
     TooBig,
     /// The other side broke the protocol.
     Proto,
-    /// The call was not one that could be made.
+    /// The call cannot be made with what it was given.
     InvalidInput,
-    /// There was no memory.
+    /// There was no memory: an allocation failed.
     OutOfMemory,
-    /// Any other error of the system, by its number.
+    /// Another error of the system, with its number.
     Other(i32),
 }
 
@@ -61,13 +62,13 @@ impl std::error::Error for IoFault {}
 /// Why a message was not written.
 #[derive(Clone, Copy, Debug, PartialEq, Eq, Error)]
 pub enum MessageWriteError {
-    /// The message takes more than 65535 bytes.
+    /// The message takes more than 65535 bytes. The length field of its header has 16 bits.
     #[error("The message is longer than 65535 bytes.")]
     TooLong,
     /// The message takes more bytes than the buffer has.
     #[error("The provided buffer is too small to hold message content.")]
     BufferTooSmall,
-    /// There was no memory for the message's descriptors.
+    /// There was no memory for the message's tokens.
     #[error("out of memory")]
     OutOfMemory,
 }
@@ -75,13 +76,13 @@ pub enum MessageWriteError {
 /// Why no message was read.
 #[derive(Clone, Copy, Debug, PartialEq, Eq, Error)]
 pub enum MessageParseError {
-    /// The message is not there to its end.
+    /// The message is not complete: some of its bytes are missing.
     #[error("More data is needed to deserialize the message")]
     MissingData,
-    /// The bytes are no message of that signature.
+    /// The bytes are not a message with that signature.
     #[error("The message is malformed and cannot be parsed")]
     Malformed,
-    /// Fewer descriptors wait than the signature has places for.
+    /// Fewer tokens wait than the signature has file descriptors.
     #[error("The message references a FD but the buffer FD is empty.")]
     MissingFD,
     /// There was no memory for the message's arguments.
@@ -89,18 +90,18 @@ pub enum MessageParseError {
     OutOfMemory,
 }
 
-/// An error of the protocol, as one side told the other or found it itself.
+/// A protocol error. One side told it to the other (`wl_display.error`), or a session found it itself.
 ///
-/// Its text names the code and the object, and ends in the message unless that is empty.
+/// As text it names the code and the object. The message follows, unless it is empty.
 #[derive(Debug, PartialEq, Eq, Drop)]
 pub struct ProtocolError {
-    /// Which error of the object's interface it is.
+    /// Which error it is, among those of the object's interface.
     pub code: u32,
-    /// The number of the object that it is about.
+    /// The number of the object that the error is about.
     pub object_id: u32,
     /// The name of that object's interface.
     pub object_interface: Text,
-    /// What went wrong, for a reader.
+    /// What went wrong, as text for a person.
     pub message: Text,
 }
 

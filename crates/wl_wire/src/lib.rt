@@ -1,7 +1,8 @@
 //! The Wayland wire format: interfaces, arguments, messages, and their bytes.
 //!
-//! A [`Message`] is written by [`write_to_buffers`] and read by [`parse_message`], under a signature of a [`Protocol`], the
-//! table of interfaces. The page of this crate, `README.md`, has an example.
+//! [`write_to_buffers`] writes a [`Message`]. [`parse_message`] reads one under a signature, which is the list of the types
+//! of its arguments. A [`Protocol`] is the table of the interfaces that a session knows; the signatures stand there. The
+//! page of this crate, `README.md`, has an example.
 //!
 //! | Calls | Code | Definitions, in `specs/` |
 //! |---|---|---|
@@ -11,7 +12,7 @@
 //! | `Message::map_ids`, `Message::map_fd` | `map_ids`, `message` | `MapIds`, `MapFd` |
 //! | `WEnum`, `WaylandEnum` | `enums` | `Enum` |
 //!
-//! What follows from the definitions alone is the contract of the functions of [`laws`].
+//! The functions of [`laws`] do nothing. Their contracts state what follows from the definitions alone.
 #![tactic(auto)]
 
 mod argument;

@@ -1,4 +1,4 @@
-//! Numbers in place of a message's ids.
+//! Messages in which each object id is replaced by a number.
 
 ghost use Rattle.std.specs.Prelude.{◌≡◌, ℕ, ◌≤◌, [], length, IfOk, IfErr, IsOk};
 ghost use Rattle.wl_wire.specs.MapIds.{AnswersAs, MapsId, MapsIds, numbered};
@@ -18,8 +18,8 @@ fn number_id<Id, F: FnMut(Id) -> u32>(mut f: F, id: Id) -> (F, u32)
     (f, number)
 }
 
-/// The argument with its id, if it has one, replaced by what the one closure gives for that of an object and the other
-/// for that of a new one, and the closures again.
+/// The argument with a number in place of its id, if it has one, and both closures again. The first closure gives the
+/// number of an object, the second that of a new object.
 fn number_argument<Id, F: FnMut(Id) -> u32, G: FnMut(Id) -> u32>(
     object_id: F,
     new_id: G,
@@ -49,7 +49,7 @@ fn number_argument<Id, F: FnMut(Id) -> u32, G: FnMut(Id) -> u32>(
     }
 }
 
-/// Moves the arguments to `args`, each numbered by `number_argument`, from left to right.
+/// Moves the arguments to `args`, from left to right, each changed by `number_argument`.
 fn number_arguments<Id: Drop, F: FnMut(Id) -> u32 + Drop, G: FnMut(Id) -> u32 + Drop>(
     mut object_id: F,
     mut new_id: G,
@@ -73,11 +73,11 @@ fn number_arguments<Id: Drop, F: FnMut(Id) -> u32 + Drop, G: FnMut(Id) -> u32 + 
 }
 
 impl<Id: Drop> Message<Id, Token> {
-    /// The message as it goes on the wire: with a number in place of each id.
+    /// The message as it goes on the wire: with a number in place of each object id.
     ///
-    /// The first closure is called for the sender and then for each object among the arguments, the second for each
-    /// new object, both from left to right. Where there is no memory for the arguments, neither is called, and the
-    /// message comes back. Up to four arguments take no memory.
+    /// The first closure is called for the sender and then for each object argument, the second for each new object. Both
+    /// go from left to right. Up to four arguments take no memory. If there is no memory for the arguments, the error is
+    /// the message as it was, and neither closure was called.
     pub fn map_ids<F: FnMut(Id) -> u32 + Drop, G: FnMut(Id) -> u32 + Drop>(
         self,
         object_id: F,

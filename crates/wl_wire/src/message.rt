@@ -10,18 +10,18 @@ use std::alloc::AllocError;
 /// How many arguments a message holds without an allocation.
 pub const INLINE_ARGS: usize = 4;
 
-/// A request or an event, over the type `Id` of object ids and `Fd` of descriptors.
+/// A request or an event. `Id` is the type of object ids, and `Fd` that of file descriptors.
 #[derive(Debug, PartialEq, Eq, Drop)]
 pub struct Message<Id, Fd> {
-    /// The object that the request is made of, or that sends the event.
+    /// The object that the request is sent to, or that sends the event.
     pub sender_id: Id,
-    /// Which request or event of the sender's interface it is.
+    /// The opcode: which request or event of that object's interface it is.
     pub opcode: u16,
     /// The arguments, in the order of the signature.
     pub args: SmallVec<Argument<Id, Fd>, INLINE_ARGS>,
 }
 
-/// The argument with its descriptor, if it is one, replaced by what the closure gives for it, and the closure again.
+/// The argument and the closure again. A file descriptor is replaced by what the closure gives for it.
 fn map_argument<Id, Fd, T, F: FnMut(Fd) -> T>(
     mut f: F,
     arg: Argument<Id, Fd>,
@@ -45,7 +45,8 @@ fn map_argument<Id, Fd, T, F: FnMut(Fd) -> T>(
     }
 }
 
-/// An empty list with room for as many arguments, of types of their own.
+/// An empty list with the capacity for as many arguments as `args` has. The new arguments may have other types of ids and
+/// file descriptors. The error says that there was no memory. Up to four arguments take none.
 pub(crate) fn room_for<Id, Fd, NewId: Drop, NewFd: Drop>(
     args: &SmallVec<Argument<Id, Fd>, INLINE_ARGS>,
 ) -> Result<SmallVec<Argument<NewId, NewFd>, INLINE_ARGS>, AllocError>
@@ -56,7 +57,7 @@ pub(crate) fn room_for<Id, Fd, NewId: Drop, NewFd: Drop>(
     SmallVec::with_capacity(*args.allocator(), args.len())
 }
 
-/// Moves the arguments to `args`, each mapped by `map_argument`, from left to right.
+/// Moves the arguments to `args`, from left to right, each changed by `map_argument`.
 fn map_arguments<Id: Drop, Fd: Drop, T: Drop, F: FnMut(Fd) -> T + Drop>(
     mut f: F,
     old: &mut SmallVec<Argument<Id, Fd>, INLINE_ARGS>,
@@ -77,10 +78,10 @@ fn map_arguments<Id: Drop, Fd: Drop, T: Drop, F: FnMut(Fd) -> T + Drop>(
 }
 
 impl<Id: Drop, Fd: Drop> Message<Id, Fd> {
-    /// The message with each descriptor replaced by what the closure gives for it.
+    /// The message with each file descriptor replaced by what the closure gives for it.
     ///
-    /// The closure is called once for each descriptor, from left to right. Where there is no memory for the arguments,
-    /// it is not called, and the message comes back. Up to four arguments take no memory.
+    /// The closure is called once for each file descriptor, from left to right. Up to four arguments take no memory. If
+    /// there is no memory for the arguments, the error is the message as it was, and the closure was not called.
     pub fn map_fd<T: Drop, F: FnMut(Fd) -> T + Drop>(self, f: F) -> Result<Message<Id, T>, Self>
         requires callable { F.IsAlwaysCallable f }
         ensures sender { IfOk result (λ m. m.sender_id ≡ self.sender_id) }

@@ -1,16 +1,17 @@
-//! The numbers of a message's ids.
+//! The numbers that the object ids of a message have on the wire.
 
 ghost use Rattle.std.specs.Prelude.{◌≡◌, ℕ};
 
-/// What gives the numbers that the ids of a message have on the wire.
+/// What gives the object ids of a message their numbers on the wire.
 ///
-/// Contracts see it by the two functions that the implementation gives.
+/// An implementation says by two functions, `object_number` and `new_number`, which numbers it gives. Contracts use these
+/// functions.
 pub trait Numbering<Id> {
     ghost object_number: { Self → Id → ℕ };
 
     ghost new_number: { Self → Id → ℕ };
 
-    /// The number of an object.
+    /// The number of an existing object.
     fn number_object(&self, id: &Id) -> u32
         ensures { result ≡ object_number self.now id.now };
 
@@ -19,7 +20,7 @@ pub trait Numbering<Id> {
         ensures { result ≡ new_number self.now id.now };
 }
 
-/// The numbering of ids that are numbers: each is its own.
+/// The numbering for ids that are numbers already: the number of each id is the id itself.
 #[derive(Clone, Copy)]
 pub struct OwnNumbers;
 

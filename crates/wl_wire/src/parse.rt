@@ -1,4 +1,8 @@
 //! Reading a message from bytes and tokens.
+//!
+//! A *token* is a number that stands for a file descriptor. A *word* is four bytes, read as a little-endian number.
+//! *Counted* bytes are a word that tells how many bytes follow, these bytes, and the padding that fills them up to a
+//! multiple of four.
 
 ghost use Rattle.std.specs.Prelude.{None, ℕ, List, MatchOption, MatchResult, ◌≡◌, ◌≢◌, ◌↔◌, ◌<◌, ◌≤◌, ◌++◌, length, drop, IsOk, IsSome, IsTrue, IfSome, is_some, All, IfOk, IfErr, OnOk, OnErr, option_map, slice_index_or};
 ghost use Rattle.std.specs.VecDeque.{deque_len};
@@ -29,7 +33,7 @@ impl From<AllocError> for MessageParseError {
     }
 }
 
-/// A word, and the bytes after it.
+/// The word at the front, and the bytes after it. `None` if there are fewer than four bytes.
 #[tactic(auto, unfolding(crate::specs::Inside::Cursor::word_at))]
 fn read_word(payload: &[u8]) -> Option<(u32, &[u8])>
     ensures { option_map (λ x. (x.0, x.1.now)) result ≡ word_at payload.now }
@@ -44,7 +48,7 @@ fn read_word(payload: &[u8]) -> Option<(u32, &[u8])>
     ))
 }
 
-/// How many bytes lead from `len` to the next multiple of four.
+/// How many bytes are missing from `len` to the next multiple of four.
 pub(crate) fn padding(len: usize) -> usize
     ensures padding { result ≡ pad_len len }
     ensures small { result < 4 }
@@ -52,7 +56,7 @@ pub(crate) fn padding(len: usize) -> usize
     (4 - len % 4) % 4
 }
 
-/// Counted bytes, and what follows their padding.
+/// The counted bytes at the front, and what follows their padding. `None` if they are not complete.
 #[tactic(auto, unfolding(crate::specs::Inside::Cursor::counted_at))]
 fn read_counted(payload: &[u8]) -> Option<(&[u8], &[u8])>
     ensures { option_map (λ x. (x.0.now, x.1.now)) result ≡ counted_at payload.now }
@@ -66,7 +70,8 @@ fn read_counted(payload: &[u8]) -> Option<(&[u8], &[u8])>
     Some((&rest[..len], &rest[padded..]))
 }
 
-/// The string that the counted bytes are: not there where they are no string, null where there are none.
+/// The string in the counted bytes, without the zero that ends it. No bytes at all are null (`Some(None)`). The outer
+/// `None` says that the bytes are no string: the last one is not zero, or another one is.
 #[tactic(auto, unfolding(crate::specs::Inside::Cursor::text_of))]
 fn text_in(bytes: &[u8]) -> Option<Option<&[u8]>>
     ensures text { option_map (option_map (λ x. x.now)) result ≡ text_of bytes.now }
@@ -81,7 +86,7 @@ fn text_in(bytes: &[u8]) -> Option<Option<&[u8]>>
     Some(Some(text))
 }
 
-/// The token at that place, which most messages do not ask for.
+/// The token at that place of the queue. Most messages do not ask for one, so this is not inlined.
 #[inline(never)]
 fn token_at(fds: &VecDeque<Token>, at: usize) -> Option<Token>
     ensures there { IsSome result ↔ (at < deque_len fds.now) }
@@ -90,7 +95,7 @@ fn token_at(fds: &VecDeque<Token>, at: usize) -> Option<Token>
     fds.get(at).copied()
 }
 
-/// The number or object of that type at the front, and the bytes after it.
+/// The integer or object of that type at the front, and the bytes after it. `None` if there are fewer than four bytes.
 #[tactic(auto, unfolding(crate::specs::Inside::Cursor::argument_at))]
 fn read_number(kind: ArgumentType, payload: &[u8]) -> Option<(Argument<u32, Token>, &[u8])>
     requires { IsNumber kind }
@@ -128,10 +133,11 @@ fn read_array(alloc: Global, payload: &[u8]) -> Result<(ByteArray, &[u8]), Messa
     Ok((bytes, rest))
 }
 
-/// An argument that was read, the bytes that are left, and how many tokens were used.
+/// An argument that was read, the bytes after it, and how many tokens were used so far.
 type Read<'b> = (Argument<u32, Token>, &'b [u8], usize);
 
-/// The argument of that type at the front of the bytes or of the tokens, of which so many were used before.
+/// The argument of that type. It is read from the front of the bytes, or it is the next token, if `used` tokens were used
+/// before.
 #[tactic(auto, unfolding(crate::specs::Inside::Cursor::argument_at))]
 fn read_argument<'b>(
     alloc: Global,
@@ -167,7 +173,7 @@ fn read_argument<'b>(
     }
 }
 
-/// Makes room for so many arguments. Up to four have it, and take no memory.
+/// Makes room for `count` arguments. Up to four fit already, and take no memory. The error says that there was no memory.
 fn make_room(
     args: &mut SmallVec<Argument<u32, Token>, INLINE_ARGS>,
     count: usize,
@@ -184,7 +190,7 @@ fn make_room(
     Ok(())
 }
 
-/// Reads the arguments into `args`, which is to be empty, and answers how many tokens they use.
+/// Reads the arguments, appends them to `args`, and returns how many tokens they use.
 fn read_arguments(
     alloc: Global,
     signature: &[ArgumentType],
@@ -209,7 +215,7 @@ fn read_arguments(
     Ok(used)
 }
 
-/// What follows the argument of that type at the front of the bytes or of the tokens.
+/// The bytes and tokens that are left after an argument of that type; `None` if it cannot be read.
 #[tactic(auto, unfolding(crate::specs::Inside::Cursor::argument_at))]
 fn skip_argument<'b, 't>(
     kind: ArgumentType,
@@ -243,7 +249,7 @@ fn skip_argument<'b, 't>(
     }
 }
 
-/// Whether the arguments read, were there memory for them.
+/// Whether the arguments can be read, if there is memory for them.
 fn can_read(signature: &[ArgumentType], payload: &[u8], fds: &[Token]) -> bool
     ensures { result ≡ is_some (arguments_at signature.now payload.now fds.now) }
 {
@@ -259,7 +265,7 @@ fn can_read(signature: &[ArgumentType], payload: &[u8], fds: &[Token]) -> bool
     true
 }
 
-/// How many descriptors a message of that signature has.
+/// How many file descriptors a message with that signature has.
 fn fd_places(signature: &[ArgumentType]) -> usize
     ensures { result ≡ fd_count signature.now }
 {
@@ -269,9 +275,10 @@ fn fd_places(signature: &[ArgumentType]) -> usize
         .count()
 }
 
-/// Which error it is where the arguments were not given out.
+/// Which error it is, after the arguments could not be read.
 ///
-/// Too few tokens come first, then bytes that do not read, and last the memory that was not there.
+/// If there are too few tokens, it is `MissingFD`; else, if the bytes cannot be read, it is `Malformed`; else it is
+/// `OutOfMemory`.
 #[cold]
 #[inline(never)]
 fn refusal(signature: &[ArgumentType], payload: &[u8], fds: &[Token]) -> MessageParseError
@@ -288,18 +295,19 @@ fn refusal(signature: &[ArgumentType], payload: &[u8], fds: &[Token]) -> Message
     }
 }
 
-/// What the first eight bytes of a message say.
+/// What the header says, which is the first eight bytes of a message.
 #[derive(Clone, Copy)]
 pub struct MessageHeader {
-    /// The object that the request is made of, or that sends the event.
+    /// The number of the object that the request is sent to, or that sends the event.
     pub sender_id: u32,
-    /// Which request or event of the sender's interface it is.
+    /// The opcode: which request or event of that object's interface it is.
     pub opcode: u16,
-    /// How many bytes the message has, its header among them. The header may say fewer than its own.
+    /// The length of the message in bytes, with its header, as the header tells it: 0 to 65535. Less than 8, the length of
+    /// the header itself, is an error, which `parse_message` reports.
     pub len: usize,
 }
 
-/// The header of the message at the front; `None` where it is not there to its end.
+/// The header of the message at the front of the bytes; `None` if there are fewer than eight bytes.
 #[tactic(auto, unfolding(crate::specs::Parse::sender_of, crate::specs::Parse::second_word))]
 pub fn message_header(raw: &[u8]) -> Option<MessageHeader>
     ensures { MatchOption result (length raw.now < 8) (λ h. (8 ≤ length raw.now)
@@ -316,7 +324,8 @@ pub fn message_header(raw: &[u8]) -> Option<MessageHeader>
     })
 }
 
-/// The header of the message at the front, which is there as long as it says.
+/// The header of the message at the front, if the message is complete. The errors are those of `parse_message` about the
+/// header.
 fn read_header(raw: &[u8]) -> Result<MessageHeader, MessageParseError>
     ensures whole { OnOk result (IsWhole raw.now) }
     ensures words { IfOk result (λ h. (h.sender_id ≡ sender_of raw.now) × (h.opcode ≡ opcode_of raw.now) × (h.len ≡ length_of raw.now)) }
@@ -332,8 +341,10 @@ fn read_header(raw: &[u8]) -> Result<MessageHeader, MessageParseError>
     Ok(header)
 }
 
-/// Whether the message at the front is there to its end, and with it as many tokens as the signature asks for. Then
-/// `parse_message` lacks neither bytes nor tokens.
+/// Whether the message at the front is complete, and at least as many tokens wait as the signature has file descriptors.
+///
+/// If so, `parse_message` reports neither `MissingData` nor `MissingFD`. It is `false` also if the header says a length
+/// below 8.
 pub fn message_is_there(raw: &[u8], signature: &[ArgumentType], tokens: usize) -> bool
     ensures { IsTrue result ↔ (IsWhole raw.now × (fd_count signature.now ≤ tokens)) }
 {
@@ -343,7 +354,7 @@ pub fn message_is_there(raw: &[u8], signature: &[ArgumentType], tokens: usize) -
     8 <= header.len && header.len <= raw.len() && fd_places(signature) <= tokens
 }
 
-/// Takes so many tokens off the front.
+/// Takes `count` tokens off the front.
 fn take_tokens(fds: &mut VecDeque<Token>, count: usize)
     ensures { fds.new.items ≡ drop count fds.old.items }
 {
@@ -352,8 +363,11 @@ fn take_tokens(fds: &mut VecDeque<Token>, count: usize)
     }
 }
 
-/// The same as `parse_message` in a place for the message, whose arguments it replaces. After an error what is in that
-/// place is no message.
+/// Does the same as `parse_message`, but reads into a message that the caller lends. The arguments of that message are
+/// replaced.
+///
+/// The lent `args` must have a capacity of at least [`INLINE_ARGS`], as a new `SmallVec` of that size has. Returns the
+/// bytes after the message. After an error the content of the lent message has no meaning.
 pub fn parse_into<'a>(
     alloc: Global,
     raw: &'a [u8],
@@ -392,11 +406,16 @@ pub fn parse_into<'a>(
 
 /// Reads the message at the front of `raw` under the signature, with the tokens at the front of `fds`.
 ///
-/// Answers the message and the bytes behind it, which begin where its header says that it ends: bytes of it behind
-/// its last argument are ignored. The message's tokens are taken from `fds`; an error takes none. The errors are
-/// decided in this order: `MissingData` where the header is not there, `Malformed` where the header's length is less
-/// than its own, `MissingData` where the message is not there to its end, `MissingFD` where too few tokens wait,
-/// `Malformed` where its arguments do not read, `OutOfMemory`.
+/// Returns the message, and the bytes after it. They begin where the message ends according to its header: bytes between
+/// its last argument and that end are ignored. The message's tokens are taken from `fds`. An error takes none. The errors
+/// are decided in this order:
+///
+/// - `MissingData` if `raw` has fewer than eight bytes, the length of the header;
+/// - `Malformed` if the header says a length below 8;
+/// - `MissingData` if `raw` has fewer bytes than the header says;
+/// - `MissingFD` if `fds` has fewer tokens than the signature has file descriptors;
+/// - `Malformed` if the arguments cannot be read;
+/// - `OutOfMemory` if there is no memory for the arguments.
 pub fn parse_message<'a>(
     alloc: Global,
     raw: &'a [u8],

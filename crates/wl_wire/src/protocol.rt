@@ -21,20 +21,20 @@ use std::marker::Model;
 
 /// Why a list of interfaces was refused as a table.
 ///
-/// The number is the interface's place in the caller's list, counted from 0.
+/// The number in a variant is the place of the interface in the caller's list, counted from 0.
 #[derive(Clone, Copy, Debug, PartialEq, Eq)]
 pub enum TableError {
-    /// Its name, or that of one of its messages, holds a zero byte.
+    /// The name of the interface, or of one of its messages, has a zero byte.
     ZeroInName(usize),
-    /// A fixed interface has its name, or an earlier one of the list.
+    /// The name of the interface is that of a fixed interface, or of an earlier one of the list.
     DuplicateName(usize),
-    /// A child or argument interface of one of its messages is outside the table.
+    /// One of its messages names a child interface or an argument interface that is outside the table.
     UnknownInterface(usize),
     /// One of its messages creates more than one object.
     TooManyNewIds(usize),
-    /// One of its messages creates an object, and has no child interface.
+    /// One of its messages creates an object, but has no child interface.
     MissingChild(usize),
-    /// One of its messages has not as many argument interfaces as object arguments.
+    /// One of its messages does not have as many argument interfaces as object arguments.
     ArgInterfaces(usize),
     /// There was no memory for the table.
     OutOfMemory,
@@ -72,7 +72,7 @@ impl From<AllocError> for TableError {
     }
 }
 
-/// The interfaces that a session knows: four fixed ones, and the caller's after them.
+/// The table of the interfaces that a session knows: four fixed ones, and after them those of the program.
 #[derive(Drop)]
 pub struct Protocol {
     interfaces: Vec<Interface>,
@@ -90,11 +90,13 @@ impl Model for Protocol {
 }
 
 impl Protocol {
-    /// The table of these interfaces, after the fixed ones.
+    /// The table of the fixed interfaces, with these after them. The first of these has the id 4.
     ///
-    /// It answers the first fault of the first interface that has one, in the order of `TableError`'s variants, and
-    /// `OutOfMemory` only for a table without a fault. In a table the fixed interfaces stand at the places that their
-    /// constants name.
+    /// The fixed interfaces stand at the places that their constants name.
+    ///
+    /// If one of the interfaces has a fault, the error is about the first such interface. If that one has several faults,
+    /// the error is the first of them in the order of `TableError`'s variants. `OutOfMemory` comes only if there is no
+    /// fault.
     pub fn new(alloc: Global, interfaces: Vec<Interface>) -> Result<Self, TableError>
         ensures table { IfOk result (λ table. table ≡ table_of interfaces.items) }
         ensures accepted { IfOk result IsAcceptedTable }
@@ -114,7 +116,7 @@ impl Protocol {
         Ok(Protocol { interfaces: table })
     }
 
-    /// The interface of that id; none where the id is outside the table.
+    /// The interface with that id; `None` if the id is outside the table.
     pub fn get(&self, id: InterfaceId) -> Option<&Interface>
         ensures interface { option_map interface_row (option_copied result) ≡ slice_get self.now id.0 }
         ensures accepted { IsAcceptedTable self.now }
@@ -122,7 +124,7 @@ impl Protocol {
         self.interfaces.get(id.0)
     }
 
-    /// The name of the interface of that id, `<unknown>` where the id is outside the table.
+    /// The name of the interface with that id; `<unknown>` if the id is outside the table.
     pub fn name(&self, id: InterfaceId) -> &str
         ensures name { result.now ≡ name_of self.now id.0 }
         ensures accepted { IsAcceptedTable self.now }
@@ -134,22 +136,22 @@ impl Protocol {
     }
 }
 
-/// Whether the two ids are of the same interface.
+/// Whether the two ids name the same interface.
 pub fn same_interface(a: InterfaceId, b: InterfaceId) -> bool
     ensures { IsTrue result ↔ (a ≡ b) }
 {
     a == b
 }
 
-/// Whether the two ids are of the same interface, or the first is of the anonymous one.
+/// Whether the two ids name the same interface, or the first one names the anonymous interface.
 pub fn same_interface_or_anonymous(a: InterfaceId, b: InterfaceId) -> bool
     ensures { IsTrue result ↔ ((a ≡ b) ⊎ (a ≡ anonymous_id)) }
 {
     same_interface(a, b) || same_interface(a, ANONYMOUS_INTERFACE)
 }
 
-/// Whether the arguments are as many as the signature has places, each of its place's type, whatever the signature
-/// says of null.
+/// Whether there are as many arguments as the signature has types, and each argument is of its type. This does not check
+/// whether the signature allows null.
 pub fn check_for_signature<Id, Fd>(signature: &[ArgumentType], args: &[Argument<Id, Fd>]) -> bool
     ensures fits { IsTrue result ↔ Matches signature.now args.now }
     ensures word { result ≡ matches signature.now args.now }

@@ -1,4 +1,4 @@
-//! Looking for what a list of interfaces is refused for as a table.
+//! The search for a reason to refuse a list of interfaces as a table.
 
 ghost use Rattle.std.specs.Prelude.{◌≡◌, ℕ, ◌+◌, ◌<◌, ◌≤◌, false, true, length, nat_le, IsTrue, OnOk, IfErr};
 ghost use Rattle.wl_wire.specs.declared.protocol.TableError.{TableError as Fault};
@@ -31,7 +31,7 @@ fn new_ids(message: &MessageDesc) -> usize
         .count()
 }
 
-/// How many objects the message is about.
+/// How many object arguments the message has, without new objects.
 fn objects(message: &MessageDesc) -> usize
     ensures { result ≡ objects (message_row message.now) }
 {
@@ -42,14 +42,14 @@ fn objects(message: &MessageDesc) -> usize
         .count()
 }
 
-/// Whether one of the ids is outside a table of so many interfaces.
+/// Whether one of the ids is outside a table of `count` interfaces.
 fn any_unknown(ids: &[InterfaceId], count: usize) -> bool
     ensures { result ≡ list_any (λ id. nat_le count id.0) ids.now }
 {
     ids.iter().any(|id| id.0 >= count)
 }
 
-/// Whether the child interface or an argument interface is outside a table of so many.
+/// Whether the message's child interface, or one of its argument interfaces, is outside a table of `count` interfaces.
 fn names_unknown(message: &MessageDesc, count: usize) -> bool
     ensures { result ≡ list_any (λ id. nat_le count id.0) (interfaces_of (message_row message.now)) }
 {
@@ -59,7 +59,7 @@ fn names_unknown(message: &MessageDesc, count: usize) -> bool
     }
 }
 
-/// Whether the message has the fault, in a table of so many interfaces.
+/// Whether the message has the fault, in a table of `count` interfaces.
 fn is_message_at_fault(message: &MessageDesc, fault: TableError, count: usize) -> bool
     ensures { result ≡ is_message_at_fault count (message_row message.now) fault }
 {
@@ -90,7 +90,7 @@ fn any_message_at_fault(interface: &Interface, fault: TableError, count: usize) 
     any_at_fault(&interface.requests, fault, count) || any_at_fault(&interface.events, fault, count)
 }
 
-/// Whether an interface's name has the fault, where it is taken or not.
+/// Whether an interface's name has the fault. `is_taken` says whether an earlier interface has the same name.
 fn is_name_at_fault(name: &String, fault: TableError, is_taken: bool) -> bool
     ensures { result ≡ is_name_at_fault is_taken (string_bytes name.now) fault }
 {
@@ -101,7 +101,7 @@ fn is_name_at_fault(name: &String, fault: TableError, is_taken: bool) -> bool
     }
 }
 
-/// Whether the interface has the fault, in a table of so many.
+/// Whether the interface has the fault, in a table of `count` interfaces.
 fn is_at_fault(interface: &Interface, fault: TableError, is_taken: bool, count: usize) -> bool
     ensures { result ≡ is_at_fault is_taken count (interface_row interface.now) fault }
 {
@@ -109,7 +109,8 @@ fn is_at_fault(interface: &Interface, fault: TableError, is_taken: bool, count: 
         || any_message_at_fault(interface, fault, count)
 }
 
-/// The first fault of the interface at that place of the caller's list.
+/// Looks for the first fault of the interface, which is at the place `at` of the caller's list, in the order of
+/// `TableError`'s variants.
 fn check_interface(
     interface: &Interface,
     at: usize,
@@ -153,7 +154,7 @@ fn any_named(interfaces: &[Interface], name: &str) -> bool
         .any(|earlier| name == earlier.name.as_str())
 }
 
-/// Whether the name of the interface at that place is taken before it.
+/// Whether the name of the interface at that place is taken: by a fixed interface, or by an earlier one of the list.
 fn is_repeated(interfaces: &[Interface], at: usize) -> bool
     requires { at < length interfaces.now }
     ensures { result ≡ is_repeated (table_of interfaces.now) (4 + at) }
@@ -162,9 +163,9 @@ fn is_repeated(interfaces: &[Interface], at: usize) -> bool
     is_fixed_name(name) || any_named(&interfaces[..at], name)
 }
 
-/// The first place from `from` on whose interface has a name that is taken, or how many interfaces there are.
+/// The first place, from `from` on, of an interface whose name is taken; the length of the list if there is none.
 ///
-/// It takes no memory, and time that grows with the square of the list.
+/// It takes no memory, and time that grows with the square of the list's length.
 fn search_repeat(interfaces: &[Interface], from: usize) -> usize
     ensures before { (k : ℕ) → from ≤ k → k < result → is_repeated (table_of interfaces.now) (4 + k) ≡ false }
     ensures here { result < length interfaces.now → is_repeated (table_of interfaces.now) (4 + result) ≡ true }
@@ -177,7 +178,7 @@ fn search_repeat(interfaces: &[Interface], from: usize) -> usize
     interfaces.len()
 }
 
-/// The first place whose interface has a name that is taken, or how many interfaces there are.
+/// The first place of an interface whose name is taken; the length of the list if there is none.
 fn first_repeat(alloc: Global, interfaces: &[Interface]) -> usize
     ensures before { (k : ℕ) → k < result → is_repeated (table_of interfaces.now) (4 + k) ≡ false }
     ensures here { result < length interfaces.now → is_repeated (table_of interfaces.now) (4 + result) ≡ true }
@@ -198,7 +199,7 @@ fn first_repeat(alloc: Global, interfaces: &[Interface]) -> usize
     interfaces.len()
 }
 
-/// Looks for the first fault of the list as a table.
+/// Looks for the first fault of the list as a table: that of the first interface which has one.
 pub(crate) fn check(alloc: Global, interfaces: &[Interface]) -> Result<(), TableError>
     ensures faultless { OnOk result ((fault : Fault) → ¬ (HasFault (table_of interfaces.now) fault)) }
     ensures first { IfErr result (IsFirstFault (table_of interfaces.now)) }

@@ -1,4 +1,4 @@
-//! Texts that belong to a value.
+//! A text that a value of this crate owns.
 
 ghost use Rattle.std.specs.Prelude.{◌≡◌, Some};
 ghost use Rattle.std.specs.Cmp.{nat_eq_equiv, partial_equiv_from_equiv};
@@ -9,7 +9,7 @@ ghost use Rattle.std.specs.String.{string_bytes};
 use std::fmt;
 use std::marker::Model;
 
-/// A text: a `String`, which contracts see as the list of its bytes.
+/// A text: a `String`. In contracts it is the list of its bytes.
 #[derive(Debug, Drop)]
 pub struct Text {
     string: String,
@@ -25,21 +25,21 @@ impl Model for Text {
 }
 
 impl Text {
-    /// The text of this string. It takes no memory.
+    /// The text of this string. It allocates nothing.
     pub fn new(string: String) -> Self
         ensures { result ≡ string_bytes string }
     {
         Text { string }
     }
 
-    /// The text.
+    /// The text as a string slice.
     pub fn as_str(&self) -> &str
         ensures { result.now ≡ self.now }
     {
         self.string.as_str()
     }
 
-    /// The text as the string that it was made from. It takes no memory.
+    /// The text, as the string that it was made from. It allocates nothing.
     pub fn into_string(self) -> String
         ensures { string_bytes result ≡ self }
     {

@@ -1,4 +1,7 @@
 //! Writing a message as bytes and tokens.
+//!
+//! A *token* is a number that stands for a file descriptor. A *word* is a number of 32 bits, written as four bytes in
+//! little-endian order.
 
 ghost use Rattle.std.specs.Prelude.{◌≡◌, ◌≢◌, ◌↔◌, ◌+◌, ◌-◌, ◌*◌, ◌<◌, ◌≤◌, ◌^◌, ◌++◌, [], Err, length, drop, map, nat_le, replicate, IfOk, IsTrue, OnOk, OnErr, MatchOption, vec_len, vec_capacity};
 ghost use Rattle.wl_wire.specs.declared.error.MessageWriteError.TheVariants.{OutOfMemory};
@@ -14,10 +17,10 @@ use crate::numbering::{Numbering, OwnNumbers};
 use crate::parse::padding;
 use std::alloc::AllocError;
 
-/// The most bytes that a message may have: its length is a number of 16 bits.
+/// The most bytes that a message may have. The length field of its header has 16 bits.
 const MAX_MESSAGE_SIZE: usize = 65535;
 
-/// The most words behind the header of a message.
+/// The most words that fit into a message after its header.
 const MAX_WORDS: usize = (MAX_MESSAGE_SIZE - 8) / 4;
 
 impl From<AllocError> for MessageWriteError {
@@ -35,7 +38,7 @@ struct Measure {
     tokens: usize,
 }
 
-/// What arguments take that are not a word each: so many bytes behind that word, and so many tokens in its place.
+/// What is counted of a message's arguments: the bytes that strings and arrays take after their first word, and the tokens.
 #[derive(Clone, Copy)]
 struct Count {
     behind: usize,
@@ -43,7 +46,7 @@ struct Count {
 }
 
 impl Count {
-    /// Counts in a string or an array of so many bytes, and answers whether those behind are still few enough.
+    /// Counts a string or an array of `len` bytes. Returns whether the bytes after first words are at most 65535.
     fn add_counted(&mut self, len: usize) -> bool
         requires small { self.old.behind ≤ 65535 }
         requires len { len ≤ 2 ^ 63 }
@@ -54,7 +57,7 @@ impl Count {
         self.behind <= MAX_MESSAGE_SIZE
     }
 
-    /// Counts the argument in, and answers whether the bytes behind words are still few enough.
+    /// Counts the argument. Returns whether the bytes after first words are at most 65535.
     fn add<Id>(&mut self, arg: &Argument<Id, Token>) -> bool
         requires small { self.old.behind ≤ 65535 }
         requires few_tokens { self.old.tokens < usize.MAX }
@@ -73,7 +76,7 @@ impl Count {
         }
     }
 
-    /// How much a message of so many such arguments takes; `None` where it takes more than a message may have.
+    /// What a message takes that has `args` arguments, with these counts; `None` if it takes more than 65535 bytes.
     fn measure(self, args: usize) -> Option<Measure>
         requires behind { self.behind ≤ 65535 }
         requires tokens { self.tokens ≤ args }
@@ -94,7 +97,7 @@ impl Count {
     }
 }
 
-/// Whether the argument is a word: a number or the id of an object.
+/// Whether the argument is one word on the wire: an integer, a fixed-point number, or the id of an object.
 fn is_word<Id>(arg: &Argument<Id, Token>) -> bool
     ensures { result ≡ is_word arg.now }
 {
@@ -108,7 +111,7 @@ fn is_word<Id>(arg: &Argument<Id, Token>) -> bool
     }
 }
 
-/// Writes the bytes at that place.
+/// Writes the bytes from the place `at` on.
 #[tactic(auto, unfolding(crate::specs::Inside::Buffer::overwritten))]
 fn put_bytes(payload: &mut [u8], at: usize, bytes: &[u8])
     requires { at + length bytes.now ≤ length payload.old }
@@ -117,7 +120,7 @@ fn put_bytes(payload: &mut [u8], at: usize, bytes: &[u8])
     payload[at..at + bytes.len()].copy_from_slice(bytes);
 }
 
-/// Writes the word at that place, and answers the place behind it.
+/// Writes the word at the place `at`, and returns the place after it.
 #[tactic(auto, unfolding(crate::specs::Message::word))]
 fn put_word(payload: &mut [u8], at: usize, n: u32) -> usize
     requires { at + 4 ≤ length payload.old }
@@ -128,10 +131,11 @@ fn put_word(payload: &mut [u8], at: usize, n: u32) -> usize
     at + 4
 }
 
-/// Writes counted bytes at that place, and answers the place behind their padding.
+/// Writes how many bytes there are, the bytes, and their padding, from the place `at` on. Returns the place after the
+/// padding.
 ///
-/// So many zeros follow the bytes and count with them. These and the padding are what a last word of zeros has left
-/// once the count and the bytes are written over it.
+/// `ending` zeros (none or one) follow the bytes, and count with them. First a word of zeros is written over the last four
+/// bytes, and then the count and the bytes. What is left of that word is the ending and the padding.
 #[inline(never)]
 fn put_counted(payload: &mut [u8], at: usize, bytes: &[u8], ending: usize) -> usize
     requires room { at + counted_len (length bytes.now + ending) ≤ length payload.old }
@@ -148,7 +152,7 @@ fn put_counted(payload: &mut [u8], at: usize, bytes: &[u8], ending: usize) -> us
     last + 4
 }
 
-/// Writes the argument's bytes at that place, and answers the place behind them.
+/// Writes the argument's bytes from the place `at` on, and returns the place after them.
 #[tactic(auto, unfolding(crate::specs::Message::piece))]
 fn put_argument<Id, N: Numbering<Id>>(
     payload: &mut [u8],
@@ -175,7 +179,7 @@ fn put_argument<Id, N: Numbering<Id>>(
     }
 }
 
-/// Writes the arguments' bytes behind a header of eight.
+/// Writes the arguments' bytes after the header, which has eight bytes.
 fn put_arguments<Id, N: Numbering<Id>>(
     payload: &mut [u8],
     args: &[Argument<Id, Token>],
@@ -192,7 +196,7 @@ fn put_arguments<Id, N: Numbering<Id>>(
     }
 }
 
-/// Appends the argument's token, if it has one; the numbers change nothing.
+/// Appends the argument's token, if it has one. The numbers of its ids change nothing; contracts name them.
 fn push_token<Id, N: Numbering<Id>>(fds: &mut Vec<Token>, arg: &Argument<Id, Token>, _numbers: &N)
     requires reserved { vec_len fds.old + length (token (with_ids (N.object_number _numbers.now) (N.new_number _numbers.now) arg.now)) ≤ vec_capacity fds.old }
     ensures items { fds.new.items ≡ fds.old.items ++ token (with_ids (N.object_number _numbers.now) (N.new_number _numbers.now) arg.now) }
@@ -204,7 +208,7 @@ fn push_token<Id, N: Numbering<Id>>(fds: &mut Vec<Token>, arg: &Argument<Id, Tok
     }
 }
 
-/// Appends the arguments' tokens; the numbers change nothing.
+/// Appends the arguments' tokens. The numbers of their ids change nothing; contracts name them.
 fn push_tokens<Id, N: Numbering<Id>>(
     fds: &mut Vec<Token>,
     args: &[Argument<Id, Token>],
@@ -219,9 +223,10 @@ fn push_tokens<Id, N: Numbering<Id>>(
     }
 }
 
-/// Appends the arguments' tokens, which are so many.
+/// Appends the arguments' tokens, of which there are `count`. The error says that there was no memory for them, and changes
+/// nothing.
 ///
-/// Few messages have one, so this is no part of what writes the others.
+/// Few messages have tokens, so this is not inlined into what writes the others.
 #[inline(never)]
 fn append_tokens<Id, N: Numbering<Id>>(
     fds: &mut Vec<Token>,
@@ -243,7 +248,7 @@ fn append_tokens<Id, N: Numbering<Id>>(
     Ok(())
 }
 
-/// How much a message of these arguments takes; `None` where it takes more than a message may have.
+/// What a message with these arguments takes; `None` if it takes more than 65535 bytes.
 fn count_of<Id>(args: &[Argument<Id, Token>]) -> Option<Measure>
     ensures { MatchOption result (65535 < 8 + sum_by piece_len args.now) (λ m. (m.bytes ≡ 8 + sum_by piece_len args.now) × (m.bytes ≤ 65535) × (m.tokens ≡ sum_by token_count args.now)) }
 {
@@ -259,15 +264,15 @@ fn count_of<Id>(args: &[Argument<Id, Token>]) -> Option<Measure>
     count.measure(args.len())
 }
 
-/// How much a message of these arguments takes with these numbers for its ids, which change nothing; `None` where it
-/// takes more than a message may have.
+/// The same as `count_of`. The numbers of the ids change nothing; contracts name them.
 fn measure_of<Id, N: Numbering<Id>>(args: &[Argument<Id, Token>], _numbers: &N) -> Option<Measure>
     ensures { MatchOption result (65535 < 8 + length (pieces (map (with_ids (N.object_number _numbers.now) (N.new_number _numbers.now)) args.now))) (λ m. (m.bytes ≡ 8 + length (pieces (map (with_ids (N.object_number _numbers.now) (N.new_number _numbers.now)) args.now))) × (m.bytes ≤ 65535) × (m.tokens ≡ length (tokens (map (with_ids (N.object_number _numbers.now) (N.new_number _numbers.now)) args.now)))) }
 {
     count_of(args)
 }
 
-/// How many bytes the message takes with these numbers for its ids; `None` where it takes more than 65535.
+/// How many bytes the message takes, 8 to 65535, with the numbers that `numbers` gives its ids; `None` if it would take
+/// more.
 pub fn numbered_size<Id, N: Numbering<Id>>(
     message: &Message<Id, Token>,
     numbers: &N,
@@ -278,14 +283,14 @@ pub fn numbered_size<Id, N: Numbering<Id>>(
     Some(measure.bytes)
 }
 
-/// How many bytes the message takes; `None` where it takes more than 65535.
+/// How many bytes the message takes, 8 to 65535; `None` if it would take more.
 pub fn message_size(message: &Message<u32, Token>) -> Option<usize>
     ensures { MatchOption result (65535 < size (content message.now)) (λ n. n ≡ size (content message.now)) }
 {
     numbered_size(message, &OwnNumbers)
 }
 
-/// Writes the header of a message of so many bytes.
+/// Writes the header of a message of `size` bytes.
 fn put_header(payload: &mut [u8], sender: u32, size: usize, opcode: u16)
     requires size { size ≤ 65535 }
     requires room { 8 ≤ length payload.old }
@@ -295,7 +300,7 @@ fn put_header(payload: &mut [u8], sender: u32, size: usize, opcode: u16)
     put_word(payload, 4, size as u32 * 65536 + u32::from(opcode));
 }
 
-/// Whether each argument is a word: a number or the id of an object.
+/// Whether each argument is one word on the wire.
 fn are_words<Id>(args: &[Argument<Id, Token>]) -> bool
     ensures words { IsTrue result → AllByRecursion IsWord args.now }
     ensures others { AllByRecursion IsWord args.now → IsTrue result }
@@ -308,7 +313,7 @@ fn are_words<Id>(args: &[Argument<Id, Token>]) -> bool
     true
 }
 
-/// The word that the argument is.
+/// The word that the argument is on the wire.
 #[tactic(auto, unfolding(crate::specs::Message::piece))]
 fn word_of<Id, N: Numbering<Id>>(arg: &Argument<Id, Token>, numbers: &N) -> u32
     requires word { IsWord arg.now }
@@ -325,7 +330,7 @@ fn word_of<Id, N: Numbering<Id>>(arg: &Argument<Id, Token>, numbers: &N) -> u32
     }
 }
 
-/// Writes words behind a header of eight bytes.
+/// Writes arguments of one word each after the header, which has eight bytes.
 fn put_words<Id, N: Numbering<Id>>(payload: &mut [u8], args: &[Argument<Id, Token>], numbers: &N)
     requires words { AllByRecursion IsWord args.now }
     requires room { 8 + 4 * length args.now ≤ length payload.old }
@@ -338,8 +343,8 @@ fn put_words<Id, N: Numbering<Id>>(payload: &mut [u8], args: &[Argument<Id, Toke
     }
 }
 
-/// How much a message of these words takes with these numbers for its ids, which change nothing; `None` where it takes
-/// more than a message may have.
+/// How many bytes a message takes whose arguments are one word each; `None` if it takes more than 65535. The numbers of the
+/// ids change nothing; contracts name them.
 fn size_of_words<Id, N: Numbering<Id>>(args: &[Argument<Id, Token>], _numbers: &N) -> Option<usize>
     requires { AllByRecursion IsWord args.now }
     ensures { MatchOption result (65535 < 8 + length (pieces (map (with_ids (N.object_number _numbers.now) (N.new_number _numbers.now)) args.now))) (λ n. (n ≡ 8 + length (pieces (map (with_ids (N.object_number _numbers.now) (N.new_number _numbers.now)) args.now))) × (n ≤ 65535)) }
@@ -350,9 +355,9 @@ fn size_of_words<Id, N: Numbering<Id>>(args: &[Argument<Id, Token>], _numbers: &
     Some(8 + 4 * args.len())
 }
 
-/// Writes a message of words alone at the front of `payload`, with these numbers for its ids.
+/// Writes a message whose arguments are one word each, at the front of `payload`. Returns how many bytes it wrote.
 ///
-/// Most messages are of words alone. Their length follows from how many they are.
+/// Most messages are of this kind. Their length follows from the number of their arguments.
 fn write_words<Id, N: Numbering<Id>>(
     message: &Message<Id, Token>,
     numbers: &N,
@@ -383,10 +388,9 @@ fn write_words<Id, N: Numbering<Id>>(
     Ok(bytes)
 }
 
-/// Writes the message at the front of `payload`, with these numbers for its ids, and appends its tokens to `fds`,
-/// whatever its arguments are.
+/// Writes any message at the front of `payload`, and appends its tokens to `fds`. Returns how many bytes it wrote.
 ///
-/// It stands apart, so that a message of words alone pays for none of it.
+/// It is not inlined, so that it costs nothing for a message whose arguments are one word each.
 #[inline(never)]
 fn write_mixed<Id, N: Numbering<Id>>(
     message: &Message<Id, Token>,
@@ -428,9 +432,10 @@ fn write_mixed<Id, N: Numbering<Id>>(
     Ok(measure.bytes)
 }
 
-/// Writes the message at the front of `payload`, with these numbers for its ids, and appends its tokens to `fds`.
+/// Writes the message at the front of `payload`, with the numbers that `numbers` gives its ids, and appends its tokens to
+/// `fds`.
 ///
-/// All else is said at `write_to_buffers`.
+/// What it returns, and the errors, are as at [`write_to_buffers`].
 pub fn write_numbered<Id, N: Numbering<Id>>(
     message: &Message<Id, Token>,
     numbers: &N,
@@ -459,9 +464,12 @@ pub fn write_numbered<Id, N: Numbering<Id>>(
 
 /// Writes the message at the front of `payload`, and appends its tokens to `fds`.
 ///
-/// Answers how many bytes were written. The bytes behind them stay as they were, and a refusal changes nothing. The
-/// errors are decided in this order: `TooLong` where the message takes more than 65535 bytes, `BufferTooSmall` where
-/// it takes more than `payload` has, `OutOfMemory` where there was no room for its tokens.
+/// Returns how many bytes were written. The bytes after them stay as they were. An error changes nothing. The errors are
+/// decided in this order:
+///
+/// - `TooLong` if the message takes more than 65535 bytes;
+/// - `BufferTooSmall` if it takes more bytes than `payload` has;
+/// - `OutOfMemory` if there is no memory for its tokens. It never comes if the capacity of `fds` is large enough for them.
 pub fn write_to_buffers(
     message: &Message<u32, Token>,
     payload: &mut [u8],
