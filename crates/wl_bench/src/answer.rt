@@ -21,7 +21,7 @@ pub type Told = Reply<Memory, u64>;
 /// What a client took of a send: bytes and tokens.
 pub type Sent = (Vec<u8>, Vec<Token>);
 
-/// Puts the bytes in lower-case hex, two digits each, behind the text.
+/// Appends the bytes in lower-case hex, two digits each, to the text.
 fn push_hex(text: &mut String, bytes: &[u8]) -> Result<(), AllocError>
     ensures { OnOk result (string_bytes text.new ≡ string_bytes text.old ++ hex bytes.now) }
 {
@@ -31,7 +31,7 @@ fn push_hex(text: &mut String, bytes: &[u8]) -> Result<(), AllocError>
     Ok(())
 }
 
-/// Puts an argument that is bytes behind the text.
+/// Appends an argument that is bytes to the text.
 fn push_bytes(text: &mut String, kind: &str, bytes: &[u8]) -> Result<(), AllocError>
     ensures { OnOk result (string_bytes text.new ≡ string_bytes text.old ++ kind.now ++ hex bytes.now) }
 {
@@ -39,7 +39,7 @@ fn push_bytes(text: &mut String, kind: &str, bytes: &[u8]) -> Result<(), AllocEr
     push_hex(text, bytes)
 }
 
-/// Puts an argument of a request behind the text.
+/// Appends an argument of a request to the text.
 fn push_argument(text: &mut String, arg: &Argument<ObjectId, Token>) -> Result<(), AllocError>
     ensures { OnOk result (string_bytes text.new ≡ string_bytes text.old ++ argument_text arg.now) }
 {
@@ -56,7 +56,7 @@ fn push_argument(text: &mut String, arg: &Argument<ObjectId, Token>) -> Result<(
     }
 }
 
-/// Puts the arguments of a request behind the text, with one space between.
+/// Appends the arguments of a request to the text, with one space between.
 fn push_arguments(text: &mut String, args: &[Argument<ObjectId, Token>]) -> Result<(), AllocError>
     ensures { OnOk result (string_bytes text.new ≡ string_bytes text.old ++ arguments_text args.now) }
 {
@@ -71,7 +71,7 @@ fn push_arguments(text: &mut String, args: &[Argument<ObjectId, Token>]) -> Resu
     Ok(())
 }
 
-/// Puts what a request does to objects behind the text: whether it ends its own, and the number of the one that it made.
+/// Appends what a request does to objects to the text: whether it ends its own, and the number of the one that it made.
 fn push_effect(
     text: &mut String,
     is_destructor: bool,
@@ -251,7 +251,7 @@ fn note_line(alloc: Global, note: &Note<u64>) -> Result<String, AllocError>
     }
 }
 
-/// Puts the line of each note behind the lines.
+/// Appends the line of each note to the lines.
 fn push_notes(alloc: Global, lines: &mut Vec<String>, notes: &[Note<u64>]) -> Result<(), AllocError>
     ensures { OnOk result (map string_bytes lines.new.items ≡ map string_bytes lines.old.items ++ map note_text notes.now) }
 {
@@ -261,7 +261,7 @@ fn push_notes(alloc: Global, lines: &mut Vec<String>, notes: &[Note<u64>]) -> Re
     Ok(())
 }
 
-/// Puts the notes, a line each, behind the lines; or `none`.
+/// Appends the notes, a line each, to the lines; or `none`.
 fn push_taken_notes(
     alloc: Global,
     lines: &mut Vec<String>,
@@ -306,7 +306,7 @@ fn fault_line(alloc: Global, fault: ActionError) -> Result<String, AllocError>
     format!(in alloc; "fault {}", fault_name(fault))
 }
 
-/// The one line that a reply prints, where it is not that to `TakeNotes`.
+/// The one line that a reply prints, if it is not that to `TakeNotes`.
 fn answer_line(alloc: Global, reply: &Told) -> Result<String, AllocError>
     ensures { IfOk result (λ line. string_bytes line ≡ answer_text reply.now) }
 {
@@ -327,7 +327,7 @@ fn answer_line(alloc: Global, reply: &Told) -> Result<String, AllocError>
     }
 }
 
-/// Puts the lines that a command answers behind the lines, by the reply to its first step.
+/// Appends the lines that a command answers to the lines, by the reply to its first step.
 pub fn push_answer(alloc: Global, lines: &mut Vec<String>, reply: &Told) -> Result<(), AllocError>
     ensures { OnOk result (map string_bytes lines.new.items ≡ map string_bytes lines.old.items ++ answer_lines reply.now) }
 {
@@ -337,7 +337,7 @@ pub fn push_answer(alloc: Global, lines: &mut Vec<String>, reply: &Told) -> Resu
     }
 }
 
-/// Puts the tokens of all sends behind the others.
+/// Appends the tokens of all sends to the others.
 fn push_tokens(tokens: &mut Vec<Token>, sends: &[Sent]) -> Result<(), AllocError>
     ensures { OnOk result (tokens.new.items ≡ tokens.old.items ++ flat_map tokens_of (map parcel sends.now)) }
 {
@@ -347,7 +347,7 @@ fn push_tokens(tokens: &mut Vec<Token>, sends: &[Sent]) -> Result<(), AllocError
     Ok(())
 }
 
-/// Puts the tokens behind the text, with commas between, or `-` where there are none.
+/// Appends the tokens to the text, with commas between, or `-` if there are none.
 fn push_token_list(text: &mut String, tokens: &[Token]) -> Result<(), AllocError>
     ensures { OnOk result (string_bytes text.new ≡ string_bytes text.old ++ tokens_text tokens.now) }
 {
@@ -361,7 +361,7 @@ fn push_token_list(text: &mut String, tokens: &[Token]) -> Result<(), AllocError
     Ok(())
 }
 
-/// Puts the bytes of all sends behind the text, in hex.
+/// Appends the bytes of all sends to the text, in hex.
 fn push_sent_bytes(text: &mut String, sends: &[Sent]) -> Result<(), AllocError>
     ensures { OnOk result (string_bytes text.new ≡ string_bytes text.old ++ hex (flat_map bytes_of (map parcel sends.now))) }
 {
@@ -384,7 +384,7 @@ fn sent_line(alloc: Global, slot: u32, sends: &[Sent]) -> Result<String, AllocEr
     Ok(line)
 }
 
-/// Puts the line of what the client of a slot was sent behind the lines; none where it was sent nothing.
+/// Appends the line of what the client of a slot was sent to the lines; none if it was sent nothing.
 fn push_sends(
     alloc: Global,
     lines: &mut Vec<String>,
@@ -399,7 +399,7 @@ fn push_sends(
     Ok(lines.push(sent_line(alloc, slot, sends)?)?)
 }
 
-/// Puts the lines of what the clients had been sent that a command took out behind the lines.
+/// Appends the lines of what the clients had been sent that a command took out to the lines.
 pub fn push_taken_out(
     alloc: Global,
     lines: &mut Vec<String>,
@@ -416,7 +416,7 @@ pub fn push_taken_out(
     Ok(())
 }
 
-/// Puts the line of what a client was sent behind the lines, by the reply to the step that took the record of it.
+/// Appends the line of what a client was sent to the lines, by the reply to the step that took the record of it.
 fn push_record(
     alloc: Global,
     lines: &mut Vec<String>,
@@ -431,7 +431,7 @@ fn push_record(
     }
 }
 
-/// Puts the lines of what these clients were sent behind the lines, by the replies to the steps that took the records of
+/// Appends the lines of what these clients were sent to the lines, by the replies to the steps that took the records of
 /// it.
 pub fn push_records(
     alloc: Global,

@@ -85,8 +85,8 @@ impl Bench {
         })
     }
 
-    /// Carries out a command under its number, and answers the lines that it prints; none where it names a slot at which no
-    /// client was inserted, and nothing is done then. `Failed` where memory was refused.
+    /// Carries out a command under its number, and answers the lines that it prints; none if it names a slot at which no
+    /// client was inserted, and nothing is done then. `Failed` if memory was refused.
     pub fn carry_out(
         &mut self,
         alloc: Global,
@@ -156,7 +156,7 @@ impl Bench {
     }
 
     /// Makes the calls of a command about a client, and takes the record of what that was sent. It answers the reply to the
-    /// last call, and that to the step behind it.
+    /// last call, and that to the step after it.
     fn drive(
         &mut self,
         alloc: Global,
@@ -177,8 +177,8 @@ impl Bench {
         self.perform(alloc, step, &[client])
     }
 
-    /// Carries out a command that is one step, and about no one client. The transports of all clients are looked at behind one that they may
-    /// feel; a cleanup hands out those over which it sent.
+    /// Carries out a command that is one step, and about no one client. After a command that clients may feel, the transports
+    /// of all clients are looked at; a cleanup hands out those over which it sent.
     fn carry_out_for_all(&mut self, alloc: Global, command: Command) -> Result<Vec<String>, Stop>
         requires { IsShared command }
         ensures done { IfOk result (λ lines. DoesForAll self.old command (map string_bytes lines.items) self.new) }
@@ -223,7 +223,7 @@ impl Bench {
         Ok(clients)
     }
 
-    /// The clients whose transports are looked at behind a command about no one client.
+    /// The clients whose transports are looked at after a command about no one client.
     fn heard(&self, alloc: Global, command: &Command) -> Result<Vec<ClientId>, AllocError>
         ensures { IfOk result (λ clients. clients.items ≡ heard_by self.now command.now) }
     {
@@ -239,7 +239,7 @@ impl Bench {
         }
     }
 
-    /// The global that was created last under the name. Where none was, the id names none: no global has the serial 0.
+    /// The global that was created last under the name. If none was, the id names none: no global has the serial 0.
     fn global(&self, name: u32) -> GlobalId
         ensures { result ≡ global_of self.now name }
     {
@@ -287,7 +287,7 @@ impl Bench {
     }
 
     /// Lets the next sends to the client take so many bytes each, and takes the record of what it was sent. The counts may
-    /// be millions, so each is a run of its own. It answers the reply to the last of them, and that to the step behind it.
+    /// be millions, so each is a run of its own. It answers the reply to the last of them, and that to the step after it.
     fn accept(&mut self, alloc: Global, client: ClientId, counts: &[u32]) -> Result<Vec<Told>, Stop>
         ensures made { IfOk result (λ replies. Replies self.old.server (map (accept_step client) counts.now) (client ∷ []) replies.items self.new.server) }
         ensures clients { self.new.clients ≡ self.old.clients }
@@ -323,7 +323,7 @@ impl Bench {
     }
 }
 
-/// Puts the steps that take the records of what these clients were sent behind the others.
+/// Appends the steps that take the records of what these clients were sent to the others.
 pub fn push_takes(steps: &mut Vec<Made>, clients: &[ClientId]) -> Result<(), Stop>
     ensures steps { OnOk result (steps.new.items ≡ steps.old.items ++ map take_step clients.now) }
     ensures failed { IfErr result (λ stop. stop ≡ Failed) }
@@ -351,7 +351,7 @@ fn client_step(seat: &Seat, command: ClientCommand, number: u64) -> Made
     }
 }
 
-/// The step that ends what is open of a client. Where an object was made, it gets the number of the command as its data.
+/// The step that ends what is open of a client. If an object was made, it gets the number of the command as its data.
 fn finish(seat: &Seat, number: u64) -> Made
     ensures { result ≡ finish_step seat.now number }
 {

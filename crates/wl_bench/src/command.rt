@@ -214,7 +214,7 @@ fn command_of(alloc: Global, words: &[&str]) -> Result<Option<Command>, AllocErr
     }
 }
 
-/// The command that a line is, without the line feed at its end; none where it is no command. No line is two commands.
+/// The command that a line is, without the line feed at its end; none if it is no command. No line is two commands.
 #[tactic(auto, using(crate::proofs::OneCommand::one_of_line))]
 pub fn parse_line(alloc: Global, line: &[u8]) -> Result<Option<Command>, AllocError>
     ensures found { IfOk result (Finds IsLine line.now) }

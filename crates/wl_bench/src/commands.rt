@@ -20,7 +20,7 @@ use std::io::{BufRead, Write};
 pub enum Form {
     /// The lines that it prints.
     Answers,
-    /// Its number, a space and the command; and then the lines that it prints, each behind `> `.
+    /// Its number, a space and the command; and then the lines that it prints, each after `> `.
     Record,
 }
 
@@ -34,7 +34,7 @@ pub fn without_line_feed(line: &[u8]) -> &[u8]
     }
 }
 
-/// Puts a line behind the text, behind these characters and with its line feed.
+/// Appends a line to the text, after these characters and with its line feed.
 fn push_line(text: &mut Vec<u8>, before: &str, line: &[u8]) -> Result<(), AllocError>
     ensures { OnOk result (text.new.items ≡ text.old.items ++ fed (before.now ++ line.now)) }
 {
@@ -43,7 +43,7 @@ fn push_line(text: &mut Vec<u8>, before: &str, line: &[u8]) -> Result<(), AllocE
     Ok(text.push(b'\n')?)
 }
 
-/// Puts lines behind the text.
+/// Appends lines to the text.
 fn push_lines(text: &mut Vec<u8>, lines: &[String]) -> Result<(), AllocError>
     ensures { OnOk result (text.new.items ≡ text.old.items ++ text_of (map string_bytes lines.now)) }
 {
@@ -53,7 +53,7 @@ fn push_lines(text: &mut Vec<u8>, lines: &[String]) -> Result<(), AllocError>
     Ok(())
 }
 
-/// Puts lines behind the text, each behind `> `.
+/// Appends lines to the text, each after `> `.
 fn push_quoted(text: &mut Vec<u8>, lines: &[String]) -> Result<(), AllocError>
     ensures { OnOk result (text.new.items ≡ text.old.items ++ text_of (map quoted (map string_bytes lines.now))) }
 {
@@ -135,11 +135,11 @@ fn run_lines<R: BufRead, W: Write>(
 }
 
 /// Carries out the commands of the lines that are read, over a new server, and writes what each prints before the next
-/// line is read; the writer is flushed behind each command.
+/// line is read; the writer is flushed after each command.
 ///
 /// A line ends in a line feed, which the last may lack. Empty lines are skipped, and counted. At the first bad line, which
 /// is no command or names a slot at which no client was inserted, the run ends with `BadLine` of its number, from 1; the
-/// commands before it were carried out. It ends with `Failed` where memory was refused, or the reader or the writer
+/// commands before it were carried out. It ends with `Failed` if memory was refused, or the reader or the writer
 /// failed.
 pub fn run_commands<R: BufRead, W: Write>(
     alloc: Global,
@@ -153,7 +153,7 @@ pub fn run_commands<R: BufRead, W: Write>(
 }
 
 /// Carries out the commands of the lines that are read as `run_commands` does, and writes the record of each: its number,
-/// which is that of its line, a space and the command, and behind that line each line that it prints, behind `> `.
+/// which is that of its line, a space and the command, and after that line each line that it prints, after `> `.
 pub fn record<R: BufRead, W: Write>(
     alloc: Global,
     reader: &mut R,

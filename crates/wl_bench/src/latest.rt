@@ -12,7 +12,7 @@ pub struct Latest<X> {
     places: Vec<Option<X>>,
 }
 
-/// Puts what there is behind the others.
+/// Appends what there is to the others.
 fn push_kept<X: Copy + Drop>(values: &mut Vec<X>, place: &Option<X>) -> Result<(), AllocError>
     ensures { OnOk result (values.new.items ≡ values.old.items ++ option_to_list place.now) }
 {

@@ -3,9 +3,9 @@
 //! `wl-bench sync` prints the bytes that a fresh client sends for its first `wl_display.sync`, and those of the
 //! server's answer, a line each. `wl-bench run` drives a server by the lines of its standard input, and prints what
 //! each comes to; `wl-bench record` prints each command beside that, and `wl-bench replay` compares such a recording with
-//! what its commands come to now. It ends with status 0; with 1 where a recording differs; with 2 and its usage on standard
-//! error where the arguments are others; with 2 and `line <number>: bad command` there at the first bad line; with 3 and
-//! `failed` there where memory, input or output failed.
+//! what its commands come to now. It ends with status 0; with 1 if a recording differs; with 2 and its usage on standard
+//! error if the arguments are others; with 2 and `line <number>: bad command` there at the first bad line; with 3 and
+//! `failed` there if memory, input or output failed.
 #![tactic(auto)]
 
 mod answer;

@@ -22,7 +22,7 @@ use std::io::{BufRead, Write};
 pub enum Replayed {
     /// The recording is the record of its own commands, which are so many.
     Same(u64),
-    /// This line, counted from 1, is the first in which it differs from that record. It is one past the last line where
+    /// This line, counted from 1, is the first in which it differs from that record. It is one past the last line if
     /// output is missing at the end.
     Differs(u64),
 }
@@ -40,7 +40,7 @@ struct Comparison {
     found: usize,
 }
 
-/// The parts of a line before and behind its first space.
+/// The parts of a line before and after its first space.
 fn cut(line: &[u8]) -> Option<(&[u8], &[u8])>
     ensures { MatchOption result (IsWord line.now) (λ parts. (line.now ≡ parts.0.now ++ 32 ∷ parts.1.now) × IsWord parts.0.now) }
 {
@@ -153,7 +153,7 @@ impl Comparison {
         }
     }
 
-    /// What the replay comes to at the end of the recording, the place behind its last line.
+    /// What the replay comes to at the end of the recording, the place after its last line.
     fn end(&self, place: u64) -> Replayed
         ensures { EndsWith self.now place result }
     {
@@ -188,8 +188,8 @@ fn replay_lines<R: BufRead>(alloc: Global, reader: &mut R) -> Result<Replayed, S
 /// A line that begins with `> ` is output. Any other is a number from 1, without leading zeros and greater than the one
 /// before, a space, and a command, which is carried out under that number. The lines are looked at in order. The first in
 /// which the recording differs from the record of its own commands is answered with `Differs`, and the first that is no
-/// command, or names a slot at which no client was inserted, is `BadLine`; where output is due in its place, it is a
-/// difference. `Failed` where memory was refused, or the reader or the writer failed.
+/// command, or names a slot at which no client was inserted, is `BadLine`; if output is due in its place, it is a
+/// difference. `Failed` if memory was refused, or the reader or the writer failed.
 pub fn replay<R: BufRead, W: Write>(
     alloc: Global,
     reader: &mut R,

@@ -56,7 +56,7 @@ fn fresh_client(alloc: Global) -> Result<Client, Stop>
     Ok(client)
 }
 
-/// All bytes that a session has sent once it sent a `wl_display.sync`, which is its first where it is fresh.
+/// All bytes that a session has sent once it sent a `wl_display.sync`, which is its first if it is fresh.
 fn sync_bytes(alloc: Global, client: &mut Client) -> Result<Vec<u8>, Stop>
     ensures { IsFresh client.old.session → IfOk result (λ v. v.items ≡ request_bytes) }
 {

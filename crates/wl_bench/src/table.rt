@@ -124,7 +124,7 @@ fn described(alloc: Global, row: &Row) -> Result<MessageDesc, AllocError>
     })
 }
 
-/// Puts the descriptions of the messages behind the others.
+/// Appends the descriptions of the messages to the others.
 fn push_messages(
     alloc: Global,
     messages: &mut Vec<MessageDesc>,
@@ -150,7 +150,7 @@ fn named(alloc: Global, name: &str, version: u32) -> Result<Interface, AllocErro
     })
 }
 
-/// Puts an interface with these requests and events behind the others.
+/// Appends an interface with these requests and events to the others.
 pub fn push_interface(
     alloc: Global,
     interfaces: &mut Vec<Interface>,
@@ -169,7 +169,7 @@ pub fn push_interface(
     Ok(())
 }
 
-/// Puts `quad` behind the others.
+/// Appends `quad` to the others.
 pub fn push_quad(alloc: Global, interfaces: &mut Vec<Interface>) -> Result<(), AllocError>
     ensures { OnOk result (interface_rows interfaces.new.items ≡ interface_rows interfaces.old.items ++ quad_row ∷ []) }
 {
@@ -186,7 +186,7 @@ pub fn bench_table(alloc: Global) -> Result<Protocol, Stop>
     Ok(Protocol::new(alloc, interfaces)?)
 }
 
-/// The first interface of that name, and one outside the table where none has it. `Failed` where the table has more
+/// The first interface of that name, and one outside the table if none has it. `Failed` if the table has more
 /// interfaces than can be counted.
 pub fn interface_named(table: &Protocol, name: &str) -> Result<InterfaceId, Stop>
     ensures named { IfOk result (λ id. id ≡ interface_of name.now table.now) }

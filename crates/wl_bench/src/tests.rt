@@ -12,16 +12,19 @@ mod recordings;
 mod server;
 mod wire;
 
+use std::alloc::Global;
+use std::collections::HashSet;
+use std::hash::Hash;
 use std::process::Abort;
 use std::test::Fail;
 
-/// Fails where the log is not there, or is not this text.
+/// Fails if the log is not there, or is not this text.
 fn tells(rt: &impl Abort, log: Result<String, Fail>, text: &str) -> Result<(), Fail> {
     assert_eq!(rt; log?.as_str(), text);
     Ok(())
 }
 
-/// Which two of the ids are equal: each to itself alone, where none is there twice.
+/// Which two of the ids are equal: each to itself alone, if none is there twice.
 fn each_is_itself<T: Eq>(ids: &[T]) -> bool {
     for i in 0..ids.len() {
         for j in 0..ids.len() {
@@ -31,4 +34,13 @@ fn each_is_itself<T: Eq>(ids: &[T]) -> bool {
         }
     }
     true
+}
+
+/// Puts the ids into a set, and answers how many are then there.
+fn in_a_set<T: Copy + Eq + Hash>(alloc: Global, ids: &[T]) -> Result<usize, Fail> {
+    let mut set = HashSet::new(alloc);
+    for id in ids {
+        set.insert(*id)?;
+    }
+    Ok(set.len())
 }

@@ -12,7 +12,7 @@ use crate::stop::Stop;
 use std::alloc::Global;
 use std::test::Fail;
 
-/// The output, and behind it how the run ended where that was not at the end of the input.
+/// The output, and after it how the run ended if that was not at the end of the input.
 fn told(output: Vec<u8>, end: Result<(), Stop>) -> Result<String, Fail> {
     let mut text = String::from_utf8(output)?;
     match end {

@@ -28,7 +28,7 @@ impl Stream {
 pub enum Cut {
     /// Into one piece.
     Whole,
-    /// Into two, behind so many bytes.
+    /// Into two, after so many bytes.
     At(usize),
     /// Into single bytes.
     Bytewise,

@@ -50,7 +50,7 @@ fn argument(alloc: Global, arg: Arg) -> Result<Argument<u32, Token>, Fail> {
     }
 }
 
-/// Puts an argument behind those of the message.
+/// Appends an argument to those of the message.
 pub fn push(alloc: Global, message: &mut Message<u32, Token>, arg: Arg) -> Result<(), Fail> {
     message.args.push(argument(alloc, arg)?)?;
     Ok(())
@@ -131,7 +131,7 @@ fn tell_argument(log: &mut String, arg: &Argument<u32, Token>) -> Result<(), Fai
     tell_value(log, arg)
 }
 
-/// Tells a message: its sender, its opcode, and behind a colon each its arguments.
+/// Tells a message: its sender, its opcode, and after a colon each its arguments.
 pub fn tell_message(log: &mut String, message: &Message<u32, Token>) -> Result<(), Fail> {
     write!(log, "{}, {}", message.sender_id, message.opcode)?;
     for arg in message.args.as_slice() {
@@ -140,7 +140,7 @@ pub fn tell_message(log: &mut String, message: &Message<u32, Token>) -> Result<(
     Ok(())
 }
 
-/// Tells the bytes in hex, and behind them the number of each token.
+/// Tells the bytes in hex, and after them the number of each token.
 pub fn tell_bytes(log: &mut String, bytes: &[u8], tokens: &[Token]) -> Result<(), Fail> {
     tell_hex(log, bytes)?;
     for token in tokens {
@@ -149,7 +149,7 @@ pub fn tell_bytes(log: &mut String, bytes: &[u8], tokens: &[Token]) -> Result<()
     Ok(())
 }
 
-/// The bytes, and zeros behind them, of that length in all.
+/// The bytes, and zeros after them, of that length in all.
 pub fn padded(alloc: Global, bytes: &[u8], len: usize) -> Result<Vec<u8>, Fail> {
     let mut padded = Vec::from_slice(alloc, bytes)?;
     for _ in bytes.len()..len {

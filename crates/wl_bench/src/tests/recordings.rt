@@ -14,7 +14,7 @@ use std::alloc::Global;
 use std::process::Abort;
 use std::test::Fail;
 
-/// The output, and behind it how the run ended where that was not at the end of the input.
+/// The output, and after it how the run ended if that was not at the end of the input.
 fn told(output: Vec<u8>, stop: Option<Stop>) -> Result<String, Fail> {
     let mut text = String::from_utf8(output)?;
     match stop {
@@ -41,12 +41,12 @@ fn replayed(alloc: Global, recording: &[u8]) -> Result<String, Fail> {
     told(output, end.err())
 }
 
-/// Fails where this is not the record of the lines.
+/// Fails if this is not the record of the lines.
 fn records(rt: &(impl Abort + AllocGlobal), lines: &[u8], recording: &str) -> Result<(), Fail> {
     tells(rt, recorded(rt.alloc(), lines), recording)
 }
 
-/// Fails where the recording does not come to this.
+/// Fails if the recording does not come to this.
 fn replays(rt: &(impl Abort + AllocGlobal), recording: &[u8], verdict: &str) -> Result<(), Fail> {
     tells(rt, replayed(rt.alloc(), recording), verdict)
 }

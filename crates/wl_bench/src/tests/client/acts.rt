@@ -21,7 +21,7 @@ type Client = Backend<Memory, u32>;
 /// A call of a client, a look at it, or what its script is given.
 #[derive(Clone, Copy)]
 pub enum Act {
-    /// Sets the limit of the storages.
+    /// Sets the limit of the buffers.
     Limit(usize),
     /// Sends a request.
     Send(Request),
@@ -79,21 +79,21 @@ pub enum Cue {
     Arrive(&'static [u8]),
     /// Bytes that are to arrive with a descriptor.
     ArriveWith(&'static [u8], i32),
-    /// Bytes that are to arrive, and zeros behind them, of that length in all, in chunks of 4096.
+    /// Bytes that are to arrive, and zeros after them, of that length in all, in chunks of 4096.
     ArriveInChunks(&'static [u8], usize),
     /// The same, each byte by itself.
     ArriveBytewise(&'static [u8], usize),
     /// A stream that is to arrive, cut so.
     ArriveCut(Stream, Cut),
-    /// A fault behind what is to arrive.
+    /// A fault after what is to arrive.
     ArriveFault(IoFault),
-    /// A fault behind the answers to sends.
+    /// A fault after the answers to sends.
     AcceptFault(IoFault),
     /// Forgets what was sent.
     TakeSent,
 }
 
-/// Fails where the line was not written, or where the client's last call met a want of memory.
+/// Fails if the line was not written, or if the client's last call met a want of memory.
 fn told(client: &Client, written: Result<(), AllocError>) -> Result<(), Fail> {
     if client.memory_refused() {
         return Err(Fail::new("memory was refused"));
@@ -104,7 +104,7 @@ fn told(client: &Client, written: Result<(), AllocError>) -> Result<(), Fail> {
     }
 }
 
-/// Sets the limit of the storages.
+/// Sets the limit of the buffers.
 fn limit(client: &mut Client, bytes: usize) -> Result<(), Fail> {
     client.set_max_buffer_size(Some(bytes));
     told(client, Ok(()))
@@ -134,7 +134,7 @@ fn send(
     send_with(alloc, client, log, request, request.child())
 }
 
-/// Sends the request, and fails where there was memory for it.
+/// Sends the request, and fails if there was memory for it.
 fn send_in_want(
     alloc: Global,
     client: &mut Client,
@@ -180,7 +180,7 @@ fn finish(client: &mut Client, log: &mut String, data: Option<u32>) -> Result<()
 }
 
 /// Reads once, and finishes the event; whether there may be more to read. Of a reading that would block it tells nothing
-/// where something is still to arrive.
+/// if something is still to arrive.
 fn serve_once(client: &mut Client, log: &mut String) -> Result<bool, Fail> {
     let answer = client.next_event();
     match answer {
@@ -261,14 +261,14 @@ fn last_error(client: &Client, log: &mut String) -> Result<(), Fail> {
     told(client, written)
 }
 
-/// Puts the bytes behind what is to arrive.
+/// Appends the bytes to what is to arrive.
 fn arrive(alloc: Global, client: &mut Client, bytes: &[u8]) -> Result<(), Fail> {
     let bytes = Vec::from_slice(alloc, bytes)?;
     client.transport_mut().arrive(bytes, Vec::new(alloc))?;
     Ok(())
 }
 
-/// Puts the bytes with the descriptor behind what is to arrive.
+/// Appends the bytes with the descriptor to what is to arrive.
 fn arrive_with(
     alloc: Global,
     client: &mut Client,
@@ -281,7 +281,7 @@ fn arrive_with(
     Ok(())
 }
 
-/// Puts the bytes and zeros behind them, of that length in all, behind what is to arrive, in chunks of that size.
+/// Appends the bytes and zeros after them, of that length in all, to what is to arrive, in chunks of that size.
 fn arrive_in_chunks(
     alloc: Global,
     client: &mut Client,
@@ -297,7 +297,7 @@ fn arrive_in_chunks(
     Ok(())
 }
 
-/// Puts the bytes behind what is to arrive, in chunks of that size.
+/// Appends the bytes to what is to arrive, in chunks of that size.
 fn arrive_chunks(alloc: Global, client: &mut Client, bytes: &[u8], size: usize) -> Result<(), Fail>
     requires { 0 < size }
 {
@@ -307,7 +307,7 @@ fn arrive_chunks(alloc: Global, client: &mut Client, bytes: &[u8], size: usize) 
     Ok(())
 }
 
-/// Puts the stream behind what is to arrive, cut so.
+/// Appends the stream to what is to arrive, cut so.
 fn arrive_cut(alloc: Global, client: &mut Client, stream: Stream, cut: Cut) -> Result<(), Fail> {
     let bytes = stream.bytes(alloc)?;
     match cut {
@@ -321,13 +321,13 @@ fn arrive_cut(alloc: Global, client: &mut Client, stream: Stream, cut: Cut) -> R
     }
 }
 
-/// Puts the fault behind what is to arrive.
+/// Appends the fault to what is to arrive.
 fn arrive_fault(client: &mut Client, fault: IoFault) -> Result<(), Fail> {
     client.transport_mut().arrive_fault(fault)?;
     Ok(())
 }
 
-/// Puts the fault behind the answers to sends.
+/// Appends the fault to the answers to sends.
 fn accept_fault(client: &mut Client, fault: IoFault) -> Result<(), Fail> {
     client.transport_mut().accept_fault(fault)?;
     Ok(())

@@ -93,7 +93,7 @@ fn told_in(alloc: Global, row: &Row, number: usize) -> Result<String, Fail> {
     log_of(alloc, acts.as_slice())
 }
 
-/// Fails where the row tells something else in a cutting, and names it.
+/// Fails if the row tells something else in a cutting, and names it.
 fn in_every_cutting(rt: &(impl Abort + AllocGlobal), row: &Row) -> Result<(), Fail> {
     for number in 0..=row.arrives.len() {
         let told = told_in(rt.alloc(), row, number)?;

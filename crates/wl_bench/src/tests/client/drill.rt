@@ -1,8 +1,8 @@
 //! Each want of memory in turn: runs of a client that judge themselves whatever is refused.
 //!
-//! With ample memory a run answers what it has to. Where one allocation is refused (`./refusal-drill` refuses each in turn),
-//! the replies before that step are the same, and the same call again, and all behind it, answers as with ample memory.
-//! Where the test itself asked for that memory, it ends with the want, and nothing is judged.
+//! With ample memory a run answers what it has to. If one allocation is refused (`./refusal-drill` refuses each in turn),
+//! the replies before that step are the same, and the same call again, and all after it, answers as with ample memory.
+//! If the test itself asked for that memory, it ends with the want, and nothing is judged.
 
 use super::steps::{Call, steps};
 use super::told::write_reply;
@@ -17,7 +17,7 @@ use wl_link::Memory;
 /// A client whose objects have numbers as their data.
 type Client = Backend<Memory, u32>;
 
-/// A call, and what its reply tells where there is memory.
+/// A call, and what its reply tells if there is memory.
 type Entry = (Call, &'static str);
 
 /// The end of the callback 2, and of its number.
@@ -53,14 +53,14 @@ fn text_of(alloc: Global, told: &Reply<u32>) -> Result<String, Fail> {
     Ok(text)
 }
 
-/// Fails where the reply does not tell this.
+/// Fails if the reply does not tell this.
 fn judge(rt: &(impl Abort + AllocGlobal), told: &Reply<u32>, text: &str) -> Result<(), Fail> {
     let told = text_of(rt.alloc(), told)?;
     assert_eq!(rt; told.as_str(), text);
     Ok(())
 }
 
-/// Fails where the replies are not those of the steps, one by one.
+/// Fails if the replies are not those of the steps, one by one.
 fn judge_all(
     rt: &(impl Abort + AllocGlobal),
     entries: &[Entry],
@@ -87,7 +87,7 @@ fn go_on(
     }
 }
 
-/// Makes the run, and fails where it is not as it has to be; whether memory was refused.
+/// Makes the run, and fails if it is not as it has to be; whether memory was refused.
 fn play(
     rt: &(impl Abort + AllocGlobal),
     client: &mut Client,
@@ -118,7 +118,7 @@ fn error_of(alloc: Global, client: &Client) -> Result<String, Fail> {
     Ok(text)
 }
 
-/// Makes the run, and fails where it is not as it has to be, or leaves another error. Where there was no memory for the
+/// Makes the run, and fails if it is not as it has to be, or leaves another error. If there was no memory for the
 /// error's text, the want is the error.
 fn play_to(
     rt: &(impl Abort + AllocGlobal),
@@ -134,7 +134,7 @@ fn play_to(
     Ok(())
 }
 
-/// A new client; where memory was refused it is made once more.
+/// A new client; if memory was refused it is made once more.
 fn connected(alloc: Global) -> Result<Client, Fail> {
     let table = quad_table(alloc)?;
     let again = quad_table(alloc)?;
@@ -147,7 +147,7 @@ fn connected(alloc: Global) -> Result<Client, Fail> {
     }
 }
 
-/// Makes the run of a new client, and fails where it is not as it has to be.
+/// Makes the run of a new client, and fails if it is not as it has to be.
 fn drill(rt: &(impl Abort + AllocGlobal), entries: &[Entry], error: &str) -> Result<(), Fail> {
     let mut client = connected(rt.alloc())?;
     play_to(rt, &mut client, entries, error)

@@ -83,7 +83,7 @@ fn ask(alloc: Global, client: &mut Client<'_>, data: u32) -> Result<ObjectId, Fa
     Ok(callback)
 }
 
-/// The object that the next event is for; `None` where no event is there to its end.
+/// The object that the next event is for; `None` if no event is there to its end.
 fn next_sender(client: &mut Client<'_>) -> Result<Option<ObjectId>, Fail> {
     match client.next_event() {
         Ok(event) => Ok(Some(event.sender_id)),

@@ -6,7 +6,7 @@ use crate::tests::tells;
 use std::test::Fail;
 use wl_wire::IoFault;
 
-/// A request fills the storage of 4096 bytes to its end, behind the 44 bytes of the bind. Then the transport fails while
+/// A request fills the buffer of 4096 bytes to its end, after the 44 bytes of the bind. Then the transport fails while
 /// one is sent: it counts as sent, and the fault is the session's error.
 #[test]
 fn fault_of_a_request(rt: HostRuntime) -> Result<(), Fail> {
@@ -47,7 +47,7 @@ fn request_without_memory(rt: HostRuntime) -> Result<(), Fail> {
     )
 }
 
-/// A request that is longer than the storage may be.
+/// A request that is longer than the buffer may be.
 #[test]
 fn request_too_long(rt: HostRuntime) -> Result<(), Fail> {
     let acts = [
@@ -120,7 +120,7 @@ fn receives_of_a_reading(rt: HostRuntime) -> Result<(), Fail> {
     )
 }
 
-/// The arrivals of a message of 5000 bytes, which is longer than the storage of what was received is at first.
+/// The arrivals of a message of 5000 bytes, which is longer than the buffer of what was received is at first.
 const ARRIVE_5000: Act = Act::Script(Cue::ArriveInChunks(&[2, 0, 0, 0, 0, 0, 0x88, 0x13], 5000));
 
 #[test]
@@ -139,7 +139,7 @@ fn message_longer_than_the_first_storage(rt: HostRuntime) -> Result<(), Fail> {
     )
 }
 
-/// The storage of what was received grows to 65536 bytes, and a reading receives 16 times.
+/// The buffer of what was received grows to 65536 bytes, and a reading receives 16 times.
 #[test]
 fn message_of_65532_bytes(rt: HostRuntime) -> Result<(), Fail> {
     let acts = [
@@ -156,7 +156,7 @@ fn message_of_65532_bytes(rt: HostRuntime) -> Result<(), Fail> {
     )
 }
 
-/// A message that is longer than the storage of what was received may become.
+/// A message that is longer than the buffer of what was received may become.
 #[test]
 fn message_longer_than_the_limit(rt: HostRuntime) -> Result<(), Fail> {
     let acts = [

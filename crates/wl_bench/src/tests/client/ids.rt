@@ -1,13 +1,11 @@
 //! Ids of a client's objects: which are equal, and in a set.
 
-use crate::tests::each_is_itself;
 use crate::tests::quad::{PAIR, QUAD};
-use std::alloc::Global;
-use std::collections::HashSet;
+use crate::tests::{each_is_itself, in_a_set};
 use std::test::Fail;
 use wl_client::ObjectId;
 
-/// Ids are equal where all their parts are.
+/// Ids are equal if all their parts are.
 #[test]
 fn ids_that_differ_in_one_part(rt: HostRuntime) {
     let ids = [
@@ -17,15 +15,6 @@ fn ids_that_differ_in_one_part(rt: HostRuntime) {
         ObjectId::from_parts(3, 2, PAIR),
     ];
     assert!(rt; each_is_itself(&ids));
-}
-
-/// Puts the ids into a set, and answers how many are then there.
-fn in_a_set(alloc: Global, ids: &[ObjectId]) -> Result<usize, Fail> {
-    let mut set = HashSet::new(alloc);
-    for id in ids {
-        set.insert(*id)?;
-    }
-    Ok(set.len())
 }
 
 /// A set has each id once, and tells apart those that differ in their interface alone, whose hashes are equal.

@@ -138,7 +138,7 @@ fn request_of_five_arguments(rt: HostRuntime) -> Result<(), Fail> {
     )
 }
 
-/// A request of 5016 bytes behind the 44 of the bind: the storage of 4096 bytes grows, and a send takes 4096 at most.
+/// A request of 5016 bytes after the 44 of the bind: the buffer of 4096 bytes grows, and a send takes 4096 at most.
 #[test]
 fn storage_grows_for_a_request(rt: HostRuntime) -> Result<(), Fail> {
     let acts = [
@@ -156,7 +156,7 @@ fn storage_grows_for_a_request(rt: HostRuntime) -> Result<(), Fail> {
     )
 }
 
-/// The storage is full, and may not grow: what waits is sent first, and the request with its descriptor after it.
+/// The buffer is full, and may not grow: what waits is sent first, and the request with its descriptor after it.
 #[test]
 fn request_behind_a_flush_for_room(rt: HostRuntime) -> Result<(), Fail> {
     let acts = [

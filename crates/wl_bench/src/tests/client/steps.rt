@@ -90,7 +90,7 @@ fn write_stopped(log: &mut String, stopped: &Stopped<u32>) -> Result<(), AllocEr
     writeln!(log, "stopped at {}", stopped.step)
 }
 
-/// Writes the answer to a run: the replies, and where it stopped.
+/// Writes the answer to a run: the replies, and the step at which it stopped, if it did.
 fn write_run(
     log: &mut String,
     answer: &Result<Vec<Reply<u32>>, Stopped<u32>>,
@@ -106,7 +106,7 @@ fn write_refused(log: &mut String, client: &Backend<Memory, u32>) -> Result<(), 
     writeln!(log, "refused: {}", client.memory_refused())
 }
 
-/// Runs the steps, and writes the replies; where the run stops also the step, and whether memory was refused.
+/// Runs the steps, and writes the replies; if the run stops, also at which step, and whether memory was refused.
 pub fn replay(
     alloc: Global,
     client: &mut Backend<Memory, u32>,

@@ -16,7 +16,7 @@ fn write_id(alloc: Global, table: &Protocol, log: &mut String, id: ObjectId) -> 
     Ok(writeln!(log, "{text}")?)
 }
 
-/// The texts of the ids, a line each, where the table has no interface of its own.
+/// The texts of the ids, a line each, if the table has no interface of its own.
 fn ids_told(alloc: Global, ids: &[ObjectId]) -> Result<String, Fail> {
     let table = Protocol::new(alloc, Vec::new(alloc))?;
     let mut log = String::new(alloc);
@@ -77,7 +77,7 @@ fn ids_in_a_set(rt: HostRuntime) -> Result<(), Fail> {
     )
 }
 
-/// Ids are equal where all their parts are: those of another number, serial or interface are others.
+/// Ids are equal if all their parts are: those of another number, serial or interface are others.
 #[test]
 fn ids_that_differ_in_one_part(rt: HostRuntime) {
     let ids = [

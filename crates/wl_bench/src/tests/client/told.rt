@@ -44,7 +44,7 @@ fn write_new(log: &mut String, id: ObjectId) -> Result<(), AllocError> {
     write!(log, " new {}, {}", id.protocol_id(), id.serial())
 }
 
-/// Writes a value behind its name.
+/// Writes a value after its name.
 fn write_value(log: &mut String, name: &str, value: impl Display + Drop) -> Result<(), AllocError> {
     write!(log, "{name} {value}")
 }

@@ -35,7 +35,7 @@ static RUN: [Call; 14] = [
     Call::TakeSent,
 ];
 
-/// What the run tells where nothing fails, and behind it the session's error.
+/// What the run tells if nothing fails, and after it the session's error.
 const TOLD: &str = "sent: 2, 1
 sent: 3, 2
 flushed
@@ -79,7 +79,7 @@ fn text_of(alloc: Global, told: &Reply<u32>) -> Result<String, Fail> {
     Ok(log)
 }
 
-/// Makes the call; what its reply tells, or none where memory was refused.
+/// Makes the call; what its reply tells, or none if memory was refused.
 fn answer(alloc: Global, client: &mut Client, call: Call) -> Result<Option<String>, Fail> {
     let made = steps(alloc, &[call])?;
     match client.replay(made) {
@@ -100,7 +100,7 @@ fn is_repeated(client: &Client, call: Call, told: &str) -> bool {
     }
 }
 
-/// Makes the call, again where it would block or lacks memory.
+/// Makes the call, again if it would block or lacks memory.
 fn made(alloc: Global, client: &mut Client, call: Call) -> Result<String, Fail> {
     for _ in 0..4 {
         if let Some(told) = answer(alloc, client, call)? {
@@ -181,7 +181,7 @@ fn whole(alloc: Global, texts: &[String]) -> Result<String, Fail> {
     Ok(whole)
 }
 
-/// Fails where the run, in which something failed that is made up for, does not tell what it tells where nothing fails.
+/// Fails if the run, in which something failed that is made up for, does not tell what it tells if nothing fails.
 fn is_made_up_for(rt: &(impl Abort + AllocGlobal), calls: &[Call]) -> Result<(), Fail> {
     let texts = played(rt.alloc(), calls)?;
     tells(rt, whole(rt.alloc(), texts.as_slice()), TOLD)
@@ -205,8 +205,8 @@ fn transport_that_would_block_or_lacks_memory(rt: HostRuntime) -> Result<(), Fai
     Ok(())
 }
 
-/// Fails where what is told before the first call that fails differs from what is told where nothing fails, where that
-/// call neither reads nor flushes, or where one that does answers anything but a failure behind it; whether one fails.
+/// Whether a call of the run fails, and everything is as it has to be: the calls before tell what they tell if nothing
+/// fails, the call that fails reads or flushes, and after it each that does either fails too.
 fn fails_for_good(rt: &impl Abort, clean: &[String], texts: &[String]) -> bool {
     let mut has_failed = false;
     for (call, (was, is)) in RUN.iter().zip(clean.iter().zip(texts)) {
@@ -222,7 +222,7 @@ fn fails_for_good(rt: &impl Abort, clean: &[String], texts: &[String]) -> bool {
     has_failed
 }
 
-/// Fails where the fault does not become the session's error, or is not answered from then on; whether it is met.
+/// Fails if the fault does not become the session's error, or is not answered from then on; whether it is met.
 fn is_stored(
     rt: &(impl Abort + AllocGlobal),
     clean: &[String],

@@ -23,13 +23,13 @@ pub enum Object {
     Registry,
     /// The `quad` of `Act::Bound`.
     Quad,
-    /// The `quad` that is made behind `Act::Bound`.
+    /// The `quad` that is made after `Act::Bound`.
     Second,
-    /// The `pair` that is bound behind `Act::Bound`.
+    /// The `pair` that is bound after `Act::Bound`.
     Pair,
-    /// The `quad` that is made behind that `pair`.
+    /// The `quad` that is made after that `pair`.
     Third,
-    /// The `quad` that the server makes behind `Act::Bound`.
+    /// The `quad` that the server makes after `Act::Bound`.
     Child,
     /// A `quad` with the number of `Quad` and another serial.
     Stranger,
@@ -108,7 +108,7 @@ impl Request {
         }
     }
 
-    /// The data of the object that it makes, and the wish for that object, where the run names no others.
+    /// The data of the object that it makes, and the wish for that object, if the run names no others.
     pub fn child(self) -> Child {
         match self {
             Request::Bind => (Some(6), Some((QUAD, 3))),
@@ -125,19 +125,19 @@ impl Request {
 /// The arguments of a message.
 type Arguments = SmallVec<Argument<ObjectId, Token>, INLINE_ARGS>;
 
-/// Puts a number behind the arguments.
+/// Appends a number to the arguments.
 fn push_number(args: &mut Arguments, value: u32) -> Result<(), Fail> {
     args.push(Argument::Uint(value))?;
     Ok(())
 }
 
-/// Puts the id of a new object behind the arguments, which is to be null.
+/// Appends the id of a new object to the arguments, which is to be null.
 fn push_new(args: &mut Arguments, object: Object) -> Result<(), Fail> {
     args.push(Argument::NewId(object.id()))?;
     Ok(())
 }
 
-/// Puts two objects behind the arguments.
+/// Appends two objects to the arguments.
 fn push_objects(args: &mut Arguments, first: Object, second: Object) -> Result<(), Fail> {
     args.push(Argument::Object(first.id()))?;
     args.push(Argument::Object(second.id()))?;
@@ -149,7 +149,7 @@ fn text(alloc: Global, text: &str) -> Result<CString, Fail> {
     Ok(CString::new(Vec::from_slice(alloc, text.as_bytes())?)?)
 }
 
-/// Puts a string, or none, behind the arguments.
+/// Appends a string, or none, to the arguments.
 fn push_text(alloc: Global, args: &mut Arguments, string: Option<&str>) -> Result<(), Fail> {
     match string {
         None => args.push(Argument::Str(None))?,
@@ -167,7 +167,7 @@ fn ones(alloc: Global, len: usize) -> Result<ByteArray, Fail> {
     Ok(ByteArray::new(bytes))
 }
 
-/// Puts a string, or none, so many bytes, each of which is 1, and a descriptor behind the arguments.
+/// Appends a string, or none, so many bytes, each of which is 1, and a descriptor to the arguments.
 fn push_payload(
     alloc: Global,
     args: &mut Arguments,
@@ -181,7 +181,7 @@ fn push_payload(
     Ok(())
 }
 
-/// Puts the arguments of `wl_registry.bind` behind the others.
+/// Appends the arguments of `wl_registry.bind` to the others.
 fn push_bind(alloc: Global, args: &mut Arguments) -> Result<(), Fail> {
     push_number(args, 1)?;
     push_text(alloc, args, Some("quad"))?;
@@ -189,7 +189,7 @@ fn push_bind(alloc: Global, args: &mut Arguments) -> Result<(), Fail> {
     push_new(args, Object::Null)
 }
 
-/// Puts the arguments of `pair.join` behind the others.
+/// Appends the arguments of `pair.join` to the others.
 fn push_join(
     alloc: Global,
     args: &mut Arguments,
@@ -200,7 +200,7 @@ fn push_join(
     push_payload(alloc, args, Some("no"), 1, 9)
 }
 
-/// Puts the request's arguments behind the others.
+/// Appends the request's arguments to the others.
 fn push_arguments(alloc: Global, args: &mut Arguments, request: Request) -> Result<(), Fail> {
     match request {
         Request::Sync | Request::GetRegistry | Request::Make => push_new(args, Object::Null),

@@ -5,7 +5,7 @@ use crate::tests::tells;
 use std::process::Abort;
 use std::test::Fail;
 
-/// Fails where one of the lines is a command, behind a line that inserts a client.
+/// Fails if one of the lines is a command, after a line that inserts a client.
 fn are_bad(rt: &(impl Abort + AllocGlobal), lines: &[&[u8]]) -> Result<(), Fail> {
     for line in lines {
         let mut input = Vec::from_slice(rt.alloc(), b"client\n")?;
@@ -239,7 +239,7 @@ fn slots(rt: HostRuntime) -> Result<(), Fail> {
     )
 }
 
-/// The commands before the first bad line are carried out, and none behind it; empty lines count.
+/// The commands before the first bad line are carried out, and none after it; empty lines count.
 #[test]
 fn first_bad_line(rt: HostRuntime) -> Result<(), Fail> {
     let alloc = rt.alloc();

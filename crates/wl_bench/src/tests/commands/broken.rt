@@ -8,7 +8,7 @@ use std::io::{BufReader, Write};
 use std::process::Abort;
 use std::test::Fail;
 
-/// A reader of these bytes, behind which each read fails.
+/// A reader of these bytes, after which each read fails.
 #[derive(Drop)]
 struct Source<'a>(&'a [u8]);
 
@@ -41,7 +41,7 @@ impl Sink {
     }
 }
 
-/// One less, or a fault where none is left.
+/// One less, or a fault if none is left.
 fn count_down(left: &mut usize) -> io::Result<()> {
     if *left == 0 {
         return Err(io::Error::from(io::ErrorKind::BrokenPipe));
@@ -63,13 +63,13 @@ impl Write for Sink {
     }
 }
 
-/// Fails where the output took anything but these bytes, or another number of them was flushed.
+/// Fails if the output took anything but these bytes, or another number of them was flushed.
 fn took(rt: &impl Abort, output: &Sink, bytes: &[u8], flushed: usize) {
     assert_eq!(rt; output.taken.as_slice(), bytes);
     assert_eq!(rt; output.flushed, flushed);
 }
 
-/// Fails where three lines are not given up at the second, with the third unread.
+/// Fails if three lines are not given up at the second, with the third unread.
 fn stops(rt: &(impl Abort + AllocGlobal), output: &mut Sink) {
     let mut input = b"client\nclient\nflush\n".as_slice();
     let end = run_commands(rt.alloc(), &mut input, output);
@@ -77,7 +77,7 @@ fn stops(rt: &(impl Abort + AllocGlobal), output: &mut Sink) {
     assert_eq!(rt; input.len(), b"flush\n".len());
 }
 
-/// Where the input fails, the lines before it were answered; one that is cut is not carried out.
+/// If the input fails, the lines before it were answered; one that is cut is not carried out.
 #[test]
 fn input_that_breaks(rt: HostRuntime) -> Result<(), Fail> {
     let alloc = rt.alloc();
@@ -89,7 +89,7 @@ fn input_that_breaks(rt: HostRuntime) -> Result<(), Fail> {
     Ok(())
 }
 
-/// Where a write fails, the answers before it were flushed, and no later line is read.
+/// If a write fails, the answers before it were flushed, and no later line is read.
 #[test]
 fn write_that_breaks(rt: HostRuntime) {
     let mut output = Sink::new(rt.alloc(), 1, 9);
@@ -97,7 +97,7 @@ fn write_that_breaks(rt: HostRuntime) {
     took(&rt, &output, b"client 0 1\n", 11);
 }
 
-/// So it is where a flush fails: that answer was written, and not flushed.
+/// So it is if a flush fails: that answer was written, and not flushed.
 #[test]
 fn flush_that_breaks(rt: HostRuntime) {
     let mut output = Sink::new(rt.alloc(), 9, 1);

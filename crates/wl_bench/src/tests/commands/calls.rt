@@ -165,7 +165,7 @@ fn output_that_fails(rt: HostRuntime) {
     assert_eq!(rt; end, Err(Stop::Failed));
 }
 
-/// What a flush leaves is sent by a later one, behind any number of faults; a client that was taken out is sent nothing.
+/// What a flush leaves is sent by a later one, after any number of faults; a client that was taken out is sent nothing.
 #[test]
 fn sends_that_stop(rt: HostRuntime) -> Result<(), Fail> {
     tells(

@@ -139,7 +139,7 @@ disconnected 1 closed
     )
 }
 
-/// An action that was read before stays open; behind its end, the client is dispatched.
+/// An action that was read before stays open; after its end, the client is dispatched.
 #[test]
 fn open_action(rt: HostRuntime) -> Result<(), Fail> {
     tells(
@@ -169,8 +169,8 @@ destroyed 0 3 6
     )
 }
 
-/// What a client is sent in its dispatch stands behind the answer. 180 syncs are answered by 4320 bytes, of which 4096 may
-/// wait: the message behind the first 4092 is sent with those.
+/// What a client is sent in its dispatch stands after the answer. 180 syncs are answered by 4320 bytes, of which 4096 may
+/// wait: the message after the first 4092 is sent with those.
 #[test]
 fn sent_in_a_dispatch(rt: HostRuntime) -> Result<(), Fail> {
     let alloc = rt.alloc();

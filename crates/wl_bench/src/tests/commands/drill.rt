@@ -74,7 +74,7 @@ fn run(alloc: Global, lines: &[u8], output: &mut Vec<u8>) -> Result<(), Stop> {
     run_commands(alloc, &mut input, output)
 }
 
-/// Where memory is refused the run ends as failed, behind whole answers; again, it prints all.
+/// If memory is refused the run ends as failed, after whole answers; again, it prints all.
 fn drill(rt: &(impl Abort + AllocGlobal), lines: &[u8], printed: &[u8]) {
     let mut output = Vec::new(rt.alloc());
     if let Err(stop) = run(rt.alloc(), lines, &mut output) {

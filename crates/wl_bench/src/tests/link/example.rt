@@ -9,7 +9,7 @@ use wl_wire::{Argument, ArgumentType, Message, MessageParseError, Token};
 /// What the event `done` has: a number.
 static DONE: [ArgumentType; 1] = [ArgumentType::Uint];
 
-/// Puts the bytes behind the arrivals.
+/// Appends the bytes to the arrivals.
 fn arrive(alloc: Global, script: &mut Memory, bytes: &[u8]) -> Result<(), Fail> {
     let bytes = Vec::from_slice(alloc, bytes)?;
     Ok(script.arrive(bytes, Vec::new(alloc))?)
@@ -61,7 +61,7 @@ fn reads(link: &mut BufferedSocket<Memory>, message: &Message<u32, Token>) -> Re
     Ok(read == *message)
 }
 
-/// Whether the message is read, where a first receive does not bring it to its end and a second does.
+/// Whether the message is read, if a first receive does not bring it to its end and a second does.
 fn reads_in_two(
     link: &mut BufferedSocket<Memory>,
     message: &Message<u32, Token>,

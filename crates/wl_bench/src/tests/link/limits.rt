@@ -1,4 +1,4 @@
-//! How far the storages grow for a message.
+//! How far the buffers grow for a message.
 
 use super::run::{Act, Fact, link_log, run_log};
 use super::script::Cue;
@@ -41,7 +41,7 @@ fn storage_grows_for_a_message_with_a_descriptor(rt: HostRuntime) -> Result<(), 
     )
 }
 
-/// The storage is full, and may not grow: what waits is sent first.
+/// The buffer is full, and may not grow: what waits is sent first.
 #[test]
 fn message_with_a_descriptor_waits_behind_a_flush(rt: HostRuntime) -> Result<(), Fail> {
     let acts = [
@@ -134,7 +134,7 @@ fn incoming_storage_grows_up_to_65536_bytes(rt: HostRuntime) -> Result<(), Fail>
     )
 }
 
-/// A storage of 65536 bytes of which none is read is full for good.
+/// A buffer of 65536 bytes of which none is read is full for good.
 #[test]
 fn incoming_storage_grows_no_further(rt: HostRuntime) -> Result<(), Fail> {
     let cues = [Cue::ArriveInChunks(&[9, 0, 0, 0, 1, 0, 8, 0], 65540)];

@@ -21,13 +21,13 @@ pub enum Act {
     Fill,
     /// Reads a message, of those that have a signature.
     Read,
-    /// Reads where no message has a signature.
+    /// Reads, with no signature known for any message.
     ReadUnknown,
     /// Receives so many times.
     FillEach(usize),
     /// Receives and reads so many times, and tells the messages that were there to their end.
     FillAndRead(usize),
-    /// Sets the limit of the storages, and tells nothing.
+    /// Sets the limit of the buffers, and tells nothing.
     SetLimit(Option<usize>),
     /// Takes the record of what each send took, and tells it.
     TakeSent,
@@ -40,9 +40,9 @@ pub enum Act {
 pub enum Fact {
     /// What was received and not read, and what was written and not sent: bytes and tokens.
     Waiting,
-    /// The sizes of the incoming and the outgoing storage.
+    /// The sizes of the incoming and the outgoing buffer.
     Storage,
-    /// The limit of the storages.
+    /// The limit of the buffers.
     Limit,
     /// The bytes and tokens of each send that is recorded.
     Sent,
@@ -166,13 +166,13 @@ fn read<T>(log: &mut String, link: &mut BufferedSocket<T>) -> Result<(), Fail> {
     tell_read(log, &read)
 }
 
-/// Reads where no message has a signature.
+/// Reads, with no signature known for any message.
 fn read_unknown<T>(log: &mut String, link: &mut BufferedSocket<T>) -> Result<(), Fail> {
     let read = link.read_one_message(|_, _| None);
     tell_read(log, &read)
 }
 
-/// Tells the message behind the number of its receive, unless it is not there to its end.
+/// Tells the message after the number of its receive, unless it is not there to its end.
 fn tell_whole(
     log: &mut String,
     number: usize,
@@ -185,7 +185,7 @@ fn tell_whole(
     tell_read(log, read)
 }
 
-/// Receives once and reads; behind the number of the receive it tells a message that was there to its end.
+/// Receives once and reads; after the number of the receive it tells a message that was there to its end.
 fn fill_and_read<T: Transport>(
     log: &mut String,
     link: &mut BufferedSocket<T>,
@@ -218,14 +218,14 @@ fn waiting<T>(log: &mut String, link: &BufferedSocket<T>) -> Result<(), Fail> {
     Ok(())
 }
 
-/// Tells the sizes of both storages.
+/// Tells the sizes of both buffers.
 fn storage<T>(log: &mut String, link: &BufferedSocket<T>) -> Result<(), Fail> {
     let [incoming, outgoing] = link.storage();
     writeln!(log, "storage: {incoming}, {outgoing}")?;
     Ok(())
 }
 
-/// Tells the limit of the storages.
+/// Tells the limit of the buffers.
 fn limit<T>(log: &mut String, link: &BufferedSocket<T>) -> Result<(), Fail> {
     let written = match link.max_buffer_size() {
         Some(limit) => writeln!(log, "limit: {limit}"),

@@ -11,13 +11,13 @@ use wl_wire::{IoFault, OutOfMemory, Token};
 /// A call of a script.
 #[derive(Clone, Copy)]
 pub enum Cue {
-    /// A chunk arrives. It is told where it is refused.
+    /// A chunk arrives. It is told if it is refused.
     Arrive(&'static [u8], &'static [Token]),
-    /// A chunk of no bytes and so many tokens arrives. It is told where it is refused.
+    /// A chunk of no bytes and so many tokens arrives. It is told if it is refused.
     ArriveTokens(usize),
     /// A chunk arrives for each byte, of which the first has all tokens.
     ArriveSingly(&'static [u8], &'static [Token]),
-    /// Bytes arrive, and zeros behind them, of that length in all, in chunks of 4096.
+    /// Bytes arrive, and zeros after them, of that length in all, in chunks of 4096.
     ArriveInChunks(&'static [u8], usize),
     /// A fault arrives.
     ArriveFault(IoFault),
@@ -39,7 +39,7 @@ fn tell_refused(log: &mut String, arrived: Result<(), ArriveError>) -> Result<()
     }
 }
 
-/// Puts a chunk behind the arrivals.
+/// Appends a chunk to the arrivals.
 fn arrive(
     log: &mut String,
     memory: &mut Memory,
@@ -51,14 +51,14 @@ fn arrive(
     tell_refused(log, memory.arrive(bytes, tokens))
 }
 
-/// Puts a chunk of no bytes and so many tokens behind the arrivals.
+/// Appends a chunk of no bytes and so many tokens to the arrivals.
 fn arrive_tokens(log: &mut String, memory: &mut Memory, count: usize) -> Result<(), Fail> {
     let alloc = *log.allocator();
     let tokens = Vec::from_elem(alloc, Token(1), count)?;
     tell_refused(log, memory.arrive(Vec::new(alloc), tokens))
 }
 
-/// Puts a chunk for each byte behind the arrivals, of which the first has all tokens.
+/// Appends a chunk for each byte to the arrivals, of which the first has all tokens.
 fn arrive_singly(
     log: &mut String,
     memory: &mut Memory,
@@ -73,7 +73,7 @@ fn arrive_singly(
     Ok(())
 }
 
-/// Puts the bytes and zeros behind them, of that length in all, behind the arrivals, in chunks of 4096.
+/// Appends the bytes and zeros after them, of that length in all, to the arrivals, in chunks of 4096.
 fn arrive_in_chunks(
     log: &mut String,
     memory: &mut Memory,
@@ -120,7 +120,7 @@ fn arrivals_left(log: &mut String, memory: &Memory) -> Result<(), Fail> {
     Ok(writeln!(log, "{} arrivals left", memory.arrivals_left())?)
 }
 
-/// Fails where there was no memory for what a script is given.
+/// Fails if there was no memory for what a script is given.
 fn put(answer: Result<(), OutOfMemory>) -> Result<(), Fail> {
     Ok(answer?)
 }

@@ -96,8 +96,8 @@ impl Transport for OneByte {
 
 impl Record for OneByte {}
 
-/// Takes nothing. A receive gives one byte and one token, where the queue has room for all the tokens that a receive may
-/// give, and is refused where it has not.
+/// Takes nothing. A receive gives one byte and one token, if the queue has room for all the tokens that a receive may
+/// give, and is refused if it has not.
 #[derive(Drop)]
 pub struct WantsRoom;
 

@@ -45,7 +45,7 @@ fn another_output(rt: HostRuntime) -> Result<(), Fail> {
     replays(&rt, b"1 client\n\n", "differs at line 2\n")
 }
 
-/// A line that is no command, where no output is due.
+/// A line that is no command, at a place at which no output is due.
 #[test]
 fn no_command(rt: HostRuntime) -> Result<(), Fail> {
     replays(
@@ -68,7 +68,7 @@ fn no_command(rt: HostRuntime) -> Result<(), Fail> {
     replays(&rt, b"1 global \xff 3\n", "line 1: bad command\n")
 }
 
-/// The number of the command is the data of an object, also where others were left out.
+/// The number of the command is the data of an object, also if others were left out.
 #[test]
 fn numbers_are_kept(rt: HostRuntime) -> Result<(), Fail> {
     replays(

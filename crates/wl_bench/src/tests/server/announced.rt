@@ -21,7 +21,7 @@ static REGISTERS: [Call; 2] = [
 /// The next send to the first client fails.
 static BREAKS: [Call; 1] = [Call::AcceptFault(FIRST, IoFault::Pipe)];
 
-/// Two registries of one client, one made before and one behind a global, are both told of what is shown: of each global
+/// Two registries of one client, one made before and one after a global, are both told of what is shown: of each global
 /// once, that one is disabled once, and of a new one of a name that was used.
 #[test]
 fn two_registries_are_told(rt: HostRuntime) -> Result<(), Fail> {
@@ -85,7 +85,7 @@ fn hidden_global_is_asked_for(rt: HostRuntime) -> Result<(), Fail> {
     )
 }
 
-/// What the second client of a run sends, answers and notes where the first cannot be written to, and makes its own steps.
+/// What the second client of a run sends, answers and notes if the first cannot be written to, and makes its own steps.
 #[test]
 fn another_client_is_told(rt: HostRuntime) -> Result<(), Fail> {
     let acts = [

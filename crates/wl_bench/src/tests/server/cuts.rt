@@ -81,14 +81,14 @@ static TWO: [Call; 4] = [
 /// What was sent so far, and the notes.
 static AS_IT_ENDS: [Act; 2] = [Act::Do(Call::TakeSent(FIRST)), Act::Do(Call::Notes)];
 
-/// What is sent behind a flush, and the notes.
+/// What is sent after a flush, and the notes.
 static FLUSHED: [Act; 3] = [
     Act::Do(Call::Flush(FIRST)),
     Act::Do(Call::TakeSent(FIRST)),
     Act::Do(Call::Notes),
 ];
 
-/// The 147th global, where the first client cannot be written to.
+/// The 147th global, if the first client cannot be written to.
 static ONE_MORE_GLOBAL: [Act; 11] = [
     Act::Globals(146),
     Act::Do(Call::AcceptFault(FIRST, IoFault::Pipe)),
@@ -264,7 +264,7 @@ fn told_in(alloc: Global, row: &Row, number: usize, len: usize) -> Result<String
     log_of(alloc, acts.as_slice())
 }
 
-/// Fails where the row tells something else in a cutting, and names it.
+/// Fails if the row tells something else in a cutting, and names it.
 fn in_every_cutting(rt: &(impl Abort + AllocGlobal), row: &Row) -> Result<(), Fail> {
     let len = row.arrives.bytes(rt.alloc())?.len();
     for number in 0..=len {

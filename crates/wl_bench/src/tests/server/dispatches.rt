@@ -68,7 +68,7 @@ fn dispatch_both<H: Handler<Memory, u32, Shown, bool>>(
     Ok(log)
 }
 
-/// The log of a new server, with a dispatch of the first client between what was before it and what comes behind it.
+/// The log of a new server, with a dispatch of the first client between what was before it and what comes after it.
 fn log_of_first<H: Handler<Memory, u32, Shown, bool>>(
     alloc: Global,
     handler: &mut H,
@@ -125,7 +125,7 @@ fn sync_is_dispatched(rt: HostRuntime) -> Result<(), Fail> {
     )
 }
 
-/// A new id out of order, behind a request that was answered, in one receive: the dispatch ends by that fault, whatever the
+/// A new id out of order, after a request that was answered, in one receive: the dispatch ends by that fault, whatever the
 /// count, and the client is taken out.
 #[test]
 fn fault_behind_a_request(rt: HostRuntime) -> Result<(), Fail> {
@@ -234,7 +234,7 @@ fn answer_lacks_data(rt: HostRuntime) -> Result<(), Fail> {
     )
 }
 
-/// Neither does one with data where there is no new object.
+/// Neither does one with data if there is no new object.
 #[test]
 fn answer_has_data_for_no_object(rt: HostRuntime) -> Result<(), Fail> {
     let before = [

@@ -1,9 +1,9 @@
 //! Each want of memory in turn: runs that judge themselves whatever is refused.
 //!
-//! With ample memory a run answers what it has to. Where one allocation is refused (`./refusal-drill` refuses each in turn),
-//! the replies before that step are the same. Then either no client was killed, and the same call again, and all behind
+//! With ample memory a run answers what it has to. If one allocation is refused (`./refusal-drill` refuses each in turn),
+//! the replies before that step are the same. Then either no client was killed, and the same call again, and all after
 //! it, answers as with ample memory; or those clients whose message found no memory were killed, and nothing of the others
-//! changes. Where the test itself asked for that memory, it ends with the want, and nothing is judged.
+//! changes. If the test itself asked for that memory, it ends with the want, and nothing is judged.
 
 use super::steps::{Call, Made, arrive, step};
 use super::told::reply;
@@ -20,7 +20,7 @@ use wl_wire::IoFault;
 /// A server of the runs.
 type Server = Backend<Memory, u32, Shown, bool>;
 
-/// A step of a run, and its reply where there is memory.
+/// A step of a run, and its reply if there is memory.
 #[derive(Clone, Copy)]
 pub enum Entry {
     /// The call, and what its reply tells.
@@ -40,9 +40,9 @@ pub struct Run<'a> {
     pub name: &'static str,
     /// Its steps.
     pub entries: &'a [Entry],
-    /// The step that kills the first client, where one does.
+    /// The step that kills the first client, if one does.
     pub dies: Option<usize>,
-    /// How many bytes the first client is sent behind that, where it broke the protocol: those of the error.
+    /// How many bytes the first client is sent after that, if it broke the protocol: those of the error.
     pub error_bytes: usize,
 }
 
@@ -101,7 +101,7 @@ fn text_of(alloc: Global, told: &Reply<Memory, u32>) -> Result<String, Fail> {
     Ok(text)
 }
 
-/// Fails where the reply does not tell this.
+/// Fails if the reply does not tell this.
 fn tells(
     rt: &(impl Abort + AllocGlobal),
     run: &Run,
@@ -113,7 +113,7 @@ fn tells(
     Ok(())
 }
 
-/// Fails where other numbers of bytes were sent.
+/// Fails if other numbers of bytes were sent.
 fn sends(rt: &impl Abort, run: &Run, told: &Reply<Memory, u32>, lengths: &[usize]) {
     if let Reply::TakeSent(Ok(parcels)) = told {
         assert_eq!(rt; parcels.len(), lengths.len(), "{}", run.name);
@@ -125,7 +125,7 @@ fn sends(rt: &impl Abort, run: &Run, told: &Reply<Memory, u32>, lengths: &[usize
     }
 }
 
-/// Fails where no global of that name and serial was created.
+/// Fails if no global of that name and serial was created.
 fn creates(rt: &impl Abort, run: &Run, told: &Reply<Memory, u32>, name: u32) {
     let is_created = match told {
         Reply::CreateGlobal(Ok(id)) => id.name() == name && id.serial() == u64::from(name),
@@ -134,7 +134,7 @@ fn creates(rt: &impl Abort, run: &Run, told: &Reply<Memory, u32>, name: u32) {
     assert!(rt; is_created, "{}: global {name}", run.name);
 }
 
-/// Fails where the reply is not that of the step.
+/// Fails if the reply is not that of the step.
 fn judge(
     rt: &(impl Abort + AllocGlobal),
     run: &Run,
@@ -155,7 +155,7 @@ fn judge(
     }
 }
 
-/// Fails where the replies are not those of the steps, one by one.
+/// Fails if the replies are not those of the steps, one by one.
 fn judge_all(
     rt: &(impl Abort + AllocGlobal),
     run: &Run,
@@ -229,7 +229,7 @@ fn is_among(all: &[Who], who: Who) -> bool {
     all.iter().any(|one| one.0 == who.0)
 }
 
-/// Whether the step can be judged where these clients were killed: it names none of them, and its reply tells nothing of
+/// Whether the step can be judged if these clients were killed: it names none of them, and its reply tells nothing of
 /// them.
 fn is_of_others(entry: Entry, killed: &[Who]) -> bool {
     match entry {
@@ -241,7 +241,7 @@ fn is_of_others(entry: Entry, killed: &[Who]) -> bool {
     }
 }
 
-/// The steps behind that one, but those that are of the killed clients.
+/// The steps after that one, but those that are of the killed clients.
 fn of_others(alloc: Global, run: &Run, at: usize, killed: &[Who]) -> Result<Vec<Entry>, Fail> {
     let mut others = Vec::new(alloc);
     for entry in run.entries.iter().skip(at).skip(1) {
@@ -280,14 +280,14 @@ fn ends_of(notes: &[Note<u32>], id: ClientId) -> (usize, usize) {
     (ends, closed)
 }
 
-/// Fails where a reading of the killed client answers anything but `Pipe`.
+/// Fails if a reading of the killed client answers anything but `Pipe`.
 fn reads_nothing(rt: &impl Abort, server: &mut Server, run: &Run, who: Who) {
     let answer = server.next_action(&who.id());
     let is_pipe = matches!(answer, Err(ActionError::Io(IoFault::Pipe)));
     assert!(rt; is_pipe, "{}: {} reads", run.name, who.0);
 }
 
-/// Fails where the killed client is not noted once, as closed; where it was sent an error, that is noted.
+/// Fails if the killed client is not noted once, as closed; if it was sent an error, that is noted.
 fn is_noted_once(rt: &impl Abort, server: &mut Server, run: &Run, who: Who, notes: &[Note<u32>]) {
     let _ = server.flush(Some(who.id()));
     let has_error = run.error_bytes > 0 && bytes_sent(server, who) == run.error_bytes;
@@ -309,7 +309,7 @@ fn noted(server: &mut Server) -> Result<Vec<Note<u32>>, Fail> {
     }
 }
 
-/// Fails where the killed clients are not noted once each, and then no more.
+/// Fails if the killed clients are not noted once each, and then no more.
 fn are_noted_once(
     rt: &impl Abort,
     server: &mut Server,
@@ -329,7 +329,7 @@ fn are_noted_once(
     Ok(())
 }
 
-/// Fails where anything is not as it has to be behind the step for which memory was refused.
+/// Fails if anything is not as it has to be after the step for which memory was refused.
 fn judge_rest(
     rt: &(impl Abort + AllocGlobal),
     server: &mut Server,
@@ -345,7 +345,7 @@ fn judge_rest(
     are_noted_once(rt, server, run, killed.as_slice())
 }
 
-/// Makes the run, and fails where it is not as it has to be.
+/// Makes the run, and fails if it is not as it has to be.
 fn play(rt: &(impl Abort + AllocGlobal), server: &mut Server, run: &Run) -> Result<(), Fail> {
     match server.replay(steps_of(rt.alloc(), run.entries)?) {
         Ok(replies) => {
@@ -360,7 +360,7 @@ fn play(rt: &(impl Abort + AllocGlobal), server: &mut Server, run: &Run) -> Resu
     }
 }
 
-/// Makes the run of a new server, and fails where it is not as it has to be.
+/// Makes the run of a new server, and fails if it is not as it has to be.
 pub fn drill(rt: &(impl Abort + AllocGlobal), run: &Run) -> Result<(), Fail> {
     let mut server = Backend::new(rt.alloc(), quad_table(rt.alloc())?);
     play(rt, &mut server, run)

@@ -454,7 +454,7 @@ fn drill_of_147_globals(rt: HostRuntime) -> Result<(), Fail> {
     drill(&rt, &run)
 }
 
-/// The same, where the first of them cannot be written to.
+/// The same, if the first of them cannot be written to.
 #[test]
 fn drill_of_a_client_that_cannot_be_told(rt: HostRuntime) -> Result<(), Fail> {
     let back = [

@@ -306,7 +306,7 @@ fn push_three(acts: &mut Vec<Act>) -> Result<(), Fail> {
     Ok(acts.push(Act::Globals(146))?)
 }
 
-/// What is told of the 147th global, where the next send to the second of three clients answers this fault.
+/// What is told of the 147th global, if the next send to the second of three clients answers this fault.
 fn one_more_global(alloc: Global, fault: IoFault, create: Act) -> Result<String, Fail> {
     let behind = [
         Act::Do(Call::AcceptFault(SECOND, fault)),

@@ -8,7 +8,7 @@ use wl_link::Memory;
 use wl_server::{Backend, ClientId, DisconnectReason, GlobalId, Handler, ObjectId};
 use wl_wire::{Argument, INLINE_ARGS, Message, Token};
 
-/// Answers its number where there is a new object, and makes no call.
+/// Answers its number if there is a new object, and makes no call.
 #[derive(Drop)]
 pub struct Numbering(pub u32);
 
@@ -80,7 +80,7 @@ impl Handler<Memory, u32, Shown, bool> for Killing {
     }
 }
 
-/// Answers as it should not: with its number where a request made no object, and with nothing where it made one.
+/// Answers as it should not: with its number if a request made no object, and with nothing if it made one.
 #[derive(Drop)]
 pub struct Contrary(pub u32);
 
@@ -153,7 +153,7 @@ impl Handler<Memory, u32, Shown, bool> for TakingOut {
     }
 }
 
-/// Where an object is bound, sends `quad.moved` by it and by an object of another client, makes an object of each client, and
+/// If an object is bound, sends `quad.moved` by it and by an object of another client, makes an object of each client, and
 /// destroys one of each.
 #[derive(Drop)]
 pub struct Working {

@@ -1,15 +1,13 @@
 //! Ids of clients, globals and objects: which are equal, which are null, and in a set.
 
 use super::values::{FIRST, SECOND, Who};
-use crate::tests::each_is_itself;
 use crate::tests::quad::{PAIR, QUAD};
-use std::alloc::Global;
-use std::collections::HashSet;
+use crate::tests::{each_is_itself, in_a_set};
 use std::test::Fail;
 use wl_server::{ClientId, GlobalId, ObjectId};
 use wl_wire::ANONYMOUS_INTERFACE;
 
-/// Ids are equal where all their parts are.
+/// Ids are equal if all their parts are.
 #[test]
 fn ids_that_differ_in_one_part(rt: HostRuntime) {
     let clients = [
@@ -48,7 +46,7 @@ fn null_ids(rt: HostRuntime) {
     assert!(rt; !ObjectId::from_parts(1, 0, Who(0, 0).id(), ANONYMOUS_INTERFACE).is_null());
 }
 
-/// Objects are of the same client where both the slot and the serial are the same.
+/// Objects are of the same client if both the slot and the serial are the same.
 #[test]
 fn objects_of_the_same_client(rt: HostRuntime) {
     let object = ObjectId::from_parts(3, 2, FIRST.id(), QUAD);
@@ -57,15 +55,6 @@ fn objects_of_the_same_client(rt: HostRuntime) {
         (of(FIRST), of(Who(0, 2)), of(Who(1, 1))),
         (true, false, false)
     );
-}
-
-/// Puts the ids into a set, and answers how many are then there.
-fn objects_in_a_set(alloc: Global, ids: &[ObjectId]) -> Result<usize, Fail> {
-    let mut set = HashSet::new(alloc);
-    for id in ids {
-        set.insert(*id)?;
-    }
-    Ok(set.len())
 }
 
 /// A set has each id once, and tells apart those that differ in their interface alone, whose hashes are equal.
@@ -77,19 +66,11 @@ fn ids_in_a_set(rt: HostRuntime) -> Result<(), Fail> {
         ObjectId::from_parts(3, 2, FIRST.id(), PAIR),
         ObjectId::from_parts(3, 2, SECOND.id(), QUAD),
     ];
-    assert_eq!(rt; objects_in_a_set(rt.alloc(), &ids)?, 3);
+    assert_eq!(rt; in_a_set(rt.alloc(), &ids)?, 3);
     Ok(())
 }
 
-/// Puts the ids into a set, and answers how many are then there.
-fn clients_in_a_set(alloc: Global, ids: &[ClientId]) -> Result<usize, Fail> {
-    let mut set = HashSet::new(alloc);
-    for id in ids {
-        set.insert(*id)?;
-    }
-    Ok(set.len())
-}
-
+/// A set has each id of a client once.
 #[test]
 fn client_ids_in_a_set(rt: HostRuntime) -> Result<(), Fail> {
     let ids = [
@@ -98,19 +79,11 @@ fn client_ids_in_a_set(rt: HostRuntime) -> Result<(), Fail> {
         ClientId::from_parts(0, 1),
         ClientId::from_parts(1, 1),
     ];
-    assert_eq!(rt; clients_in_a_set(rt.alloc(), &ids)?, 3);
+    assert_eq!(rt; in_a_set(rt.alloc(), &ids)?, 3);
     Ok(())
 }
 
-/// Puts the ids into a set, and answers how many are then there.
-fn globals_in_a_set(alloc: Global, ids: &[GlobalId]) -> Result<usize, Fail> {
-    let mut set = HashSet::new(alloc);
-    for id in ids {
-        set.insert(*id)?;
-    }
-    Ok(set.len())
-}
-
+/// A set has each id of a global once.
 #[test]
 fn global_ids_in_a_set(rt: HostRuntime) -> Result<(), Fail> {
     let ids = [
@@ -119,6 +92,6 @@ fn global_ids_in_a_set(rt: HostRuntime) -> Result<(), Fail> {
         GlobalId::from_parts(2, 1),
         GlobalId::from_parts(1, 2),
     ];
-    assert_eq!(rt; globals_in_a_set(rt.alloc(), &ids)?, 3);
+    assert_eq!(rt; in_a_set(rt.alloc(), &ids)?, 3);
     Ok(())
 }

@@ -1,4 +1,4 @@
-//! Requests that are longer than the storage in which they arrive is at first.
+//! Requests that are longer than the buffer in which they arrive is at first.
 
 use super::arrivals::{GIVE_5000, GIVE_65532};
 use super::hostile::BOUND;
@@ -8,7 +8,7 @@ use super::values::FIRST;
 use crate::tests::tells;
 use std::test::Fail;
 
-/// The storage is doubled for a request of 5000 bytes, where the limit allows it.
+/// The buffer is doubled for a request of 5000 bytes, if the limit allows it.
 #[test]
 fn request_longer_than_the_first_storage(rt: HostRuntime) -> Result<(), Fail> {
     let acts = [
@@ -42,7 +42,7 @@ fn request_of_65532_bytes(rt: HostRuntime) -> Result<(), Fail> {
     )
 }
 
-/// A request that is longer than the storage may become: the second receive finds it full, and the client is killed.
+/// A request that is longer than the buffer may become: the second receive finds it full, and the client is killed.
 #[test]
 fn request_longer_than_the_limit(rt: HostRuntime) -> Result<(), Fail> {
     let acts = [

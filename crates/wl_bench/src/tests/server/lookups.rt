@@ -11,7 +11,7 @@ use std::test::Fail;
 /// The first global.
 const GLOBAL: Named = Named(1, 1);
 
-/// A client that takes the slot of the first behind a cleanup.
+/// A client that takes the slot of the first after a cleanup.
 const THIRD: Who = Who(0, 3);
 
 /// A client's data, and its objects, are looked up as long as it is stored, killed or not; those of no other client are.

@@ -8,8 +8,8 @@ use crate::tests::quad::QUAD;
 use crate::tests::tells;
 use std::test::Fail;
 
-/// Notes wait for a cleanup in the order in which their objects were destroyed, whichever client's those were; those of a
-/// client that is taken out stand behind.
+/// Notes wait for a cleanup in the order in which their objects were destroyed, whichever client's those were. The notes of a
+/// client that is taken out come after them.
 #[test]
 fn notes_stand_in_order_of_time(rt: HostRuntime) -> Result<(), Fail> {
     let acts = [
@@ -94,7 +94,7 @@ fn push_ends(acts: &mut Vec<Act>) -> Result<(), Fail> {
 }
 
 /// Objects that end by their clients' requests, in turn, are noted at once, and so is a kill between them, whichever slots
-/// the clients have; what the program destroyed meanwhile is noted behind the next cleanup.
+/// the clients have; what the program destroyed meanwhile is noted after the next cleanup.
 #[test]
 fn ends_stand_in_order_of_time(rt: HostRuntime) -> Result<(), Fail> {
     let alloc = rt.alloc();

@@ -23,16 +23,16 @@ pub enum Act {
     Do(Call),
     /// Makes the call, for which there has to be no memory.
     InWant(Call),
-    /// Puts the bytes and zeros behind them, of that length in all, behind what is to arrive, each byte by itself.
+    /// Appends the bytes and zeros after them, of that length in all, to what is to arrive, each byte by itself.
     ArriveBytewise(Who, &'static [u8], usize),
-    /// Puts the bytes and zeros behind them, of that length in all, behind what is to arrive, in chunks of 4096 bytes, and
+    /// Appends the bytes and zeros after them, of that length in all, to what is to arrive, in chunks of 4096 bytes, and
     /// the descriptor with the first of them.
     ArriveInChunks(Who, &'static [u8], usize, i32),
-    /// Puts so many zeros behind what is to arrive.
+    /// Appends so many zeros to what is to arrive.
     ArriveZeros(Who, usize),
-    /// Puts a bind of the global 1 behind what is to arrive, with a name of 1400 bytes 0xFF.
+    /// Appends a bind of the global 1 to what is to arrive, with a name of 1400 bytes 0xFF.
     ArriveLongBind(Who),
-    /// Puts the stream behind what is to arrive, cut so.
+    /// Appends the stream to what is to arrive, cut so.
     ArriveCut(Who, Stream, Cut),
     /// Reads, and ends each action, until nothing more is there or a reading fails.
     Serve(Who),
@@ -138,7 +138,7 @@ fn bytewise(alloc: Global, who: Who, bytes: &[u8]) -> Result<Vec<Made>, Fail> {
     Ok(steps)
 }
 
-/// Puts the bytes and zeros behind them, of that length in all, behind what is to arrive, each byte by itself.
+/// Appends the bytes and zeros after them, of that length in all, to what is to arrive, each byte by itself.
 fn arrive_bytewise(
     alloc: Global,
     server: &mut Server,
@@ -162,7 +162,7 @@ fn push_with(
     Ok(steps.push(arrive_with(alloc, who, bytes, descriptor)?)?)
 }
 
-/// Puts the steps by which the bytes arrive in chunks of 4096 behind the others.
+/// Appends the steps by which the bytes arrive in chunks of 4096 to the others.
 fn push_chunks(alloc: Global, steps: &mut Vec<Made>, who: Who, bytes: &[u8]) -> Result<(), Fail> {
     for chunk in bytes.chunks(4096) {
         steps.push(arrive(alloc, who, chunk)?)?;
@@ -179,7 +179,7 @@ fn chunked(alloc: Global, who: Who, bytes: &[u8], descriptor: i32) -> Result<Vec
     Ok(steps)
 }
 
-/// Puts the bytes and zeros behind them, of that length in all, behind what is to arrive, in chunks of 4096 bytes, and the
+/// Appends the bytes and zeros after them, of that length in all, to what is to arrive, in chunks of 4096 bytes, and the
 /// descriptor with the first of them.
 fn arrive_in_chunks(
     alloc: Global,
@@ -193,7 +193,7 @@ fn arrive_in_chunks(
     made(server, steps)
 }
 
-/// Puts so many zeros behind what is to arrive.
+/// Appends so many zeros to what is to arrive.
 fn arrive_zeros(alloc: Global, server: &mut Server, who: Who, len: usize) -> Result<(), Fail> {
     let zeros = padded(alloc, &[], len)?;
     let mut steps = Vec::new(alloc);
@@ -201,7 +201,7 @@ fn arrive_zeros(alloc: Global, server: &mut Server, who: Who, len: usize) -> Res
     made(server, steps)
 }
 
-/// Puts a bind of the global 1 behind what is to arrive, with a name of 1400 bytes 0xFF.
+/// Appends a bind of the global 1 to what is to arrive, with a name of 1400 bytes 0xFF.
 fn arrive_long_bind(alloc: Global, server: &mut Server, who: Who) -> Result<(), Fail> {
     let mut bytes = Vec::from_slice(
         alloc,
@@ -216,14 +216,14 @@ fn arrive_long_bind(alloc: Global, server: &mut Server, who: Who) -> Result<(), 
     made(server, steps)
 }
 
-/// Puts the bytes behind what is to arrive.
+/// Appends the bytes to what is to arrive.
 fn arrive_whole(alloc: Global, server: &mut Server, who: Who, bytes: &[u8]) -> Result<(), Fail> {
     let mut steps = Vec::new(alloc);
     steps.push(arrive(alloc, who, bytes)?)?;
     made(server, steps)
 }
 
-/// Puts the stream behind what is to arrive, cut so.
+/// Appends the stream to what is to arrive, cut so.
 fn arrive_cut(
     alloc: Global,
     server: &mut Server,
@@ -264,7 +264,7 @@ fn has_arrivals(server: &Server, who: Who) -> bool {
     }
 }
 
-/// Reads once, and ends the action; whether there may be more to read. Of a reading that would block it tells nothing where
+/// Reads once, and ends the action; whether there may be more to read. Of a reading that would block it tells nothing if
 /// something is still to arrive.
 fn serve_once(server: &mut Server, log: &mut String, who: Who) -> Result<bool, Fail> {
     match server.next_action(&who.id()) {
@@ -500,7 +500,7 @@ fn look_at(alloc: Global, server: &Server, log: &mut String, at_what: Look) -> R
     }
 }
 
-/// Puts something behind what is to arrive, or makes calls, and tells nothing of it.
+/// Appends something to what is to arrive, or makes calls, and tells nothing of it.
 fn prepare(alloc: Global, server: &mut Server, act: Act) -> Result<(), Fail> {
     match act {
         Act::ArriveBytewise(who, bytes, len) => arrive_bytewise(alloc, server, who, bytes, len),

@@ -13,10 +13,10 @@ use std::test::Fail;
 /// `quad.give`, by object 3, of no string and 4984 bytes, as far as these.
 static LONG_GIVE: [u8; 16] = [3, 0, 0, 0, 4, 0, 0x88, 0x13, 0, 0, 0, 0, 0x78, 0x13, 0, 0];
 
-/// The `pair` that the server makes for the client behind those.
+/// The `pair` that the server makes for the client after those.
 const PAIRED: Thing = Thing(FIRST, 0xFF00_0000, 3, PAIR);
 
-/// Puts the acts by which the messages of so many globals, 28 bytes each, wait for a client in a storage of 4096 bytes,
+/// Puts the acts by which the messages of so many globals, 28 bytes each, wait for a client in a buffer of 4096 bytes,
 /// which may grow to the limit.
 fn push_globals(acts: &mut Vec<Act>, count: u32, limit: usize) -> Result<(), Fail> {
     acts.push(Act::Quietly(&WITH_A_QUAD))?;
@@ -33,7 +33,7 @@ fn push_calls(acts: &mut Vec<Act>, calls: &[Call]) -> Result<(), Fail> {
     Ok(acts.push(Act::Look(Look::Lengths(FIRST)))?)
 }
 
-/// What is told of the calls where the messages of so many globals wait, and how many bytes each send takes then.
+/// What is told of the calls if the messages of so many globals wait, and how many bytes each send takes then.
 fn behind_globals(alloc: Global, count: u32, limit: usize, calls: &[Call]) -> Result<String, Fail> {
     let mut acts = Vec::new(alloc);
     push_globals(&mut acts, count, limit)?;
@@ -41,12 +41,12 @@ fn behind_globals(alloc: Global, count: u32, limit: usize, calls: &[Call]) -> Re
     log_of(alloc, acts.as_slice())
 }
 
-/// The same where 4088 bytes wait.
+/// The same if 4088 bytes wait.
 fn behind_4088_bytes(alloc: Global, limit: usize, calls: &[Call]) -> Result<String, Fail> {
     behind_globals(alloc, 146, limit, calls)
 }
 
-/// What answers a sync: the callback's message, and its number where that message fits in.
+/// What answers a sync: the callback's message, and its number if that message fits in.
 #[test]
 fn grows_for_a_sync(rt: HostRuntime) -> Result<(), Fail> {
     let alloc = rt.alloc();
@@ -120,7 +120,7 @@ fn grows_for_the_number_of_an_object_that_ends(rt: HostRuntime) -> Result<(), Fa
     )
 }
 
-/// Events, with a descriptor and without; and one that goes behind a flush, where the storage may not grow.
+/// Events, with a descriptor and without; and one that goes after a flush, if the buffer may not grow.
 #[test]
 fn grows_for_events(rt: HostRuntime) -> Result<(), Fail> {
     let alloc = rt.alloc();
@@ -177,7 +177,7 @@ fn grows_for_a_posted_error(rt: HostRuntime) -> Result<(), Fail> {
     )
 }
 
-/// A request of 5000 bytes, which the first storage cannot hold.
+/// A request of 5000 bytes, which the first buffer cannot hold.
 #[test]
 fn grows_for_a_long_request(rt: HostRuntime) -> Result<(), Fail> {
     let acts = [

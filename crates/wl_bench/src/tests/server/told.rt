@@ -69,7 +69,7 @@ fn global(log: &mut String, answer: &Result<GlobalId, GlobalError>) -> Result<()
     Ok(())
 }
 
-/// Tells an object behind this.
+/// Tells an object after this.
 fn named(log: &mut String, before: &str, id: ObjectId) -> Result<(), Fail> {
     write!(log, "{before}")?;
     object(log, id)

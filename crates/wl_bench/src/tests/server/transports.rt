@@ -67,7 +67,7 @@ static RUN: [Call; 35] = [
     Call::Notes,
 ];
 
-/// What the run tells where nothing fails.
+/// What the run tells if nothing fails.
 const TOLD: &str = "client 0, 1
 client 1, 2
 global 1, 1
@@ -102,7 +102,7 @@ out: client 0, 1
 /// What a reading tells that would block, and what a flush does.
 const WOULD_BLOCK: (&str, &str) = ("Io error: would block\n", "would block\n");
 
-/// What a reading tells where its transport failed, and what a flush does.
+/// What a reading tells if its transport failed, and what a flush does.
 const FAILED: (&str, &str) = ("Io error: os error 5\n", "os error 5\n");
 
 /// What a reading of a killed client tells.
@@ -143,7 +143,7 @@ fn text_of(alloc: Global, told: &Reply<Memory, u32>) -> Result<String, Fail> {
     Ok(log)
 }
 
-/// Makes the call; what its reply tells, or none where memory was refused.
+/// Makes the call; what its reply tells, or none if memory was refused.
 fn answer(alloc: Global, server: &mut Server, call: Call) -> Result<Option<String>, Fail> {
     let mut steps = Vec::new(alloc);
     steps.push(step(alloc, call)?)?;
@@ -173,7 +173,7 @@ fn is_repeated(server: &Server, call: Call, told: &str) -> bool {
     }
 }
 
-/// Makes the call, again where it would block or lacks memory.
+/// Makes the call, again if it would block or lacks memory.
 fn made(alloc: Global, server: &mut Server, call: Call) -> Result<String, Fail> {
     for _ in 0..4 {
         if let Some(told) = answer(alloc, server, call)? {
@@ -257,7 +257,7 @@ fn with_send(alloc: Global, number: usize, fault: IoFault) -> Result<Vec<Call>, 
     Ok(calls)
 }
 
-/// The run without the first client's calls behind its insertion.
+/// The run without the first client's calls after its insertion.
 fn without_first(alloc: Global) -> Result<Vec<Call>, Fail> {
     let mut calls = Vec::new(alloc);
     for call in &RUN {
@@ -277,7 +277,7 @@ fn whole(alloc: Global, texts: &[String]) -> Result<String, Fail> {
     Ok(whole)
 }
 
-/// Fails where the run, in which something failed that is made up for, does not tell what it tells where nothing fails.
+/// Fails if the run, in which something failed that is made up for, does not tell what it tells if nothing fails.
 fn is_made_up_for(rt: &(impl Abort + AllocGlobal), calls: &[Call]) -> Result<(), Fail> {
     let texts = played(rt.alloc(), calls)?;
     tells(rt, whole(rt.alloc(), texts.as_slice()), TOLD)
@@ -301,7 +301,7 @@ fn transport_that_would_block_or_lacks_memory(rt: HostRuntime) -> Result<(), Fai
     Ok(())
 }
 
-/// How many of the texts differ, where they may: at a flush of the first client, which tells that its transport failed.
+/// How many of the texts differ, if they may: at a flush of the first client, which tells that its transport failed.
 fn failed_flushes(rt: &impl Abort, clean: &[String], texts: &[String]) -> usize {
     let mut count = 0usize;
     for (call, (was, is)) in RUN.iter().zip(clean.iter().zip(texts)) {
@@ -315,7 +315,7 @@ fn failed_flushes(rt: &impl Abort, clean: &[String], texts: &[String]) -> usize 
 }
 
 /// Each send fails: a flush of the client answers that, and a flush of all, and what sends an error, drop it. Nothing is
-/// lost, and nobody is killed. The first send is by a flush of the client, and the three behind it are not.
+/// lost, and nobody is killed. The first send is by a flush of the client, and the three after it are not.
 #[test]
 fn sends_that_fail(rt: HostRuntime) -> Result<(), Fail> {
     let alloc = rt.alloc();
@@ -329,7 +329,7 @@ fn sends_that_fail(rt: HostRuntime) -> Result<(), Fail> {
     Ok(())
 }
 
-/// Fails where a call that is not the first client's, and tells not of all, tells something else than in the run.
+/// Fails if a call that is not the first client's, and tells not of all, tells something else than in the run.
 fn others_are_the_same(rt: &impl Abort, clean: &[String], texts: &[String]) {
     for (call, (was, is)) in RUN.iter().zip(clean.iter().zip(texts)) {
         if !is_of_first(*call) && !is_of_all(*call) {
@@ -338,7 +338,7 @@ fn others_are_the_same(rt: &impl Abort, clean: &[String], texts: &[String]) {
     }
 }
 
-/// Fails where the second client is told otherwise in the run without the first one's calls.
+/// Fails if the second client is told otherwise in the run without the first one's calls.
 fn second_is_the_same(rt: &impl Abort, clean: &[String], alone: &[String]) {
     let mut alone = alone.iter();
     for (call, was) in RUN.iter().zip(clean) {
@@ -352,7 +352,7 @@ fn second_is_the_same(rt: &impl Abort, clean: &[String], alone: &[String]) {
     }
 }
 
-/// Fails where, behind the first reading of the first client that fails, another answers anything but that it is killed;
+/// Fails if, after the first reading of the first client that fails, another answers anything but that it is killed;
 /// whether one fails.
 fn fails_once(rt: &impl Abort, clean: &[String], texts: &[String]) -> bool {
     let mut has_failed = false;
@@ -383,7 +383,7 @@ fn lines_that_are(texts: &[String], line: &str) -> usize {
     count
 }
 
-/// Fails where the first client's end is not noted once, as closed, or the second's notes are not there.
+/// Fails if the first client's end is not noted once, as closed, or the second's notes are not there.
 fn ends_are_noted(rt: &impl Abort, texts: &[String]) {
     for line in [
         "disconnected 0, 1: closed",
@@ -398,7 +398,7 @@ fn ends_are_noted(rt: &impl Abort, texts: &[String]) {
     assert_eq!(rt; lines_that_are(texts, told), 0);
 }
 
-/// Fails where a receive that fails at that call does anything to the second client, or not what it has to to the first;
+/// Fails if a receive that fails at that call does anything to the second client, or not what it has to to the first;
 /// whether it was made.
 fn receive_fails(
     rt: &(impl Abort + AllocGlobal),

@@ -63,7 +63,7 @@ pub const REGISTRY: Thing = Thing(FIRST, 2, 1, WL_REGISTRY_INTERFACE);
 /// The callback that is the first object of the first client.
 pub const CALLBACK: Thing = Thing(FIRST, 2, 1, WL_CALLBACK_INTERFACE);
 
-/// The `quad` that the first client binds behind its registry.
+/// The `quad` that the first client binds after its registry.
 pub const BOUND: Thing = Thing(FIRST, 3, 2, QUAD);
 
 impl Thing {
@@ -119,7 +119,7 @@ fn bytes(alloc: Global) -> Result<Argument<ObjectId, Token>, Fail> {
     Ok(Argument::Array(ByteArray::new(bytes)))
 }
 
-/// Puts the arguments of `pair.joined` behind the others.
+/// Appends the arguments of `pair.joined` to the others.
 fn push_joined(alloc: Global, args: &mut Arguments, object: Thing) -> Result<(), Fail> {
     args.push(Argument::Object(object.id()))?;
     args.push(Argument::Object(object.id()))?;
@@ -128,7 +128,7 @@ fn push_joined(alloc: Global, args: &mut Arguments, object: Thing) -> Result<(),
     Ok(args.push(Argument::Fd(Token(9)))?)
 }
 
-/// Puts the event's arguments behind the others.
+/// Appends the event's arguments to the others.
 fn push_arguments(alloc: Global, args: &mut Arguments, event: Event) -> Result<(), Fail> {
     match event {
         Event::Bare(_, _) => {}

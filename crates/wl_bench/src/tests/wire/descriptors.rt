@@ -77,7 +77,7 @@ fn up_to_four_arguments_are_mapped(rt: HostRuntime) -> Result<(), Fail> {
     Ok(())
 }
 
-/// Fails where so many descriptors do not become 0, 1 and so on.
+/// Fails if so many descriptors do not become 0, 1 and so on.
 fn all_are_mapped(rt: &(impl Abort + AllocGlobal), count: usize) -> Result<(), Fail> {
     let args = Vec::from_elem(rt.alloc(), Arg::Fd(7), count)?;
     let mapped = counted(rt.alloc(), (42, 7), args.as_slice())?;

@@ -33,7 +33,7 @@ fn write(alloc: Global, bind: &Message<u32, Token>, buffer: &mut [u8]) -> Result
     Ok(write_to_buffers(bind, buffer, &mut tokens)?)
 }
 
-/// Whether the buffer holds the message and nothing behind it.
+/// Whether the buffer holds the message and nothing after it.
 fn reads_again(alloc: Global, bind: &Message<u32, Token>, buffer: &[u8]) -> Result<bool, Fail> {
     let signature = [ArgumentType::Uint, STR, ArgumentType::Uint];
     let mut waiting = VecDeque::new(alloc);

@@ -1,6 +1,6 @@
 //! The longest message of words alone, and one that is a word longer.
 //!
-//! The length of a message stands in the upper 16 bits of its second word. Where all arguments are words it is a multiple
+//! The length of a message stands in the upper 16 bits of its second word. If all arguments are words it is a multiple
 //! of 4, so it is at most 65532: the header of eight bytes and 16381 words.
 
 use super::written::tell_size;
@@ -54,7 +54,7 @@ fn tell_buffer(log: &mut String, buffer: &[u8], tokens: &[Token]) -> Result<(), 
     tell_bytes(log, &buffer[buffer.len().saturating_sub(12)..], tokens)
 }
 
-/// Writes behind a token that waits, and tells what comes of it.
+/// Writes after a token that waits, and tells what comes of it.
 fn tell_written(
     log: &mut String,
     message: &Message<u32, Token>,
@@ -65,7 +65,7 @@ fn tell_written(
     tell_buffer(log, buffer, &tokens)
 }
 
-/// What comes of it where the buffer has so many bytes.
+/// What comes of it if the buffer has so many bytes.
 fn tell_room(log: &mut String, message: &Message<u32, Token>, room: usize) -> Result<(), Fail> {
     let mut buffer = Vec::from_elem(*log.allocator(), 0xa5, room)?;
     tell_written(log, message, &mut buffer)
@@ -80,7 +80,7 @@ fn words_log(alloc: Global, count: u32, room: usize) -> Result<String, Fail> {
     Ok(log)
 }
 
-/// The first words are 0 and 1, the last are 16379 and 16380, and four bytes behind them are not the message's.
+/// The first words are 0 and 1, the last are 16379 and 16380, and four bytes after them are not the message's.
 #[test]
 fn longest_message_of_words_is_written(rt: HostRuntime) -> Result<(), Fail> {
     tells(

@@ -39,7 +39,7 @@ fn described(
     })
 }
 
-/// Puts the messages behind the others.
+/// Appends the messages to the others.
 fn push_messages(
     alloc: Global,
     messages: &mut Vec<MessageDesc>,
@@ -78,7 +78,7 @@ fn listed(alloc: Global, plans: &[Plan]) -> Result<Vec<Interface>, Fail> {
     Ok(interfaces)
 }
 
-/// Fails where the fault of the list of these interfaces is another.
+/// Fails if the fault of the list of these interfaces is another.
 fn faults(
     rt: &impl Abort,
     alloc: Global,
@@ -118,7 +118,7 @@ fn tell_found(log: &mut String, table: &Protocol, id: InterfaceId) -> Result<(),
     }
 }
 
-/// Tells of the table of `quad` and `pair`, behind which no interface has a name.
+/// Tells of the table of `quad` and `pair`, after which no interface has a name.
 fn tell_table(log: &mut String, table: &Protocol) -> Result<(), Fail> {
     tell_names(log, table, 7)?;
     for id in [WL_CALLBACK_INTERFACE, QUAD, InterfaceId(6)] {
@@ -166,7 +166,7 @@ fn names_are_taken_once(rt: HostRuntime) -> Result<(), Fail> {
 /// It has two new ids, and no child interface.
 static TWO_NEW_IDS: [Row; 1] = [Row("r", &[ArgumentType::NewId, ArgumentType::NewId], None, &[])];
 
-/// Its child interface is behind the only interface of the list.
+/// Its child interface is after the only interface of the list.
 static CHILD_OUTSIDE: [Row; 1] = [Row("r", &[ArgumentType::NewId], Some(InterfaceId(5)), &[])];
 
 /// It has a new id without a child interface, and an object without an argument interface.
