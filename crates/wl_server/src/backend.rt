@@ -1,4 +1,4 @@
-//! The server as a program uses it: what it holds.
+//! The server as a program uses it, and the fields that it keeps.
 
 ghost use Rattle.std.specs.Prelude.{◌≡◌, ◌<◌, IsTrue, false, is_some, length};
 ghost use Rattle.wl_server.specs.Server.{client_at, new_server};
@@ -14,10 +14,18 @@ use std::marker::Model;
 use wl_link::{DEFAULT_MAX_BUFFER_SIZE, ObjectMap};
 use wl_wire::Protocol;
 
-/// A server's session with its clients, over transports `T`, with the program's data `U` of each object, its handler `G`
-/// of each global, and its data `C` of each client.
+/// A Wayland server: its clients, their objects, and its globals.
 ///
-/// It stands for `wayland_backend::server::Backend` and `Handle`. The session does nothing by itself.
+/// It stands for `wayland_backend::server::Backend` and `Handle`. It opens no socket and starts no thread: it does
+/// something only within a call. Its types are the program's choice:
+///
+/// - `T` is the transport, which carries bytes and file descriptors. Each client has one.
+/// - `U` is the user data of an object.
+/// - `G` is the handler of a global, which says which clients may see it (`GlobalHandler`).
+/// - `C` is the program's data of a client.
+///
+/// A client is *stored* from `insert_client` until a cleanup takes it out. It is *live* as long as it is stored and not
+/// killed.
 #[derive(Drop)]
 pub struct Backend<T, U, G, C> {
     pub(crate) protocol: Protocol,
@@ -25,14 +33,14 @@ pub struct Backend<T, U, G, C> {
     pub(crate) last_global: u64,
     pub(crate) default_limit: usize,
     pub(crate) last_client: u64,
-    /// The clients by slot. A slot is a number of 32 bits.
+    /// The clients by slot, which is an index of 32 bits. `None` is a free slot.
     pub(crate) clients: Vec<Option<Client<T, U, C>>>,
-    /// Each slot below this one has a client, so the least free one is looked for from here on.
+    /// The first slot that may be free: each slot below it has a client. The search for a free slot begins here.
     pub(crate) free_from: usize,
     pub(crate) notes: Vec<Note<U>>,
     pub(crate) numbers: NoteNumbers,
     pub(crate) refused: bool,
-    /// The place for the message that a reading takes off a link.
+    /// The message that is being read. It is kept here so that its memory is used again.
     pub(crate) place: MessagePlace,
 }
 
@@ -65,7 +73,7 @@ impl<T, U, G, C> Model for Backend<T, U, G, C> {
 }
 
 impl<T: Drop, U: Drop, G: Drop, C: Drop> Backend<T, U, G, C> {
-    /// A server without clients and globals.
+    /// A server without clients and globals, for this table of interfaces.
     pub fn new(alloc: Global, protocol: Protocol) -> Self
         ensures server { result.server ≡ new_server protocol }
         ensures refused { result.refused ≡ false }
@@ -85,7 +93,7 @@ impl<T: Drop, U: Drop, G: Drop, C: Drop> Backend<T, U, G, C> {
         }
     }
 
-    /// Whether the client is stored.
+    /// Whether the client is stored: it was inserted, and no cleanup has taken it out.
     pub(crate) fn is_stored(&self, id: &ClientId) -> bool
         ensures stored { result ≡ is_some (client_at id.now self.now.server.clients) }
         ensures within { IsTrue result → id.now.slot < length self.now.server.clients }
@@ -96,14 +104,18 @@ impl<T: Drop, U: Drop, G: Drop, C: Drop> Backend<T, U, G, C> {
         }
     }
 
-    /// The table of interfaces.
+    /// The table of interfaces that the server was made with.
     pub fn protocol(&self) -> &Protocol
         ensures { result.now ≡ self.now.server.offer.table }
     {
         &self.protocol
     }
 
-    /// Whether the last call through `&mut self` but `transport_mut` met a want of memory, its transports' included.
+    /// Whether memory ran out in the last call that took `&mut self`, in the server or in a transport. A call of
+    /// `transport_mut` does not count as one.
+    ///
+    /// It may be `true` even if that call answered no error: for instance, if a client could not be told something and
+    /// was killed.
     pub fn memory_refused(&self) -> bool
         ensures { result ≡ self.now.refused }
     {

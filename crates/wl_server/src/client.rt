@@ -1,7 +1,7 @@
 //! What a server keeps of one client.
 //!
-//! A client's methods are what calls do to it, without the look-up of the client. They stand with the calls: in `objects`,
-//! `events`, `reading`, and here.
+//! A method of `Client` is what a call does to the client, after the call has looked the client up. It stands with that
+//! call: in `objects`, `events`, `reading`, or here.
 
 pub mod flush;
 pub mod insert;
@@ -15,12 +15,12 @@ use crate::reading::action::OpenAction;
 use std::marker::Model;
 use wl_link::{BufferedSocket, ObjectMap};
 
-/// A registry that was made for a client: what names in its id.
+/// A `wl_registry` that was made for a client, by the number and the serial in its id.
 #[derive(Drop)]
 pub struct Registry {
-    /// The number.
+    /// The number of the object in the protocol.
     pub number: u32,
-    /// The serial.
+    /// The serial of the object.
     pub serial: u64,
 }
 
@@ -34,24 +34,30 @@ impl Model for Registry {
     ghost inverse = { λ r. record { number = r.number; serial = r.serial } };
 }
 
-/// A client of a server.
+/// What is kept of a client.
 #[derive(Drop)]
 pub struct Client<T, U, C> {
     /// The serial in its id.
     pub serial: u64,
+    /// Its connection: the transport, and the buffers of what was received and of what is to be sent.
     pub socket: BufferedSocket<T>,
-    /// The program's data of it.
+    /// The program's data of the client.
     pub info: C,
+    /// Its objects by number.
     pub objects: ObjectMap<Kept<U>>,
+    /// The serial of the object that was made last; 0 if none was.
     pub last_serial: u64,
+    /// Whether it was killed. It is then kept until the next cleanup.
     pub is_killed: bool,
-    /// The action that was handed out and not finished yet.
+    /// The action that was handed out and is not finished yet.
     pub action: Option<OpenAction>,
-    /// The kept registries that were made for it, in order.
+    /// The registries that were made for it and are still there, in the order in which they were made.
     pub registries: Vec<Registry>,
-    /// The notes that wait for the next cleanup.
+    /// The notes that the next cleanup hands on. A *note* tells the program what happened to a client or to an object
+    /// (`Note`).
     pub waiting: WaitingNotes<U>,
-    /// The notes that were made and not gathered yet. A live client has room for one more, that of its end.
+    /// The notes that were made and are not gathered in the server's list yet. A live client has room for one more here,
+    /// so that it can be killed without memory.
     pub made: MadeNotes<U>,
 }
 

@@ -1,4 +1,7 @@
-//! Dispatches: a program's handler is called with the actions of clients, each of which its answer ends.
+//! Dispatches: the server reads clients and calls the program's handler with each of their actions.
+//!
+//! An *action* is a request or a bind that the program has to do something about (`Action`). The handler's answer
+//! finishes it.
 
 ghost use Rattle.std.specs.Prelude.{◌≡◌, false};
 ghost use Rattle.wl_server.specs.Dispatch.{DispatchesAll, DispatchesClient, answering, behind_cleanup, total_with};
@@ -15,7 +18,7 @@ pub use request_handler::Handler;
 use wl_link::Transport;
 use wl_wire::{IoFault, OutOfMemory};
 
-/// The sum of the counts with the count of one more client, whose fault is dropped. It stops at the greatest number.
+/// Adds the count of one more client to the total. An error counts as 0. The sum saturates at `usize::MAX`.
 fn total_with(total: usize, answer: Result<usize, IoFault>) -> usize
     ensures { result ≡ total_with total answer }
 {
@@ -25,7 +28,8 @@ fn total_with(total: usize, answer: Result<usize, IoFault>) -> usize
     }
 }
 
-/// The answer behind a cleanup, whose transports are dropped.
+/// The answer of a dispatch after its cleanup: the given one, or `OutOfMemory` if the cleanup was refused. The transports
+/// that the cleanup handed out are dropped.
 fn answer_behind<T: Drop>(
     taken_out: Result<Vec<(ClientId, T)>, OutOfMemory>,
     answer: Result<usize, IoFault>,
@@ -39,18 +43,28 @@ fn answer_behind<T: Drop>(
 }
 
 impl<T: Transport + Drop, U: Drop, G: GlobalHandler<C> + Drop, C: Drop> Backend<T, U, G, C> {
-    /// Reads the client and calls the handler with each of its actions, which the handler's answer ends, until no more can
-    /// be read; then takes out the clients that were killed, as `cleanup` does, and drops their transports. It receives 64
-    /// times at most.
+    /// Reads requests of the client and calls the handler with each action, until no more can be read. The handler's
+    /// answer finishes the action. Then the dispatch takes out the clients that were killed, as `cleanup` does, and drops
+    /// their transports.
     ///
-    /// The answer is how many requests were read, those among them that the server answered by itself, where more may come
-    /// later. Else it is a fault: `WouldBlock` where none was read; what ended the reading, as `next_action` has it
-    /// (`InvalidInput` where the client is not stored, `Pipe` where it was killed or broke the protocol); `InvalidInput`
-    /// where an action was open at the start, or where the handler's answer does not fit its action; `OutOfMemory` where
-    /// there was none for a reading, for the end of an action, which then stays open and whose data are dropped, or for the
-    /// cleanup. `memory_refused` tells of the calls that the dispatch makes of its own, and not of the handler's.
+    /// It stands for `wayland_backend::server::Backend::dispatch_single_client`. It receives from the client's transport
+    /// at most 64 times. The answer is how many requests were read, including those that the server answered by itself.
+    /// It is at least 1. It is given if the reading ended with `WouldBlock`, so more may come later.
     ///
-    /// So a dispatch is a run of calls, and all that holds of such runs holds of it.
+    /// # Errors
+    ///
+    /// - `WouldBlock`: no request was read, and more may come later.
+    /// - `InvalidInput`: the client is not stored, an action of it was open before the call, or an action cannot be
+    ///   finished with the handler's answer.
+    /// - `Pipe`: the client was killed or broke the protocol.
+    /// - `OutOfMemory`: memory ran out while reading, while finishing an action, or in the cleanup. An action that could
+    ///   not be finished stays open, and the user data that the handler gave for it are dropped.
+    /// - Any other fault that ended the reading, as `next_action` answers it.
+    ///
+    /// After the call `memory_refused` tells of the calls that the dispatch itself makes, and not of those that the
+    /// handler makes.
+    ///
+    /// A dispatch is a run of calls of the server, so all laws of such runs hold of it.
     pub fn dispatch_single_client<H: Handler<T, U, G, C>>(
         &mut self,
         handler: &mut H,
@@ -63,9 +77,12 @@ impl<T: Transport + Drop, U: Drop, G: GlobalHandler<C> + Drop, C: Drop> Backend<
         self.end_dispatch(answer)
     }
 
-    /// The same with each of the clients, in order; each receives 64 times at most. Their faults are dropped, the clients
-    /// that were killed are taken out once, at the end, and the answer is the sum of the counts, which stops at the greatest
-    /// number. It is `OutOfMemory` where there was none for the cleanup.
+    /// Does the same as `dispatch_single_client` for each of the clients, in order, and takes out the killed clients
+    /// once, at the end.
+    ///
+    /// It stands for `wayland_backend::server::Backend::dispatch_all_clients`. Each client's transport receives at most
+    /// 64 times. The answer is the sum of the clients' counts, which saturates at `usize::MAX`. A client's error counts
+    /// as 0 and is not told. The only error is `OutOfMemory`, if there was no memory for the cleanup.
     pub fn dispatch_all_clients<H: Handler<T, U, G, C>>(
         &mut self,
         handler: &mut H,
@@ -81,8 +98,9 @@ impl<T: Transport + Drop, U: Drop, G: GlobalHandler<C> + Drop, C: Drop> Backend<
         self.end_dispatch(Ok(total))
     }
 
-    /// Takes out the clients that were killed, and drops their transports. The answer is the one given, or that there was no
-    /// memory for that. Whether memory was refused is told of the calls of the dispatch before it, too.
+    /// Takes out the clients that were killed, and drops their transports. The answer is the given one, or `OutOfMemory`
+    /// if there was no memory for that. Afterwards `memory_refused` tells of this cleanup and of the dispatch's calls
+    /// before it.
     fn end_dispatch(&mut self, answer: Result<usize, IoFault>) -> Result<usize, IoFault>
         ensures { CleansUp (over T.sends T.receives G.views) self.old answer result self.new }
     {
@@ -92,7 +110,7 @@ impl<T: Transport + Drop, U: Drop, G: GlobalHandler<C> + Drop, C: Drop> Backend<
         answer_behind(cleaned, answer)
     }
 
-    /// No memory was refused yet.
+    /// Begins a dispatch: no memory was refused yet.
     fn begin_dispatch(&mut self)
         ensures { self.new ≡ record self.old { refused = false } }
     {

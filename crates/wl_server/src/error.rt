@@ -1,12 +1,15 @@
-//! Why a call of a server was refused.
+//! The errors of a server's calls.
 //!
-//! The reasons are looked at in the order of the variants, where nothing else is said.
+//! If several reasons for a refusal hold at once, the first one in the order of the variants is answered, unless the call
+//! says otherwise.
 
 use std::fmt;
 use thiserror::Error;
 use wl_wire::IoFault;
 
 /// The id names nothing that the call may use.
+///
+/// It stands for `wayland_backend::server::InvalidId`.
 #[derive(Clone, Copy, Debug, PartialEq, Eq, Error)]
 #[error("Invalid Id")]
 pub struct InvalidId;
@@ -31,7 +34,7 @@ pub enum CreateError {
     /// The interface is not in the table.
     #[error("the interface is not in the table")]
     UnknownInterface,
-    /// Each number of the server's range holds an object.
+    /// Each number of the server's range, from 0xFF000000 on, holds an object of the client.
     #[error("no number is left")]
     IdsExhausted,
     /// Each serial was given out.
@@ -55,23 +58,24 @@ pub enum DestroyError {
 
 /// Why an event was not sent.
 ///
-/// The sender is looked at first, then the opcode, then the signature, then the arguments from left to right, of each
-/// whether it is null, of which client it is, whether it is kept, and its interface.
+/// The sender is checked first, then the opcode, then the signature, then the arguments from left to right. Of each
+/// argument it is checked whether it is null, then to which client it belongs, then whether the object is there, then its
+/// interface.
 #[derive(Clone, Copy, Debug, PartialEq, Eq)]
 pub enum EventError {
-    /// The sender, or an argument, names no object, or the sender's client is not stored.
+    /// The sender's client is not stored, or the id of the sender or of an argument names no object.
     InvalidId,
     /// The sender's interface has no event of that opcode.
     UnknownOpcode,
     /// The arguments do not fit the event's signature.
     BadSignature,
-    /// An object argument is null where the signature forbids it.
+    /// An object argument is null, and the signature does not allow that.
     NullObject,
     /// A new id is null.
     NullNewId,
     /// An argument is an object of another client.
     ForeignObject,
-    /// An argument is of another interface than the table asks for.
+    /// An argument has another interface than the one that the table asks for.
     WrongInterface,
     /// There was no memory.
     OutOfMemory,
@@ -101,7 +105,7 @@ pub enum GlobalError {
     /// The interface is not in the table.
     #[error("the interface is not in the table")]
     UnknownInterface,
-    /// The version is above the table's.
+    /// The version is above that of the interface in the table.
     #[error("the version is above the interface's")]
     VersionTooHigh,
     /// Each name has a global, or each serial was given out.
@@ -115,11 +119,17 @@ pub enum GlobalError {
 /// Why no action was handed out.
 #[derive(Clone, Copy, Debug, PartialEq, Eq, Error)]
 pub enum ActionError {
-    /// The transport failed, or would block; the client sent bytes that are no message that it may send (`Proto`), broke the
-    /// protocol otherwise or was killed (`Pipe`), or is not stored (`InvalidInput`); or there was no memory (`OutOfMemory`).
+    /// The reading failed, for one of these reasons:
+    ///
+    /// - `WouldBlock`: no whole message is there yet.
+    /// - `Proto`: the client sent bytes that are no message that it may send.
+    /// - `Pipe`: the client was killed, or broke the protocol in another way.
+    /// - `InvalidInput`: the client is not stored.
+    /// - `OutOfMemory`: memory ran out.
+    /// - any fault of the transport, as it answered it.
     #[error("Io error: {0}")]
     Io(IoFault),
-    /// An action was handed out and not finished yet.
+    /// An action of this client was handed out before, and is not finished yet.
     #[error("an action is open")]
     ActionOpen,
 }
@@ -130,39 +140,39 @@ pub enum FinishError {
     /// The client is not stored.
     #[error("Invalid Id")]
     InvalidId,
-    /// No action is open.
+    /// No action of the client is open.
     #[error("no action is open")]
     NoOpenAction,
-    /// The open action is a request and not a bind, or the other way round.
+    /// The open action is a request and the call finishes a bind, or the other way round.
     #[error("the open action is of the other kind")]
     WrongKind,
-    /// The action made an object, and no data were given for it, though the client is live.
+    /// The request made an object, and no user data were given for it. This is no error if the client was killed.
     #[error("the new object gets no user data")]
     MissingObjectData,
-    /// Data were given, and the action made no object.
+    /// User data were given, and the request made no object.
     #[error("there is no new object for the user data")]
     UnexpectedData,
-    /// There was no memory for the end of the object that the action ends.
+    /// There was no memory to destroy the object that the action ends.
     #[error("out of memory")]
     OutOfMemory,
 }
 
-/// An action that was not finished, and is still open: why, and the data that were given.
+/// A refusal to finish an action: the reason, and the user data that were given. The action is still open.
 #[derive(Debug, Drop)]
 pub struct FinishRefused<D> {
     /// The reason.
     pub error: FinishError,
-    /// What was given.
+    /// The user data that were given to the call.
     pub user_data: D,
 }
 
-/// Why a call of a client's transport by script was refused.
+/// Why a call of a client's transport by script (`wl_link::Memory`) was refused.
 #[derive(Clone, Copy, Debug, PartialEq, Eq, Error)]
 pub enum ScriptError {
     /// The client is not stored.
     #[error("Invalid Id")]
     InvalidId,
-    /// A chunk has more than 28 tokens.
+    /// The chunk that was to arrive has more than 28 tokens. A *token* stands for a file descriptor.
     #[error("more tokens than a receive may give")]
     TooManyTokens,
     /// There was no memory.

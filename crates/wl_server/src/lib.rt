@@ -1,10 +1,12 @@
-//! The server's session of the Wayland protocol: clients, their objects by id, globals, requests, events.
+//! The server side of the Wayland protocol: clients, their objects by id, globals, requests and events.
 //!
-//! A [`Backend`] is a server. The page of this crate, `README.md`, has an example and the order of the refusals.
+//! A [`Backend`] is a server. The page of this crate, `README.md`, has an example and the order in which errors are
+//! looked for.
 //!
-//! Each call has the contract `Calls` (`specs/Backend`): the call is one step of its definition. `specs/Part` says what is
-//! held of one client, `specs/PartStep` has a line for each call that says what it does to that, and `specs/Steps` what it
-//! does to a server. The line names the relation of the call:
+//! Each call has the contract `Calls` (`specs/Backend`), which says that the call is one step of its definition.
+//! `specs/Part` has what the server holds for one client. `specs/PartStep` has one line for each call, which says what
+//! the call does to that. `specs/Steps` says what it does to the whole server. The line in `specs/PartStep` names the
+//! relation of the call:
 //!
 //! | Calls | Code | Relations, in `specs/` |
 //! |---|---|---|
@@ -18,12 +20,14 @@
 //! | look-ups, `with_all_clients`, `with_all_objects_for` | `lookups`, `globals::lookups` | `Lookups` |
 //! | `replay` | `runs` | `Runs`, `Histories` |
 //!
-//! The calls that programs use most have a second clause, `plain`: what the program finds of the object, the client or the
-//! notes after the call, in the words of the look-ups (`specs/Plain`). It follows from `Calls`.
+//! The calls that programs use most have a second clause, `plain`. It says what the program finds of the object, the
+//! client or the notes after the call, in the words of the look-ups (`specs/Plain`). It follows from `Calls`.
 //!
-//! The laws of runs are the contracts of the functions of [`laws`]. Each names its statement: `Runs` (each client is alone),
-//! `Identified` and `Named` (ids), `Logged` (what was sent), `Announced` (globals), `NotedOnce` (notes), `Cutting` and `Stretches`
-//! (cutting does not matter), `Outcome` and `WholeOutcome` (there is one outcome), `Room` (a reading has room).
+//! The laws of runs are the contracts of the functions of [`laws`]. A *run* is a list of calls, one after another. The
+//! statement of each law stands in a file of `specs/`: `Runs` (each client is alone), `Identified` and `Named` (ids),
+//! `Logged` (what was sent), `Announced` (globals), `NotedOnce` (notes), `Cutting` and `Stretches` (it does not matter
+//! how the bytes are cut into receives), `Outcome` and `WholeOutcome` (there is one outcome), `Room` (a message always
+//! has room in the buffer).
 #![tactic(auto)]
 
 mod backend;

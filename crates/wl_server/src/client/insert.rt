@@ -28,8 +28,8 @@ use std::alloc::Global;
 use wl_link::{BufferedSocket, ObjectMap, Transport};
 use wl_wire::{OutOfMemory, WL_DISPLAY_INTERFACE};
 
-/// What a client in which nothing has happened keeps beside its link: its objects, of which the display is the only one,
-/// and the note that it was inserted, with room for that of its end. Refused, it uses up no number of a note.
+/// The objects and the notes of a client that was just inserted. Its one object is the display. Its one note says that it
+/// was inserted, and there is room for the note of its end. If there is no memory, no number of a note is used up.
 fn first_lists<U: Drop>(
     alloc: Global,
     numbers: &mut NoteNumbers,
@@ -48,7 +48,7 @@ fn first_lists<U: Drop>(
     Ok((objects, made))
 }
 
-/// The link, the objects and the notes of a client in which nothing has happened but that it was inserted.
+/// The connection, the objects and the notes of a client that was just inserted.
 fn first_parts<T: Drop, U: Drop>(
     alloc: Global,
     transport: T,
@@ -67,7 +67,7 @@ fn first_parts<T: Drop, U: Drop>(
 }
 
 impl<T: Drop, U: Drop, C: Drop> Client<T, U, C> {
-    /// A client in which nothing has happened but that it was inserted, which is noted.
+    /// A client that was just inserted. A note says so.
     fn new(
         alloc: Global,
         serial: u64,
@@ -94,7 +94,7 @@ impl<T: Drop, U: Drop, C: Drop> Client<T, U, C> {
     }
 }
 
-/// Makes room for a client at the slot, which is not past the first one that was never in use.
+/// Makes room for a client at the slot. The slot is in the list, or is the first one after it.
 fn reserve_slot<T, U, C>(
     clients: &mut Vec<Option<Client<T, U, C>>>,
     slot: usize,
@@ -109,7 +109,7 @@ fn reserve_slot<T, U, C>(
     Ok(clients.reserve(1)?)
 }
 
-/// The least slot that no client has; `None` where each has one. Those below `from` have one.
+/// The least slot that has no client, or `None` if each has one. All slots below `from` have one.
 fn free_slot<T, U, C>(clients: &[Option<Client<T, U, C>>], from: usize) -> Option<u32>
     requires { AreTaken from clients.now }
     ensures { MatchOption result ((k : ℕ) → k < 0x100000000 → IsSome (stored_at k clients.now)) (IsLeastFree clients.now) }
@@ -122,7 +122,7 @@ fn free_slot<T, U, C>(clients: &[Option<Client<T, U, C>>], from: usize) -> Optio
     u32::try_from(clients.len()).ok()
 }
 
-/// Puts a client at a slot that there is, and that no client has.
+/// Puts a client at a slot that is in the list and has no client.
 fn put_within<T: Drop, U: Drop, C: Drop>(
     clients: &mut Vec<Option<Client<T, U, C>>>,
     slot: usize,
@@ -135,7 +135,7 @@ fn put_within<T: Drop, U: Drop, C: Drop>(
     clients[slot] = Some(client);
 }
 
-/// Puts a client at a slot that no client has, for which there is room.
+/// Puts a client at a slot that has no client. There is room for it.
 fn put_at<T: Drop, U: Drop, C: Drop>(
     clients: &mut Vec<Option<Client<T, U, C>>>,
     slot: usize,
@@ -153,8 +153,8 @@ fn put_at<T: Drop, U: Drop, C: Drop>(
     }
 }
 
-/// Puts a new client at a slot that no client has, and that is not past the first one that was never in use. Where there
-/// is no memory, nothing changes.
+/// Puts a new client at a slot that has no client. The slot is in the list, or is the first one after it. If there is no
+/// memory, nothing changes.
 fn put_new<T: Drop, U: Drop, C: Drop>(
     clients: &mut Vec<Option<Client<T, U, C>>>,
     numbers: &mut NoteNumbers,
@@ -179,12 +179,18 @@ fn put_new<T: Drop, U: Drop, C: Drop>(
 }
 
 impl<T: Transport + Drop, U: Drop, G: GlobalHandler<C> + Drop, C: Drop> Backend<T, U, G, C> {
-    /// Takes a new client over this transport, with the program's data of it. It keeps its display, object 1, and its
-    /// storages may grow up to the limit that new clients have. It gets the least free slot and the next serial, and that
-    /// it was inserted is noted.
+    /// Inserts a new client with this transport and this data of the program, and answers its id.
     ///
-    /// The answer is `Full` where each slot has a client or no serial is left, and else `OutOfMemory` where there is no
-    /// memory for it. Both change nothing, and the transport and the data are dropped.
+    /// It stands for `wayland_backend::server::Handle::insert_client`. The client gets the least free slot and the next
+    /// serial. It has one object, the display, with number 1. Its buffers may grow up to the limit for new clients
+    /// (`set_default_max_buffer_size`). A note says that it was inserted.
+    ///
+    /// # Errors
+    ///
+    /// - `Full`: each slot has a client, or no serial is left.
+    /// - `OutOfMemory`: memory ran out.
+    ///
+    /// After an error nothing is changed, and the transport and the data are dropped.
     pub fn insert_client(&mut self, transport: T, info: C) -> Result<ClientId, InsertClientError>
         ensures { Calls (over T.sends T.receives G.views) self.old (step.InsertClient transport info) (reply.InsertClient result) self.new }
     {

@@ -1,4 +1,4 @@
-//! The end of a client.
+//! The killing of a client.
 
 ghost use Rattle.std.specs.Prelude.{◌≡◌, MatchResult};
 ghost use Rattle.wl_link.specs.Puts.{lacked_memory};
@@ -21,7 +21,8 @@ use wl_link::Transport;
 use wl_wire::IoFault;
 
 impl<T: Drop, U: Drop, C: Drop> Client<T, U, C> {
-    /// Kills the client, which is noted with its reason. A killed client stays as it is. It takes no memory.
+    /// Kills the client, and makes a note of that with the reason. A killed client stays as it is. It allocates no
+    /// memory.
     pub fn kill(&mut self, numbers: &mut NoteNumbers, reason: DisconnectReason)
         ensures { Does self.old (λ p did q. Kills p reason did q) self.new }
     {
@@ -32,8 +33,8 @@ impl<T: Drop, U: Drop, C: Drop> Client<T, U, C> {
         self.made.push(numbers, Happening::Disconnected(reason));
     }
 
-    /// Closes the client down if a write to it was answered by a fault. The
-    /// answer is whether memory was refused.
+    /// Kills the client as one whose connection is closed, if a write to it was answered by a fault. The answer is
+    /// whether memory was refused.
     pub fn kill_unless_written(
         &mut self,
         numbers: &mut NoteNumbers,
@@ -51,8 +52,10 @@ impl<T: Drop, U: Drop, C: Drop> Client<T, U, C> {
 }
 
 impl<T: Transport + Drop, U: Drop, G: GlobalHandler<C> + Drop, C: Drop> Backend<T, U, G, C> {
-    /// Kills the client: it is noted as disconnected, for this reason, unless it was killed before. It stays stored until
-    /// the next cleanup. An unknown client is nothing. It takes no memory.
+    /// Kills the client. A note says that it was disconnected, with this reason, unless it was killed before.
+    ///
+    /// It stands for `wayland_backend::server::Handle::kill_client`. The client stays stored until the next cleanup. If
+    /// it is not stored, nothing happens. The call allocates no memory.
     pub fn kill_client(&mut self, id: &ClientId, reason: DisconnectReason)
         ensures call { Calls (over T.sends T.receives G.views) self.old (step.KillClient id.now reason) reply.KillClient self.new }
         ensures plain { KillsClient self.old id.now reason self.new }

@@ -1,4 +1,4 @@
-//! How far the storages of clients' links may grow.
+//! How far the buffers of clients may grow.
 
 ghost use Rattle.std.specs.Prelude.{◌≡◌, Some, false};
 ghost use Rattle.wl_server.specs.Backend.{Calls};
@@ -12,8 +12,8 @@ use crate::ids::client_id::ClientId;
 use wl_link::Transport;
 
 impl<T: Transport + Drop, U: Drop, G: GlobalHandler<C> + Drop, C: Drop> Backend<T, U, G, C> {
-    /// Sets how far the storages of each client that is inserted from now on may grow, as `set_client_max_buffer_size` does
-    /// it of one.
+    /// Sets how far the buffers of each client that is inserted from now on may grow, in bytes.
+    /// `set_client_max_buffer_size` says how the number is rounded and which buffers there are.
     pub fn set_default_max_buffer_size(&mut self, max_buffer_size: usize)
         ensures { Calls (over T.sends T.receives G.views) self.old (step.SetDefaultMaxBufferSize max_buffer_size) reply.SetDefaultMaxBufferSize self.new }
     {
@@ -21,9 +21,11 @@ impl<T: Transport + Drop, U: Drop, G: GlobalHandler<C> + Drop, C: Drop> Backend<
         self.default_limit = max_buffer_size;
     }
 
-    /// Sets how far the storages of what waits to be sent to the client and to be read of it may grow, in bytes, rounded up
-    /// to a power of two of at least 4096. That of what waits to be read never grows past 65536 bytes. An unknown client is
-    /// nothing.
+    /// Sets how far the buffers of the client may grow: the one of what is to be sent, and the one of what was received
+    /// and is not read yet.
+    ///
+    /// The limit is in bytes, and is rounded up to a power of two of at least 4096. The buffer of what was received never
+    /// grows beyond 65536 bytes. If the client is not stored, nothing happens.
     pub fn set_client_max_buffer_size(&mut self, client: &ClientId, max_buffer_size: usize)
         ensures { Calls (over T.sends T.receives G.views) self.old (step.SetClientMaxBufferSize client.now max_buffer_size) reply.SetClientMaxBufferSize self.new }
     {

@@ -1,4 +1,4 @@
-//! A client's transport, lent for writing.
+//! A client's transport, borrowed mutably.
 
 ghost use Rattle.std.specs.Prelude.{◌≡◌, MatchResult, None, OnOk, Some, false, option_map};
 ghost use Rattle.std.specs.Borrow.{sem};
@@ -17,7 +17,7 @@ use wl_link::Transport;
 impl<T: Drop, U: Drop, C: Drop> Client<T, U, C> {
     ghost use Rattle.wl_server.specs.Lending.{LendsTransportOf};
 
-    /// The transport, which may be changed; all else stays as it is.
+    /// The transport, which may be changed through the reference. All else stays as it is.
     pub fn transport_mut(&mut self) -> &mut T
         ensures* lends { sem 𝓛 (LendsTransportOf T.row U.row C.row self.entry result) }
         ensures value { result.now ≡ self.old.part.link.transport }
@@ -26,7 +26,7 @@ impl<T: Drop, U: Drop, C: Drop> Client<T, U, C> {
     }
 }
 
-/// The transport of the client at a place, if one is there.
+/// The transport of the client of a slot, if it has one.
 fn lent_at<T: Drop, U: Drop, C: Drop>(place: &mut Option<Client<T, U, C>>) -> Option<&mut T>
     ensures* lends { sem 𝓛 (LendsTransportAt T.row U.row C.row place.entry result) }
     ensures value { option_map (λ t. t.now) result ≡ option_map (λ c. c.part.link.transport) place.old }
@@ -40,8 +40,10 @@ fn lent_at<T: Drop, U: Drop, C: Drop>(place: &mut Option<Client<T, U, C>>) -> Op
 impl<T: Transport + Drop, U: Drop, G: GlobalHandler<C> + Drop, C: Drop> Backend<T, U, G, C> {
     ghost use Rattle.wl_server.specs.Lending.{LendsServerTransport};
 
-    /// The client's transport, which may be changed; all else stays as it is, what `memory_refused` answers included.
-    /// `InvalidId` where the client is not stored.
+    /// The client's transport, which may be changed through the reference. All else stays as it is, and so does the
+    /// answer of `memory_refused`.
+    ///
+    /// The error is `InvalidId` if the client is not stored.
     pub fn transport_mut(&mut self, id: &ClientId) -> Result<&mut T, InvalidId>
         ensures* lends { sem 𝓛 (LendsServerTransport T.row U.row G.row C.row self.entry id.now result) }
         ensures value { MatchResult result (λ transport. transport_of self.old.server id.now ≡ Some transport.now)

@@ -1,4 +1,4 @@
-//! What a program does with the actions of its clients, where it lets a server call it.
+//! The handler by which a program handles the actions of its clients in a dispatch.
 
 ghost use Rattle.wl_wire.specs.declared.argument.Argument.{Argument};
 ghost use Rattle.wl_wire.specs.declared.argument.Token.{Token};
@@ -17,18 +17,24 @@ use smallvec::SmallVec;
 use wl_link::Transport;
 use wl_wire::{Argument, INLINE_ARGS, Token};
 
-/// What a program does with the actions of a client: `Backend::dispatch_single_client` and `Backend::dispatch_all_clients`
-/// call it.
+/// A program's handler of the actions of its clients, which `Backend::dispatch_single_client` and
+/// `Backend::dispatch_all_clients` call.
 ///
-/// A call may make any calls of the server but those that read this client or end its action: the dispatch does that. Each
-/// implementation says by `requests` and `binds` what its calls answer and do; that they make calls of the server, and
-/// nothing else with it, it proves by joining the contracts of these calls.
+/// An *action* is a request, or a bind of a new object to a global (`Action`).
+///
+/// A call may make any calls of the server, except those that read this client or finish its action: the dispatch does
+/// that itself. Each implementation says in `requests` and `binds` what its calls answer and do. It has to prove that its
+/// calls change the server only by calls of the server. For that it joins the contracts of these calls.
 pub trait Handler<T: Transport, U, G: GlobalHandler<C>, C> {
     ghost requests: { Self → BackendState T U G C → ClientParts → IdParts → ℕ → List (Argument IdParts Token) → Option IdParts → Option U → Self → BackendState T U G C → Type 0 };
 
     ghost binds: { Self → BackendState T U G C → ClientParts → GlobalParts → IdParts → U → Self → BackendState T U G C → Type 0 };
 
-    /// Does what the request asks for. The answer is the data of the object that it made, if it made one.
+    /// Handles a request. The answer is the user data of the object that the request made, if it made one.
+    ///
+    /// `sender` is the object that the request was sent to. `opcode` is the index of the request among those of the
+    /// sender's interface. `args` are its arguments, in order. `created` is the object that the request made, if it made
+    /// one. If an answer does not fit, the dispatch ends with `InvalidInput`.
     fn request(
         &mut self,
         backend: &mut Backend<T, U, G, C>,
@@ -41,7 +47,7 @@ pub trait Handler<T: Transport, U, G: GlobalHandler<C>, C> {
         ensures answers { requests self.old backend.old client.now sender opcode args.items created result self.new backend.new }
         ensures reached { Reached (over T.sends T.receives G.views) client.now backend.old.server backend.new.server };
 
-    /// Does what is to be done where an object is bound to a global. The answer is the object's data.
+    /// Handles a bind: the client bound the new object `object` to the global. The answer is the object's user data.
     fn bind(
         &mut self,
         backend: &mut Backend<T, U, G, C>,

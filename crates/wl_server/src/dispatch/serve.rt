@@ -1,4 +1,4 @@
-//! The actions of a client are read, handled by the program and ended, until no more of them waits.
+//! Reads the actions of a client, has the handler handle them and finishes them, until no more of them waits.
 
 ghost use Rattle.std.specs.Prelude.{◌≡◌, ◌||◌, List};
 ghost use Rattle.wl_server.specs.Dispatch.{Handles, answering, dispatched, fault_of_end, fault_of_reading};
@@ -15,7 +15,7 @@ use crate::reading::action::{Action, Reading};
 use wl_link::Transport;
 use wl_wire::IoFault;
 
-/// The fault by which a dispatch ends where no action is handed out.
+/// The fault with which a dispatch ends if no action is handed out.
 fn fault_of_reading(error: ActionError) -> IoFault
     ensures { result ≡ fault_of_reading error }
 {
@@ -25,7 +25,7 @@ fn fault_of_reading(error: ActionError) -> IoFault
     }
 }
 
-/// The fault by which it ends where the end of an action is refused.
+/// The fault with which a dispatch ends if an action cannot be finished.
 fn fault_of_end(error: FinishError) -> IoFault
     ensures { result ≡ fault_of_end error }
 {
@@ -35,7 +35,7 @@ fn fault_of_end(error: FinishError) -> IoFault
     }
 }
 
-/// The answer of a dispatch that ended by this fault, with so many requests read.
+/// The answer of a dispatch that ended with this fault, after so many requests were read.
 fn answer_of(fault: IoFault, read: usize) -> Result<usize, IoFault>
     ensures { result ≡ dispatched fault read }
 {
@@ -46,7 +46,8 @@ fn answer_of(fault: IoFault, read: usize) -> Result<usize, IoFault>
 }
 
 impl<T: Transport + Drop, U: Drop, G: GlobalHandler<C> + Drop, C: Drop> Backend<T, U, G, C> {
-    /// Calls the handler with the action, and ends the action with its answer. The answer is why that is refused, if it is.
+    /// Calls the handler with the action, and finishes the action with its answer. The answer is the error if that is
+    /// refused.
     fn handle<H: Handler<T, U, G, C>>(
         &mut self,
         handler: &mut H,
@@ -79,7 +80,7 @@ impl<T: Transport + Drop, U: Drop, G: GlobalHandler<C> + Drop, C: Drop> Backend<
         }
     }
 
-    /// Memory was refused before, if this says so, or in the last call.
+    /// Sets `memory_refused` to whether memory was refused before or in the last call.
     pub(crate) fn keep_refused(&mut self, before: bool)
         ensures { self.new ≡ record self.old { refused = before || self.old.refused } }
     {
@@ -88,8 +89,8 @@ impl<T: Transport + Drop, U: Drop, G: GlobalHandler<C> + Drop, C: Drop> Backend<
         self.refused = refused;
     }
 
-    /// Reads the client once, and handles the action that is handed out. The answer is the fault that ends the dispatch, if
-    /// one does. Whether memory was refused is told of the calls of the whole dispatch so far.
+    /// Reads the client's next action, and handles it. The answer is the fault that ends the dispatch, if one does.
+    /// Afterwards `memory_refused` tells of all calls of the dispatch so far.
     fn serve_action<H: Handler<T, U, G, C>>(
         &mut self,
         handler: &mut H,
@@ -115,7 +116,7 @@ impl<T: Transport + Drop, U: Drop, G: GlobalHandler<C> + Drop, C: Drop> Backend<
         }
     }
 
-    /// Reads the client and handles its actions until a receive is used up. The answer is the fault that ends the dispatch
+    /// Reads and handles the client's actions until a receive was made. The answer is the fault that ends the dispatch
     /// before that, if one does.
     fn serve_some<H: Handler<T, U, G, C>>(
         &mut self,
@@ -136,8 +137,8 @@ impl<T: Transport + Drop, U: Drop, G: GlobalHandler<C> + Drop, C: Drop> Backend<
         }
     }
 
-    /// Reads the client and handles its actions, until none is handed out or the end of one is refused. The answer is that
-    /// of its dispatch.
+    /// Reads and handles the client's actions, until none is handed out or one cannot be finished. The answer is that of
+    /// the dispatch of this client, without the cleanup.
     pub(crate) fn serve<H: Handler<T, U, G, C>>(
         &mut self,
         handler: &mut H,

@@ -4,7 +4,10 @@ ghost use Rattle.std.specs.Prelude.{◌≡◌};
 
 use std::marker::Model;
 
-/// The id of a client: its slot, and the serial that tells it from others of that slot.
+/// The id of a client: its slot, and a serial that no other client has. So it never names a later client of the same
+/// slot.
+///
+/// It stands for `wayland_backend::server::ClientId`.
 #[derive(Clone, Copy, PartialEq, Eq, Hash)]
 pub struct ClientId {
     serial: u64,
@@ -22,21 +25,21 @@ impl Model for ClientId {
 }
 
 impl ClientId {
-    /// The id of these parts.
+    /// Makes the id of these parts. It need not name a client.
     pub fn from_parts(slot: u32, serial: u64) -> Self
         ensures { result ≡ record { slot = slot; serial = serial } }
     {
         ClientId { serial, slot }
     }
 
-    /// The slot, which no other client of the server has at the same time.
+    /// The slot, an index. No other client of the server has it at the same time.
     pub fn slot(&self) -> u32
         ensures { result ≡ self.now.slot }
     {
         self.slot
     }
 
-    /// The serial, which no other client of the server has.
+    /// The serial, counted from 1. No other client of the server ever has it.
     pub fn serial(&self) -> u64
         ensures { result ≡ self.now.serial }
     {

@@ -1,11 +1,14 @@
-//! The ids of a server's globals, and what is known of one.
+//! The ids of a server's globals, and what a global offers.
 
 ghost use Rattle.std.specs.Prelude.{◌≡◌};
 
 use std::marker::Model;
 use wl_wire::InterfaceId;
 
-/// The id of a global: its name, and the serial that tells it from others of that name.
+/// The id of a global: its name, and a serial that no other global has. So it never names a later global of the same
+/// name.
+///
+/// It stands for `wayland_backend::server::GlobalId`.
 #[derive(Clone, Copy, PartialEq, Eq, Hash)]
 pub struct GlobalId {
     serial: u64,
@@ -23,21 +26,21 @@ impl Model for GlobalId {
 }
 
 impl GlobalId {
-    /// The id of these parts.
+    /// Makes the id of these parts. It need not name a global.
     pub fn from_parts(name: u32, serial: u64) -> Self
         ensures { result ≡ record { name = name; serial = serial } }
     {
         GlobalId { serial, name }
     }
 
-    /// The name, by which clients bind the global.
+    /// The name, a number by which clients bind the global (`wl_registry.bind`).
     pub fn name(&self) -> u32
         ensures { result ≡ self.now.name }
     {
         self.name
     }
 
-    /// The serial, which no other global of the server has.
+    /// The serial, counted from 1. No other global of the server ever has it.
     pub fn serial(&self) -> u64
         ensures { result ≡ self.now.serial }
     {
@@ -46,12 +49,14 @@ impl GlobalId {
 }
 
 /// What a global offers.
+///
+/// It stands for `wayland_backend::server::GlobalInfo`.
 #[derive(Clone, Copy)]
 pub struct GlobalInfo {
     /// The interface of the objects that are bound to it.
     pub interface: InterfaceId,
     /// The greatest version that can be bound.
     pub version: u32,
-    /// Whether it is announced no more.
+    /// Whether it was disabled: it is no longer announced, and clients may still bind it.
     pub disabled: bool,
 }

@@ -11,10 +11,11 @@ use std::hash::{Hash, Hasher};
 use std::marker::Model;
 use wl_wire::{ANONYMOUS_INTERFACE, InterfaceId, OutOfMemory, Protocol};
 
-/// The id of an object: its number, the serial that tells it from others of that number, its client, and its interface.
+/// The id of an object: its number in the protocol, its serial, its client, and its interface.
 ///
-/// Ids are equal where all parts are equal; the hash leaves the interface out. An id of number 0 is null, whatever else it
-/// holds.
+/// It stands for `wayland_backend::server::ObjectId`. The serial tells the object from others of the same client that
+/// have the number at another time. Two ids are equal if all parts are equal. The hash leaves the interface out. An id
+/// with number 0 is null, whatever its other parts are.
 #[derive(Clone, Copy, PartialEq, Eq)]
 pub struct ObjectId {
     serial: u64,
@@ -52,7 +53,8 @@ impl Hash for ObjectId {
 }
 
 impl ObjectId {
-    /// The id of no object: number 0, serial 0, the anonymous interface, of the client at slot 0 with serial 0.
+    /// The null id, which names no object: number 0, serial 0, the anonymous interface, and the client of slot 0 and
+    /// serial 0.
     pub fn null() -> Self
         ensures { result ≡ record { number = 0; serial = 0; client = record { slot = 0; serial = 0 }; interface = anonymous_id } }
     {
@@ -64,7 +66,7 @@ impl ObjectId {
         }
     }
 
-    /// The id of these parts.
+    /// Makes the id of these parts. It need not name an object.
     pub fn from_parts(number: u32, serial: u64, client: ClientId, interface: InterfaceId) -> Self
         ensures { result ≡ record { number = number; serial = serial; client = client; interface = interface } }
     {
@@ -76,49 +78,52 @@ impl ObjectId {
         }
     }
 
-    /// Whether it is the id of no object: whether its number is 0.
+    /// Whether it is null: whether its number is 0.
     pub fn is_null(&self) -> bool
         ensures { IsTrue result ↔ (self.now.number ≡ 0) }
     {
         self.number == 0
     }
 
-    /// The client whose object it is.
+    /// The client that the object belongs to.
     pub fn client(&self) -> ClientId
         ensures { result ≡ self.now.client }
     {
         self.client
     }
 
-    /// Whether both are objects of the same client.
+    /// Whether both ids are of the same client.
     pub fn same_client_as(&self, other: &ObjectId) -> bool
         ensures { IsTrue result ↔ (self.now.client ≡ other.now.client) }
     {
         self.client == other.client
     }
 
-    /// The object's interface.
+    /// The interface of the object.
     pub fn interface(&self) -> InterfaceId
         ensures { result ≡ self.now.interface }
     {
         self.interface
     }
 
-    /// The object's number in the protocol.
+    /// The number of the object in the protocol.
     pub fn protocol_id(&self) -> u32
         ensures { result ≡ self.now.number }
     {
         self.number
     }
 
-    /// The serial, which no other object of the client has.
+    /// The serial of the object. No other object of the client has it.
     pub fn serial(&self) -> u64
         ensures { result ≡ self.now.serial }
     {
         self.serial
     }
 
-    /// The id as a text: the name of its interface, `@`, its number, and the slot of its client in brackets.
+    /// The id as a text: the name of its interface, `@`, its number, and the slot of its client in square brackets, as in
+    /// `wl_surface@3[0]`.
+    ///
+    /// The error is `OutOfMemory`.
     pub fn display(&self, alloc: Global, protocol: &Protocol) -> Result<String, OutOfMemory>
         ensures { IfOk result (λ text. string_bytes text ≡ name_of protocol.now self.now.interface.0 ++ codes "@" ++ decimal self.now.number ++ codes "[" ++ decimal self.now.client.slot ++ codes "]") }
     {
