@@ -1,11 +1,12 @@
-//! Going through the objects of a map.
+//! The walk over the objects of a map.
 
 ghost use Rattle.std.specs.Iterator.{YieldsFirstBy, item_count};
 
 use crate::object::Object;
 use std::marker::Model;
 
-/// The objects of a map, each with its number, by ascending number: those of the client's range first.
+/// An iterator over the objects of a map, each with its number. The numbers ascend: first those of the client's range, then
+/// the server's.
 #[derive(Drop)]
 pub struct AllObjects<'a, Data> {
     pub(crate) clients: RangeObjects<'a, Data>,
@@ -32,7 +33,7 @@ impl<'a, Data> Iterator for AllObjects<'a, Data> {
 
     ghost remaining = { item_count (λ rest. rest) };
 
-    /// The next object and its number.
+    /// The next object, with its number.
     fn next(&mut self) -> Option<(u32, &'a Object<Data>)> {
         match self.clients.next() {
             Some(item) => Some(item),
@@ -41,7 +42,7 @@ impl<'a, Data> Iterator for AllObjects<'a, Data> {
     }
 }
 
-/// The objects of one range, each with its number, by ascending number.
+/// An iterator over the objects of one range, each with its number. The numbers ascend.
 #[derive(Drop)]
 pub(crate) struct RangeObjects<'a, Data> {
     pub(crate) slots: &'a [Option<Object<Data>>],
@@ -73,7 +74,7 @@ impl<'a, Data> Iterator for RangeObjects<'a, Data> {
 
     ghost remaining = { item_count (λ rest. rest) };
 
-    /// The next object and its number.
+    /// The next object, with its number.
     fn next(&mut self) -> Option<(u32, &'a Object<Data>)> {
         while let Some((slot, rest)) = self.slots.split_first() {
             let number = self.number as u32;

@@ -1,4 +1,4 @@
-//! Bytes that wait, in a storage that is used again.
+//! A buffer of bytes that wait to be read or sent.
 
 ghost use Rattle.std.specs.Prelude.{◌≡◌, ◌≢◌, ◌↔◌, ◌+◌, ◌-◌, ◌<◌, ◌≤◌, ◌^◌, [], length, take, drop, slice_range, Err, IfOk, IsTrue, OnOk, OnErr};
 ghost use Rattle.std.specs.VecDeque.{deque_capacity, deque_len};
@@ -13,10 +13,10 @@ use std::collections::VecDeque;
 use std::marker::Model;
 use wl_wire::{IoFault, Message, MessageWriteError, Numbering, OutOfMemory, Token};
 
-/// Bytes that wait in their order, in a storage of a given size.
+/// A byte buffer of a given capacity, with the bytes that wait in it, in order.
 ///
-/// They lie between two indices, so taking some off the front moves none. They are moved to the front of the storage
-/// only where the part behind them is too short.
+/// These bytes lie between two indices, so taking some off the front moves none. They are moved to the front only if there
+/// is too little room after them.
 #[derive(Drop)]
 pub struct Buffer {
     storage: Vec<u8>,
@@ -37,7 +37,9 @@ impl Model for Buffer {
 }
 
 impl Buffer {
-    /// An empty storage of that size, which holds a message's header at least.
+    /// An empty buffer with a capacity of `size` bytes, at least 8: a message's header fits in.
+    ///
+    /// The error is `OutOfMemory`.
     pub fn new(alloc: Global, size: usize) -> Result<Self, OutOfMemory>
         requires { 8 ≤ size }
         ensures { IfOk result (λ b. b ≡ waits [] size) }
@@ -72,7 +74,7 @@ impl Buffer {
         self.start == self.end
     }
 
-    /// How many bytes the storage holds.
+    /// The capacity in bytes.
     pub fn size(&self) -> usize
         ensures size { result ≡ self.now.size }
         ensures within { length self.now.bytes ≤ result }
@@ -82,7 +84,7 @@ impl Buffer {
         self.storage.len()
     }
 
-    /// Takes that many bytes off the front.
+    /// Takes `count` bytes off the front.
     pub fn consume(&mut self, count: usize)
         requires { count ≤ length self.old.bytes }
         ensures { self.new ≡ waits (drop count self.old.bytes) self.old.size }
@@ -95,7 +97,7 @@ impl Buffer {
         }
     }
 
-    /// Makes the storage that large. Where there is no memory, it stays as it was.
+    /// Makes the capacity `size` bytes, which is no less than it was. If there is no memory, the buffer stays as it was.
     pub fn grow(&mut self, size: usize) -> Result<(), OutOfMemory>
         requires { self.old.size ≤ size }
         ensures ok { OnOk result (self.new ≡ waits self.old.bytes size) }
@@ -105,9 +107,10 @@ impl Buffer {
         Ok(())
     }
 
-    /// Writes the message behind the bytes that wait, and puts its tokens behind those in the queue.
+    /// Appends the message's bytes to those that wait, and its tokens to the queue.
     ///
-    /// The bytes that wait are not moved, so there may be too little room behind them where the storage has enough.
+    /// The bytes that wait are not moved. So there may be too little room after them (`BufferTooSmall`), though the buffer
+    /// has enough in all. The other errors are those of `write_to_buffers`. An error changes nothing.
     pub fn write<Id, N: Numbering<Id>>(
         &mut self,
         message: &Message<Id, Token>,
@@ -123,8 +126,9 @@ impl Buffer {
         Ok(())
     }
 
-    /// Writes the message behind the bytes that wait, which are moved to the front, and puts its tokens behind those
-    /// in the queue. Where there is no memory for these, nothing is changed.
+    /// Moves the bytes that wait to the front, and appends the message's bytes to them, and its tokens to the queue.
+    ///
+    /// The buffer must have room for the message. If there is no memory for its tokens, nothing is changed.
     pub fn put<Id, N: Numbering<Id>>(
         &mut self,
         message: &Message<Id, Token>,
@@ -151,9 +155,11 @@ impl Buffer {
         }
     }
 
-    /// Receives behind the bytes that wait, into all of the storage that is free, and answers how many bytes came.
-    /// The tokens that came are put behind those in the queue, which has room for the most that a receive may give. A
-    /// fault changes neither.
+    /// Receives into all of the buffer that is free. The bytes that come are appended to those that wait. Returns how many
+    /// they are.
+    ///
+    /// The tokens that come are appended to the queue, which must have the capacity for 28 more, the most that a receive
+    /// may give. A fault of the transport is returned, and changes neither the bytes nor the tokens that wait.
     pub fn receive<T: Transport>(
         &mut self,
         transport: &mut T,
@@ -197,7 +203,7 @@ fn move_to_front(storage: &mut [u8], start: usize, end: usize)
     }
 }
 
-/// Copies so many bytes from `start` on to the front, where they do not reach `start`.
+/// Copies `count` bytes from `start` on to the front. They do not overlap the place to which they go.
 fn copy_to_front(storage: &mut [u8], start: usize, count: usize)
     requires apart { count ≤ start }
     requires within { start + count ≤ length storage.old }
@@ -208,8 +214,8 @@ fn copy_to_front(storage: &mut [u8], start: usize, count: usize)
     to.copy_from_slice(&behind[..count]);
 }
 
-/// Writes the message behind the bytes from `start` to `end`, and puts its tokens behind those in the queue. Answers
-/// how many bytes were written.
+/// Writes the message after the bytes from `start` to `end`, and appends its tokens to the queue. Returns how many bytes
+/// were written.
 fn write_behind<Id, N: Numbering<Id>>(
     message: &Message<Id, Token>,
     numbers: &N,
@@ -229,7 +235,7 @@ fn write_behind<Id, N: Numbering<Id>>(
     fds.write(message, numbers, &mut storage[end..])
 }
 
-/// Moves the bytes from `start` to `end` to the front, and writes the message behind them.
+/// Moves the bytes from `start` to `end` to the front, and writes the message after them, as `write_behind` does.
 fn write_at_front<Id, N: Numbering<Id>>(
     message: &Message<Id, Token>,
     numbers: &N,
@@ -250,7 +256,7 @@ fn write_at_front<Id, N: Numbering<Id>>(
     write_behind(message, numbers, storage, 0, end - start, fds)
 }
 
-/// Moves the bytes from `start` to `end` to the front, and receives behind them.
+/// Moves the bytes from `start` to `end` to the front, and receives after them. Returns how many bytes came.
 fn receive_at_front<T: Transport>(
     transport: &mut T,
     storage: &mut [u8],

@@ -1,4 +1,4 @@
-//! The buffered link over a transport.
+//! The link: a transport with buffers.
 
 ghost use Rattle.std.specs.Prelude.{◌≡◌, ◌≢◌, ◌+◌, ◌<◌, ◌≤◌, ◌∷◌, [], length, take, ◌↔◌, nat_le, if◌then◌else◌, IsTrue, Some, Ok, Err, IfOk, IfErr, OnOk, OnErr, MatchOption, MatchResult};
 ghost use Rattle.std.specs.Borrow.{sem};
@@ -25,8 +25,10 @@ use wl_wire::{
     OutOfMemory, OwnNumbers, Token, message_header, message_is_there, numbered_size, parse_into,
 };
 
-/// A transport, and what waits on both sides of it: bytes and tokens that were received and not read yet, and those
-/// that were written and not sent yet.
+/// A *link*: a transport, and what waits on both sides of it.
+///
+/// The *incoming* buffer has the bytes that were received and not read yet, and the *outgoing* one those that were written
+/// and not sent yet. A queue of tokens, numbers that stand for file descriptors, goes with each.
 #[derive(Drop)]
 pub struct BufferedSocket<T> {
     transport: T,
@@ -56,9 +58,13 @@ impl<T> Model for BufferedSocket<T> {
 impl<T> BufferedSocket<T> {
     ghost use Rattle.wl_link.specs.Lending.{LendsTransport};
 
-    /// A link over the transport on which nothing waits. Both storages have 4096 bytes, and may grow up to the limit,
-    /// which is rounded up to a power of two and is at least 4096. Without a limit the outgoing one may always grow;
-    /// the incoming one never grows past 65536 bytes.
+    /// A link over the transport, on which nothing waits.
+    ///
+    /// Both buffers have a capacity of 4096 bytes, and may grow up to the limit `max_buffer_size`. The limit is rounded up
+    /// to a power of two, and is at least 4096. `None` is no limit for the outgoing buffer. The incoming buffer never grows
+    /// beyond 65536 bytes.
+    ///
+    /// The error is `OutOfMemory`.
     pub fn new(
         alloc: Global,
         transport: T,
@@ -80,21 +86,23 @@ impl<T> BufferedSocket<T> {
         })
     }
 
-    /// Sets how far the storages may grow, rounded as for a new link. A storage that is larger already stays.
+    /// Sets how far the buffers may grow, in bytes. The limit is rounded as in `new`. A buffer that is larger already keeps
+    /// its capacity.
     pub fn set_max_buffer_size(&mut self, max_buffer_size: Option<usize>)
         ensures { LimitSet self.old max_buffer_size self.new }
     {
         self.limit = rounded(max_buffer_size);
     }
 
-    /// How far the storages may grow, in bytes; `None` where the outgoing one always may.
+    /// The limit of the buffers in bytes, as it was rounded; `None` if there is none.
     pub fn max_buffer_size(&self) -> Option<usize>
         ensures { result ≡ self.now.limit }
     {
         self.limit
     }
 
-    /// How many bytes and tokens were received and not read yet, and how many were written and not sent yet.
+    /// How much waits: the bytes and the tokens that were received and not read yet, and the bytes and the tokens that were
+    /// written and not sent yet.
     pub fn waiting(&self) -> [usize; 4]
         ensures { result ≡ length self.now.incoming.bytes ∷ length self.now.incoming.tokens
             ∷ length self.now.outgoing.bytes ∷ length self.now.outgoing.tokens ∷ [] }
@@ -107,7 +115,7 @@ impl<T> BufferedSocket<T> {
         ]
     }
 
-    /// How many bytes the incoming and the outgoing storage hold.
+    /// The capacity of the incoming and of the outgoing buffer, in bytes.
     pub fn storage(&self) -> [usize; 2]
         ensures { result ≡ self.now.incoming_capacity ∷ self.now.outgoing_capacity ∷ [] }
     {
@@ -121,7 +129,7 @@ impl<T> BufferedSocket<T> {
         &self.transport
     }
 
-    /// The transport, which may be changed; what waits stays as it is.
+    /// The transport, which the caller may change. What waits on the link stays as it is.
     pub fn transport_mut(&mut self) -> &mut T
         ensures* lends { sem 𝓛 (LendsTransport T.row self.entry result) }
         ensures value { result.now ≡ self.old.transport }
@@ -129,8 +137,8 @@ impl<T> BufferedSocket<T> {
         &mut self.transport
     }
 
-    /// The sender and the opcode of the message at the front of what was received; `None` where its header is not
-    /// there to its end.
+    /// The sender and the opcode of the first message that was received; `None` if fewer bytes wait than the eight of a
+    /// header.
     pub fn next_header(&self) -> Option<(u32, u16)>
         ensures { MatchOption result (length self.now.incoming.bytes < 8)
             (λ x. (8 ≤ length self.now.incoming.bytes)
@@ -140,19 +148,20 @@ impl<T> BufferedSocket<T> {
         Some((header.sender_id, header.opcode))
     }
 
-    /// Whether the message at the front is there to its end, and with it as many tokens as the signature asks for.
+    /// Whether the first message that was received is complete, and at least as many tokens wait as the signature has file
+    /// descriptors.
     pub fn holds_message(&self, signature: &[ArgumentType]) -> bool
         ensures { IsTrue result ↔ IsThere self.now.incoming.bytes signature.now self.now.incoming.tokens }
     {
         message_is_there(self.incoming.bytes(), signature, self.fds_in.len())
     }
 
-    /// Reads the message at the front of what was received, under the signature that the closure gives for its sender
-    /// and opcode.
+    /// Takes the first message off what was received, and reads it under the signature that the closure gives for its
+    /// sender and opcode.
     ///
-    /// Where the header is not there to its end the answer is `MissingData`, and where there is no signature it is
-    /// `Malformed`. Otherwise the answer is that of `parse_message` under the signature. A message that is read is
-    /// taken with its tokens; an error takes nothing.
+    /// The message's tokens are taken too. The error is `MissingData` if fewer than the eight bytes of a header wait, and
+    /// `Malformed` if the closure gives no signature. Otherwise it is the error of `parse_message` under that signature. An
+    /// error takes nothing.
     pub fn read_one_message<'s, F>(
         &mut self,
         signature: F,
@@ -185,8 +194,11 @@ impl<T> BufferedSocket<T> {
         Ok(message)
     }
 
-    /// The same in a place for the message, whose arguments it replaces. After an error what is in that place is no
-    /// message.
+    /// Does the same as `read_one_message`, but reads into a message that the caller lends. The arguments of that message
+    /// are replaced.
+    ///
+    /// The lent `args` must have a capacity of at least `INLINE_ARGS`, as a new `SmallVec` of that size has. The errors are
+    /// the same. After an error the content of the lent message has no meaning.
     pub fn read_into<'s, F>(
         &mut self,
         signature: F,
@@ -214,7 +226,7 @@ impl<T> BufferedSocket<T> {
         Ok(())
     }
 
-    /// Reads the message at the front of what was received under the signature, in a place for it.
+    /// Takes the first message off what was received, reads it under the signature, and puts it into the lent message.
     fn read_under(
         &mut self,
         signature: &[ArgumentType],
@@ -237,7 +249,7 @@ impl<T> BufferedSocket<T> {
         Ok(())
     }
 
-    /// The same under this signature, whatever the sender and the opcode are.
+    /// Does the same as `read_into`, under this signature, for any sender and opcode.
     pub fn read_with_signature(
         &mut self,
         signature: &[ArgumentType],
@@ -252,15 +264,15 @@ impl<T> BufferedSocket<T> {
         self.read_into(|_, _| Some(signature), message)
     }
 
-    /// Whether the outgoing storage has room for that many bytes more.
+    /// Whether the outgoing buffer has room for `size` more bytes.
     fn has_room(&self, size: usize) -> bool
         ensures { result ≡ has_room self.now size }
     {
         size <= self.outgoing.size() - self.outgoing.len()
     }
 
-    /// Doubles the outgoing storage until it has room for that many bytes more, as far as the limit allows. Where there
-    /// is no memory, it stays as it was.
+    /// Doubles the outgoing buffer until it has room for `more` bytes, as far as the limit allows. If there is no memory,
+    /// it stays as it was.
     fn grow_for(&mut self, more: usize) -> Result<(), OutOfMemory>
         requires { more ≤ 65535 }
         ensures { MatchResult result (λ _. Grown self.old more self.new)
@@ -277,7 +289,7 @@ impl<T> BufferedSocket<T> {
         self.outgoing.grow(grown)
     }
 
-    /// Puts the message behind what waits.
+    /// Appends the message to what waits to be sent. The outgoing buffer has room for it.
     fn put<Id, N: Numbering<Id>>(
         &mut self,
         message: &Message<Id, Token>,
@@ -292,7 +304,7 @@ impl<T> BufferedSocket<T> {
         write_answer(written).unwrap_or(Err(IoFault::TooBig))
     }
 
-    /// The transport, where what waits is given up.
+    /// Ends the link and returns its transport. What waits is lost.
     pub fn into_transport(self) -> T
         ensures { result ≡ self.transport }
     {
@@ -309,11 +321,13 @@ impl<T> BufferedSocket<T> {
 }
 
 impl<T: Transport> BufferedSocket<T> {
-    /// Sends what waits.
+    /// Sends what waits to be sent, until no bytes wait.
     ///
-    /// While bytes wait, a send is offered up to 4096 of them with all tokens, or 1 byte with 28 tokens where more
-    /// wait. What a send took is gone. A send that takes no bytes ends the flush with `Ok`, and the tokens that it
-    /// was offered are gone. A fault of the transport ends the flush, and is answered; what was not sent still waits.
+    /// Each send is offered the first 4096 bytes that wait, or all if they are fewer, with all the tokens that wait. If
+    /// more than 28 tokens wait, it is offered 1 byte with the first 28 tokens. What a send takes no longer waits. If a
+    /// send takes no bytes, the flush ends with `Ok`; the bytes still wait, but the tokens that were offered are lost.
+    ///
+    /// The error is the fault of the transport, which ends the flush. What was not sent still waits.
     pub fn flush(&mut self) -> Result<(), IoFault>
         ensures flushed { Flushed T.sends self.old result self.new }
         ensures kept { FlushKeeps T.sends self.old result self.new }
@@ -325,7 +339,8 @@ impl<T: Transport> BufferedSocket<T> {
         self.flush_waiting()
     }
 
-    /// Sends what waits, where bytes wait. It is apart, so that a flush of a link on which none wait is one comparison.
+    /// Sends what waits. It is a function of its own, so that a flush of a link on which no bytes wait costs one
+    /// comparison.
     #[inline(never)]
     fn flush_waiting(&mut self) -> Result<(), IoFault>
         ensures flushed { Flushed T.sends self.old result self.new }
@@ -350,13 +365,17 @@ impl<T: Transport> BufferedSocket<T> {
         Ok(())
     }
 
-    /// Writes the message behind what waits.
+    /// Appends the message to what waits to be sent.
     ///
-    /// Where the outgoing storage has too little room it is doubled, as often as is needed and the limit allows; a
-    /// doubling for which there is no memory is answered by `OutOfMemory`, and changes nothing. Where there is still
-    /// too little room what waits is flushed. A fault of that flush but `WouldBlock` is answered, and the message is
-    /// not written. It is not written either where there is too little room even then, or where it takes more than
-    /// 65535 bytes: both are answered by `TooBig`. Without memory for its tokens the answer is `OutOfMemory`.
+    /// If the outgoing buffer has too little room, it is doubled, as often as needed and as the limit allows. If there is
+    /// still too little room, what waits is flushed. The errors are:
+    ///
+    /// - `TooBig` if the message takes more than 65535 bytes, or if there is too little room even after the flush;
+    /// - `OutOfMemory` if there is no memory to double the buffer, or for the message's tokens;
+    /// - a fault of that flush, but not `WouldBlock`.
+    ///
+    /// After an error the message is not written. What the flush sent no longer waits, though, and a buffer that was
+    /// doubled keeps its capacity. If there is no memory to double the buffer, nothing is changed.
     pub fn write_message(&mut self, message: &Message<u32, Token>) -> Result<(), IoFault>
         ensures wrote { Wrote T.sends self.old (content message.now) result self.new }
         ensures kept { WriteKeeps T.sends self.old (content message.now) result self.new }
@@ -365,7 +384,7 @@ impl<T: Transport> BufferedSocket<T> {
         self.write_numbered(message, &OwnNumbers)
     }
 
-    /// Writes the message behind what waits as `write_message` does, with these numbers for its ids.
+    /// Does the same as `write_message`, with the numbers that `numbers` gives the message's ids.
     pub fn write_numbered<Id, N: Numbering<Id>>(
         &mut self,
         message: &Message<Id, Token>,
@@ -381,7 +400,7 @@ impl<T: Transport> BufferedSocket<T> {
         }
     }
 
-    /// Writes the message where there may be too little room behind what waits.
+    /// Makes room and writes the message, if there was too little room after what waits.
     #[inline(never)]
     fn make_room_and_write<Id, N: Numbering<Id>>(
         &mut self,
@@ -401,7 +420,7 @@ impl<T: Transport> BufferedSocket<T> {
         self.place(message, numbers, len)
     }
 
-    /// Writes the message of that size where there is room, and else where there is room after a flush.
+    /// Appends the message, of `len` bytes, to what waits. If there is too little room, it flushes first.
     fn place<Id, N: Numbering<Id>>(
         &mut self,
         message: &Message<Id, Token>,
@@ -423,7 +442,7 @@ impl<T: Transport> BufferedSocket<T> {
         Err(IoFault::TooBig)
     }
 
-    /// Flushes what waits. That the transport would block is no fault here.
+    /// Flushes what waits. `WouldBlock` is no error here.
     fn flush_for_room(&mut self) -> Result<(), IoFault>
         ensures { (flushed : _) × Flushed T.sends self.old flushed self.new × (result ≡ ignoring flushed) }
     {
@@ -434,13 +453,16 @@ impl<T: Transport> BufferedSocket<T> {
         }
     }
 
-    /// Receives once, into all of the incoming storage that is free.
+    /// Receives once, into all of the incoming buffer that is free.
     ///
-    /// Where no byte of it is free, it is doubled first, up to 65536 bytes or the limit, if that is less. So what lacks
-    /// bytes finds one free, unless its message is longer than that. Where no bytes came the answer is `Pipe`, also
-    /// where none are free; tokens that came with none still wait. A fault of the transport is answered. Room for the
-    /// most tokens that a receive may give is made before it; without memory for that or for the doubling the answer
-    /// is `OutOfMemory`, and nothing was received.
+    /// If no byte of the buffer is free, it is doubled first, up to the limit or 65536 bytes, whichever is less. So a
+    /// message that is not complete always finds room, if it is no longer than that. The errors are:
+    ///
+    /// - `OutOfMemory` if there is no memory to double the buffer, or for the 28 tokens that a receive may give. Then
+    ///   nothing was received;
+    /// - `Pipe` if no bytes came: the stream has ended, or no byte of the buffer is free. Tokens that came without bytes
+    ///   wait all the same;
+    /// - a fault of the transport. It may be `OutOfMemory` too.
     pub fn fill_incoming_buffers(&mut self) -> Result<(), IoFault>
         ensures filled { Filled T.receives self.old result self.new }
         ensures room { result ≢ Err IoFault.OutOfMemory → FindsRoom self.old self.new.incoming_capacity }
@@ -458,7 +480,7 @@ impl<T: Transport> BufferedSocket<T> {
     }
 }
 
-/// The size of the storage that a receive finds: one of which no byte is free is doubled, where the limit allows it.
+/// The capacity of the incoming buffer for the next receive: it is doubled if no byte is free and the limit allows it.
 fn size_with_room(incoming: &Buffer, limit: Option<usize>) -> usize
     ensures is { result ≡ grown_to limit incoming.now }
     ensures room { LacksBytes incoming.now.bytes → FitsUnder limit incoming.now.bytes → length incoming.now.bytes < result }
@@ -471,7 +493,7 @@ fn size_with_room(incoming: &Buffer, limit: Option<usize>) -> usize
     size * 2
 }
 
-/// What is offered of the bytes that wait, where so many tokens wait.
+/// The bytes that the next send is offered, if `tokens` tokens wait.
 #[tactic(auto, using(std::proofs::lemmas::List::take_min))]
 fn first_bytes(bytes: &[u8], tokens: usize) -> &[u8]
     ensures { result.now ≡ take (if nat_le tokens 28 then 4096 else 1) bytes.now }
@@ -485,7 +507,7 @@ fn first_bytes(bytes: &[u8], tokens: usize) -> &[u8]
     &bytes[..count]
 }
 
-/// The link's answer to a write; `None` where there was too little room behind what waits.
+/// What a write to the outgoing buffer means for the link; `None` if there was too little room after what waits.
 fn write_answer(written: Result<(), MessageWriteError>) -> Option<Result<(), IoFault>>
     ensures { MatchOption result (written ≡ Err MessageWriteError.BufferTooSmall)
         (λ answer. (written ≢ Err MessageWriteError.BufferTooSmall) × (answer ≡ write_answer_of written)) }
@@ -498,7 +520,7 @@ fn write_answer(written: Result<(), MessageWriteError>) -> Option<Result<(), IoF
     }
 }
 
-/// A receive of no bytes is the end of the stream.
+/// What a receive means for the link: no bytes are the end of the stream, `Pipe`.
 fn answer_of(received: Result<usize, IoFault>) -> Result<(), IoFault>
     ensures { result ≡ counted_answer received }
 {

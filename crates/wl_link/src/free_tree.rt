@@ -1,4 +1,7 @@
 //! The free places of a range, as a tree of words.
+//!
+//! A *place* is the position of a number in its range, counted from 0. A place is free if no object has its number. A
+//! *word* has 64 bits.
 
 ghost use Rattle.std.specs.Prelude.{◌≡◌, ◌≢◌, ◌+◌, ◌<◌, ◌≤◌, ℕ, Bool, true, false, [], ◌∷◌, ◌++◌, length, Vec, vec_len, OnErr, OnOk, IfOk};
 ghost use Rattle.std.specs.Int.{bit_at};
@@ -6,18 +9,19 @@ ghost use Rattle.wl_link.specs.Inside.FreeTree.{word, as_bit, has_room, is_ready
 
 use std::alloc::{AllocError, Global};
 
-/// Which places are free, so that the least is found by reading one word on each level.
+/// Which places are free. The least free place is found by reading one word on each level.
 ///
-/// The lowest level has a bit for each place, set where the place is free. Each level above has a bit for each word
-/// below, set where that word is not 0. The highest is one word.
+/// The lowest level has a bit for each place, which is set if the place is free. Each level above has a bit for each word
+/// of the level below, which is set if that word is not 0. The highest level is one word.
 #[derive(Drop)]
 pub(crate) struct FreeTree {
-    /// The words of each level, from the lowest up. A level of no words may stand above: the next one, with room.
+    /// The words of each level, from the lowest up. There may be one more level without words: it has the capacity for the
+    /// first word of the next level.
     levels: Vec<Vec<u64>>,
 }
 
 impl FreeTree {
-    /// No places. It takes no memory.
+    /// A tree without places. It allocates nothing.
     pub(crate) fn new(alloc: Global) -> Self
         ensures { result.levels.items ≡ [] }
     {
@@ -26,7 +30,7 @@ impl FreeTree {
         }
     }
 
-    /// The least free place. The words that are read for it are counted.
+    /// The least free place; `None` if none is free. The words that it reads are added to `reads`.
     pub(crate) fn least(&self, reads: &mut u32) -> Option<usize>
         requires few { reads.old + height (words_of self.now.levels.items) < 4294967296 }
         requires tree { IsSomeTree (words_of self.now.levels.items) }
@@ -41,7 +45,7 @@ impl FreeTree {
         }
     }
 
-    /// Says of a place whether it is free.
+    /// Sets whether the place is free.
     pub(crate) fn mark(&mut self, at: usize, is_free: bool)
         requires tree { HasFlag at (words_of self.old.levels.items) }
         ensures tree { ChangesFlag at is_free (words_of self.old.levels.items) (words_of self.new.levels.items) }
@@ -50,7 +54,7 @@ impl FreeTree {
         mark(&mut self.levels, at, is_free);
     }
 
-    /// Adds the place behind the last, which is not free. It takes no memory.
+    /// Adds the next place, which is not free. It allocates nothing.
     pub(crate) fn push(&mut self, at: usize)
         requires tree { (flag : ℕ → Bool) × IsTree flag at (words_of self.old.levels.items) }
         requires ready { is_ready self.old.levels.items ≡ true }
@@ -59,7 +63,7 @@ impl FreeTree {
         push(&mut self.levels, at);
     }
 
-    /// Makes room, so that the next place can be added.
+    /// Reserves the capacity for one more place. The error says that there was no memory.
     pub(crate) fn reserve(&mut self) -> Result<(), AllocError>
         ensures tree { KeepsFlags (words_of self.old.levels.items) (words_of self.new.levels.items) }
         ensures ok { OnOk result (is_ready self.new.levels.items ≡ true) }
@@ -71,7 +75,7 @@ impl FreeTree {
     }
 }
 
-/// Reads a word for a search, and counts it. Each word that a search reads is read here.
+/// Reads a word for a search, and counts it. All words that a search reads are read here.
 fn read(words: &[u64], at: usize, reads: &mut u32) -> u64
     requires within { at < length words.now }
     requires few { reads.old + 1 < 4294967296 }
@@ -82,7 +86,7 @@ fn read(words: &[u64], at: usize, reads: &mut u32) -> u64
     words[at]
 }
 
-/// The number of the lowest bit that is set in this word of a level, if one is.
+/// The number of the lowest bit that is set in this word of a level; `None` if none is set.
 fn lowest(words: &[u64], at: usize, reads: &mut u32) -> Option<usize>
     requires within { at < length words.now }
     requires small { length words.now ≤ 67108864 }
@@ -98,7 +102,8 @@ fn lowest(words: &[u64], at: usize, reads: &mut u32) -> Option<usize>
     }
 }
 
-/// The number of the least bit that is set on the lowest level: the level above says in which word it stands.
+/// The number of the lowest bit that is set on the lowest level; `None` if none is set. The level above says in which word
+/// it is.
 fn least(levels: &[Vec<u64>], reads: &mut u32) -> Option<usize>
     requires few { reads.old + height (words_of levels.now) < 4294967296 }
     requires tree { IsSomeTree (words_of levels.now) }
@@ -135,7 +140,8 @@ fn with_bit(word: u64, at: usize, is_set: bool) -> u64
     }
 }
 
-/// Sets or clears a bit of the lowest level, and on each level above the bit of the word that changed below.
+/// Sets or clears a bit of the lowest level. On each level above it does the same with the bit of the word that changed
+/// below.
 fn mark(levels: &mut [Vec<u64>], at: usize, is_set: bool)
     requires tree { HasFlag at (words_of levels.old) }
     ensures tree { ChangesFlag at is_set (words_of levels.old) (words_of levels.new) }
@@ -151,7 +157,7 @@ fn mark(levels: &mut [Vec<u64>], at: usize, is_set: bool)
     }
 }
 
-/// Adds a word where there is room.
+/// Appends a word. There is capacity for it.
 fn push_word(words: &mut Vec<u64>, word: u64)
     requires { has_room words.old ≡ true }
     ensures items { words.new.items ≡ words.old.items ++ word ∷ [] }
@@ -163,7 +169,7 @@ fn push_word(words: &mut Vec<u64>, word: u64)
     }
 }
 
-/// Begins a level by its first word, of which only the first bit may be set.
+/// Gives a level its first word, in which only the first bit may be set.
 fn push_first(levels: &mut [Vec<u64>], is_set: bool)
     requires { is_ready levels.old ≡ true }
     ensures words { words_of levels.new ≡ with_first is_set (words_of levels.old) }
@@ -174,9 +180,10 @@ fn push_first(levels: &mut [Vec<u64>], is_set: bool)
     }
 }
 
-/// Adds a bit that is not set behind the bits of the lowest level.
+/// Appends a bit to the lowest level. It is not set.
 ///
-/// Where it begins a word, that word has a bit on the level above, which begins with the second word.
+/// If it begins a word, the level above needs a bit for that word. A level has bits only once the level below has two
+/// words.
 fn push(levels: &mut [Vec<u64>], count: usize)
     requires tree { (flag : ℕ → Bool) × IsTree flag count (words_of levels.old) }
     requires ready { is_ready levels.old ≡ true }
@@ -197,7 +204,8 @@ fn push(levels: &mut [Vec<u64>], count: usize)
     }
 }
 
-/// Makes room for a word on each level up to the first that has none, and answers whether there is such a level.
+/// Reserves the capacity for one more word on each level, up to and with the first level without words. Returns whether
+/// there is such a level.
 fn reserve_levels(levels: &mut [Vec<u64>]) -> Result<bool, AllocError>
     ensures words { words_of levels.new ≡ words_of levels.old }
     ensures len { length levels.new ≡ length levels.old }
@@ -215,7 +223,7 @@ fn reserve_levels(levels: &mut [Vec<u64>]) -> Result<bool, AllocError>
     Ok(false)
 }
 
-/// Makes room for a word on each level, and for the first word of a level above them.
+/// Reserves the capacity for one more word on each level, and for the first word of a level above them.
 fn reserve(levels: &mut Vec<Vec<u64>>, alloc: Global) -> Result<(), AllocError>
     ensures tree { KeepsFlags (words_of levels.old.items) (words_of levels.new.items) }
     ensures ok { OnOk result (is_ready levels.new.items ≡ true) }

@@ -1,4 +1,4 @@
-//! What follows from the definitions alone. Each function has a law as its contract, and does nothing.
+//! What follows from the definitions alone. Each function does nothing; its contract states a law.
 
 pub mod calls;
 pub mod ids;

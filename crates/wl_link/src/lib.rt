@@ -1,7 +1,8 @@
-//! The link to a peer and the objects of a session: transport, buffers, and objects by number.
+//! A buffered connection to a peer, and the objects of a session by number.
 //!
-//! A [`BufferedSocket`] puts messages and sends them over a [`Transport`], receives and reads. An [`ObjectMap`] keeps the
-//! objects of a session. The page of this crate, `README.md`, has an example.
+//! A [`BufferedSocket`] is a *link*: it keeps what waits to be sent and what was received, writes and reads messages, and
+//! sends and receives over a [`Transport`]. An [`ObjectMap`] keeps the objects of a session. A *token* is a number that
+//! stands for a file descriptor. The page of this crate, `README.md`, has an example.
 //!
 //! | Calls | Code | Definitions, in `specs/` |
 //! |---|---|---|
@@ -9,9 +10,10 @@
 //! | of a `Transport`, and of `Memory`, the transport by script | `transport`, `memory` | `Exchange`, `Script` |
 //! | of an `ObjectMap`, and of `AllObjects`, the walk over it | `object_map`, `all_objects` | `Store`, `ObjectMap` |
 //!
-//! What follows from the definitions alone is the contract of the functions of [`laws`], which name their statements: of
-//! calls `Kept` (nothing is lost), `Outcome` (there is one outcome) and `Sides` (messages come back), of readers `Reader`,
-//! `Served`, `Respect`, `Total` and `Stretch`, of runs `Runs`, of ids `Identity`.
+//! The functions of [`laws`] do nothing. Their contracts state what follows from the definitions alone. The statements are
+//! in these files of `specs/`: for calls `Kept` (nothing is lost), `Outcome` (there is one outcome) and `Sides` (messages
+//! come back); for readers `Reader`, `Served`, `Respect`, `Total` and `Stretch`; for runs `Runs`; for ids `Identity` and
+//! `Named`.
 #![tactic(auto)]
 
 mod all_objects;

@@ -1,19 +1,19 @@
-//! How far the storages may grow.
+//! How far the buffers of a link may grow.
 
 ghost use Rattle.std.specs.Prelude.{◌≡◌, ◌≢◌, ◌↔◌, ◌<◌, ◌≤◌, IsTrue, IfSome, MatchOption};
 ghost use Rattle.wl_link.specs.Link.{AreLimits, IsLimit, Grows, Wants, incoming_limit};
 
-/// The limit of the storages that a connection has where nothing else is asked for. It is the least limit, and the size
-/// that the storages of a new link have.
+/// 4096: the least limit of a link's buffers, and their capacity in a new link, in bytes. A server uses it as the limit of
+/// its clients' links, unless the program asks for another.
 pub const DEFAULT_MAX_BUFFER_SIZE: usize = 4096;
 
-/// The greatest size of the incoming storage, where no limit asks for a smaller one.
+/// 65536: the greatest capacity in bytes of the incoming buffer. A limit may ask for less.
 pub const INCOMING_LIMIT: usize = 65536;
 
-/// The greatest power of two of 64 bits.
+/// The greatest power of two in 64 bits.
 const GREATEST_POWER_OF_TWO: usize = 1 << 63;
 
-/// The limit that is kept where this one is asked for.
+/// The limit that is kept if this one is asked for.
 pub(crate) fn rounded(limit: Option<usize>) -> Option<usize>
     ensures { AreLimits limit result }
 {
@@ -23,8 +23,8 @@ pub(crate) fn rounded(limit: Option<usize>) -> Option<usize>
     }
 }
 
-/// The least power of two that is not below the number and not below 4096; the greatest number where the
-/// number is above each power of two.
+/// The least power of two that is at least `asked` and at least 4096. If there is none in 64 bits, it is the greatest
+/// `usize`.
 fn rounded_up(asked: usize) -> usize
     ensures { IsLimit asked result }
 {
@@ -34,7 +34,7 @@ fn rounded_up(asked: usize) -> usize
     asked.max(DEFAULT_MAX_BUFFER_SIZE).next_power_of_two()
 }
 
-/// How far the incoming storage may grow under that limit.
+/// The greatest capacity of the incoming buffer under that limit, in bytes.
 pub(crate) fn incoming_limit(limit: Option<usize>) -> usize
     ensures { result ≡ incoming_limit limit }
 {
@@ -44,7 +44,7 @@ pub(crate) fn incoming_limit(limit: Option<usize>) -> usize
     }
 }
 
-/// Whether a storage of that size has too little room, and may be doubled.
+/// Whether a buffer of capacity `size` is too small for `needed` bytes, and the limit allows doubling it.
 fn wants_more(limit: Option<usize>, needed: usize, size: usize) -> bool
     ensures { IsTrue result ↔ Wants limit needed size }
 {
@@ -54,7 +54,8 @@ fn wants_more(limit: Option<usize>, needed: usize, size: usize) -> bool
     }
 }
 
-/// What a storage of that size grows to so that it has room; `None` where that is more than a number can say.
+/// The capacity to which a buffer of capacity `size` grows if it needs `needed` bytes. It is doubled until that fits, or
+/// until the limit is reached. `None` if the capacity would not fit into a `usize`.
 pub(crate) fn grown_size(limit: Option<usize>, needed: usize, size: usize) -> Option<usize>
     requires { 0 < size }
     ensures grown { MatchOption result (Wants limit needed size) (λ n. Grows limit needed size n) }

@@ -1,4 +1,4 @@
-//! A transport by script, for programs and tests that have no other.
+//! A transport whose answers are given beforehand, as a *script*, for programs and tests that have no other transport.
 
 ghost use Rattle.std.specs.Prelude.{◌≡◌, ◌<◌, ◌≤◌, ◌+◌, ◌++◌, ◌∷◌, [], ◌↔◌, length, drop, map, Ok, Err, IfOk, OnOk, OnErr};
 ghost use Rattle.wl_link.specs.Script.{parcel, count_taken};
@@ -12,10 +12,10 @@ use std::mem;
 use thiserror::Error;
 use wl_wire::{IoFault, OutOfMemory, Token};
 
-/// Why an arrival was not put into a script.
+/// Why an arrival was not added to a script.
 #[derive(Clone, Copy, Debug, PartialEq, Eq, Error)]
 pub enum ArriveError {
-    /// The chunk has more than 28 tokens.
+    /// There are more than 28 tokens with the bytes.
     #[error("more than 28 tokens in one chunk")]
     TooManyTokens,
     /// There was no memory for the arrival.
@@ -23,11 +23,17 @@ pub enum ArriveError {
     OutOfMemory,
 }
 
-/// A transport whose answers were written down beforehand.
+/// The transport by script: its answers are given beforehand.
 ///
-/// A receive takes the first arrival, and a send uses up the first send answer. A chunk gives the bytes that fit
-/// with all its tokens, and stays first with the rest of its bytes. Where no arrival is left a receive answers
-/// `WouldBlock`, and where no send answer is left a send takes all that it is offered.
+/// A script has two queues. Each *arrival* is a chunk of bytes with tokens, or a fault, which a receive will give. Each
+/// *send answer* is a count of bytes, or a fault, which a send will give. A third list records what was sent.
+///
+/// - A receive of a chunk gives as many of its bytes as fit into the buffer, with all its tokens. The other bytes stay
+///   first in the queue. If no arrival is left, a receive returns `WouldBlock`. If the buffer has no bytes, it returns 0
+///   and changes nothing.
+/// - A send uses up the first send answer. If none is left, it takes all that it is offered.
+/// - If there is no memory for the tokens of a receive, or for the record of a send, the call returns `OutOfMemory` and
+///   changes nothing.
 #[derive(Drop)]
 pub struct Memory {
     arrivals: VecDeque<Result<Parcel, IoFault>>,
@@ -45,7 +51,7 @@ impl Model for Memory {
 }
 
 impl Memory {
-    /// A transport with an empty script. It takes no memory.
+    /// A transport with an empty script. It allocates nothing.
     pub fn new(alloc: Global) -> Self
         ensures { result ≡ record { arrivals = []; answers = []; sent = [] } }
     {
@@ -56,8 +62,10 @@ impl Memory {
         }
     }
 
-    /// Puts a chunk behind the arrivals. It is refused where it has more than 28 tokens, or where there is no memory;
-    /// the script then stays as it was.
+    /// Appends a chunk to the arrivals.
+    ///
+    /// The error is `TooManyTokens` if there are more than 28 tokens, and else `OutOfMemory`. After an error the script is
+    /// as it was, and the chunk is dropped.
     pub fn arrive(&mut self, bytes: Vec<u8>, tokens: Vec<Token>) -> Result<(), ArriveError>
         ensures ok { OnOk result (self.new ≡ record self.old {
           arrivals = self.old.arrivals ++ Ok (record { bytes = bytes.items; tokens = tokens.items }) ∷ [];
@@ -74,7 +82,9 @@ impl Memory {
         }
     }
 
-    /// Puts a fault behind the arrivals. Where there is no memory, the script stays as it was.
+    /// Appends a fault to the arrivals: a receive will return it.
+    ///
+    /// The error is `OutOfMemory`. After it the script is as it was.
     pub fn arrive_fault(&mut self, fault: IoFault) -> Result<(), OutOfMemory>
         ensures ok { OnOk result (self.new ≡ record self.old { arrivals = self.old.arrivals ++ Err fault ∷ [] }) }
         ensures err { OnErr result (self.new ≡ self.old) }
@@ -83,8 +93,9 @@ impl Memory {
         Ok(())
     }
 
-    /// Puts a count behind the send answers: the send takes that many bytes, or all where fewer are offered. Where
-    /// there is no memory, the script stays as it was.
+    /// Appends a count to the send answers: a send will take that many bytes, or all if it is offered fewer.
+    ///
+    /// The error is `OutOfMemory`. After it the script is as it was.
     pub fn accept(&mut self, count: usize) -> Result<(), OutOfMemory>
         ensures ok { OnOk result (self.new ≡ record self.old { answers = self.old.answers ++ Ok count ∷ [] }) }
         ensures err { OnErr result (self.new ≡ self.old) }
@@ -93,7 +104,9 @@ impl Memory {
         Ok(())
     }
 
-    /// Puts a fault behind the send answers. Where there is no memory, the script stays as it was.
+    /// Appends a fault to the send answers: a send will return it.
+    ///
+    /// The error is `OutOfMemory`. After it the script is as it was.
     pub fn accept_fault(&mut self, fault: IoFault) -> Result<(), OutOfMemory>
         ensures ok { OnOk result (self.new ≡ record self.old { answers = self.old.answers ++ Err fault ∷ [] }) }
         ensures err { OnErr result (self.new ≡ self.old) }
@@ -102,21 +115,21 @@ impl Memory {
         Ok(())
     }
 
-    /// How many arrivals are left, a chunk of which a part was received among them.
+    /// How many arrivals are left. A chunk of which only a part was received counts as one.
     pub fn arrivals_left(&self) -> usize
         ensures { result ≡ length self.now.arrivals }
     {
         self.arrivals.len()
     }
 
-    /// What was taken from each send that took something, the oldest first.
+    /// What was sent: the bytes and tokens of each send that took something, the oldest first.
     pub fn sent(&self) -> &[(Vec<u8>, Vec<Token>)]
         ensures { map parcel result.now ≡ self.now.sent }
     {
         self.sent.as_slice()
     }
 
-    /// The record of what was taken, which is empty from then on. It takes no memory.
+    /// Takes the record of what was sent, and leaves an empty one. It allocates nothing.
     pub fn take_sent(&mut self) -> Vec<(Vec<u8>, Vec<Token>)>
         ensures taken { map parcel result.items ≡ self.old.sent }
         ensures rest { self.new ≡ record self.old { sent = [] } }
@@ -125,7 +138,7 @@ impl Memory {
         mem::replace(&mut self.sent, Vec::new(alloc))
     }
 
-    /// How many of so many bytes the next send takes, or its fault.
+    /// How many bytes the next send takes of `offered` bytes. The error is the fault that the script gives it.
     fn next_count(&self, offered: usize) -> Result<usize, IoFault>
         ensures count { result ≡ count_taken self.now.answers offered }
         ensures within { IfOk result (λ n. n ≤ offered) }
@@ -137,7 +150,7 @@ impl Memory {
         }
     }
 
-    /// Records what a send took. Where there is no memory for it, nothing is recorded.
+    /// Records what a send took. If there is no memory for it, nothing is recorded.
     fn record(&mut self, bytes: &[u8], tokens: &[Token]) -> Result<(), OutOfMemory>
         ensures ok { OnOk result (self.new ≡ record self.old {
           sent = self.old.sent ++ record { bytes = bytes.now; tokens = tokens.now } ∷ [];

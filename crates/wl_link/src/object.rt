@@ -1,14 +1,14 @@
-//! The objects of a session.
+//! An object of a session.
 
 use wl_wire::InterfaceId;
 
 /// An object, without its number.
 #[derive(Drop)]
 pub struct Object<Data> {
-    /// The interface.
+    /// The interface of the object.
     pub interface: InterfaceId,
-    /// The version of the interface.
+    /// The version at which the object was made.
     pub version: u32,
-    /// What the session keeps of it beside that.
+    /// What else the session keeps of the object.
     pub value: Data,
 }

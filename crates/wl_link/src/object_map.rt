@@ -17,7 +17,7 @@ use std::marker::Model;
 use thiserror::Error;
 use wl_wire::OutOfMemory;
 
-/// The first number of the objects that a server makes; those of a client have the numbers from 1 on below it.
+/// The first number of the objects that the server makes. The numbers of the client's objects are below it, from 1 on.
 pub const SERVER_ID_LIMIT: u32 = 0xFF00_0000;
 
 /// How many numbers the client's range has.
@@ -29,10 +29,10 @@ const SERVER_PLACES: usize = 0x0100_0000;
 /// Why an object was not put at a given number.
 #[derive(Clone, Copy, Debug, PartialEq, Eq, Error)]
 pub enum InsertError {
-    /// The number is 0, holds an object, or lies past the first unused number of its range.
+    /// The number is 0, or it holds an object, or it is above the first unused number of its range.
     #[error("the number is not free")]
     NotFree,
-    /// There was no memory.
+    /// There was no memory for the object.
     #[error("out of memory")]
     OutOfMemory,
 }
@@ -43,27 +43,27 @@ pub enum NewError {
     /// Each number of the range holds an object.
     #[error("no number is left")]
     IdsExhausted,
-    /// There was no memory.
+    /// There was no memory for the object.
     #[error("out of memory")]
     OutOfMemory,
 }
 
-/// The objects of a session, by number: 1 to 0xFEFFFFFF for those that the client makes, 0xFF000000 to 0xFFFFFFFF
-/// for those that the server makes.
+/// The objects of a session, by number. The *client's range* is 1 to 0xFEFFFFFF, for the objects that the client makes. The
+/// *server's range* is 0xFF000000 to 0xFFFFFFFF, for those that the server makes.
 ///
-/// A new object gets the least number of its range that holds none. That is looked up in a tree of words, in a time
-/// that does not grow with the objects but for one word more each time that they are 64 times as many. This was
-/// measured by a program of its own that puts objects at 1 to `live` and then goes through so many rounds of
+/// A new object gets the least number of its range that holds no object. It is looked up in a tree of words. The search
+/// reads one word more each time that there are 64 times as many objects; apart from that its time does not grow with them.
+/// This was measured by a separate program, which puts objects at 1 to `live` and then repeats these two calls:
 ///
 /// ```text
 /// let _ = map.remove(live);
 /// map.client_insert_new(object)?;
 /// ```
 ///
-/// The instructions that `valgrind --tool=callgrind` collects of the built program with 110,000 rounds, less those with
-/// 10,000, are those of 100,000 rounds: 91 a round with 10 objects, 169 with 100 and with 1000, 229 with 10,000 and
-/// with 100,000. By the clock, with much other work on the machine, a round took 12 ns with 10 objects and 38 ns with
-/// 100,000.
+/// The instructions of the built program were counted with `valgrind --tool=callgrind`. Those of a run with 110,000 rounds,
+/// less those of a run with 10,000, are those of 100,000 rounds: 91 a round with 10 objects, 169 with 100 and with 1000,
+/// 229 with 10,000 and with 100,000. By the clock, with much other work on the machine, a round took 12 ns with 10 objects
+/// and 38 ns with 100,000.
 #[derive(Drop)]
 pub struct ObjectMap<Data> {
     clients: Places<Data>,
@@ -90,17 +90,17 @@ impl<Data> Model for ObjectMap<Data> {
     ghost invariant = { λ m. Whole m.clients.slots.items m.servers.slots.items m.clients.free.levels.items m.servers.free.levels.items };
 }
 
-/// Where the object of a number is kept.
+/// Where the object with a number is kept.
 enum Place {
-    /// 0 is no object's number.
+    /// Nowhere: the number is 0, which no object has.
     Nowhere,
-    /// The place in the client's range.
+    /// At this place of the client's range, counted from 0.
     Client(usize),
-    /// The place in the server's range.
+    /// At this place of the server's range, counted from 0.
     Server(usize),
 }
 
-/// Where the object of this number is kept.
+/// Where the object with this number is kept.
 fn place_of(number: u32) -> Place
     ensures { IsPlaceOf number result }
 {
@@ -114,7 +114,7 @@ fn place_of(number: u32) -> Place
 }
 
 impl<Data: Drop> ObjectMap<Data> {
-    /// A map without objects. It takes no memory.
+    /// A map without objects. It allocates nothing.
     pub fn new(alloc: Global) -> Self
         ensures store { result.store ≡ empty_store }
         ensures no_words { result.words_read ≡ 0 }
@@ -127,7 +127,7 @@ impl<Data: Drop> ObjectMap<Data> {
         }
     }
 
-    /// The object of this number. It takes no memory.
+    /// The object with this number; `None` if there is none. It allocates nothing.
     pub fn find(&self, number: u32) -> Option<&Object<Data>>
         ensures found { option_copied result ≡ held self.now.store number }
         ensures used { IsSome result → number < first_unused self.now.store number }
@@ -139,7 +139,8 @@ impl<Data: Drop> ObjectMap<Data> {
         }
     }
 
-    /// Takes the object of this number out. It takes no memory, and its number can be given to another object.
+    /// Takes the object with this number out of the map; `None` if there is none. It allocates nothing. The number may be
+    /// given to another object.
     pub fn remove(&mut self, number: u32) -> Option<Object<Data>>
         ensures found { result ≡ held self.old.store number }
         ensures removed { self.new.store ≡ removed self.old.store number }
@@ -155,8 +156,8 @@ impl<Data: Drop> ObjectMap<Data> {
 
     /// Puts an object at this number.
     ///
-    /// The number must be free: not 0, without an object, and below the first unused number of its range or equal to
-    /// it; else the answer is `NotFree`. A refusal changes nothing.
+    /// The error is `NotFree` if the number is 0, or holds an object, or is above the first unused number of its range, and
+    /// else `OutOfMemory`. An error changes nothing.
     pub fn insert_at(&mut self, number: u32, object: Object<Data>) -> Result<(), InsertError>
         ensures inserts { InsertsAt self.old.store number object result self.new.store }
         ensures reserved { result ≡ Err insert.OutOfMemory → self.old.reserved ≡ false }
@@ -170,8 +171,10 @@ impl<Data: Drop> ObjectMap<Data> {
         }
     }
 
-    /// Puts a new object of the client at the least number of the client's range that holds none, and answers that
-    /// number; `IdsExhausted` where each holds one. A refusal changes nothing.
+    /// Puts a new object at the least number of the client's range that holds no object. Returns that number.
+    ///
+    /// The error is `IdsExhausted` if each number of the range holds an object, and else `OutOfMemory`. An error changes
+    /// nothing.
     pub fn client_insert_new(&mut self, object: Object<Data>) -> Result<u32, NewError>
         ensures inserts { InsertsNew client_range self.old.store object result self.new.store }
         ensures reserved { result ≡ Err new.OutOfMemory → self.old.reserved ≡ false }
@@ -183,8 +186,10 @@ impl<Data: Drop> ObjectMap<Data> {
             .insert_new(1, CLIENT_PLACES, object, &mut self.words_read)
     }
 
-    /// Puts a new object of the server at the least number of the server's range that holds none, and answers that
-    /// number; `IdsExhausted` where each holds one. A refusal changes nothing.
+    /// Puts a new object at the least number of the server's range that holds no object. Returns that number.
+    ///
+    /// The error is `IdsExhausted` if each number of the range holds an object, and else `OutOfMemory`. An error changes
+    /// nothing.
     pub fn server_insert_new(&mut self, object: Object<Data>) -> Result<u32, NewError>
         ensures inserts { InsertsNew server_range self.old.store object result self.new.store }
         ensures reserved { result ≡ Err new.OutOfMemory → self.old.reserved ≡ false }
@@ -195,8 +200,10 @@ impl<Data: Drop> ObjectMap<Data> {
         self.servers.insert_new(SERVER_ID_LIMIT, SERVER_PLACES, object, &mut self.words_read)
     }
 
-    /// The number that `client_insert_new` would give, or none where each number of its range holds an object. It
-    /// takes no memory. `insert_at` takes the number, and then none is searched for again.
+    /// The number that `client_insert_new` would give; `None` if each number of the client's range holds an object. It
+    /// allocates nothing.
+    ///
+    /// `insert_at` accepts this number. So the search is made once.
     pub fn next_client(&mut self) -> Option<u32>
         ensures next { NextNew client_range self.old.store result }
         ensures given { InsertionsGive client_range self.old.store result }
@@ -214,15 +221,19 @@ impl<Data: Drop> ObjectMap<Data> {
         }
     }
 
-    /// How many words of the tree of free numbers the last call of `client_insert_new`, `server_insert_new` or `next_client` read
-    /// to find its number; 0 before the first.
+    /// How many words of the tree the last search for a number read; 0 before the first search.
+    ///
+    /// The searches are those of `client_insert_new`, `server_insert_new` and `next_client`. One reads at most 6 words in
+    /// the client's range, and 4 in the server's.
     pub fn words_read(&self) -> u32
         ensures { result ≡ self.now.words_read }
     {
         self.words_read
     }
 
-    /// Makes room, so that the next insertion takes no memory.
+    /// Reserves the capacity for one more object in each range, so that the next insertion takes no memory.
+    ///
+    /// The error is `OutOfMemory`. The objects stay as they are.
     pub fn reserve(&mut self) -> Result<(), OutOfMemory>
         ensures ok { OnOk result (self.new.reserved ≡ true) }
         ensures err { OnErr result (self.old.reserved ≡ false) }
@@ -233,8 +244,10 @@ impl<Data: Drop> ObjectMap<Data> {
         self.servers.reserve()
     }
 
-    /// Lends the object of this number for writing: `f` is called with it once, and its answer is given. Where the
-    /// number holds no object, `f` is not called. It takes no memory beside what `f` takes.
+    /// Calls `f` once with the object of this number, which it may change. Returns what `f` returns.
+    ///
+    /// If the number holds no object, `f` is not called and the answer is `None`. It takes no memory, apart from what `f`
+    /// takes.
     pub fn with<R, F: FnOnce(&mut Object<Data>) -> R>(&mut self, number: u32, f: F) -> Option<R>
         requires { F.IsAlwaysCallable f }
         ensures called { Lends (FnOnceReturnsAtMut F.FnOnce f) self.old.store number result self.new.store }
@@ -248,8 +261,8 @@ impl<Data: Drop> ObjectMap<Data> {
         }
     }
 
-    /// The objects with their numbers, by ascending number: the client's range first, then the server's. Neither this
-    /// nor the walk takes memory.
+    /// The objects, each with its number. The numbers ascend: first those of the client's range, then the server's. Neither
+    /// this call nor the walk allocates.
     pub fn all_objects(&self) -> AllObjects<'_, Data>
         ensures objects { result ≡ map.entries self.now.store.objects }
         ensures walk { IsWalk self.now.store result }

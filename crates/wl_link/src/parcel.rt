@@ -1,4 +1,4 @@
-//! A chunk of bytes, with tokens, that is to arrive at a transport by script.
+//! A chunk of bytes, with tokens, that will arrive at a transport by script.
 
 ghost use Rattle.std.specs.Prelude.{◌≡◌, ◌≢◌, ◌≤◌, ◌<◌, ◌+◌, ◌-◌, ◌++◌, ◌==◌, [], IsOk, IfOk, MatchResult, length, take, drop, min};
 ghost use Rattle.std.specs.Vec.{vec_len};
@@ -9,11 +9,11 @@ use std::collections::VecDeque;
 use std::marker::Model;
 use wl_wire::Token;
 
-/// Bytes and at most 28 tokens, of which the bytes leave in pieces.
+/// Bytes, and at most 28 tokens. The bytes are given out in pieces, and the tokens with the first piece.
 #[derive(Drop)]
 pub struct Parcel {
     bytes: Vec<u8>,
-    /// How many of the bytes have left.
+    /// How many of the bytes were given out.
     start: usize,
     tokens: Vec<Token>,
 }
@@ -31,7 +31,7 @@ impl Model for Parcel {
 }
 
 impl Parcel {
-    /// These bytes and tokens. It takes no memory.
+    /// A parcel of these bytes and tokens. It allocates nothing.
     pub fn new(bytes: Vec<u8>, tokens: Vec<Token>) -> Self
         requires { vec_len tokens ≤ 28 }
         ensures { result ≡ record { bytes = bytes.items; tokens = tokens.items } }
@@ -50,8 +50,10 @@ impl Parcel {
         self.bytes[self.start..].is_empty()
     }
 
-    /// Puts the first bytes that fit into the front of the buffer, and all tokens behind those in the queue. Answers
-    /// how many bytes these are. Where there is no memory for the tokens, nothing is changed.
+    /// Moves as many of the bytes as fit to the front of the buffer, and appends all the tokens to the queue. Returns how
+    /// many bytes it moved.
+    ///
+    /// If there is no memory for the tokens, nothing is changed.
     pub fn give(
         &mut self,
         buffer: &mut [u8],
@@ -77,7 +79,7 @@ impl Parcel {
     }
 }
 
-/// Puts the tokens behind those in the queue. Where there is no memory for them, the queue stays as it was.
+/// Appends the tokens to the queue. If there is no memory for them, the queue is as it was.
 fn append(to: &mut VecDeque<Token>, tokens: &[Token]) -> Result<(), AllocError>
     ensures items { MatchResult result (λ _. to.new.items ≡ to.old.items ++ tokens.now)
         (λ _. (to.new.items ≡ to.old.items) × (tokens.now ≢ [])) }

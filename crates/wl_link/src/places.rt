@@ -1,4 +1,6 @@
-//! The objects of one range of numbers, each at the place that its number has in the range.
+//! The objects of one range of numbers.
+//!
+//! A *place* is the position of a number in its range, counted from 0.
 
 ghost use Rattle.std.specs.Prelude.{◌≡◌, ◌+◌, ◌<◌, ◌≤◌, [], length, true, false, None, Some, Err, OnOk, OnErr, IsSome, option_copied};
 ghost use Rattle.std.specs.Fn.{FnOnceReturnsAtMut};
@@ -13,7 +15,7 @@ use crate::object_map::{InsertError, NewError};
 use std::alloc::Global;
 use wl_wire::OutOfMemory;
 
-/// A place for each number of a range that was ever in use, from the range's first number on.
+/// A place for each number of a range that was ever in use, from the first number of the range on.
 #[derive(Drop)]
 pub(crate) struct Places<Data> {
     slots: Vec<Option<Object<Data>>>,
@@ -21,7 +23,7 @@ pub(crate) struct Places<Data> {
 }
 
 impl<Data: Drop> Places<Data> {
-    /// No place. It takes no memory.
+    /// No places. It allocates nothing.
     pub(crate) fn new(alloc: Global) -> Self
         ensures slots { result.slots.items ≡ [] }
         ensures free { ShowsFree result.slots.items result.free.levels.items }
@@ -32,7 +34,7 @@ impl<Data: Drop> Places<Data> {
         }
     }
 
-    /// The object at this place.
+    /// The object at this place; `None` if there is none.
     pub(crate) fn find(&self, at: usize) -> Option<&Object<Data>>
         ensures found { option_copied result ≡ place self.now.slots.items at }
         ensures within { IsSome result → at < length self.now.slots.items }
@@ -43,8 +45,8 @@ impl<Data: Drop> Places<Data> {
         }
     }
 
-    /// The first place without an object, which may be the one after the last, and in `words_read` how many words were
-    /// read to find it.
+    /// The first place without an object, which may be the one after the last. `words_read` becomes the number of words
+    /// that the search read.
     pub(crate) fn first_free(&self, words_read: &mut u32) -> usize
         requires { ShowsFree self.now.slots.items self.now.free.levels.items }
         ensures first { IsFirstFree self.now.slots.items result }
@@ -58,7 +60,7 @@ impl<Data: Drop> Places<Data> {
         }
     }
 
-    /// Takes the object at this place out.
+    /// Takes the object at this place out; `None` if there is none.
     pub(crate) fn remove(&mut self, at: usize) -> Option<Object<Data>>
         requires { ShowsFree self.old.slots.items self.old.free.levels.items }
         ensures free { ShowsFree self.new.slots.items self.new.free.levels.items }
@@ -76,7 +78,7 @@ impl<Data: Drop> Places<Data> {
         }
     }
 
-    /// Puts the object at this place, which may be the one after the last.
+    /// Puts the object at this place, which may be the one after the last. After an error the objects are as they were.
     pub(crate) fn put(&mut self, at: usize, object: Object<Data>) -> Result<(), OutOfMemory>
         requires within { at ≤ length self.old.slots.items }
         requires fits { length self.old.slots.items + 1 < 4294967296 }
@@ -98,7 +100,7 @@ impl<Data: Drop> Places<Data> {
 
     /// Adds the place after the last, with the object.
     ///
-    /// It stands apart, so that a place that was in use before pays for none of it.
+    /// It is a function of its own, so that it costs nothing for a place that was in use before.
     #[inline(never)]
     fn append(&mut self, at: usize, object: Object<Data>) -> Result<(), OutOfMemory>
         requires last { at ≡ length self.old.slots.items }
@@ -116,8 +118,9 @@ impl<Data: Drop> Places<Data> {
         Ok(())
     }
 
-    /// Puts the object at this place if it is free: it holds nothing, and is one of the places or the one after the
-    /// last.
+    /// Puts the object at this place, if the place is free.
+    ///
+    /// A place is free if it has no object, and is not beyond the one after the last. Else the error is `NotFree`.
     pub(crate) fn insert_at(&mut self, at: usize, object: Object<Data>) -> Result<(), InsertError>
         requires fits { length self.old.slots.items + 1 < 4294967296 }
         requires free { ShowsFree self.old.slots.items self.old.free.levels.items }
@@ -135,8 +138,10 @@ impl<Data: Drop> Places<Data> {
         }
     }
 
-    /// Puts a new object at the first place without one, if that is below `end`, and answers its number, where the first
-    /// place has this number. How many words were read to find it is put into `words_read`.
+    /// Puts a new object at the first place without one. Returns its number, if `first` is the number of the first place.
+    ///
+    /// The error is `IdsExhausted` if that place is not below `end`, and else `OutOfMemory`. `words_read` becomes the
+    /// number of words that the search read.
     pub(crate) fn insert_new(
         &mut self,
         first: u32,
@@ -165,7 +170,8 @@ impl<Data: Drop> Places<Data> {
         }
     }
 
-    /// Lends the object at this place for writing.
+    /// Calls `f` with the object at this place, which it may change. Returns what `f` returns, and `None` if there is no
+    /// object.
     pub(crate) fn with<R, F: FnOnce(&mut Object<Data>) -> R>(
         &mut self,
         at: usize,
@@ -188,7 +194,7 @@ impl<Data: Drop> Places<Data> {
         }
     }
 
-    /// Makes room for one place more.
+    /// Reserves the capacity for one more place.
     pub(crate) fn reserve(&mut self) -> Result<(), OutOfMemory>
         requires { ShowsFree self.old.slots.items self.old.free.levels.items }
         ensures free { ShowsFree self.new.slots.items self.new.free.levels.items }
@@ -201,7 +207,7 @@ impl<Data: Drop> Places<Data> {
         Ok(())
     }
 
-    /// The objects with their numbers, where the first place has this number.
+    /// The objects, each with its number, if `first` is the number of the first place.
     pub(crate) fn objects(&self, first: u32) -> RangeObjects<'_, Data>
         requires { first + length self.now.slots.items ≤ 4294967296 }
         ensures { result ≡ entries_from first self.now.slots.items }

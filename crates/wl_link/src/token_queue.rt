@@ -1,4 +1,4 @@
-//! Tokens that wait to be sent.
+//! The tokens that wait to be sent. A *token* is a number that stands for a file descriptor.
 
 ghost use Rattle.std.specs.Prelude.{◌≡◌, ◌≢◌, ◌↔◌, ◌<◌, ◌≤◌, ◌++◌, [], Err, length, take, drop, IfOk, OnOk, OnErr};
 ghost use Rattle.wl_wire.specs.MapIds.{numbered};
@@ -8,8 +8,10 @@ use std::alloc::Global;
 use std::marker::Model;
 use wl_wire::{Message, MessageWriteError, Numbering, Token, write_numbered};
 
-/// Tokens that wait in their order. Taking some off the front moves the others only where those taken off before
-/// are as many as are left.
+/// A queue of tokens in a vector.
+///
+/// The tokens that are taken off the front stay in the vector at first. They are removed, and the others moved, once they
+/// are at least as many as the others.
 #[derive(Drop)]
 pub struct TokenQueue {
     tokens: Vec<Token>,
@@ -29,7 +31,7 @@ impl Model for TokenQueue {
 }
 
 impl TokenQueue {
-    /// No tokens. It takes no memory.
+    /// An empty queue. It allocates nothing.
     pub fn new(alloc: Global) -> Self
         ensures { result ≡ [] }
     {
@@ -46,7 +48,7 @@ impl TokenQueue {
         self.tokens.len() - self.start
     }
 
-    /// The first tokens, up to that many.
+    /// The first tokens: `most` of them, or all if fewer wait.
     pub fn first(&self, most: usize) -> &[Token]
         ensures { result.now ≡ take most self.now }
     {
@@ -54,7 +56,7 @@ impl TokenQueue {
         first_tokens(waiting, most)
     }
 
-    /// Takes the first tokens off, up to that many.
+    /// Takes the first tokens off: `most` of them, or all if fewer wait.
     pub fn drop_first(&mut self, most: usize)
         ensures { self.new ≡ drop most self.old }
     {
@@ -70,8 +72,10 @@ impl TokenQueue {
         }
     }
 
-    /// Writes the message at the front of the slice, with these numbers for its ids, and puts its tokens behind those
-    /// that wait. Answers how many bytes were written. A refusal changes nothing.
+    /// Writes the message at the front of the slice, with the numbers that `numbers` gives its ids, and appends its tokens
+    /// to the queue. Returns how many bytes were written.
+    ///
+    /// The errors are those of `write_to_buffers`. An error changes nothing.
     pub fn write<Id, N: Numbering<Id>>(
         &mut self,
         message: &Message<Id, Token>,
@@ -92,7 +96,7 @@ impl TokenQueue {
     }
 }
 
-/// The first tokens, up to that many.
+/// The first tokens: `most` of them, or all if there are fewer.
 #[tactic(auto, using(std::proofs::lemmas::List::take_min))]
 fn first_tokens(tokens: &[Token], most: usize) -> &[Token]
     ensures { result.now ≡ take most tokens.now }

@@ -1,4 +1,4 @@
-//! What carries bytes and tokens to the other side.
+//! What carries bytes and tokens to the peer. A *token* is a number that stands for a file descriptor.
 
 ghost use Rattle.std.specs.Prelude.{ℕ, ◌≤◌, length, Result, Ok};
 ghost use Rattle.wl_wire.specs.declared.error.IoFault.{IoFault};
@@ -7,29 +7,34 @@ ghost use Rattle.wl_link.specs.Exchange.{Queue, Lands, receipt};
 use std::collections::VecDeque;
 use wl_wire::{IoFault, Token};
 
-/// The most tokens that one send is offered, and that one receive gives.
+/// The most tokens that one send is offered, and the most that one receive may give.
 pub const MAX_FDS_OUT: usize = 28;
 
 /// The most bytes that one send is offered.
 pub const MAX_BYTES_OUT: usize = 4096;
 
-/// A transport of bytes, and of tokens beside them.
+/// A transport of bytes, with tokens beside them.
 ///
-/// Contracts see each call by the relation that the implementation gives. A send relates the transport's value
-/// before, the bytes and tokens that were offered, the answer, and the value after. A receive relates the value
-/// before, the room for bytes, what came, and the value after.
+/// An implementation says by two relations what its calls do, and contracts use these. `sends` relates the transport before
+/// the call, the bytes and tokens that are offered, the answer, and the transport after the call. `receives` relates the
+/// transport before, the room for bytes, what came, and the transport after.
 pub trait Transport {
     ghost sends: { Self → Queue → Result ℕ IoFault → Self → Type 0 };
 
     ghost receives: { Self → ℕ → Result Queue IoFault → Self → Type 0 };
 
-    /// Offers the bytes with the tokens, and answers how many of the bytes were taken. Where the count is above 0,
-    /// all tokens were taken with them.
+    /// Offers the bytes, with the tokens, to the other side. Returns how many of the bytes were taken.
+    ///
+    /// If the count is above 0, all the tokens were taken too. A flush ends after a count of 0, and the tokens that it
+    /// offered are lost. The error is the transport's fault: `WouldBlock` if nothing can be sent now.
     fn send_msg(&mut self, bytes: &[u8], tokens: &[Token]) -> Result<usize, IoFault>
         ensures { sends self.old (record { bytes = bytes.now; tokens = tokens.now }) result self.new };
 
-    /// Receives into the front of the buffer, and answers how many bytes came. The tokens that came are put behind
-    /// those in the queue. Where the answer is a fault, buffer and tokens stay as they were.
+    /// Receives into the front of the buffer. Returns how many bytes came. The tokens that came, at most 28, are appended
+    /// to the queue.
+    ///
+    /// 0 bytes are the end of the stream, unless the buffer has no bytes. The error is the transport's fault: `WouldBlock`
+    /// if nothing can be received now. After an error the buffer and the queue are as they were.
     fn rcv_msg(&mut self, buffer: &mut [u8], tokens: &mut VecDeque<Token>) -> Result<usize, IoFault>
         ensures received { receives self.old (length buffer.old)
             (receipt result buffer.new tokens.old.items tokens.new.items) self.new }

@@ -1,5 +1,5 @@
-//! What follows from the definitions of a link alone, call by call. Each function has a law as its contract, and does
-//! nothing.
+//! What follows from the definitions of a link alone, for single calls. Each function does nothing; its contract states a
+//! law.
 
 ghost use Rattle.std.specs.Prelude.{◌≡◌, ◌≢◌, ℕ, List, Option, Result, Ok, Err};
 ghost use Rattle.wl_wire.specs.declared.argument.ArgumentType.{ArgumentType};
@@ -18,8 +18,10 @@ ghost use Rattle.wl_link.specs.Sides.{StreamLaw, AllReadLaw, CuttingLaw, ReadTak
 use crate::limit::{DEFAULT_MAX_BUFFER_SIZE, INCOMING_LIMIT};
 use crate::transport::{MAX_BYTES_OUT, MAX_FDS_OUT, Transport};
 
-/// A flush loses nothing but the tokens that a send which answered 0 was offered. Where it ends with `Ok` and no send
-/// answered 0, no bytes wait, and 28 tokens for each byte are gone.
+/// A flush loses nothing, except the tokens that were offered to a send which took no bytes.
+///
+/// If a flush returns `Ok`, and each of its sends took bytes, then no bytes wait after it. Tokens wait only if there were
+/// more than 28 for each byte; then the first 28 for each byte are gone.
 pub fn flush_loses_nothing<T: Transport>()
     ensures kept { (before after : LinkState T) (answer : _) →
         Flushed T.sends before answer after → FlushKeeps T.sends before answer after }
@@ -27,20 +29,24 @@ pub fn flush_loses_nothing<T: Transport>()
         Flushed T.sends before answer after → FlushDrains T.sends before answer after }
 {}
 
-/// A write that is answered by `Ok` makes what was sent and what waits longer by one spelling; another adds nothing.
+/// A write that returns `Ok` adds the message's bytes and tokens, once, to what was sent and what waits. A write that fails
+/// adds nothing.
 pub fn write_loses_nothing<T: Transport>()
     ensures { (before after : LinkState T) (m : WireMessage) (answer : _) →
         Wrote T.sends before m answer after → WriteKeeps T.sends before m answer after }
 {}
 
-/// A read that is answered by `Ok` takes the first message off the stream.
+/// A read that returns `Ok` takes the first message off the stream of what was received.
 pub fn read_takes_first_message<T>()
     ensures { (look_up : ℕ → ℕ → Option (List ArgumentType)) (before after : LinkState T) (answer : _) →
         ReadOne (λ sender opcode found. found ≡ look_up sender opcode) before answer after →
         ReadTakes (λ sender opcode found. found ≡ look_up sender opcode) before answer after }
 {}
 
-/// Where the answers of a transport follow from its value, and memory is not refused, a call has one outcome.
+/// A call has one outcome, if the transport is deterministic and memory is not refused.
+///
+/// A transport is deterministic if its value before a call, and what the call is given, determine the answer and the value
+/// after.
 pub fn one_outcome<T: Transport>()
     ensures flush { IsFunction T.sends → (before x y : LinkState T) (es fs : List Sending) (a b : _) →
         FlushedBy T.sends before es a x → FlushedBy T.sends before fs b y →
@@ -57,32 +63,33 @@ pub fn one_outcome<T: Transport>()
         a ≢ Err errors.OutOfMemory → b ≢ Err errors.OutOfMemory → SameRead a b x y }
 {}
 
-/// The answers of a transport by script follow from its value.
+/// The transport by script is deterministic: its answers follow from its value.
 pub fn script_has_one_outcome()
     ensures sends { IsFunction ScriptSends }
     ensures receives { IsReceiveFunction ScriptReceives }
 {}
 
-/// The messages that were written, carried whole and in order, are read back as the same messages in the same order,
-/// however bytes and tokens were cut.
+/// The messages that were written are read back: the same messages in the same order. The bytes and tokens must be carried
+/// completely and in order, but they may be cut anywhere.
 ///
-/// That they come is not said. But where each of them is no longer than the incoming storage may become, each receive is
-/// made only where the read before it lacked data or tokens, and a token comes no later than its message's last byte, no
-/// receive finds the storage full.
+/// This does not promise that they come. But if all that was sent has been received, and the next read finds no message,
+/// all of them were read (`all`). The law `room` says when no receive finds the buffer full. Each message is no longer than
+/// the incoming buffer may become. Each receive is made only if the read before it lacked bytes or tokens. A token comes no
+/// later than the last byte of its message.
 pub fn messages_come_back<S: Transport, R: Transport>()
     ensures in_order { StreamLaw S.sends R.receives }
     ensures all { AllReadLaw S.sends R.receives }
     ensures room { RoomLaw R.receives }
 {}
 
-/// Receiving one part and then another leaves what receiving both at once would, also where a read between finds no
-/// message.
+/// It does not matter how bytes and tokens are cut into receives. Two receives leave what one receive of both parts would
+/// leave, even if a read between them finds no message.
 pub fn cutting_does_not_matter<T: Transport>()
     ensures { CuttingLaw T.receives }
 {}
 
-/// The constants of this crate: a send is offered at most 4096 bytes and 28 tokens, a connection has a storage of 4096
-/// bytes where nothing else is asked for, and its incoming storage grows up to 65536 bytes.
+/// The values of the constants of this crate. A send is offered at most 4096 bytes and 28 tokens. The buffers of a new link
+/// have a capacity of 4096 bytes, and the incoming one grows up to 65536 bytes.
 pub fn each_size_has_its_value()
     ensures bytes { MAX_BYTES_OUT ≡ 4096 }
     ensures tokens { MAX_FDS_OUT ≡ 28 }

@@ -1,5 +1,10 @@
-//! What follows from the definitions of a reader alone, whatever it makes of the messages that it reads. Each function
-//! has a law as its contract, and does nothing.
+//! What follows from the definition of a reader alone. Each function does nothing; its contract states a law.
+//!
+//! A *reader* is how a session reads: it takes messages off a link, and decides what each one comes to. Its *core* is all
+//! that it holds beside the link. A *verdict* is what it decides for a message, for malformed bytes, or for the end of what
+//! is open: the new core, the messages that are *put* (written, one after another, up to the first that fails), and the
+//! events that are handed out. A *reading* is a list of receives and of verdicts that were carried out. A *finish* ends
+//! what is open. What is *served* of some bytes and tokens is what the reader does with them if they have all come at once.
 
 ghost use Rattle.std.specs.Prelude.{◌≡◌, ◌≢◌, ◌<◌, ◌∷◌, ℕ, Bool, false, IsTrue, List, Result, Err};
 ghost use Rattle.wl_wire.specs.declared.error.IoFault.{IoFault};
@@ -19,9 +24,10 @@ ghost use Rattle.wl_link.specs.Sides.{spelled_all};
 
 use crate::transport::Transport;
 
-/// Messages are put up to the first that fails, and what is put is not lost: what the sends took and the tokens that are
-/// gone, followed by what waits, is what waited, followed by the spellings of the messages that were put. So it is of a
-/// reading and of the end of what is open.
+/// No message that is put is lost. What waited before, followed by the messages that were put, is what the sends took,
+/// followed by what waits after. Tokens that a send dropped count as taken.
+///
+/// This holds of messages that are put (`puts`), of a reading, and of a finish.
 pub fn nothing_that_is_put_is_lost<T: Transport, Core, Event, Finish>()
     ensures puts { (before after : LinkState T) (messages put : List Said) (es : List Sending) (answer : _) →
         PutsOut T.sends before messages es put answer after → LosesNothing es before.outgoing (spelled_all (messages_of put)) after.outgoing }
@@ -33,8 +39,7 @@ pub fn nothing_that_is_put_is_lost<T: Transport, Core, Event, Finish>()
         LosesNothing es before.link.outgoing (spelled_all (messages_of (queued_in gave))) after.link.outgoing }
 {}
 
-/// Where the answers of a transport to sends follow from its value, and memory is not refused, putting messages has one
-/// outcome.
+/// Putting messages has one outcome, if the sends of the transport are deterministic and memory is not refused.
 pub fn putting_has_one_outcome<T: Transport>()
     ensures { IsFunction T.sends → (messages : List Said) (before x y : LinkState T) (es fs : List Sending)
         (put others : List Said) (a b : _) → a ≢ Err fault.OutOfMemory → b ≢ Err fault.OutOfMemory →
@@ -42,7 +47,7 @@ pub fn putting_has_one_outcome<T: Transport>()
         SamePut put others a b x y }
 {}
 
-/// Where the answers of a transport follow from its value, and memory is not refused, a reading has one outcome.
+/// A reading has one outcome, if the transport is deterministic and memory is not refused.
 pub fn a_reading_has_one_outcome<T: Transport, Core, Event, Finish>()
     ensures { IsFunction T.sends → IsReceiveFunction T.receives → (reader : Reader Core Event Finish) (left : ℕ)
         (before x y : ReaderState T Core) (turns others : List Turn) (a b : Gives Event) → a.refused ≡ false → b.refused ≡ false →
@@ -50,11 +55,11 @@ pub fn a_reading_has_one_outcome<T: Transport, Core, Event, Finish>()
         SameReading a b x y }
 {}
 
-/// What each verdict of a reader respects, each of its readings and each of its finishes does, also where memory is
-/// refused: a relation of its cores and of what was given between them, or of its cores alone.
+/// A relation that each verdict of a reader keeps is kept by each of its readings and finishes, even if memory is refused.
+/// It may be a relation of the cores before and after and of what was given between them, or of the cores alone.
 ///
-/// A clause cannot speak of every relation, so it is said here of those that are truth values. The laws in
-/// `proofs/Readings/RespectLaws`, which the proofs of the crates above cite, are of every relation.
+/// A clause cannot speak of every relation. So these clauses are about relations that are given as functions to `Bool`. The
+/// lemmas in `proofs/Readings/RespectLaws`, which the proofs of the crates above cite, are about every relation.
 pub fn readings_respect_what_verdicts_do<T: Transport, Core, Event, Finish>()
     ensures reading { (reader : Reader Core Event Finish) (holds : Core → List (Given Event) → Core → Bool) →
         RespectsReading reader (λ c gave d. IsTrue (holds c gave d)) →
@@ -68,11 +73,14 @@ pub fn readings_respect_what_verdicts_do<T: Transport, Core, Event, Finish>()
         RespectsCores reader (λ c d. IsTrue (holds c d)) → Respects reader (λ c gave d. IsTrue (holds c d)) }
 {}
 
-/// However bytes and tokens are cut, a reader serves the same: what it served in a reading, or by a finish that it took,
-/// is the beginning of what is served of the joined stream, and what is left of that is what it serves from there on.
-/// Each receive of the reading brought a byte or would have blocked, and memory was not refused.
+/// It does not matter to a reader how bytes and tokens are cut into receives.
 ///
-/// The sends may be those of any transport in which they follow from its value, or be told their answers.
+/// What a reading or an accepted finish gave is the beginning of what is served of the whole stream. The rest of that is
+/// what the reader, as it is after the reading or finish, serves of the rest of the stream. Each receive of the reading
+/// must have brought a byte or have returned `WouldBlock`, and memory must not have been refused.
+///
+/// The sends may go to any deterministic transport (`reading`, `finish`), or their answers may be given as a list (`told`,
+/// `told_finish`).
 pub fn cutting_does_not_matter_to_a_reader<T: Transport, S: Transport, Core, Event, Finish>()
     ensures reading { IsFunction S.sends → (reader : Reader Core Event Finish) →
         ((core : Core) → reader.faulted core fault.WouldBlock ≡ core) →
@@ -95,7 +103,7 @@ pub fn cutting_does_not_matter_to_a_reader<T: Transport, S: Transport, Core, Eve
         GoesOnAs AsTold reader before nothing es (u ∷ finishes) gave after finishes }
 {}
 
-/// What is served has one outcome.
+/// What is served has one outcome, if the sends are deterministic, or their answers are given as a list.
 pub fn what_is_served_has_one_outcome<S: Transport, Core, Event, Finish>()
     ensures transport { IsFunction S.sends → (reader : Reader Core Event Finish) (before x y : ReaderState S Core)
         (finishes : List Finish) (g h : List (Given Event)) → ServedFrom S.sends reader before finishes g x →
@@ -105,9 +113,11 @@ pub fn what_is_served_has_one_outcome<S: Transport, Core, Event, Finish>()
         ServedFrom AsTold reader before finishes h y → (g ≡ h) × (x ≡ y) }
 {}
 
-/// Something is always served, where each verdict of the reader can be carried out and malformed bytes are the end of it.
-/// So it is of a reader that puts nothing over every transport. Each verdict can be carried out where the transport answers
-/// each send and the storage holds a byte; and where the answers are told, some suffice.
+/// Something is always served, if each verdict of the reader can be carried out and malformed bytes end the reader
+/// (`transport`, `told`).
+///
+/// Each verdict can be carried out if the transport answers each send and the outgoing buffer has a capacity above 0
+/// (`answering`). If the answers to sends are given as a list, there is a list that suffices (`answered`).
 pub fn something_is_always_served<S: Transport, Core, Event, Finish>()
     ensures transport { (reader : Reader Core Event Finish) → AlwaysGoesOn S.sends reader → (before : ReaderState S Core)
         (finishes : List Finish) → SomethingIsServed S.sends reader before finishes }
@@ -120,13 +130,15 @@ pub fn something_is_always_served<S: Transport, Core, Event, Finish>()
         × (after : _) × Served AsTold reader before more answers finishes gave after }
 {}
 
-/// However bytes and tokens are cut over the transport by script, a stretch in which they arrive, are read, and what is
-/// open is ended gives what is served of all that arrived, with the data with which something was ended. So two
-/// stretches over which the same arrives and is ended give the same, and lead to the same.
+/// It does not matter to a stretch how bytes and tokens are cut. A *stretch* is a list of arrivals, readings and finishes
+/// over the transport by script, `Memory`.
 ///
-/// Each arrival brought a byte or says that the transport would block, memory was not refused, and no receive found the
-/// storage full. None does where each message is no longer than the incoming storage may become, and its tokens come
-/// no later than its last byte.
+/// A stretch gives what is served of all that arrived, with the same finishes (`served`). So two stretches with the same
+/// arrivals, joined, and the same finishes give the same and lead to the same (`same`). Each arrival must bring a byte or
+/// be `WouldBlock`, memory must not be refused, and no receive may find the buffer full.
+///
+/// No receive finds the buffer full if each message is no longer than the incoming buffer may become, and its tokens come
+/// no later than its last byte (`within`).
 pub fn cutting_does_not_matter_to_a_stretch<Core, Event, Finish>()
     ensures served { (reader : Reader Core Event Finish) → EndsByPipe reader → (before after : ReaderState Script Core)
         (acts : List (Act Event Finish)) → IsStretch reader before acts after → IsStretchServed reader before acts after }

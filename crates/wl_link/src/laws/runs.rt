@@ -1,12 +1,15 @@
-//! What follows from the definitions of a run of calls alone. Each function has a law as its contract, and does nothing.
+//! What follows from the definition of a run of calls alone. Each function does nothing; its contract states a law.
+//!
+//! A *run* is a list of *steps*: calls, each with its reply.
 
 ghost use Rattle.std.specs.Prelude.{◌≡◌, ◌++◌, Bool, IsTrue, List, length};
 ghost use Rattle.wl_link.specs.Runs.{AllSame, RunEntry, HasOneOutcome, Leads, entries};
 
-/// Runs join, and where each step has one outcome, so has each run in which memory is not refused.
+/// Two runs, one after the other, are one run (`joined`). If each step has one outcome, each run in which memory is not
+/// refused has one (`outcome`).
 ///
-/// A clause cannot speak of every relation, so it is said here of those that are truth values. The laws in
-/// `proofs/OverRuns/RunLaws`, which the proofs of the crates above cite, are of every relation.
+/// A clause cannot speak of every relation. So these clauses are about relations that are given as functions to `Bool`. The
+/// lemmas in `proofs/OverRuns/RunLaws`, which the proofs of the crates above cite, are about every relation.
 pub fn runs_do_what_their_steps_do<State, Step, Reply>()
     ensures joined { (makes : State → Step → Reply → Bool → State → Bool) (start mid after : State)
         (run others : List (RunEntry Step Reply)) →
