@@ -16,8 +16,9 @@ use wl_wire::Protocol;
 
 /// A Wayland server: its clients, their objects, and its globals.
 ///
-/// It stands for `wayland_backend::server::Backend` and `Handle`. It opens no socket and starts no thread: it does
-/// something only within a call. Its types are the program's choice:
+/// It stands for `wayland_backend::server::Backend` and `Handle`, and a call with the name of one of theirs stands for
+/// that one. It opens no socket and starts no thread: it does something only within a call. Its types are the program's
+/// choice:
 ///
 /// - `T` is the transport, which carries bytes and file descriptors. Each client has one.
 /// - `U` is the user data of an object.

@@ -1,4 +1,4 @@
-//! Events: which are refused, how one is sent, and those that the server sends of itself.
+//! Events: which ones are refused, how one is sent, and which ones the server sends by itself.
 
 pub mod check;
 pub mod display;

@@ -19,18 +19,18 @@ use crate::ids::global_id::GlobalId;
 use wl_link::{NewError, Object, ObjectMap};
 use wl_wire::{InterfaceId, Protocol};
 
-/// What is kept of a global beside its interface and version.
+/// What is kept of a global in addition to its interface and version.
 #[derive(Drop)]
 pub struct KeptGlobal<G> {
-    /// The serial, which no other global has.
+    /// The serial. No other global has it.
     pub serial: u64,
-    /// The program's handler.
+    /// The program's handler of the global.
     pub handler: G,
-    /// Whether it is announced no more.
+    /// Whether it was disabled: it is no longer announced.
     pub is_disabled: bool,
 }
 
-/// The global that the id names.
+/// The global that the id names, if it is there: the one of its name, if that has its serial.
 pub fn global_in<'a, G: Drop>(
     globals: &'a ObjectMap<KeptGlobal<G>>,
     id: &GlobalId,
@@ -46,7 +46,7 @@ pub fn global_in<'a, G: Drop>(
     }
 }
 
-/// Puts a global at the least name that no other has.
+/// Inserts a global with the least name that no other has.
 fn insert<G: Drop>(
     globals: &mut ObjectMap<KeptGlobal<G>>,
     global: Object<KeptGlobal<G>>,
@@ -59,7 +59,7 @@ fn insert<G: Drop>(
     }
 }
 
-/// A new global, which has the least name that no other has and the next serial. Refused, nothing is changed.
+/// Creates a global with the least name that no other has, and the next serial. After an error nothing is changed.
 pub fn create<G: Drop>(
     protocol: &Protocol,
     globals: &mut ObjectMap<KeptGlobal<G>>,
@@ -102,7 +102,7 @@ pub fn create<G: Drop>(
     }
 }
 
-/// The global of this name, if it has one, is announced no more.
+/// Disables the global of this name, if there is one.
 fn disable_at<G: Drop>(globals: &mut ObjectMap<KeptGlobal<G>>, name: u32)
     ensures { MatchOption (held globals.old.store name) (globals.new.store ≡ globals.old.store)
         (λ global. globals.new.store ≡ rewritten globals.old.store name (as_disabled global)) }
@@ -112,7 +112,7 @@ fn disable_at<G: Drop>(globals: &mut ObjectMap<KeptGlobal<G>>, name: u32)
     });
 }
 
-/// The global that the id names is announced no more.
+/// Disables the global that the id names, if there is one: it is no longer announced.
 pub fn disable<G: Drop>(globals: &mut ObjectMap<KeptGlobal<G>>, id: &GlobalId)
     ensures { (last : ℕ) → record { store = globals.new.store; last_serial = last }
         ≡ disabled (record { store = globals.old.store; last_serial = last }) id.now }
@@ -123,7 +123,7 @@ pub fn disable<G: Drop>(globals: &mut ObjectMap<KeptGlobal<G>>, id: &GlobalId)
     disable_at(globals, id.name());
 }
 
-/// The global that the id names is kept no more, and its name is free.
+/// Removes the global that the id names, if there is one. Its name is free again.
 pub fn remove<G: Drop>(globals: &mut ObjectMap<KeptGlobal<G>>, id: &GlobalId)
     ensures { (last : ℕ) → record { store = globals.new.store; last_serial = last }
         ≡ freed (record { store = globals.old.store; last_serial = last }) id.now }

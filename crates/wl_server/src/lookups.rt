@@ -1,4 +1,4 @@
-//! What a server answers of its clients and their objects, without a change.
+//! Look-ups of clients and objects. None of them changes the server.
 
 ghost use Rattle.std.specs.Prelude.{◌≡◌, MatchResult, None, Some, option_copied};
 ghost use Rattle.wl_server.specs.Lookups.{client_by, client_data_of, object_data_of, object_for_number, object_info_of, transport_of};
@@ -16,7 +16,7 @@ use wl_link::Object;
 use wl_wire::{InterfaceId, ObjectInfo};
 
 impl<T: Drop, U: Drop, G: Drop, C: Drop> Backend<T, U, G, C> {
-    /// The client of that id, while it is stored.
+    /// The client of that id, if it is stored.
     pub(crate) fn client(&self, id: &ClientId) -> Option<&Client<T, U, C>>
         ensures { option_copied result ≡ client_at id.now self.now.server.clients }
     {
@@ -30,8 +30,10 @@ impl<T: Drop, U: Drop, G: Drop, C: Drop> Backend<T, U, G, C> {
         }
     }
 
-    /// What the protocol says of the object that the id names. `InvalidId` where its client is not stored, or the id names
-    /// none.
+    /// The number, the interface and the version of the object that the id names.
+    ///
+    /// It stands for `wayland_backend::server::Handle::object_info`. The error is `InvalidId` if the id's client is not
+    /// stored, or the id names no object.
     pub fn object_info(&self, id: &ObjectId) -> Result<ObjectInfo, InvalidId>
         ensures { MatchResult result (λ info. object_info_of self.now.server id.now ≡ Some info)
             (λ _. object_info_of self.now.server id.now ≡ None) }
@@ -49,7 +51,9 @@ impl<T: Drop, U: Drop, G: Drop, C: Drop> Backend<T, U, G, C> {
         }
     }
 
-    /// The client of the id, which need not name an object. `InvalidId` where that is not stored.
+    /// The client of the object id. The id need not name an object.
+    ///
+    /// It stands for `wayland_backend::server::Handle::get_client`. The error is `InvalidId` if the client is not stored.
     pub fn get_client(&self, id: &ObjectId) -> Result<ClientId, InvalidId>
         ensures { MatchResult result (λ client. client_by self.now.server id.now ≡ Some client)
             (λ _. client_by self.now.server id.now ≡ None) }
@@ -61,7 +65,10 @@ impl<T: Drop, U: Drop, G: Drop, C: Drop> Backend<T, U, G, C> {
         Ok(client)
     }
 
-    /// The program's data of the client. `InvalidId` where it is not stored.
+    /// The program's data of the client.
+    ///
+    /// It stands for `wayland_backend::server::Handle::get_client_data`. The error is `InvalidId` if the client is not
+    /// stored.
     pub fn get_client_data(&self, id: &ClientId) -> Result<&C, InvalidId>
         ensures { MatchResult result (λ info. client_data_of self.now.server id.now ≡ Some info.now)
             (λ _. client_data_of self.now.server id.now ≡ None) }
@@ -72,8 +79,10 @@ impl<T: Drop, U: Drop, G: Drop, C: Drop> Backend<T, U, G, C> {
         }
     }
 
-    /// The user data of the object that the id names. `InvalidId` where its client is not stored, or the id names none, or
-    /// one without user data.
+    /// The user data of the object that the id names.
+    ///
+    /// It stands for `wayland_backend::server::Handle::get_object_data`. The error is `InvalidId` if the id's client is
+    /// not stored, or the id names no object, or the object has no user data.
     pub fn get_object_data(&self, id: &ObjectId) -> Result<&U, InvalidId>
         ensures { MatchResult result (λ u. object_data_of self.now.server id.now ≡ Some u.now)
             (λ _. object_data_of self.now.server id.now ≡ None) }
@@ -90,7 +99,7 @@ impl<T: Drop, U: Drop, G: Drop, C: Drop> Backend<T, U, G, C> {
         }
     }
 
-    /// The client's transport. `InvalidId` where the client is not stored.
+    /// The client's transport. The error is `InvalidId` if the client is not stored.
     pub fn transport(&self, id: &ClientId) -> Result<&T, InvalidId>
         ensures { MatchResult result (λ transport. transport_of self.now.server id.now ≡ Some transport.now)
             (λ _. transport_of self.now.server id.now ≡ None) }
@@ -101,8 +110,10 @@ impl<T: Drop, U: Drop, G: Drop, C: Drop> Backend<T, U, G, C> {
         }
     }
 
-    /// The id of the client's object that has this number. `InvalidId` where the client is not stored, or the number holds
-    /// no object, or one of another interface.
+    /// The id of the client's object that has this number.
+    ///
+    /// It stands for `wayland_backend::server::Handle::object_for_protocol_id`. The error is `InvalidId` if the client is
+    /// not stored, or no object has the number, or the object has another interface.
     pub fn object_for_protocol_id(
         &self,
         client: &ClientId,

@@ -1,4 +1,4 @@
-//! The objects of a client: what is kept of one, look-ups among them, and how one leaves.
+//! The objects of a client: what is kept of each, how one is found, and how one is removed.
 
 ghost use Rattle.std.specs.Prelude.{◌≡◌, ◌<◌, ◌++◌, false, true, Err, IfSome, IsSome, Ok, OnErr, OnOk, MatchOption, is_some, map, not, option_copied};
 ghost use Rattle.std.specs.List.{filter};
@@ -23,16 +23,16 @@ use crate::notes::queues::{NoteNumbers, WaitingNotes};
 use wl_link::{Object, ObjectMap};
 use wl_wire::{InterfaceId, OutOfMemory, WL_REGISTRY_INTERFACE};
 
-/// What is kept of an object beside its interface and version.
+/// What is kept of an object in addition to its interface and version.
 #[derive(Drop)]
 pub struct Kept<U> {
-    /// The serial, which no other object of the client has.
+    /// The serial. No other object of the client has it.
     pub serial: u64,
-    /// The program's data.
+    /// The program's data of the object.
     pub user_data: Option<U>,
 }
 
-/// A new object.
+/// A new object with these values.
 pub fn fresh_object<U>(
     interface: InterfaceId,
     version: u32,
@@ -48,7 +48,7 @@ pub fn fresh_object<U>(
     }
 }
 
-/// The object that the id names.
+/// The object that the id names, if it is there: the one of its number, if that has its serial.
 pub fn named_in<'a, U: Drop>(
     objects: &'a ObjectMap<Kept<U>>,
     id: &ObjectId,
@@ -64,21 +64,22 @@ pub fn named_in<'a, U: Drop>(
     }
 }
 
-/// The id of the client's object that a number holds.
+/// The id of the client's object `object`, whose number is `number`.
 pub fn id_at<U>(client: &ClientId, number: u32, object: &Object<Kept<U>>) -> ObjectId
     ensures { result ≡ the_id client.now number object.now }
 {
     ObjectId::from_parts(number, object.value.serial, *client, object.interface)
 }
 
-/// The object of this number and serial is no registry any more.
+/// Takes the object of this number and serial out of the list of registries.
 fn forget(registries: &mut Vec<Registry>, number: u32, serial: u64)
     ensures { registries.new.items ≡ filter (λ r. not (same_id r (record { number = number; serial = serial }))) registries.old.items }
 {
     registries.retain(|registry| registry.number != number || registry.serial != serial);
 }
 
-/// Takes the object of this number out: it leaves the map, and is no registry any more. It takes no memory.
+/// Takes the object of this number out of the map, and out of the list of registries if it is one. It allocates no
+/// memory.
 pub fn take_out<U: Drop>(
     objects: &mut ObjectMap<Kept<U>>,
     registries: &mut Vec<Registry>,
@@ -96,7 +97,7 @@ pub fn take_out<U: Drop>(
     Some(object)
 }
 
-/// Makes room for the note that this object is gone, where it has user data.
+/// Makes room for a note that this object is destroyed, if it has user data.
 pub fn reserve_note<U>(
     waiting: &mut WaitingNotes<U>,
     object: &Object<Kept<U>>,
@@ -111,8 +112,8 @@ pub fn reserve_note<U>(
     Ok(())
 }
 
-/// Takes the object at the number of the id out. If it had user data, its note waits for the next cleanup, and there is room
-/// for that.
+/// Takes the object with the number of the id out. If it had user data, a note of its end waits for the next cleanup.
+/// There is room for that note.
 pub fn take_out_noted<U: Drop>(
     objects: &mut ObjectMap<Kept<U>>,
     registries: &mut Vec<Registry>,

@@ -1,4 +1,4 @@
-//! Which events are refused, and the numbers of the ids of those that are sent.
+//! Which events are refused, and which numbers stand for the ids of those that are sent.
 
 ghost use Rattle.std.specs.Prelude.{◌≡◌, Bool};
 ghost use Rattle.wl_wire.specs.declared.argument.Argument.TheVariants as arg;
@@ -20,7 +20,7 @@ use wl_wire::{
     Numbering, OwnNumbers, Protocol, Token, check_for_signature, same_interface_or_anonymous,
 };
 
-/// The interface of the client's object that the id names, or why the id is refused.
+/// The interface of the client's object that the id names, or the error if the id is refused.
 fn kept_interface<U: Drop>(
     client: &ClientId,
     objects: &ObjectMap<Kept<U>>,
@@ -37,7 +37,8 @@ fn kept_interface<U: Drop>(
     }
 }
 
-/// Why an object argument is refused, where the signature says this of null and the table asks for this interface.
+/// The error of an object argument, if it is refused. `null` says whether the signature lets it be null, and `asked` is
+/// the interface that the table asks for.
 fn object_fault<U: Drop>(
     client: &ClientId,
     objects: &ObjectMap<Kept<U>>,
@@ -61,7 +62,7 @@ fn object_fault<U: Drop>(
     }
 }
 
-/// Why the argument of a new object is refused: the table names its interface.
+/// The error of a new id, if it is refused. The table says which interface it has to have.
 fn new_id_fault<U: Drop>(
     client: &ClientId,
     objects: &ObjectMap<Kept<U>>,
@@ -81,7 +82,7 @@ fn new_id_fault<U: Drop>(
     }
 }
 
-/// Why an argument of that type is refused, where the table asks for this interface next.
+/// The error of an argument of that type, if it is refused. The table asks for the given interface next.
 fn argument_fault<U: Drop>(
     client: &ClientId,
     objects: &ObjectMap<Kept<U>>,
@@ -103,7 +104,7 @@ fn argument_fault<U: Drop>(
     }
 }
 
-/// Why the first of the arguments that is refused is, from left to right.
+/// The error of the first argument that is refused, from left to right.
 fn first_fault<U: Drop>(
     client: &ClientId,
     objects: &ObjectMap<Kept<U>>,
@@ -128,7 +129,7 @@ fn first_fault<U: Drop>(
     None
 }
 
-/// Whether the event ends its sender, or the first reason for which it is refused.
+/// Whether the event is a destructor, which ends its sender; or the first error for which it is refused.
 pub fn check_event<U: Drop>(
     protocol: &Protocol,
     client: &ClientId,
@@ -157,7 +158,7 @@ pub fn check_event<U: Drop>(
     }
 }
 
-/// The numbers that an event's ids have on the wire: each its own.
+/// The number that each id of an event has on the wire: its own.
 impl Numbering<ObjectId> for OwnNumbers {
     ghost object_number = { λ _ id. id.number };
 

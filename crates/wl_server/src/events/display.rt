@@ -1,4 +1,4 @@
-//! The messages that the server sends of itself.
+//! The messages that the server sends by itself.
 
 ghost use Rattle.std.specs.Prelude.{◌≡◌, ◌∷◌, ℕ, [], Some};
 ghost use Rattle.wl_wire.specs.declared.argument.Argument.TheVariants as arg;
@@ -25,14 +25,14 @@ const DONE: u16 = 0;
 /// The opcode of `wl_display.delete_id`.
 const DELETE_ID: u16 = 1;
 
-/// Whether memory was refused to a write or a flush that was answered so.
+/// Whether a write or a flush that was answered so ran out of memory.
 pub fn is_out_of_memory(answer: Result<(), IoFault>) -> bool
     ensures { result ≡ lacked_memory answer }
 {
     matches!(answer, Err(IoFault::OutOfMemory))
 }
 
-/// A message whose argument is one number.
+/// A message with one argument, a number.
 pub fn message_of_number(
     alloc: Global,
     sender_id: u32,
@@ -50,7 +50,7 @@ pub fn message_of_number(
     }
 }
 
-/// Writes a message whose argument is one number.
+/// Writes a message with one argument, a number.
 pub fn put_number<T: Transport>(
     alloc: Global,
     socket: &mut BufferedSocket<T>,
@@ -64,7 +64,8 @@ pub fn put_number<T: Transport>(
     socket.write_message(&message)
 }
 
-/// Tells a client that a number of its own is free again. Of one of the server's numbers it is told nothing.
+/// Tells a client by `wl_display.delete_id` that a number is free again, if it is one of the client's own. For a number
+/// of the server's range it does nothing.
 pub fn put_delete_id<T: Transport>(
     alloc: Global,
     socket: &mut BufferedSocket<T>,
@@ -78,7 +79,7 @@ pub fn put_delete_id<T: Transport>(
     put_number(alloc, socket, DISPLAY, DELETE_ID, number)
 }
 
-/// The message of an error on an object.
+/// The message `wl_display.error`, for an error on the object of this number.
 fn message_of_error(alloc: Global, number: u32, code: u32, text: CString) -> Message<u32, Token>
     ensures { content result ≡ (error_message number code text).message }
 {
@@ -93,7 +94,7 @@ fn message_of_error(alloc: Global, number: u32, code: u32, text: CString) -> Mes
     }
 }
 
-/// Tells a client of an error on the object of that number.
+/// Tells a client by `wl_display.error` of an error on the object of that number.
 pub fn put_error<T: Transport>(
     alloc: Global,
     socket: &mut BufferedSocket<T>,
@@ -108,7 +109,8 @@ pub fn put_error<T: Transport>(
     socket.write_message(&message)
 }
 
-/// Tells a client that its callback of this number is done, and that the number is free again.
+/// Tells a client by `wl_callback.done` that its callback of this number is done, and by `wl_display.delete_id` that the
+/// number is free again.
 pub fn put_done<T: Transport>(
     alloc: Global,
     socket: &mut BufferedSocket<T>,

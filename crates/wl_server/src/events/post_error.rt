@@ -28,10 +28,12 @@ use wl_link::Transport;
 use wl_wire::{CString, IoFault, Protocol, ProtocolError};
 
 impl<T: Transport + Drop, U: Drop, C: Drop> Client<T, U, C> {
-    /// Posts an error on an object: it is told to the client where it is not killed and the object is kept, what waits is
-    /// flushed, whatever came of that, and the client is killed for the error, or as closed where it could not be told.
-    /// Where there is no memory for the error's texts nothing is told, and the client is closed down. The answer is
-    /// whether memory was refused.
+    /// Posts an error on an object, and kills the client.
+    ///
+    /// The client is told of the error if it is live and the object is there. Then what waits is flushed, also if that
+    /// failed. Then the client is killed: for the error, or as one whose connection is closed if it could not be told. If
+    /// there is no memory for the texts of the error, nothing is told or flushed, and the client is killed as one whose
+    /// connection is closed. The answer is whether memory was refused.
     pub fn posts(
         &mut self,
         protocol: &Protocol,
@@ -59,8 +61,8 @@ impl<T: Transport + Drop, U: Drop, C: Drop> Client<T, U, C> {
         }
     }
 
-    /// Posts an error on an object, as the program asks. A null id is of none, and nothing is done. The answer is whether
-    /// memory was refused.
+    /// Posts an error on an object, as the program asks. A null id is of no object, and nothing is done. The answer is
+    /// whether memory was refused.
     pub fn post_error(
         &mut self,
         protocol: &Protocol,
@@ -78,7 +80,7 @@ impl<T: Transport + Drop, U: Drop, C: Drop> Client<T, U, C> {
         self.posts(protocol, numbers, id, code, text)
     }
 
-    /// Tells the live client of an error on the object, where that is kept.
+    /// Tells the live client of an error on the object, if that is there.
     fn put_posted(&mut self, id: &ObjectId, code: u32, text: CString) -> Result<(), IoFault>
         requires { self.old.part.is_killed ≡ false }
         ensures put { Puts T.sends self.old.part.link (error_messages (core_of self.old.part) id.now code text) result self.new.part.link }
@@ -92,7 +94,7 @@ impl<T: Transport + Drop, U: Drop, C: Drop> Client<T, U, C> {
         put_error(alloc, &mut self.socket, id.protocol_id(), code, text)
     }
 
-    /// Flushes what waits; a fault of that is dropped. The answer is whether memory was refused.
+    /// Flushes what waits. A fault of that is dropped. The answer is whether memory was refused.
     fn flush_dropped(&mut self) -> bool
         ensures flushed { (es : _) × FlushesOut T.sends true self.old.part.link es result self.new.part.link }
         ensures rest { self.new ≡ record self.old { part = with_link self.old.part self.new.part.link } }
@@ -102,13 +104,19 @@ impl<T: Transport + Drop, U: Drop, C: Drop> Client<T, U, C> {
 }
 
 impl<T: Transport + Drop, U: Drop, G: GlobalHandler<C> + Drop, C: Drop> Backend<T, U, G, C> {
-    /// Posts an error on an object: its client is told of it, what waits for the client is flushed, where a fault is
-    /// dropped, and the client is killed. It is noted as disconnected for this error; or as closed where the error could
-    /// not be told, or where memory was refused for its texts: then nothing is told or flushed.
+    /// Posts an error on an object: its client is told of it by `wl_display.error`, what waits is flushed, and the client
+    /// is killed.
     ///
-    /// The error is told where the client is not killed and the id names an object. An error on another object of a stored
-    /// client is told to nobody, and kills the client all the same. To a killed client nothing is told; what waits is
-    /// flushed. A null id, or one of a client that is not stored, is nothing.
+    /// It stands for `wayland_backend::server::Handle::post_error`. A fault of the flush is dropped. A note says that the
+    /// client was disconnected, and gives this error as the reason. The reason is a closed connection instead in these
+    /// cases:
+    ///
+    /// - The client could not be told of the error.
+    /// - There was no memory for the texts of the error. Then nothing is told or flushed.
+    ///
+    /// The client is told of the error if it is live and the id names an object. If the client is live and the id names
+    /// no object, nothing is told, and the client is killed all the same. If the client was killed before, nothing is
+    /// told, and what waits is flushed. If the id is null or its client is not stored, nothing happens.
     pub fn post_error(&mut self, id: &ObjectId, code: u32, text: CString)
         ensures call { Calls (over T.sends T.receives G.views) self.old (step.PostError id.now code text) reply.PostError self.new }
         ensures exactly { PostsExactly T.sends self.old id.now code text self.new }

@@ -27,7 +27,7 @@ use std::alloc::Global;
 use wl_link::{BufferedSocket, ObjectMap, Transport};
 use wl_wire::{IoFault, Message, OutOfMemory, OwnNumbers, Protocol, Token};
 
-/// Makes room for the note of the sender, where the event ends it and it has user data.
+/// Makes room for the note of the sender's end, if the event ends it and it has user data.
 fn make_room<U: Drop>(
     objects: &ObjectMap<Kept<U>>,
     waiting: &mut WaitingNotes<U>,
@@ -47,7 +47,7 @@ fn make_room<U: Drop>(
     }
 }
 
-/// Takes the sender out, where the event ends it. If it had user data, its note waits for the next cleanup.
+/// Takes the sender out, if the event ends it. If it had user data, a note of its end waits for the next cleanup.
 fn end_sender<U: Drop>(
     objects: &mut ObjectMap<Kept<U>>,
     registries: &mut Vec<Registry>,
@@ -68,8 +68,8 @@ fn end_sender<U: Drop>(
     }
 }
 
-/// Tells the client that the number is free again, where an event was written that ends the number's object. The answer is
-/// that of the write which failed, if one did.
+/// Tells the client that the number is free again, if an event was written that ends the object of this number. The
+/// answer is that of the write that failed, if one did.
 fn put_end<T: Transport>(
     alloc: Global,
     socket: &mut BufferedSocket<T>,
@@ -87,8 +87,9 @@ fn put_end<T: Transport>(
 }
 
 impl<T: Transport + Drop, U: Drop, C: Drop> Client<T, U, C> {
-    /// Tells the client of the end of the number's object, where the event that was written ends it. Where the event could
-    /// not be written, or the client could not be told, it is closed down. The answer is whether memory was refused.
+    /// Tells the client that the object of this number is gone, if the event that was written ends it. If the event could
+    /// not be written, or the client could not be told, the client is killed as one whose connection is closed. The
+    /// answer is whether memory was refused.
     fn tell_end(
         &mut self,
         numbers: &mut NoteNumbers,
@@ -103,8 +104,10 @@ impl<T: Transport + Drop, U: Drop, C: Drop> Client<T, U, C> {
         self.kill_unless_written(numbers, answer)
     }
 
-    /// Writes an event that is not refused, and answers whether memory was refused, too. One that ends its sender takes it
-    /// out, also where it could not be written; without memory nothing is done.
+    /// Writes an event that is not refused. The second part of the answer is whether memory was refused.
+    ///
+    /// If the event ends its sender, the sender is taken out, also if the event could not be written. If there is no
+    /// memory, nothing is done.
     fn send_granted(
         &mut self,
         numbers: &mut NoteNumbers,
@@ -137,8 +140,8 @@ impl<T: Transport + Drop, U: Drop, C: Drop> Client<T, U, C> {
         )
     }
 
-    /// Sends an event of one of the client's objects, and answers whether memory was refused, too. To a killed client
-    /// nothing is sent.
+    /// Sends an event of one of the client's objects. To a killed client nothing is sent. The second part of the answer
+    /// is whether memory was refused.
     pub fn send_event(
         &mut self,
         protocol: &Protocol,
@@ -159,7 +162,7 @@ impl<T: Transport + Drop, U: Drop, C: Drop> Client<T, U, C> {
 }
 
 impl<T: Transport + Drop, U: Drop, G: GlobalHandler<C> + Drop, C: Drop> Backend<T, U, G, C> {
-    /// Sends an event that is lent.
+    /// Sends an event that is borrowed.
     fn send_lent(&mut self, message: &Message<ObjectId, Token>) -> Result<(), EventError>
         ensures { Calls (over T.sends T.receives G.views) self.old (step.SendEvent message.now) (reply.SendEvent result) self.new }
     {
@@ -182,17 +185,24 @@ impl<T: Transport + Drop, U: Drop, G: GlobalHandler<C> + Drop, C: Drop> Backend<
         }
     }
 
-    /// Writes the event behind what waits to be sent to its sender's client.
+    /// Puts the event after what waits to be sent to the client of its sender.
     ///
-    /// The refusals are those of `EventError`, looked at in the order that is told there. To a killed client nothing is
-    /// sent, and the answer is `Ok`, whatever the event. A destructor event ends its sender: the object leaves, a note of
-    /// it waits for the next cleanup where it had user data, and where its number is one of the client's own the client is
-    /// told that this is free again.
+    /// It stands for `wayland_backend::server::Handle::send_event`. To a killed client nothing is sent, and the answer is
+    /// `Ok`, whatever the event.
     ///
-    /// A refusal changes nothing, but that after `OutOfMemory` what a flush of the write sent or dropped is gone from the
-    /// link, and a storage that grew stays so. Where the write fails for another reason (`TooBig`, where the event is too
-    /// long), or the client cannot be told of the free number, the answer is `Ok` and the client is killed, as one whose
-    /// connection is closed; a sender that the event ends is gone then, too.
+    /// A destructor event ends its sender: the object is destroyed. If it had user data, a note of its end waits for the
+    /// next cleanup. If its number is one of the client's own, the client is told by `wl_display.delete_id` that the
+    /// number is free again.
+    ///
+    /// If the write fails for another reason than memory (`TooBig`, if the event is too long), or the client cannot be
+    /// told of the free number, the answer is `Ok` and the client is killed as one whose connection is closed. A sender
+    /// that the event ends is destroyed in this case, too.
+    ///
+    /// # Errors
+    ///
+    /// They are those of `EventError`, in the order that its page gives. After an error nothing is changed, with one
+    /// exception: after `OutOfMemory` a flush may have sent or dropped some of what waited for the client, and a buffer
+    /// may have grown.
     pub fn send_event(&mut self, message: Message<ObjectId, Token>) -> Result<(), EventError>
         ensures { Calls (over T.sends T.receives G.views) self.old (step.SendEvent message) (reply.SendEvent result) self.new }
     {

@@ -28,7 +28,7 @@ fn interface_name(
     Ok(c_string(name))
 }
 
-/// The message of a global, whose sender is still to be set.
+/// The message `wl_registry.global` for a global. Its sender is still to be set.
 fn message_of_global(
     alloc: Global,
     name: u32,
@@ -49,7 +49,7 @@ fn message_of_global(
     }
 }
 
-/// Writes the message once for each registry, which is its sender, up to the first that fails.
+/// Writes the message once for each registry, with the registry as its sender. It stops at the first write that fails.
 pub fn put_to_each<T: Transport>(
     socket: &mut BufferedSocket<T>,
     registries: &[Registry],
@@ -66,7 +66,8 @@ pub fn put_to_each<T: Transport>(
     Ok(())
 }
 
-/// Tells each registry of a global. Its text takes memory once, and none without a registry.
+/// Tells each registry of a global by `wl_registry.global`. The interface's name is allocated once, and not at all if
+/// there is no registry.
 pub fn put_global_to_each<T: Transport>(
     alloc: Global,
     socket: &mut BufferedSocket<T>,

@@ -1,4 +1,4 @@
-//! The call that creates a global.
+//! The creation of a global.
 
 ghost use Rattle.std.specs.Prelude.{◌≤◌, IfSome, length};
 ghost use Rattle.wl_link.specs.Identity.{names};
@@ -100,11 +100,20 @@ fn tell_named<T: Transport + Drop, U: Drop, G: GlobalHandler<C> + Drop, C: Drop>
 }
 
 impl<T: Transport + Drop, U: Drop, G: GlobalHandler<C> + Drop, C: Drop> Backend<T, U, G, C> {
-    /// Creates a global, at the least name that no other has, and tells the registries of each live client that may see it.
+    /// Creates a global, and announces it by `wl_registry.global` to the registries of each live client that may see it.
     ///
-    /// Refused where the interface is not in the table, where the version is above the table's, where no name or no serial
-    /// is left, and where there is no memory for a name that was never in use: then nothing is changed. A client to which
-    /// the message cannot be written, also for want of memory, is killed, and the global is created all the same.
+    /// It stands for `wayland_backend::server::Handle::create_global`. The global gets the least name that no other
+    /// global has. `version` is the greatest version that clients may bind. If a client cannot be told, for lack of
+    /// memory or for another reason, it is killed, and the global is created all the same.
+    ///
+    /// # Errors
+    ///
+    /// - `UnknownInterface`: the interface is not in the table.
+    /// - `VersionTooHigh`: the version is above that of the interface in the table.
+    /// - `Full`: no name or no serial is left.
+    /// - `OutOfMemory`: there is no memory for the global. This happens only if its name was never in use before.
+    ///
+    /// After an error nothing is changed.
     pub fn create_global(
         &mut self,
         interface: InterfaceId,

@@ -1,21 +1,23 @@
-//! What a program says of its globals.
+//! The program's handlers of its globals.
 
 ghost use Rattle.std.specs.Prelude.{◌≡◌, Bool};
 
 use crate::ids::client_id::ClientId;
 use crate::ids::global_id::GlobalId;
 
-/// Which clients may see a global.
+/// A program's handler of a global, which says which clients may see it.
 ///
-/// The answer is a function of the handler, the client's id and data, and the global's id: a server asks as often as it
-/// likes, and rests on the same answer each time. A program that hides no global takes `ShownToAll`.
+/// It stands for `wayland_backend::server::GlobalHandler`, of which only `can_view` is left. The answer depends only on
+/// the handler, the client's id and data, and the global's id. The server asks as often as it likes, and expects the same
+/// answer each time. A program that hides no global uses `ShownToAll`.
 pub trait GlobalHandler<C> {
     ghost use Rattle.wl_server.specs.Ids.{ClientParts, GlobalParts};
 
     ghost views: { Self → ClientParts → C → GlobalParts → Bool };
 
-    /// Whether the client may see the global. There is no default answer, in place of the Rust crate's `true`: a program that
-    /// hides no global takes `ShownToAll`.
+    /// Whether the client may see the global. `info` is the program's data of the client.
+    ///
+    /// Unlike in wayland-backend there is no default answer `true`: a program that hides no global uses `ShownToAll`.
     fn can_view(&self, client: &ClientId, info: &C, global: &GlobalId) -> bool
         ensures { result ≡ views self.now client.now info.now global.now };
 }

@@ -1,4 +1,4 @@
-//! What a server answers of its globals, without a change.
+//! Look-ups of globals. None of them changes the server.
 
 ghost use Rattle.std.specs.Prelude.{◌≡◌, ℕ, MatchOption, IfOk, MatchResult, Some, option_copied};
 ghost use Rattle.wl_link.specs.Identity.{names};
@@ -15,7 +15,10 @@ use crate::ids::client_id::ClientId;
 use crate::ids::global_id::{GlobalId, GlobalInfo};
 
 impl<T: Drop, U: Drop, G: Drop, C: Drop> Backend<T, U, G, C> {
-    /// What the global offers, also where it is disabled. `InvalidId` where it is not kept.
+    /// What the global offers. A disabled global is found, too.
+    ///
+    /// It stands for `wayland_backend::server::Handle::global_info`. The error is `InvalidId` if the server does not have
+    /// the global.
     pub fn global_info(&self, id: &GlobalId) -> Result<GlobalInfo, InvalidId>
         ensures { MatchResult result (λ info. global_info_by self.now.server id.now ≡ Some info)
             (λ _. global_info_by self.now.server id.now ≡ None) }
@@ -30,7 +33,10 @@ impl<T: Drop, U: Drop, G: Drop, C: Drop> Backend<T, U, G, C> {
         }
     }
 
-    /// The global's handler, also where it is disabled. `InvalidId` where it is not kept.
+    /// The handler of the global. A disabled global is found, too.
+    ///
+    /// It stands for `wayland_backend::server::Handle::get_global_handler`. The error is `InvalidId` if the server does
+    /// not have the global.
     pub fn get_global_handler(&self, id: &GlobalId) -> Result<&G, InvalidId>
         ensures { MatchResult result (λ handler. handler_of self.now.server id.now ≡ Some handler.now)
             (λ _. handler_of self.now.server id.now ≡ None) }
@@ -43,8 +49,10 @@ impl<T: Drop, U: Drop, G: Drop, C: Drop> Backend<T, U, G, C> {
 }
 
 impl<T: Drop, U: Drop, G: GlobalHandler<C> + Drop, C: Drop> Backend<T, U, G, C> {
-    /// The name of the global for a client: where the client is stored and may see the global, and this is kept, disabled
-    /// or not.
+    /// The name of the global for a client.
+    ///
+    /// It stands for `wayland_backend::server::Handle::global_name`. It is `None` if the client is not stored or may not
+    /// see the global, or if the server does not have the global. A disabled global is found, too.
     pub fn global_name(&self, id: &GlobalId, client: &ClientId) -> Option<u32>
         ensures { result ≡ name_for self.now.server G.views id.now client.now }
     {

@@ -18,7 +18,7 @@ use std::alloc::Global;
 use wl_link::{BufferedSocket, Object, Transport};
 use wl_wire::IoFault;
 
-/// Whether the client is shown the global.
+/// Whether the client is shown the global: it is not disabled, and the client may see it.
 fn is_shown<G: GlobalHandler<C>, C>(
     around: &Surroundings<'_, G>,
     info: &C,

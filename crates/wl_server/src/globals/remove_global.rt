@@ -1,4 +1,4 @@
-//! The calls by which a global is announced no more.
+//! The calls that withdraw a global.
 
 ghost use Rattle.std.specs.Prelude.{◌≡◌, ℕ, length};
 ghost use Rattle.wl_link.specs.Identity.{names};
@@ -23,7 +23,7 @@ use wl_link::{ObjectMap, Transport};
 /// The opcode of `wl_registry.global_remove`.
 const GLOBAL_REMOVE: u16 = 1;
 
-/// Whether the global that the id names is announced.
+/// Whether the id names a global that is not disabled.
 fn is_enabled<G: Drop>(globals: &ObjectMap<KeptGlobal<G>>, id: &GlobalId) -> bool
     ensures { result ≡ global_is_enabled (names global_serial (record { number = id.now.name; serial = id.now.serial }) globals.now.store) }
 {
@@ -33,8 +33,8 @@ fn is_enabled<G: Drop>(globals: &ObjectMap<KeptGlobal<G>>, id: &GlobalId) -> boo
     }
 }
 
-/// Tells the client of a slot, if it is live, that the global of that name is announced no more. The answer is whether
-/// memory was refused.
+/// Tells the client of a slot, if it is live, by `wl_registry.global_remove` that the global of that name is gone. The
+/// answer is whether memory was refused.
 fn tell_loss_at<T: Transport + Drop, U: Drop, C: Drop>(
     client: &mut Option<Client<T, U, C>>,
     numbers: &mut NoteNumbers,
@@ -53,7 +53,8 @@ fn tell_loss_at<T: Transport + Drop, U: Drop, C: Drop>(
     }
 }
 
-/// Tells each live client that the global of that name is announced no more. The answer is whether memory was refused.
+/// Tells each live client by `wl_registry.global_remove` that the global of that name is gone. The answer is whether
+/// memory was refused.
 fn tell_loss<T: Transport + Drop, U: Drop, C: Drop>(
     clients: &mut [Option<Client<T, U, C>>],
     numbers: &mut NoteNumbers,
@@ -69,10 +70,14 @@ fn tell_loss<T: Transport + Drop, U: Drop, C: Drop>(
 }
 
 impl<T: Transport + Drop, U: Drop, G: GlobalHandler<C> + Drop, C: Drop> Backend<T, U, G, C> {
-    /// Announces the global no more: each registry of each live client is told, whether it was told of the global or not.
-    /// The global is kept, and clients may still bind it. One that is not kept, or announced no more already, is nothing.
+    /// Disables the global: it is no longer announced, and each registry of each live client is told by
+    /// `wl_registry.global_remove`.
     ///
-    /// A client to which the message cannot be written, also for want of memory, is killed.
+    /// It stands for `wayland_backend::server::Handle::disable_global`. A registry is told whether or not it was told of
+    /// the global before. The server keeps the global, and clients may still bind it. If the server does not have the
+    /// global, or it was disabled before, nothing happens.
+    ///
+    /// If a client cannot be told, for lack of memory or for another reason, it is killed.
     pub fn disable_global(&mut self, id: &GlobalId)
         ensures { Calls (over T.sends T.receives G.views) self.old (step.DisableGlobal id.now) reply.DisableGlobal self.new }
     {
@@ -84,10 +89,13 @@ impl<T: Transport + Drop, U: Drop, G: GlobalHandler<C> + Drop, C: Drop> Backend<
         }
     }
 
-    /// Keeps the global no more: its name is free for another. Where it was announced, each registry of each live client is
-    /// told, as by `disable_global`. One that is not kept is nothing.
+    /// Removes the global: its name is free for another.
     ///
-    /// A client to which the message cannot be written, also for want of memory, is killed.
+    /// It stands for `wayland_backend::server::Handle::remove_global`. If the global was not disabled before, each
+    /// registry of each live client is told, as by `disable_global`. If the server does not have the global, nothing
+    /// happens.
+    ///
+    /// If a client cannot be told, for lack of memory or for another reason, it is killed.
     pub fn remove_global(&mut self, id: &GlobalId)
         ensures { Calls (over T.sends T.receives G.views) self.old (step.RemoveGlobal id.now) reply.RemoveGlobal self.new }
     {

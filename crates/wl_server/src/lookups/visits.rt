@@ -1,4 +1,4 @@
-//! Calls of a closure for each live client, and for each object of a client.
+//! Calls a closure for each live client, or for each object of a client.
 
 ghost use Rattle.std.specs.Prelude.{◌≡◌, ◌≤◌, Err, MatchOption, Ok, length, option_to_list};
 ghost use Rattle.std.specs.List.{FoldsTo};
@@ -13,7 +13,7 @@ use crate::ids::object_id::ObjectId;
 use crate::objects::{Kept, id_at};
 use wl_link::ObjectMap;
 
-/// The id of the client of a slot, if there is one and it is live.
+/// The id of the client of a slot, if it has one that is live.
 fn live_at<T, U, C>(slot: u32, place: &Option<Client<T, U, C>>) -> Option<ClientId>
     ensures { option_to_list result ≡ id_if_stored slot place.now }
 {
@@ -23,7 +23,7 @@ fn live_at<T, U, C>(slot: u32, place: &Option<Client<T, U, C>>) -> Option<Client
     }
 }
 
-/// Calls the closure with the id of each live client, by slot, and not once more.
+/// Calls the closure once with the id of each live client, by ascending slot.
 fn visit_live<T, U, C, F: FnMut(ClientId)>(clients: &[Option<Client<T, U, C>>], f: &mut F)
     requires call { F.IsAlwaysCallable f.old }
     requires slots { length clients.now ≤ 0x100000000 }
@@ -40,7 +40,7 @@ fn visit_live<T, U, C, F: FnMut(ClientId)>(clients: &[Option<Client<T, U, C>>], 
     }
 }
 
-/// Calls the closure with the id of each object of a client, by ascending number, and not once more.
+/// Calls the closure once with the id of each object of a client, by ascending number.
 fn visit_objects<U: Drop, F: FnMut(ObjectId)>(
     client: &ClientId,
     objects: &ObjectMap<Kept<U>>,
@@ -56,7 +56,9 @@ fn visit_objects<U: Drop, F: FnMut(ObjectId)>(
 }
 
 impl<T: Drop, U: Drop, G: Drop, C: Drop> Backend<T, U, G, C> {
-    /// Calls the closure with the id of each live client, by slot: one that was killed is left out.
+    /// Calls the closure once with the id of each live client, by ascending slot. A client that was killed is left out.
+    ///
+    /// It stands for `wayland_backend::server::Handle::with_all_clients`.
     pub fn with_all_clients<F: FnMut(ClientId)>(&self, mut f: F)
         requires { F.IsAlwaysCallable f }
         ensures { (last : F) × FoldsTo (λ p x q. F.step p x tt q) f (live_clients self.now.server) last }
@@ -64,8 +66,10 @@ impl<T: Drop, U: Drop, G: Drop, C: Drop> Backend<T, U, G, C> {
         visit_live(&self.clients, &mut f);
     }
 
-    /// Calls the closure with the id of each object of the client, by ascending number. `InvalidId` where the client is not
-    /// stored; then it is not called.
+    /// Calls the closure once with the id of each object of the client, by ascending number.
+    ///
+    /// It stands for `wayland_backend::server::Handle::with_all_objects_for`. The error is `InvalidId` if the client is
+    /// not stored. Then the closure is not called.
     pub fn with_all_objects_for<F: FnMut(ObjectId)>(
         &self,
         client: &ClientId,

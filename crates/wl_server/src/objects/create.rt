@@ -1,4 +1,4 @@
-//! New objects of the server's.
+//! Objects that the server creates.
 
 ghost use Rattle.std.specs.Prelude.{◌≡◌, []};
 ghost use Rattle.wl_server.specs.Backend.{Calls};
@@ -23,8 +23,9 @@ use wl_wire::{InterfaceId, Protocol};
 /// How many numbers the server's range has.
 const SERVER_NUMBERS: u32 = 0x0100_0000;
 
-/// Why no object is created where no serial is left: it may be that no number is left either. The numbers of the server's
-/// range are looked at one by one, only here, since otherwise an insertion tells it.
+/// The error of a creation if no serial is left. It is `IdsExhausted` if no number is left either, and else
+/// `SerialsExhausted`. It looks at the numbers of the server's range one by one. Only this rare case does that: otherwise
+/// the insertion itself finds that no number is left.
 #[cold]
 #[inline(never)]
 fn without_serial<U: Drop>(objects: &ObjectMap<Kept<U>>) -> CreateError
@@ -40,7 +41,7 @@ fn without_serial<U: Drop>(objects: &ObjectMap<Kept<U>>) -> CreateError
 }
 
 impl<T: Drop, U: Drop, C: Drop> Client<T, U, C> {
-    /// Creates an object of the server's, with the id of the client that this is.
+    /// Creates an object of the server for this client, whose id is `id`.
     pub fn create_object(
         &mut self,
         id: &ClientId,
@@ -69,7 +70,7 @@ impl<T: Drop, U: Drop, C: Drop> Client<T, U, C> {
     }
 }
 
-/// Whether memory was refused in a creation that was answered so.
+/// Whether a creation that was answered so ran out of memory.
 fn lacks_memory(answer: &Result<ObjectId, CreateError>) -> bool
     ensures { result ≡ lacks_create answer.now }
 {
@@ -77,12 +78,21 @@ fn lacks_memory(answer: &Result<ObjectId, CreateError>) -> bool
 }
 
 impl<T: Transport + Drop, U: Drop, G: GlobalHandler<C> + Drop, C: Drop> Backend<T, U, G, C> {
-    /// Creates an object of the server's for the client, and answers its id: it gets the least number from 0xFF000000 on
-    /// that holds no object of that client, and the next serial. The client is told of it by an event that names it.
+    /// Creates an object of the server for the client, and answers its id.
     ///
-    /// `InvalidId` where the client is not stored, `UnknownInterface` where the interface is not in the table,
-    /// `IdsExhausted` where no number and `SerialsExhausted` where no serial is left, else `OutOfMemory` where there is
-    /// none. A refusal changes nothing.
+    /// It stands for `wayland_backend::server::Handle::create_object`. The object gets the least number from 0xFF000000
+    /// on that no object of the client has, and the next serial. The client hears of it by an event that has it as a new
+    /// id.
+    ///
+    /// # Errors
+    ///
+    /// - `InvalidId`: the client is not stored.
+    /// - `UnknownInterface`: the interface is not in the table.
+    /// - `IdsExhausted`: no number is left.
+    /// - `SerialsExhausted`: no serial is left.
+    /// - `OutOfMemory`: memory ran out.
+    ///
+    /// After an error nothing is changed.
     pub fn create_object(
         &mut self,
         client: &ClientId,

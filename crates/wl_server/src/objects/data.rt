@@ -19,7 +19,7 @@ use crate::ids::object_id::ObjectId;
 use crate::objects::{Kept, named_in};
 use wl_link::{ObjectMap, Transport};
 
-/// Gives the object that the id names these user data, in place of what it had.
+/// Sets the user data of the object that the id names. What it had before is dropped.
 pub fn give_data<U: Drop>(
     objects: &mut ObjectMap<Kept<U>>,
     id: &ObjectId,
@@ -38,8 +38,10 @@ pub fn give_data<U: Drop>(
 }
 
 impl<T: Transport + Drop, U: Drop, G: GlobalHandler<C> + Drop, C: Drop> Backend<T, U, G, C> {
-    /// Gives the object that the id names this user data; what it had is dropped. `InvalidId` where its client is not
-    /// stored, or the id names none. It takes no memory.
+    /// Sets the user data of the object that the id names. What it had before is dropped. It allocates no memory.
+    ///
+    /// It stands for `wayland_backend::server::Handle::set_object_data`. The error is `InvalidId` if the id's client is
+    /// not stored, or the id names no object.
     pub fn set_object_data(&mut self, id: &ObjectId, user_data: U) -> Result<(), InvalidId>
         ensures call { Calls (over T.sends T.receives G.views) self.old (step.SetObjectData id.now user_data) (reply.SetObjectData result) self.new }
         ensures plain { SetsObjectData self.old id.now user_data result self.new }

@@ -1,4 +1,4 @@
-//! The end of an object that the program destroys.
+//! Objects that the program destroys.
 
 ghost use Rattle.std.specs.Prelude.{◌≡◌, ◌==◌, if◌then◌else◌, None, option_copied};
 ghost use Rattle.wl_server.specs.Backend.{Calls};
@@ -22,7 +22,7 @@ use crate::objects::{Kept, named_in, reserve_note, take_out_noted};
 use wl_link::{Object, ObjectMap, Transport};
 use wl_wire::OutOfMemory;
 
-/// The object that the program may destroy by the id.
+/// The object that the id names, if there is one and the program may destroy it: the display may not be destroyed.
 fn destroyable<'a, U: Drop>(
     objects: &'a ObjectMap<Kept<U>>,
     id: &ObjectId,
@@ -67,7 +67,7 @@ impl<T: Transport + Drop, U: Drop, C: Drop> Client<T, U, C> {
     }
 }
 
-/// Whether memory was refused in a destruction that was answered so.
+/// Whether a destruction that was answered so ran out of memory.
 fn lacks_memory(answer: &Result<(), DestroyError>) -> bool
     ensures { result ≡ lacks_destroy answer.now }
 {
@@ -75,13 +75,20 @@ fn lacks_memory(answer: &Result<(), DestroyError>) -> bool
 }
 
 impl<T: Transport + Drop, U: Drop, G: GlobalHandler<C> + Drop, C: Drop> Backend<T, U, G, C> {
-    /// Destroys the object that the id names: it leaves, and where its number is one of the client's own, the client is
-    /// told that this is free again. If the object had user data, a note of it waits for the next cleanup.
+    /// Destroys the object that the id names.
     ///
-    /// `InvalidId` where its client is not stored, or the id names none, or the display. A client that cannot be told is
-    /// killed: its connection is closed, and the object is gone all the same. `OutOfMemory` where there is none for the
-    /// note or the message: then the object stays, and what is sent to the client is as before but for what a flush sent
-    /// or dropped of it and a storage that grew.
+    /// It stands for `wayland_backend::server::Handle::destroy_object`. If the object's number is one of the client's
+    /// own, the client is told by `wl_display.delete_id` that the number is free again. If the object had user data, a
+    /// note of its end waits for the next cleanup.
+    ///
+    /// If the client cannot be told, it is killed as one whose connection is closed. The object is destroyed all the
+    /// same, and the answer is `Ok`.
+    ///
+    /// # Errors
+    ///
+    /// - `InvalidId`: the id's client is not stored, or the id names no object or the display. Nothing is changed.
+    /// - `OutOfMemory`: there is no memory for the note or for the message. The object stays. A flush may have sent or
+    ///   dropped some of what waited for the client, and a buffer may have grown.
     pub fn destroy_object(&mut self, id: &ObjectId) -> Result<(), DestroyError>
         ensures call { Calls (over T.sends T.receives G.views) self.old (step.DestroyObject id.now) (reply.DestroyObject result) self.new }
         ensures plain { DestroysObject self.old id.now result self.new }
