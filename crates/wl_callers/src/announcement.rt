@@ -1,4 +1,4 @@
-//! The registries of a client were told of a global that the client may see.
+//! Offers a global: each registry of a client that may see it is told of it.
 
 ghost use Rattle.std.specs.Prelude.{IfOk};
 ghost use Rattle.wl_server.specs.PartStep.{over};
@@ -9,8 +9,11 @@ use wl_server::laws::registries_announce_what_is_shown;
 use wl_server::{Backend, GlobalError, GlobalHandler, GlobalId};
 use wl_wire::InterfaceId;
 
-/// Offers a global. If that succeeds, each registry of a live client that may see it was told of it, with its name, its interface
-/// and its version: each that was made for the client, and that the program left alone.
+/// Offers a global. If that succeeds, each registry of a live client that may see the global was told of its name, its
+/// interface and its version. That holds for each registry that was made for the client, as long as the program itself
+/// sends no event of it and does not destroy it.
+///
+/// The errors are those of `create_global`.
 pub fn offer<T: Transport + Drop, U: Drop, G: GlobalHandler<C> + Drop, C: Drop>(
     server: &mut Backend<T, U, G, C>,
     interface: InterfaceId,

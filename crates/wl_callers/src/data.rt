@@ -1,4 +1,4 @@
-//! Data that is set is found again.
+//! Sets the data of an object, and finds it again.
 
 ghost use Rattle.std.specs.Prelude.{◌≡◌, IfOk, None, OnErr};
 ghost use Rattle.wl_server.specs.Lookups.{object_of};
@@ -6,7 +6,8 @@ ghost use Rattle.wl_server.specs.Lookups.{object_of};
 use wl_link::Transport;
 use wl_server::{Backend, GlobalHandler, InvalidId, ObjectId};
 
-/// Gives an object this count as its data, and reads it again. Only an id that names no object is refused.
+/// Sets the data of an object to this count, and answers what is read back. The error is `InvalidId` if the id names no
+/// object.
 pub fn set_count<T: Transport + Drop, G: GlobalHandler<C> + Drop, C: Drop>(
     server: &mut Backend<T, u32, G, C>,
     counter: &ObjectId,

@@ -1,4 +1,4 @@
-//! An object that was destroyed is found no more, whatever comes after it.
+//! Destroys an object: its id never names an object again, whatever calls follow.
 
 ghost use Rattle.std.specs.Prelude.{OnOk};
 ghost use Rattle.wl_server.specs.PartStep.{over};
@@ -8,8 +8,10 @@ use wl_link::Transport;
 use wl_server::laws::{each_client_is_alone, each_id_that_names_an_object_keeps_it};
 use wl_server::{Backend, DestroyError, GlobalHandler, ObjectId};
 
-/// Destroys an object. If that succeeds, its id names no object any more: not behind whatever calls come after it, with
-/// whatever answers, also if a new object gets its number.
+/// Destroys an object. If that succeeds, its id never names an object again, whatever calls follow and whatever they
+/// answer. That holds even if a new object gets the same number.
+///
+/// The errors are those of `destroy_object`.
 pub fn destroy_for_good<T: Transport + Drop, U: Drop, G: GlobalHandler<C> + Drop, C: Drop>(
     server: &mut Backend<T, U, G, C>,
     object: &ObjectId,

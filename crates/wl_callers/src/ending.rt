@@ -1,4 +1,4 @@
-//! A client that is killed is handed out by the next cleanup, with its transport.
+//! Kills a client: the next cleanup hands it out, with its transport.
 
 ghost use Rattle.std.specs.Prelude.{◌≡◌, [], IfNone, IfOk, IfSome};
 ghost use Rattle.wl_server.specs.Lookups.{client_of};
@@ -9,8 +9,10 @@ use wl_link::Transport;
 use wl_server::{Backend, ClientId, DisconnectReason, GlobalHandler};
 use wl_wire::OutOfMemory;
 
-/// Kills a client, and takes out those that are killed. A stored client is among them once, with its transport, to which what
-/// waited was flushed; and it is stored no more. A client that is not stored is not among them.
+/// Kills a client, and takes out the clients that are killed, with their transports.
+///
+/// A client that was stored is in the answer once, with its transport, to which what waited was flushed. It is no longer
+/// stored. A client that was not stored is not in the answer. The error is `OutOfMemory`.
 pub fn disconnect<T: Transport + Drop, U: Drop, G: GlobalHandler<C> + Drop, C: Drop>(
     server: &mut Backend<T, U, G, C>,
     client: &ClientId,

@@ -1,4 +1,4 @@
-//! The loop of a proxy, which hands on the events that it reads.
+//! The loop of a proxy, which reads events and hands them on.
 
 ghost use Rattle.std.specs.Prelude.{◌≡◌};
 ghost use Rattle.wl_callers.specs.Proxy.{HandsOn};
@@ -7,8 +7,18 @@ use wl_client::{Backend, EventError, ObjectId};
 use wl_link::Transport;
 use wl_wire::{Message, Token};
 
-/// Reads the events that are there, at most so many, puts each behind `out`, and ends it. The list has what was read, all of
-/// it, and in order. It stops at an event that makes an object, which is handed on and stays open: its data are the caller's.
+/// Reads at most `most` events of those that are there, appends each to `out`, and finishes it. So `out` gets all events
+/// that were read, in order.
+///
+/// It stops at an event that makes an object. This one is appended to `out` and stays open: the caller has to give the
+/// data of the object.
+///
+/// # Errors
+///
+/// - `EventOpen`: the last event that was appended could not be finished, for instance because it makes an object. Or an
+///   event was open before the call.
+/// - `OutOfMemory`: memory ran out.
+/// - Any other error of `next_event`, except `WouldBlock`: if no more events are there, the answer is `Ok`.
 pub fn hand_on<T: Transport + Drop, U: Drop>(
     client: &mut Backend<T, U>,
     most: u32,

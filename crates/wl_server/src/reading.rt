@@ -1,4 +1,8 @@
-//! The reading of a client's messages, from the front of its link to an action, and the end of that.
+//! Reads the messages of a client up to an action, and finishes actions.
+//!
+//! A *reading* is one call of `next_action` or `next_action_within`. It handles messages, and receives more, until it
+//! finds an action or has nothing left to read. An *action* is a request or a bind that is handed out to the program. One
+//! message that is handled is a *turn* of the reading.
 
 pub mod action;
 pub mod arguments;
@@ -19,12 +23,12 @@ use crate::ids::client_id::ClientId;
 use wl_link::ObjectMap;
 use wl_wire::Protocol;
 
-/// What a reading asks beside its own client.
+/// What a reading needs to know in addition to its client's own state.
 #[derive(Drop)]
 pub struct Surroundings<'a, G> {
     /// The table of interfaces.
     pub protocol: &'a Protocol,
-    /// The globals that the server offers.
+    /// The globals of the server.
     pub globals: &'a ObjectMap<KeptGlobal<G>>,
     /// The id of the client.
     pub client: ClientId,

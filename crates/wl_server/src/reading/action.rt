@@ -1,24 +1,24 @@
-//! What a reading hands out, how much it may read, and what handling a message came to.
+//! What a reading hands out, how much it may read, and what became of a message.
 
 use crate::ids::global_id::GlobalId;
 use crate::ids::object_id::ObjectId;
 use smallvec::SmallVec;
 use wl_wire::{Argument, INLINE_ARGS, IoFault, Token};
 
-/// What a client asks of the program.
+/// What a client asks of the program. `finish_request` or `finish_bind` ends it.
 #[derive(Drop)]
 pub enum Action {
     /// A request.
     Request {
         /// The object that it was sent to.
         sender: ObjectId,
-        /// Which request of the object's interface it is.
+        /// The index of the request among those of the object's interface.
         opcode: u16,
-        /// The arguments.
+        /// The arguments, in order.
         args: SmallVec<Argument<ObjectId, Token>, INLINE_ARGS>,
-        /// Whether it ends the object.
+        /// Whether it is a destructor, which ends the object.
         is_destructor: bool,
-        /// The object that it made.
+        /// The object that it made, if it made one.
         created: Option<ObjectId>,
     },
     /// A new object was bound to a global.
@@ -30,16 +30,16 @@ pub enum Action {
     },
 }
 
-/// What the end of an action has to know of it.
+/// An action that is open: it was handed out and is not finished yet. This is what is needed to finish it.
 #[derive(Clone, Copy)]
 pub enum OpenAction {
     /// A request.
     Request {
         /// The object that it was sent to.
         sender: ObjectId,
-        /// Whether it ends the object.
+        /// Whether it is a destructor, which ends the object.
         is_destructor: bool,
-        /// The object that it made.
+        /// The object that it made, if it made one.
         created: Option<ObjectId>,
     },
     /// A bind.
@@ -49,19 +49,19 @@ pub enum OpenAction {
     },
 }
 
-/// How much may still be received of one client, and how many requests were read.
+/// How much a reading may still receive from one client, and how many requests it read.
 #[derive(Clone, Copy)]
 pub struct Reading {
-    /// The receives still allowed.
+    /// How many more times the transport may be asked to receive.
     pub receives_left: u32,
-    /// The requests read; it stops at the greatest number.
+    /// How many requests were read. It saturates at `usize::MAX`.
     pub read: usize,
 }
 
-/// Why a reading ends without an action.
+/// Why a reading ended without an action.
 #[derive(Drop)]
 pub struct NoAction {
-    /// The answer of the reading.
+    /// The fault that the reading answers.
     pub fault: IoFault,
     /// Whether memory was refused.
     pub refused: bool,
@@ -70,27 +70,27 @@ pub struct NoAction {
 /// An action that is handed out, without the arguments of a request.
 #[derive(Clone, Copy)]
 pub enum Found {
-    /// A request: its object, its opcode, whether it ends the object, and the object that it made.
+    /// A request: the object that it was sent to, its opcode, whether it is a destructor, and the object that it made.
     Request(ObjectId, u16, bool, Option<ObjectId>),
     /// A new object was bound to a global.
     Bind(GlobalId, ObjectId),
 }
 
 impl Found {
-    /// What stands in the place of an action before one is found: a request of no object.
+    /// The value before an action is found: a request of no object.
     pub fn none() -> Self {
         Found::Request(ObjectId::null(), 0, false, None)
     }
 }
 
-/// What a turn came to.
+/// What became of a turn, which handles one message.
 #[derive(Drop)]
 pub enum TurnEnd {
-    /// An action was found, and is to be handed out.
+    /// An action was found. It is to be handed out.
     Acts,
     /// A message was handled, and the reading goes on.
     GoesOn,
-    /// No message waits whole.
+    /// No whole message waits.
     Lacks,
     /// The reading ends without an action.
     Ends(NoAction),

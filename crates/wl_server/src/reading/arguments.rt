@@ -1,4 +1,4 @@
-//! The arguments of a request, and what they do to the objects of a client.
+//! The arguments of a request, and the objects that they name or make.
 
 ghost use Rattle.std.specs.Prelude.{◌≡◌, ◌≢◌, ◌+◌, ◌<◌, false, true, None, Ok, Err, IfOk, MatchResult, length, reverse};
 ghost use Rattle.smallvec.specs.SmallVec.{HasRoomFor};
@@ -18,20 +18,20 @@ use wl_wire::{
     same_interface_or_anonymous,
 };
 
-/// How far the arguments of a request were gone through.
+/// What is left to do while the arguments of a request are converted from left to right.
 #[derive(Drop)]
 pub struct Progress<'a> {
-    /// The types of the signature that no argument took yet.
+    /// The types in the signature of the arguments that are left.
     pub kinds: &'a [ArgumentType],
-    /// The interfaces of the table that no object argument took yet.
+    /// The interfaces that the table asks for, of the object arguments that are left.
     pub asked: &'a [InterfaceId],
-    /// The interface of the object that the request may yet make.
+    /// The interface of the object that the request may still make.
     pub child: Option<InterfaceId>,
-    /// The object that it made.
+    /// The object that the request made.
     pub created: Option<ObjectId>,
 }
 
-/// The id that the number of an object becomes, where the table asks for this interface.
+/// Converts the number of an object argument into an id, if the table asks for the interface `asked`.
 fn object_argument<U: Drop>(
     client: ClientId,
     objects: &ObjectMap<Kept<U>>,
@@ -56,8 +56,8 @@ fn object_argument<U: Drop>(
     Ok(id_at(&client, number, object))
 }
 
-/// Makes an object of a client at this number, and answers its id; `None` where the client may make none there, or
-/// where no serial is left. Then nothing is changed.
+/// Makes an object of a client with this number, and answers its id. It is `None` if the client may not use the number
+/// for a new object, or if no serial is left. Then nothing is changed.
 pub fn make_object<U: Drop>(
     client: ClientId,
     objects: &mut ObjectMap<Kept<U>>,
@@ -84,7 +84,7 @@ pub fn make_object<U: Drop>(
     }
 }
 
-/// Whether the next argument may be null. Its type is taken.
+/// Whether the next argument may be null. Takes its type off the list.
 fn take_kind(progress: &mut Progress<'_>) -> bool
     ensures null { result ≡ null_allowed progress.old.kinds.now }
     ensures kinds { progress.new.kinds.now ≡ kinds_after progress.old.kinds.now }
@@ -101,7 +101,7 @@ fn take_kind(progress: &mut Progress<'_>) -> bool
     }
 }
 
-/// The next of the interfaces that the table asks for, which is taken.
+/// Takes the next interface that the table asks for off the list.
 fn take_asked(progress: &mut Progress<'_>) -> InterfaceId
     ensures next { result ≡ next_interface progress.old.asked.now }
     ensures rest { progress.new.asked.now ≡ rest_of progress.old.asked.now }
@@ -118,7 +118,7 @@ fn take_asked(progress: &mut Progress<'_>) -> InterfaceId
     }
 }
 
-/// What a new id becomes, whose type was taken.
+/// Converts a new id, whose type was taken: makes its object.
 fn new_id_argument<U: Drop>(
     client: ClientId,
     version: u32,
@@ -146,7 +146,7 @@ fn new_id_argument<U: Drop>(
     }
 }
 
-/// What an argument of a request becomes, whose object has this version.
+/// Converts an argument of a request. `version` is the version of the object that the request was sent to.
 fn convert_one<U: Drop>(
     client: ClientId,
     version: u32,
@@ -181,8 +181,8 @@ fn convert_one<U: Drop>(
     }
 }
 
-/// What the arguments of a request become, from left to right; `args` has the last of them first, and they are taken
-/// out of it. The answer is the object that the request makes.
+/// Converts the arguments of a request, from left to right, and answers the object that the request makes. `args` has
+/// them in reverse order, and they are taken out of it.
 pub fn convert<U: Drop>(
     client: ClientId,
     version: u32,

@@ -25,7 +25,7 @@ use wl_wire::{Argument, Message, Token, WL_CALLBACK_INTERFACE, WL_REGISTRY_INTER
 /// The opcode of `wl_display.sync`.
 const SYNC: u16 = 0;
 
-/// Goes through a request to a display.
+/// Handles a request to a display, and answers what is still to be done for it.
 pub fn display_request<'m, U: Drop, G: GlobalHandler<C>, C>(
     around: &Surroundings<'_, G>,
     info: &C,
@@ -50,7 +50,7 @@ pub fn display_request<'m, U: Drop, G: GlobalHandler<C>, C>(
     get_registry(around, info, objects, last_serial, registries, number)
 }
 
-/// The number of the new id that is the message's one argument.
+/// The number of the message's new id, if that is its only argument.
 fn new_id_in(message: &Message<u32, Token>) -> Option<u32>
     ensures { result ≡ only_new_id message.now.args.items }
 {
@@ -60,7 +60,7 @@ fn new_id_in(message: &Message<u32, Token>) -> Option<u32>
     }
 }
 
-/// Makes a callback at this number, which is gone again at once.
+/// Makes a callback with this number. It is removed at once.
 fn sync<'m, U: Drop, G: GlobalHandler<C>, C>(
     around: &Surroundings<'_, G>,
     info: &C,
@@ -91,7 +91,7 @@ fn sync<'m, U: Drop, G: GlobalHandler<C>, C>(
     }
 }
 
-/// Makes a registry at this number.
+/// Makes a registry with this number.
 fn get_registry<'m, U: Drop, G: GlobalHandler<C>, C>(
     around: &Surroundings<'_, G>,
     info: &C,

@@ -1,4 +1,4 @@
-//! The end of an action that was handed out.
+//! Finishes an action that was handed out.
 
 ghost use Rattle.std.specs.Prelude.{◌≡◌, ◌+◌, ◌<◌, ◌≤◌, ◌++◌, IsSome, Some, OnErr, OnOk, false, is_some, true, map, option_copied};
 ghost use Rattle.std.specs.VecDeque.{deque_capacity, deque_len};
@@ -33,7 +33,8 @@ use std::alloc::Global;
 use wl_link::{Object, ObjectMap, Transport};
 use wl_wire::{IoFault, OutOfMemory};
 
-/// Why a request cannot be finished with these data, whatever memory there is. Those of a killed client may lack.
+/// The error if a request cannot be finished with this user data, whatever memory there is. For a killed client the data
+/// may be missing.
 fn refusal_of<U>(
     is_killed: bool,
     created: &Option<ObjectId>,
@@ -48,7 +49,7 @@ fn refusal_of<U>(
     }
 }
 
-/// The object that a request ends: its own sender, while that is kept.
+/// The object that a request ends: its sender, if the request is a destructor and the object is there.
 fn ended_in<'a, U: Drop>(
     objects: &'a ObjectMap<Kept<U>>,
     sender: &ObjectId,
@@ -62,7 +63,7 @@ fn ended_in<'a, U: Drop>(
     named_in(objects, sender)
 }
 
-/// Makes room for the note of this object, where it has user data, and for one more.
+/// Makes room for two notes, if the object has user data: the one of its end, and one more.
 fn reserve_end<U: Drop>(
     made: &mut MadeNotes<U>,
     object: &Object<Kept<U>>,
@@ -79,7 +80,7 @@ fn reserve_end<U: Drop>(
     Ok(())
 }
 
-/// Takes the object of this number out, and notes it if it had user data. There is room for that.
+/// Takes the object of this number out, and makes a note of that if it had user data. There is room for the note.
 fn take_out_made<U: Drop>(
     objects: &mut ObjectMap<Kept<U>>,
     registries: &mut Vec<Registry>,
@@ -105,9 +106,9 @@ fn take_out_made<U: Drop>(
 }
 
 impl<T: Transport + Drop, U: Drop, C: Drop> Client<T, U, C> {
-    /// Ends the sender of a request, where the request ends it and it is kept: the client is told that the number is free,
-    /// the object leaves, and it is noted if it had user data. The answer is that of the telling. Without memory for the
-    /// note or for the telling the object stays.
+    /// Destroys the sender of a request, if the request is a destructor and the object is there: tells the client that
+    /// the number is free, takes the object out, and makes a note of that if it had user data. The inner answer is that
+    /// of telling the client. If there is no memory for the note or for telling the client, the object stays.
     fn end_sender(
         &mut self,
         alloc: Global,
@@ -138,7 +139,7 @@ impl<T: Transport + Drop, U: Drop, C: Drop> Client<T, U, C> {
         Ok(wrote)
     }
 
-    /// No action is open any more, and the object that it made, if that is still kept, gets these data.
+    /// Closes the open action, and gives the object that it made this user data, if that is still there.
     fn close_action(&mut self, created: Option<ObjectId>, user_data: Option<U>)
         ensures { self.new ≡ record self.old { part = part_closed self.old.part created user_data } }
     {
@@ -148,7 +149,7 @@ impl<T: Transport + Drop, U: Drop, C: Drop> Client<T, U, C> {
         }
     }
 
-    /// Ends the request that is open with these data.
+    /// Finishes the open request with this user data.
     fn end_request(
         &mut self,
         id: &ClientId,
@@ -173,7 +174,7 @@ impl<T: Transport + Drop, U: Drop, C: Drop> Client<T, U, C> {
         Ok(())
     }
 
-    /// Ends the open request.
+    /// Finishes the open request.
     pub fn finish_request(
         &mut self,
         id: &ClientId,
@@ -202,7 +203,7 @@ impl<T: Transport + Drop, U: Drop, C: Drop> Client<T, U, C> {
         }
     }
 
-    /// Ends the open bind: its object gets these data.
+    /// Finishes the open bind: its object gets this user data.
     pub fn finish_bind(&mut self, user_data: U) -> Result<(), FinishRefused<U>>
         ensures { Does self.old (λ p did q. FinishesBind p user_data result false did q) self.new }
     {
@@ -224,7 +225,7 @@ impl<T: Transport + Drop, U: Drop, C: Drop> Client<T, U, C> {
     }
 }
 
-/// Whether memory was refused, by the answer.
+/// Whether a call that was answered so ran out of memory.
 fn lacks_memory<D>(answer: &Result<(), FinishRefused<D>>) -> bool
     ensures { result ≡ lacks_finish answer.now }
 {
@@ -235,18 +236,27 @@ fn lacks_memory<D>(answer: &Result<(), FinishRefused<D>>) -> bool
 }
 
 impl<T: Transport + Drop, U: Drop, G: GlobalHandler<C> + Drop, C: Drop> Backend<T, U, G, C> {
-    /// Ends the request that `next_action` handed out, and gives the object that it made, if that is still kept, these user
-    /// data.
+    /// Finishes the request that `next_action` handed out. The object that the request made gets this user data, if it is
+    /// still there.
     ///
-    /// A request that ends its sender destroys it, while it is kept: its client is told that the number is free again, if
-    /// it is one of its own, and the object is noted if it has user data. A client that cannot be told is killed, as one
-    /// whose connection is closed, and the action is finished all the same.
+    /// If the request is a destructor, its sender is destroyed, if that is still there: if its number is one of the
+    /// client's own, the client is told by `wl_display.delete_id` that the number is free again, and if it has user data,
+    /// a note is made of its end. If the client cannot be told, it is killed as one whose connection is closed, and the
+    /// action is finished all the same.
     ///
-    /// The refusals are, in this order: `InvalidId` where the client is not stored; `NoOpenAction`; `WrongKind` where a bind
-    /// is open; `MissingObjectData` where the request made an object, no data are given, and the client is not killed;
-    /// `UnexpectedData` where it made none and data are given; `OutOfMemory` where there is none for the note or for what
-    /// the client is told. Each gives the data back, and leaves the action open and all else as it was, but that after
-    /// `OutOfMemory` what a flush of the telling sent or dropped is gone from the link, and a storage that grew stays so.
+    /// # Errors
+    ///
+    /// They are looked for in this order:
+    ///
+    /// - `InvalidId`: the client is not stored.
+    /// - `NoOpenAction`: no action of the client is open.
+    /// - `WrongKind`: a bind is open.
+    /// - `MissingObjectData`: the request made an object, no user data are given, and the client is not killed.
+    /// - `UnexpectedData`: the request made no object, and user data are given.
+    /// - `OutOfMemory`: there is no memory for the note or for telling the client.
+    ///
+    /// An error gives the user data back and leaves the action open. Nothing else is changed, with one exception: after
+    /// `OutOfMemory` a flush may have sent or dropped some of what waited for the client, and a buffer may have grown.
     pub fn finish_request(
         &mut self,
         client: &ClientId,
@@ -270,11 +280,18 @@ impl<T: Transport + Drop, U: Drop, G: GlobalHandler<C> + Drop, C: Drop> Backend<
         }
     }
 
-    /// Ends the bind that `next_action` handed out, and gives its object, if that is still kept, these user data. It takes
-    /// no memory.
+    /// Finishes the bind that `next_action` handed out. The object that was bound gets this user data, if it is still
+    /// there. It allocates no memory.
     ///
-    /// The refusals are, in this order: `InvalidId` where the client is not stored; `NoOpenAction`; `WrongKind` where a
-    /// request is open. Each gives the data back, and changes nothing.
+    /// # Errors
+    ///
+    /// They are looked for in this order:
+    ///
+    /// - `InvalidId`: the client is not stored.
+    /// - `NoOpenAction`: no action of the client is open.
+    /// - `WrongKind`: a request is open.
+    ///
+    /// An error gives the user data back and changes nothing.
     pub fn finish_bind(&mut self, client: &ClientId, user_data: U) -> Result<(), FinishRefused<U>>
         ensures cutting { CallIsCut (over T.sends T.receives G.views) self.old.server (Asked (step.FinishBind client.now user_data) (reply.FinishBind result)) self.new.refused self.new.server }
         ensures finished { Calls (over T.sends T.receives G.views) self.old (step.FinishBind client.now user_data) (reply.FinishBind result) self.new }

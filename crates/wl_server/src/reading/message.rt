@@ -1,4 +1,4 @@
-//! One turn of a reading: the message at the front is taken off the link and handled.
+//! One turn of a reading: takes the message at the front of the incoming buffer, and handles it.
 
 ghost use Rattle.std.specs.Prelude.{◌≡◌, ◌≢◌, ◌≤◌, ◌<◌, List, [], true, false, None, Some, Ok, Err, length, vec_len, vec_capacity, IfOk, IfSome, OnErr, OnOk, option_copied, option_map};
 ghost use Rattle.smallvec.specs.SmallVec.{HasRoomFor};
@@ -33,7 +33,7 @@ use wl_wire::{
     Token,
 };
 
-/// The request of that opcode of the object that the number holds.
+/// The request with this opcode of the object that has the number.
 fn request_desc<'p, U: Drop>(
     protocol: &'p Protocol,
     objects: &ObjectMap<Kept<U>>,
@@ -48,8 +48,8 @@ fn request_desc<'p, U: Drop>(
     interface.requests.get(opcode as usize)
 }
 
-/// Makes room for what the message at the front becomes, where it is there whole: for its arguments, and for the object
-/// that it may make, which may be a registry. Of a message that is not there nothing is asked for.
+/// Makes room for what becomes of the message at the front, if that is there whole: for its arguments, and for the object
+/// that it may make, which may be a registry. If the message is not there, it allocates nothing.
 fn make_room<T: Drop, U: Drop>(
     objects: &mut ObjectMap<Kept<U>>,
     registries: &mut Vec<Registry>,
@@ -85,9 +85,11 @@ fn make_room<T: Drop, U: Drop>(
     Ok(())
 }
 
-/// Takes the message at the front, of that sender and opcode, off the link, with room for what it becomes: for its
-/// arguments in `converted`, which is emptied, and for the object that it may make in the map and among the registries.
-/// The answer is what the table says of it.
+/// Takes the message at the front off the incoming buffer. Its sender and its opcode are those of the header. The answer
+/// is what the table says of it.
+///
+/// There is room then for what becomes of it: for its arguments in `converted`, which is emptied, and for the object that
+/// it may make in the map and among the registries.
 fn take<'p, T: Drop, U: Drop>(
     protocol: &'p Protocol,
     objects: &mut ObjectMap<Kept<U>>,
@@ -125,9 +127,11 @@ fn take<'p, T: Drop, U: Drop>(
     Ok(desc)
 }
 
-/// Takes the message at the front, of that sender and opcode, off the link, and goes through it. The arguments of one that
-/// is handed out are in `args` then, and `message` is the place of the message. `protocol` is the table, apart since its
-/// loan need not be as long as that of `around`.
+/// Takes the message at the front off the incoming buffer, and handles it. Its sender and its opcode are those of the
+/// header. If it is handed out, its arguments are in `args` then.
+///
+/// `message` is the place that the message is read into. `protocol` is the table of interfaces. It is a parameter of its
+/// own because it need not be borrowed as long as `around`.
 fn take_request<'m, T: Drop, U: Drop, G: GlobalHandler<C> + Drop, C>(
     protocol: &'m Protocol,
     around: &Surroundings<'_, G>,
@@ -167,7 +171,8 @@ fn take_request<'m, T: Drop, U: Drop, G: GlobalHandler<C> + Drop, C>(
     ))
 }
 
-/// Drops what is left of a message in its place, and a storage for more arguments than take no memory.
+/// Drops what is left of a message in its place, and the place's memory if it has more than the arguments that need no
+/// allocation.
 fn empty(message: &mut Message<u32, Token>)
     ensures { INLINE_ARGS ≤ message.new.args.capacity }
 {
@@ -179,8 +184,8 @@ fn empty(message: &mut Message<u32, Token>)
 }
 
 impl<T: Transport + Drop, U: Drop, C: Drop> Client<T, U, C> {
-    /// Takes the message at the front off the link and handles it, in this place for a message. An action that is handed
-    /// out is in `found` then, and its arguments are in `args`.
+    /// Takes the message at the front off the incoming buffer, and handles it. `message` is the place that it is read
+    /// into. An action that is handed out is in `found` then, and its arguments are in `args`.
     pub fn turn<G: GlobalHandler<C> + Drop>(
         &mut self,
         numbers: &mut NoteNumbers,
@@ -205,7 +210,7 @@ impl<T: Transport + Drop, U: Drop, C: Drop> Client<T, U, C> {
         end
     }
 
-    /// The same where this header waits, and with what is left of the message in its place.
+    /// Does the same as `turn` for a message with this header, and leaves in `message` what is left of the message.
     fn turn_at<G: GlobalHandler<C> + Drop>(
         &mut self,
         numbers: &mut NoteNumbers,
@@ -244,7 +249,7 @@ impl<T: Transport + Drop, U: Drop, C: Drop> Client<T, U, C> {
         }
     }
 
-    /// What it comes to that no message was taken.
+    /// What becomes of the turn if no message was taken.
     fn not_taken<G: GlobalHandler<C> + Drop>(
         &mut self,
         numbers: &mut NoteNumbers,

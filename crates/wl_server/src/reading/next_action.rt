@@ -1,4 +1,4 @@
-//! A reading: messages are handled, and more is received where none waits whole.
+//! A reading: handles messages, and receives more if no whole message waits.
 
 ghost use Rattle.std.specs.Prelude.{◌≡◌, ◌≤◌, Result, option_map};
 ghost use Rattle.wl_server.specs.declared.error.ActionError.{ActionError as ActionErrorOf};
@@ -28,11 +28,11 @@ use smallvec::SmallVec;
 use wl_link::Transport;
 use wl_wire::{Argument, INLINE_ARGS, IoFault, Message, Token};
 
-/// How many receives a reading makes at most, where nothing else is said.
+/// How many receives a reading makes at most, if the program sets no other number.
 pub const READ_TURNS: u32 = 64;
 
 impl Reading {
-    /// A reading that may receive `READ_TURNS` times, and that has read nothing.
+    /// A reading that may receive 64 times (`READ_TURNS`) and has read nothing.
     pub fn new() -> Self
         ensures { result ≡ new_reading }
     {
@@ -44,8 +44,8 @@ impl Reading {
 }
 
 impl<T: Transport + Drop, U: Drop, C: Drop> Client<T, U, C> {
-    /// Handles messages until the reading ends, or no message waits whole, each in this place for a message. An action that
-    /// is handed out is in `found` then, and its arguments are in `args`.
+    /// Handles messages until the reading ends, or until no whole message waits. `message` is the place that each is read
+    /// into. An action that is handed out is in `found` then, and its arguments are in `args`.
     fn handle_waiting<G: GlobalHandler<C> + Drop>(
         &mut self,
         numbers: &mut NoteNumbers,
@@ -74,8 +74,8 @@ impl<T: Transport + Drop, U: Drop, C: Drop> Client<T, U, C> {
         }
     }
 
-    /// Receives once; the answer is why the reading ends, if it does. A fault after which nothing more may come closes the
-    /// client down.
+    /// Receives once. The answer is why the reading ends, if it does. The client is killed as one whose connection is
+    /// closed by a fault other than `WouldBlock` and `OutOfMemory`.
     fn receive(&mut self, numbers: &mut NoteNumbers) -> Option<NoAction>
         ensures { Fills T.receives self.old result self.new }
     {
@@ -101,8 +101,8 @@ impl<T: Transport + Drop, U: Drop, C: Drop> Client<T, U, C> {
         }
     }
 
-    /// Handles messages and receives, until there is an action or no receive is left; each message in this place for one. An
-    /// action that is handed out is in `found` then, and its arguments are in `args`.
+    /// Handles messages and receives, until there is an action or no receive is left. `message` is the place that each
+    /// message is read into. An action that is handed out is in `found` then, and its arguments are in `args`.
     fn read<G: GlobalHandler<C> + Drop>(
         &mut self,
         numbers: &mut NoteNumbers,
@@ -137,8 +137,8 @@ impl<T: Transport + Drop, U: Drop, C: Drop> Client<T, U, C> {
         }
     }
 
-    /// The next action of the client, which is open until it is finished, and whether memory was refused. The action is in
-    /// `found` then, and its arguments are in `args`.
+    /// Finds the next action of the client, which is open until it is finished. The second part of the answer is whether
+    /// memory was refused. The action is in `found` then, and its arguments are in `args`.
     pub fn next_action<G: GlobalHandler<C> + Drop>(
         &mut self,
         numbers: &mut NoteNumbers,
@@ -166,20 +166,38 @@ impl<T: Transport + Drop, U: Drop, C: Drop> Client<T, U, C> {
 }
 
 impl<T: Transport + Drop, U: Drop, G: GlobalHandler<C> + Drop, C: Drop> Backend<T, U, G, C> {
-    /// The next action of the client, which is open until `finish_request` or `finish_bind` ends it. It receives 64 times
-    /// at most.
+    /// Reads the next action of the client. It is open until `finish_request` or `finish_bind` ends it.
     ///
-    /// The server answers some requests by itself: syncs, registries, and what breaks the protocol. The refusals are, in
-    /// this order: `Io(InvalidInput)` where the client is not stored; `ActionOpen`; `Io(Pipe)` where it was killed; then
-    /// what the reading comes to: `Io(Proto)` for bytes that are no message, and `Io(Pipe)` where the client broke the
-    /// protocol or could not be told something, all of which kill it; the transport's fault, which kills it unless it is
-    /// `WouldBlock` or `OutOfMemory`; `Io(WouldBlock)` also where no whole message waits after the last receive;
-    /// `Io(OutOfMemory)` where there is no memory for the message at the front or for a receive. After the last two what
-    /// was handled stays handled, and what waits is read by the next call.
+    /// An *action* is a request or a bind that the program has to do something about. Some requests the server answers by
+    /// itself: `sync`, `get_registry`, and those that break the protocol. The call receives from the client's transport
+    /// at most 64 times.
     ///
-    /// A message that is no longer than the client's limit or 65536 bytes, whichever is less, and whose tokens come no later
-    /// than its last byte, does not kill the client by a full storage. Where each receive brings a byte or would block, and
-    /// memory is not refused, it does not matter how bytes and tokens were cut into receives.
+    /// # Errors
+    ///
+    /// They are looked for in this order:
+    ///
+    /// - `Io(InvalidInput)`: the client is not stored.
+    /// - `ActionOpen`: an action of the client is open.
+    /// - `Io(Pipe)`: the client was killed.
+    ///
+    /// Then the reading may end with one of these:
+    ///
+    /// - `Io(Proto)`: the client sent bytes that are no message that it may send. The client is killed.
+    /// - `Io(Pipe)`: the client broke the protocol in another way, or could not be told something. The client is killed.
+    /// - `Io(WouldBlock)`: the transport would block, or no whole message waits after the last receive.
+    /// - `Io(OutOfMemory)`: there is no memory for the message at the front or for a receive.
+    /// - `Io` with any other fault: a receive was answered by this fault. The client is killed.
+    ///
+    /// After `Io(WouldBlock)` and `Io(OutOfMemory)` what was handled stays handled, and the next call reads what waits.
+    ///
+    /// # What is promised
+    ///
+    /// A message always has room in the incoming buffer if it is no longer than the client's limit and 65536 bytes, and
+    /// its tokens come no later than its last byte. A *token* stands for a file descriptor. So such a message never kills
+    /// the client because the buffer is full.
+    ///
+    /// If each receive brings a byte or would block, and memory is not refused, it does not matter how bytes and tokens
+    /// were cut into receives.
     pub fn next_action(&mut self, id: &ClientId) -> Result<Action, ActionError>
         ensures read { Calls (over T.sends T.receives G.views) self.old (step.NextAction id.now) (reply.NextAction result) self.new }
         ensures room { HasRoom (over T.sends T.receives G.views) self.old.server (Asked (step.NextAction id.now) (reply.NextAction result)) self.new.server }
@@ -203,8 +221,10 @@ impl<T: Transport + Drop, U: Drop, G: GlobalHandler<C> + Drop, C: Drop> Backend<
         }
     }
 
-    /// The same, which receives as often as the reading allows. `reading` then has the receives that are left, and counts
-    /// the requests that were read with those of the calls before.
+    /// Reads the next action of the client, as `next_action` does, and receives at most as often as `reading` allows.
+    ///
+    /// `reading` then has the number of receives that are left. Its count of requests that were read is increased by
+    /// those that this call read. The errors are those of `next_action`.
     pub fn next_action_within(
         &mut self,
         id: &ClientId,

@@ -29,8 +29,8 @@ use smallvec::SmallVec;
 use wl_link::ObjectMap;
 use wl_wire::{Argument, INLINE_ARGS, Message, MessageDesc, Token};
 
-/// What the arguments of a request become, whose object has this version. They are taken out of the message. `args` has
-/// room for them. The answer is the object that the request makes.
+/// Converts the arguments of a request, and answers the object that the request makes. `version` is the version of the
+/// object that it was sent to. The arguments are taken out of the message and put into `args`, which has room for them.
 fn convert_request<U: Drop>(
     client: ClientId,
     version: u32,
@@ -71,8 +71,8 @@ fn convert_request<U: Drop>(
     )
 }
 
-/// Goes through a request to an object that is neither a display nor a registry. Its arguments are taken out of the message,
-/// and what they become is in `args` then, where it is handed out.
+/// Handles a request to an object that is neither a display nor a registry, and answers what is still to be done for it.
+/// Its arguments are taken out of the message. If it is handed out, they are in `args` then, converted.
 pub fn other_request<'m, U: Drop, G: GlobalHandler<C>, C>(
     around: &Surroundings<'_, G>,
     info: &C,

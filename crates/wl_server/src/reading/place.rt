@@ -1,12 +1,14 @@
-//! The place for a message that a reading takes off a link.
+//! The place that messages are read into.
 
 use smallvec::SmallVec;
 use std::alloc::Global;
 use std::marker::Model;
 use wl_wire::{INLINE_ARGS, Message, Token};
 
-/// The place for a message. A server keeps one, so that none is made and dropped for each message; between two readings it
-/// has no arguments. What is in it is no part of what the server is.
+/// The place that messages are read into.
+///
+/// A server keeps one, so that none is made and dropped for each message. Between two readings it has no arguments. The
+/// contracts of the server's calls do not speak of what is in it.
 #[derive(Drop)]
 pub struct MessagePlace {
     /// The message.

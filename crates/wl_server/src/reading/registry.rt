@@ -25,7 +25,7 @@ use crate::reading::response::{Breach, Response};
 use wl_link::{Object, ObjectMap};
 use wl_wire::{Argument, CString, Message, Token};
 
-/// What a bind asks for.
+/// What `wl_registry.bind` asks for.
 #[derive(Drop)]
 pub struct Bind<'m> {
     /// The name of the global.
@@ -38,7 +38,7 @@ pub struct Bind<'m> {
     pub number: u32,
 }
 
-/// What the message asks for as a bind.
+/// What the message asks for, if its arguments are those of a bind.
 fn bind_in(message: &Message<u32, Token>) -> Option<Bind<'_>>
     ensures { option_map bind_of result ≡ bind_parts message.now.args.items }
 {
@@ -60,7 +60,7 @@ fn bind_in(message: &Message<u32, Token>) -> Option<Bind<'_>>
     }
 }
 
-/// Whether the global may be bound so.
+/// Whether the client may bind the global in this way.
 fn may_bind<G: GlobalHandler<C>, C>(
     around: &Surroundings<'_, G>,
     info: &C,
@@ -82,7 +82,7 @@ fn may_bind<G: GlobalHandler<C>, C>(
     global.value.handler.can_view(&around.client, info, &id)
 }
 
-/// Goes through a request to a registry.
+/// Handles a request to a registry, and answers what is still to be done for it.
 pub fn registry_request<'m, U: Drop, G: GlobalHandler<C> + Drop, C>(
     around: &Surroundings<'_, G>,
     info: &C,
@@ -102,7 +102,7 @@ pub fn registry_request<'m, U: Drop, G: GlobalHandler<C> + Drop, C>(
     bind_to(around, info, objects, last_serial, &bind)
 }
 
-/// Binds a new object to the global of this name, where it may be bound so.
+/// Binds a new object to the global that is asked for, if the client may do so.
 fn bind_to<'m, U: Drop, G: GlobalHandler<C> + Drop, C>(
     around: &Surroundings<'_, G>,
     info: &C,

@@ -1,4 +1,4 @@
-//! The requests of a client: what is made of one, by what its object is.
+//! Handles a request, by the kind of its object.
 
 ghost use Rattle.std.specs.Prelude.{◌≡◌, ◌<◌, [], true, false, Some, length, vec_len, vec_capacity};
 ghost use Rattle.smallvec.specs.SmallVec.{HasRoomFor};
@@ -29,8 +29,8 @@ use wl_wire::{
     Argument, INLINE_ARGS, Message, MessageDesc, Token, WL_DISPLAY_INTERFACE, WL_REGISTRY_INTERFACE,
 };
 
-/// Goes through a request, by what its object is. The arguments of one that is handed out are taken out of the message,
-/// and what they become is in `args` then.
+/// Handles a request, by the kind of its object, and answers what is still to be done for it. If it is handed out, its
+/// arguments are taken out of the message, and they are in `args` then, converted.
 pub fn request<'m, U: Drop, G: GlobalHandler<C> + Drop, C>(
     around: &Surroundings<'_, G>,
     info: &C,

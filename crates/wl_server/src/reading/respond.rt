@@ -1,4 +1,4 @@
-//! The answer to a request that was gone through: what is written, what ends the client, and what is handed out.
+//! What the server does after a request was handled: it writes to the client, kills it, or hands an action out.
 
 ghost use Rattle.std.specs.Prelude.{◌≡◌, ◌∷◌, map, List, [], false, Err, Some, IfOk, MatchResult};
 ghost use Rattle.wl_wire.specs.declared.argument.Argument.{Argument as Arg};
@@ -33,7 +33,7 @@ use std::alloc::Global;
 use wl_link::Transport;
 use wl_wire::{CString, IoFault, OutOfMemory, Protocol, WL_DISPLAY_INTERFACE};
 
-/// The code and the text of the error that a breach ends in.
+/// The code and the text of the error that is posted for a breach of the protocol.
 #[cold]
 #[inline(never)]
 fn breach_error(
@@ -62,7 +62,7 @@ fn breach_error(
     }
 }
 
-/// What the end of an action has to know of it.
+/// The open action: what is needed to finish the action that was found.
 fn open_action(found: &Found) -> OpenAction
     ensures { result ≡ opened_of found.now }
 {
@@ -79,7 +79,7 @@ fn open_action(found: &Found) -> OpenAction
 }
 
 impl<T: Transport + Drop, U: Drop, C: Drop> Client<T, U, C> {
-    /// Closes the connection, for bytes that are no message that the client may send.
+    /// Kills the client as one whose connection is closed, because it sent bytes that are no message that it may send.
     #[cold]
     #[inline(never)]
     pub fn garbled(&mut self, numbers: &mut NoteNumbers) -> NoAction
@@ -92,8 +92,8 @@ impl<T: Transport + Drop, U: Drop, C: Drop> Client<T, U, C> {
         }
     }
 
-    /// Ends a live client that broke the protocol: the breach is posted as an error on its display. Where there was no memory
-    /// for the text, the client is closed down.
+    /// Kills a live client that broke the protocol: posts the breach as an error on its display. If there is no memory
+    /// for the text, the client is killed as one whose connection is closed.
     #[cold]
     #[inline(never)]
     fn ends_by<G: GlobalHandler<C>>(
@@ -122,7 +122,8 @@ impl<T: Transport + Drop, U: Drop, C: Drop> Client<T, U, C> {
         }
     }
 
-    /// What it comes to that what the client was told in answer to a request was put so.
+    /// What becomes of the turn after the answer to a request was written, with this result. If the write failed, the
+    /// client is killed.
     pub fn replied(&mut self, numbers: &mut NoteNumbers, wrote: Result<(), IoFault>) -> TurnEnd
         ensures { MatchResult wrote
             (λ _. (result ≡ came.GoesOn) × (self.new ≡ self.old))
@@ -157,7 +158,7 @@ impl<T: Transport + Drop, U: Drop, C: Drop> Client<T, U, C> {
         self.replied(numbers, wrote)
     }
 
-    /// Answers a request of a live client that was gone through. An action that is handed out is in `place` then.
+    /// Does what is still to be done for a request of a live client. An action that is handed out is in `place` then.
     pub fn respond<G: GlobalHandler<C> + Drop>(
         &mut self,
         numbers: &mut NoteNumbers,

@@ -1,48 +1,48 @@
-//! What is yet to be done for a request that was gone through.
+//! What is still to be done for a request that was handled.
 
 use crate::ids::object_id::ObjectId;
 use crate::reading::action::Found;
 use wl_wire::{CString, InterfaceId, MessageDesc};
 
-/// Why a request ends its client.
+/// Why an argument of a request is wrong. The client is killed for it.
 #[derive(Drop)]
 pub enum RequestFault {
-    /// A new id is no number that the client may use.
+    /// The client may not make an object with the number of a new id.
     InvalidNewId(u32),
-    /// An object argument has a number that no object holds.
+    /// An object argument has a number that no object has.
     UnknownId(u32),
-    /// An object argument is of another interface than the one asked for: the number, the interface asked for, and the
-    /// object's.
+    /// An object argument has a wrong interface: the number, the interface asked for, and the object's interface.
     WrongInterface(u32, InterfaceId, InterfaceId),
-    /// An object argument is null where the signature forbids it.
+    /// An object argument is null, and the signature does not allow that.
     NullObject,
 }
 
 /// How a client broke the protocol by a request.
 #[derive(Drop)]
 pub enum Breach<'m> {
-    /// It may make no object at this number.
+    /// It may not make an object with this number.
     InvalidNewId(u32),
-    /// The global of this name may not be bound so: the version and the name of the interface that were asked for.
+    /// The client may not bind the global of this name in this way. The other two values are the version and the name of
+    /// the interface that were asked for.
     RefusedBind(u32, u32, &'m Option<CString>),
-    /// The object's version lacks the request: the opcode, the version, the least version that has it, and the object's
-    /// interface and number.
+    /// The object's version does not have the request: the opcode, the version, the least version that has it, and the
+    /// object's interface and number.
     SinceLater(u16, u32, u32, InterfaceId, u32),
     /// An argument of a request of this interface is wrong.
     WrongArgument(InterfaceId, &'m MessageDesc, RequestFault),
 }
 
-/// What is yet to be done for a request, once its client's objects are as it makes them.
+/// What is still to be done for a request after it changed the client's objects.
 #[derive(Drop)]
 pub enum Response<'m> {
-    /// It is none that the client may send: the connection is closed.
+    /// The client may not send it, and is killed as one whose connection is closed.
     Garbled,
     /// The client broke the protocol.
     Breaks(Breach<'m>),
-    /// It was a sync, and its callback is gone again.
+    /// It was a `sync`, and its callback is already removed. The client is told that the callback is done.
     Syncs(ObjectId),
-    /// A registry was made, and is told of the globals.
+    /// A registry was made. It is to be told of the globals.
     Registers(ObjectId),
-    /// An action is handed out, and open from then on.
+    /// An action is handed out. It is open from then on.
     HandsOut(Found),
 }

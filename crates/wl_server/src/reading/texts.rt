@@ -1,4 +1,4 @@
-//! The errors that a client is killed for.
+//! The errors that a client is killed for, and their texts.
 
 ghost use Rattle.std.specs.Prelude.{◌≡◌, [], ◌++◌, false, IfOk};
 ghost use Rattle.std.specs.Option.{option_map_or};
@@ -13,7 +13,8 @@ use crate::reading::response::RequestFault;
 use std::alloc::Global;
 use wl_wire::{CString, InterfaceId, MessageDesc, OutOfMemory, Protocol, ProtocolError, Text};
 
-/// What a client is killed for where this error is posted on an object: with the name of the interface that the id has.
+/// The error that a client is killed for if this error is posted on an object. It has the name of the interface that is
+/// in the id.
 pub fn posted_error(
     alloc: Global,
     protocol: &Protocol,
@@ -32,7 +33,7 @@ pub fn posted_error(
     })
 }
 
-/// The string of a text without a zero byte.
+/// The C string of a text without a zero byte.
 pub fn c_string(text: String) -> CString
     requires { holds_zero (string_bytes text) ≡ false }
     ensures { result ≡ string_bytes text }
@@ -43,7 +44,7 @@ pub fn c_string(text: String) -> CString
     }
 }
 
-/// The text of a new id that cannot be used.
+/// The text for a new id that cannot be used.
 #[cold]
 #[inline(never)]
 pub fn new_id_text(alloc: Global, number: u32) -> Result<CString, OutOfMemory>
@@ -53,7 +54,7 @@ pub fn new_id_text(alloc: Global, number: u32) -> Result<CString, OutOfMemory>
     Ok(c_string(text))
 }
 
-/// The name that a client gives an interface, as a text; a null is an empty one.
+/// The name that a client gave for an interface, as a text. It is empty if the client sent null.
 fn given_name(alloc: Global, name: &Option<CString>) -> Result<String, OutOfMemory>
     ensures text { IfOk result (λ text. string_bytes text ≡ utf8_lossy (option_map_or (λ t. t) name.now [])) }
     ensures no_zero { IfOk result (λ text. holds_zero (string_bytes text) ≡ false) }
@@ -65,7 +66,8 @@ fn given_name(alloc: Global, name: &Option<CString>) -> Result<String, OutOfMemo
     Ok(text)
 }
 
-/// The text of a bind that is refused: of the interface that the client names, the version and the global's name.
+/// The text for a bind that is refused. It names the interface and the version that the client asked for, and the
+/// global's name.
 #[cold]
 #[inline(never)]
 pub fn bind_text(
@@ -83,8 +85,8 @@ pub fn bind_text(
     Ok(c_string(text))
 }
 
-/// The text of a request that the object's version lacks: its opcode, the object's version, the first version that has it,
-/// and the object's interface and number.
+/// The text for a request that the object's version does not have: its opcode, the object's version, the first version
+/// that has it, and the object's interface and number.
 #[cold]
 #[inline(never)]
 pub fn since_text(
@@ -105,7 +107,7 @@ pub fn since_text(
     Ok(c_string(text))
 }
 
-/// The text of an object argument of a wrong interface, in the request of that interface and name.
+/// The text for an object argument with a wrong interface, in the request `request` of the interface `interface`.
 fn wrong_interface_text(
     alloc: Global,
     protocol: &Protocol,
@@ -128,7 +130,7 @@ fn wrong_interface_text(
     Ok(c_string(text))
 }
 
-/// The text of an argument that is wrong, in that request of an object of that interface.
+/// The text for a wrong argument, in the request `request` of the interface `interface`.
 #[cold]
 #[inline(never)]
 pub fn fault_text(
