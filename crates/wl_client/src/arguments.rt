@@ -1,4 +1,6 @@
 //! The arguments of an event, and what they do to the objects of a session.
+//!
+//! An event has numbers in place of objects. They are *converted* to object ids. A new id makes an object.
 
 ghost use Rattle.std.specs.Prelude.{◌≡◌, ◌+◌, ◌<◌, false, true, Ok, Err, IfOk, MatchResult, length, reverse};
 ghost use Rattle.smallvec.specs.SmallVec.{HasRoomFor};
@@ -16,27 +18,29 @@ use wl_wire::{
     ANONYMOUS_INTERFACE, Argument, INLINE_ARGS, InterfaceId, Token, same_interface_or_anonymous,
 };
 
-/// What the making of an object has to know of the receiver of the event.
+/// What has to be known of the object that the event is for (its *receiver*), to make a new object.
 #[derive(Clone, Copy)]
 pub struct Receiver {
-    /// Its version.
+    /// The receiver's version, which the new object gets too.
     pub version: u32,
-    /// Whether the client destroyed it.
+    /// Whether the client has destroyed the receiver.
     pub client_destroyed: bool,
 }
 
-/// How far the arguments of an event were gone through.
+/// How far the arguments of an event were converted.
 #[derive(Clone, Copy)]
 pub struct Progress<'a> {
-    /// The interfaces of the table that no object argument took yet.
+    /// The interfaces that the table asks for, of the object arguments that are still to come.
     pub asked: &'a [InterfaceId],
-    /// The interface of the object that the event may yet make.
+    /// The interface of the object that the event is still to make.
     pub child: Option<InterfaceId>,
-    /// The object that it made.
+    /// The object that the event made.
     pub created: Option<ObjectId>,
 }
 
-/// The id that the number of an object becomes, where the table asks for this interface.
+/// The id of the object with this number; the null id for the number 0.
+///
+/// The error says that there is no such object, or that its interface is not `asked`.
 fn object_argument<U: Drop>(
     objects: &ObjectMap<Kept<U>>,
     asked: InterfaceId,
@@ -56,7 +60,7 @@ fn object_argument<U: Drop>(
     Ok(id_at(number, object))
 }
 
-/// Frees the number where the client destroyed its object.
+/// Takes the object with this number out of the map, if the client has destroyed it.
 fn vacate<U: Drop>(objects: &mut ObjectMap<Kept<U>>, number: u32)
     requires { 0 < number }
     ensures store { objects.new.store ≡ vacated objects.old.store number }
@@ -72,8 +76,9 @@ fn vacate<U: Drop>(objects: &mut ObjectMap<Kept<U>>, number: u32)
     objects.remove(number);
 }
 
-/// Makes the object of a new id, and answers its id; `None` where the server may make none at that number, or where
-/// no serial is left. Then nothing is changed.
+/// Makes the object of a new id, and returns its id.
+///
+/// `None` if the server may make none at that number, or if each serial was given out. Then nothing is changed.
 fn make_object<U: Drop>(
     objects: &mut ObjectMap<Kept<U>>,
     last_serial: &mut u64,
@@ -110,7 +115,7 @@ fn make_object<U: Drop>(
     }
 }
 
-/// The next of the interfaces that the table asks for, which is taken.
+/// Takes the next interface that the table asks for; the anonymous interface if there is none.
 fn take_asked(progress: &mut Progress<'_>) -> InterfaceId
     ensures next { result ≡ next_interface progress.old.asked.now }
     ensures rest { progress.new.asked.now ≡ rest_of progress.old.asked.now }
@@ -126,7 +131,7 @@ fn take_asked(progress: &mut Progress<'_>) -> InterfaceId
     }
 }
 
-/// What an argument of an event becomes.
+/// Converts one argument of an event. The error says what is wrong with it.
 fn convert_one<U: Drop>(
     objects: &mut ObjectMap<Kept<U>>,
     last_serial: &mut u64,
@@ -167,8 +172,11 @@ fn convert_one<U: Drop>(
     }
 }
 
-/// What the arguments of an event become, from left to right; `args` has the last of them first, and they are taken out
-/// of it. The answer is the object that the event makes.
+/// Converts the arguments of an event, from left to right, and appends them to `converted`. Returns the object that the
+/// event makes.
+///
+/// `args` has the last argument first. The arguments are taken out of it. The error says what is wrong with the first
+/// argument that cannot be converted.
 pub fn convert<U: Drop>(
     objects: &mut ObjectMap<Kept<U>>,
     last_serial: &mut u64,

@@ -1,4 +1,5 @@
-//! The client's session as a program uses it: what it holds, what it lends and gives of itself.
+//! The client's session as a program uses it: its fields, how it is made, and the calls that are not about requests, events
+//! or objects.
 
 ghost use Rattle.std.specs.Prelude.{◌≡◌, [], false, Ok, IfOk, option_copied};
 ghost use Rattle.std.specs.Borrow.{sem};
@@ -17,13 +18,16 @@ use std::mem;
 use wl_link::{BufferedSocket, ObjectMap};
 use wl_wire::{OutOfMemory, Protocol, WL_DISPLAY_INTERFACE};
 
-/// The number of the display.
+/// The number of the display, `wl_display`.
 pub(crate) const DISPLAY: u32 = 1;
 
-/// A client's session with its server, over a transport `T`, with the program's data `U` of each object.
+/// A client's session with its server.
 ///
-/// It stands for `wayland_backend::client::Backend`. The session does nothing by itself: `next_event` receives and
-/// hands out events, `send_request` and `flush` send.
+/// It stands for `wayland_backend::client::Backend`. It opens no socket and starts no thread: it does something only within
+/// a call. `next_event` receives and hands out events, `send_request` and `flush` send. Its types are the program's choice:
+///
+/// - `T` is the transport, which carries bytes and file descriptors.
+/// - `U` is the user data of an object.
 #[derive(Drop)]
 pub struct Backend<T, U> {
     pub(crate) protocol: Protocol,
@@ -59,7 +63,7 @@ impl<T, U> Model for Backend<T, U> {
     } };
 }
 
-/// The objects of a session in which nothing has happened: the display alone.
+/// The objects of a new session: the display alone. The error is `OutOfMemory`.
 fn first_objects<U: Drop>(alloc: Global) -> Result<ObjectMap<Kept<U>>, OutOfMemory>
     ensures { IfOk result (λ objects. objects.store ≡ stored empty_store 1 display_object) }
 {
@@ -74,7 +78,11 @@ fn first_objects<U: Drop>(alloc: Global) -> Result<ObjectMap<Kept<U>>, OutOfMemo
 impl<T: Drop, U: Drop> Backend<T, U> {
     ghost use Rattle.wl_client.specs.Lending.{LendsClientTransport};
 
-    /// A session over the transport in which nothing has happened. It keeps the display, object 1 of version 1.
+    /// A new session over the transport, with this table of interfaces. It has one object: the display, with number 1 and
+    /// version 1.
+    ///
+    /// It stands for `wayland_backend::client::Backend::connect`. Nothing is sent yet, and no limit is set for what waits
+    /// to be sent. The error is `OutOfMemory`.
     pub fn connect(alloc: Global, protocol: Protocol, transport: T) -> Result<Self, OutOfMemory>
         ensures connected { IfOk result (λ client. IsConnected protocol transport client.session) }
         ensures refused { IfOk result (λ client. client.refused ≡ false) }
@@ -93,14 +101,14 @@ impl<T: Drop, U: Drop> Backend<T, U> {
         })
     }
 
-    /// The id of the display.
+    /// The id of the display, `wl_display`, which is object 1.
     pub fn display_id(&self) -> ObjectId
         ensures { result ≡ record { number = 1; serial = 0; interface = display_id } }
     {
         ObjectId::from_parts(DISPLAY, 0, WL_DISPLAY_INTERFACE)
     }
 
-    /// The table of interfaces.
+    /// The table of interfaces that the session was made with.
     pub fn protocol(&self) -> &Protocol
         ensures { result.now ≡ self.now.session.table }
     {
@@ -114,7 +122,7 @@ impl<T: Drop, U: Drop> Backend<T, U> {
         self.socket.transport()
     }
 
-    /// The transport, which may be changed; all else stays as it is.
+    /// The transport, which the caller may change. The session is otherwise as it was.
     pub fn transport_mut(&mut self) -> &mut T
         ensures* lends { sem 𝓛 (LendsClientTransport T.row U.row self.entry result) }
         ensures value { result.now ≡ self.old.session.link.transport }
@@ -122,25 +130,27 @@ impl<T: Drop, U: Drop> Backend<T, U> {
         self.socket.transport_mut()
     }
 
-    /// Whether the last call through `&mut self` but `transport_mut` met a want of memory, its transport's included.
+    /// Whether memory ran out in the last call that took `&mut self`, in the session or in its transport. A call of
+    /// `transport_mut` does not count as one.
     pub fn memory_refused(&self) -> bool
         ensures { result ≡ self.now.refused }
     {
         self.refused
     }
 
-    /// The session's error, if it has one: a fault of the transport, an error that the server told, or what was wrong
-    /// with an event.
+    /// The session's error, if it has one: a fault of the transport, an error that the server sent, or what was wrong with
+    /// an event.
     ///
-    /// A session that has an error reads and flushes no more. Its other calls go on, and a later fault of a request's
-    /// write takes the error's place.
+    /// A session that has an error reads and flushes no more. Its other calls go on. If a later request meets a fault while
+    /// it is written, that fault takes the place of the error.
     pub fn last_error(&self) -> Option<&WaylandError>
         ensures { option_copied result ≡ self.now.session.error }
     {
         self.error.as_ref()
     }
 
-    /// Takes the notes, the oldest first. It takes no memory.
+    /// Takes the notes, the oldest first. A *note* says that an object which had user data was destroyed. It allocates
+    /// nothing.
     pub fn take_notes(&mut self) -> Vec<Note>
         ensures taken { result.items ≡ self.old.session.notes }
         ensures left { self.new.session ≡ record self.old.session { notes = [] } }
@@ -151,9 +161,11 @@ impl<T: Drop, U: Drop> Backend<T, U> {
         mem::replace(&mut self.notes, none)
     }
 
-    /// Sets how far the storages of what waits to be sent and to be read may grow, in bytes, rounded up to a power of
-    /// two of at least 4096; `None` is no limit, which a new session has. That of what waits to be read never grows past
-    /// 65536 bytes.
+    /// Sets how far the buffers of the connection may grow, in bytes.
+    ///
+    /// There are two: one for what waits to be sent, and one for what was received and waits to be read. The limit is
+    /// rounded up to a power of two, and is at least 4096. `None` is no limit, as in a new session. The buffer of what was
+    /// received never grows beyond 65536 bytes.
     pub fn set_max_buffer_size(&mut self, max_buffer_size: Option<usize>)
         ensures set { (link : LinkState T) × LimitSet self.old.session.link max_buffer_size link
             × (self.new.session ≡ record self.old.session { link = link }) }
@@ -163,7 +175,7 @@ impl<T: Drop, U: Drop> Backend<T, U> {
         self.socket.set_max_buffer_size(max_buffer_size);
     }
 
-    /// Does nothing: there is no inner queue.
+    /// Does nothing and returns `Ok(0)`: there is no inner queue.
     pub fn dispatch_inner_queue(&mut self) -> Result<usize, WaylandError>
         ensures answer { result ≡ Ok 0 }
         ensures session { self.new.session ≡ self.old.session }

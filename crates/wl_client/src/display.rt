@@ -1,4 +1,4 @@
-//! The events of the display.
+//! The events of the display, `wl_display`.
 
 ghost use Rattle.std.specs.Prelude.{◌≡◌};
 ghost use Rattle.wl_client.specs.Events.{deleted, display_event};
@@ -14,18 +14,19 @@ const ERROR: u16 = 0;
 /// The opcode of `wl_display.delete_id`.
 const DELETE_ID: u16 = 1;
 
-/// What an event of the display tells.
+/// What an event of the display says.
 #[derive(Clone, Copy)]
 pub enum DisplayMessage<'m> {
-    /// The error that ends the session: its code, the number of its object, and its text.
+    /// `wl_display.error`: the error that ends the session. It has the code, the number of the object that it is about, and
+    /// the text.
     Fails(u32, u32, &'m CString),
-    /// The server gave up the number.
+    /// `wl_display.delete_id`: the server has given up this number.
     Deletes(u32),
-    /// It is an error without a text, or no event of the display.
+    /// An error without a text, or no event of the display.
     Unreadable,
 }
 
-/// What the message tells as an event of the display.
+/// What the message says, as an event of the display.
 pub fn display_event(message: &Message<u32, Token>) -> DisplayMessage<'_>
     ensures { told_by result ≡ display_event message.now.opcode message.now.args.items }
 {
@@ -43,7 +44,8 @@ pub fn display_event(message: &Message<u32, Token>) -> DisplayMessage<'_>
     }
 }
 
-/// The server gave up the number: an object that the client destroyed leaves the map, another is flagged.
+/// Handles that the server has given up the number. If the client has destroyed the object, it leaves the map. Otherwise it
+/// is flagged as destroyed by the server.
 pub fn delete_id<U: Drop>(objects: &mut ObjectMap<Kept<U>>, number: u32)
     ensures { objects.new.store ≡ deleted objects.old.store number }
 {

@@ -1,22 +1,24 @@
-//! Why a call of a session was refused, and what ends a session.
+//! Why a call of a session was refused, and the error that ends a session.
 
 use std::fmt;
 use thiserror::Error;
 use wl_wire::{IoFault, ProtocolError};
 
 /// The id names no object that the call may use.
+///
+/// An id *names* an object if its number has that object and its serial is that object's.
 #[derive(Clone, Copy, Debug, PartialEq, Eq, Error)]
 #[error("Invalid ObjectId")]
 pub struct InvalidId;
 
-/// What a session keeps as its last error.
+/// The error that a session keeps. It stands for `wayland_backend::client::WaylandError`.
 #[derive(Debug, PartialEq, Eq, Drop, Error)]
 pub enum WaylandError {
-    /// The transport failed; or a request was too long to be sent (`TooBig`), or there was no memory for an error's text
-    /// (`OutOfMemory`).
+    /// A fault of the transport; or a request was too long to be sent (`TooBig`); or there was no memory for an error's
+    /// text (`OutOfMemory`).
     #[error("Io error: {0}")]
     Io(IoFault),
-    /// The server sent an error, or broke the protocol.
+    /// The server sent an error (`wl_display.error`), or it broke the protocol.
     #[error(transparent)]
     Protocol(ProtocolError),
 }
@@ -24,7 +26,7 @@ pub enum WaylandError {
 /// Why an object was not destroyed.
 #[derive(Clone, Copy, Debug, PartialEq, Eq, Error)]
 pub enum DestroyError {
-    /// The id names no object, or the display, or an object that the client has destroyed already.
+    /// The id names no object, or it names the display, or an object that the client has destroyed before.
     #[error("Invalid ObjectId")]
     InvalidId,
     /// There was no memory for the note.
@@ -34,37 +36,38 @@ pub enum DestroyError {
 
 /// Why a request was not sent.
 ///
-/// The reasons are looked at in the order of the variants, but that a sender which the client has destroyed is looked at
-/// behind the opcode, and object arguments one after another behind `NotPlaceholder`: the first with a reason tells it.
+/// The reasons are looked for in the order of the variants, with two exceptions. Whether the client has destroyed the
+/// sender is looked at after the opcode. The object arguments are looked at after `NotPlaceholder`, one after the other:
+/// the first one with a reason decides.
 #[derive(Clone, Copy, Debug, PartialEq, Eq)]
 pub enum RequestError {
     /// The sender, or an object argument, names no object, or one that the client has destroyed.
     InvalidId,
     /// The sender's interface has no request of that opcode.
     UnknownOpcode,
-    /// The arguments do not fit the request's signature.
+    /// The arguments do not fit the request's signature: there are more or fewer, or one is of another type.
     BadSignature,
-    /// The interface asked for the new object is not in the table.
+    /// The interface that the caller asks for the new object is not in the table.
     UnknownInterface,
-    /// The table names another interface for the new object.
+    /// The caller asks for another interface of the new object than the table.
     WrongChild,
-    /// The version asked for the new object is not the sender's, where the table names its interface.
+    /// The caller asks for another version of the new object than the sender's, though the table names its interface.
     WrongChildVersion,
-    /// Neither the table nor the caller names the new object's interface.
+    /// Neither the table nor the caller names the interface of the new object.
     MissingChildSpec,
-    /// The new object gets no user data.
+    /// The request makes an object, and no user data were given for it.
     MissingObjectData,
-    /// The new id is not null.
+    /// The new id among the arguments is not null. The session chooses the number.
     NotPlaceholder,
     /// An object argument is of another interface than the table asks for.
     WrongInterface,
-    /// An object argument is null where the signature forbids it.
+    /// An object argument is null, and the signature forbids it.
     NullObject,
-    /// Each number of the client's range holds an object.
+    /// No number is left for the new object: each number of the client's range has an object.
     IdsExhausted,
-    /// Each serial was given out.
+    /// No serial is left for the new object: each one was given out.
     SerialsExhausted,
-    /// There was no memory.
+    /// There was no memory for the new object, for the note of the sender's end, or to write the request.
     OutOfMemory,
 }
 
@@ -92,16 +95,16 @@ impl fmt::Display for RequestError {
 
 impl std::error::Error for RequestError {}
 
-/// Why what waits was not sent to its end.
+/// Why what waits was not sent, or not all of it.
 #[derive(Clone, Copy, Debug, PartialEq, Eq, Error)]
 pub enum FlushError {
-    /// The session has an error, which `last_error` lends.
+    /// The session has an error, which `last_error` returns.
     #[error("the session failed")]
     Failed,
-    /// The transport would block.
+    /// The transport can send no more now. What was not sent still waits.
     #[error("would block")]
     WouldBlock,
-    /// There was no memory.
+    /// There was no memory in the transport. What was not sent still waits.
     #[error("out of memory")]
     OutOfMemory,
 }
@@ -109,16 +112,16 @@ pub enum FlushError {
 /// Why no event was handed out.
 #[derive(Clone, Copy, Debug, PartialEq, Eq, Error)]
 pub enum EventError {
-    /// The session has an error, which `last_error` lends.
+    /// The session has an error, which `last_error` returns.
     #[error("the session failed")]
     Failed,
-    /// An event was handed out and not finished yet.
+    /// The event that was handed out last is not finished yet.
     #[error("an event is open")]
     EventOpen,
-    /// Nothing more can be read now.
+    /// Nothing more can be read now, or 64 receives brought no event.
     #[error("would block")]
     WouldBlock,
-    /// There was no memory.
+    /// There was no memory for what was received, or for an event.
     #[error("out of memory")]
     OutOfMemory,
 }
@@ -132,7 +135,7 @@ pub enum FinishError {
     /// The event made an object, and no user data were given for it.
     #[error("the new object gets no user data")]
     MissingObjectData,
-    /// User data were given, and the event made no object.
+    /// User data were given, but the event made no object.
     #[error("there is no new object for the user data")]
     UnexpectedData,
     /// There was no memory for the note of the object that the event ends.
@@ -140,11 +143,11 @@ pub enum FinishError {
     OutOfMemory,
 }
 
-/// An event that was not finished, and is still open: why, and the user data that were given.
+/// Why an event was not finished, and the user data that were given for it. The event is still open.
 #[derive(Debug, Drop)]
 pub struct FinishRefused<U> {
     /// The reason.
     pub error: FinishError,
-    /// What was given for the new object.
+    /// The user data that were given, if any.
     pub user_data: Option<U>,
 }

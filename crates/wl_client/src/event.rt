@@ -1,4 +1,4 @@
-//! The events of objects.
+//! The events of all objects but the display.
 
 ghost use Rattle.std.specs.Prelude.{◌≡◌, ◌≢◌, [], true, None, IsSome, length, MatchOption};
 ghost use Rattle.smallvec.specs.SmallVec.{HasRoomFor};
@@ -17,20 +17,21 @@ use crate::protocol_error::EventFault;
 use wl_link::ObjectMap;
 use wl_wire::{Message, MessageDesc, Token};
 
-/// What the end of an event has to know of it.
+/// What is kept of an event until it is finished.
 #[derive(Clone, Copy)]
 pub struct OpenEvent {
     /// The object that the event was sent to.
     pub sender: ObjectId,
-    /// Whether it ends that object.
+    /// Whether the event ends that object.
     pub is_destructor: bool,
-    /// The object that it made.
+    /// The object that the event made, if it made one.
     pub created: Option<ObjectId>,
 }
 
-/// Makes an event of a message: goes through its arguments, which are taken out of it. `event` has no arguments yet and
-/// room for them, and the map has room for the object that the event may make. `None` where the event is not handed
-/// out, since the client destroyed its receiver.
+/// Makes an event from a message: converts its arguments, which are taken out of it, and puts them into `event`.
+///
+/// `event` has no arguments yet, and room for these. The map has room for the object that the event may make. `None` if the
+/// event is not handed out, since the client has destroyed its receiver. The error says what is wrong with the event.
 pub fn handle_event<U: Drop>(
     objects: &mut ObjectMap<Kept<U>>,
     last_serial: &mut u64,

@@ -14,12 +14,17 @@ use crate::objects::{give_data, named_in, note_end};
 use wl_wire::OutOfMemory;
 
 impl<T: Drop, U: Drop> Backend<T, U> {
-    /// Ends the event that `next_event` handed out, and gives the object that it made its user data.
+    /// Ends the event that `next_event` handed out. If the event made an object, the object gets this user data.
     ///
-    /// An event that ends its sender destroys it on both sides; it is noted, if it has user data and the client had
-    /// not destroyed it. The refusals are, in this order: `NoOpenEvent`; `MissingObjectData` where the event made an
-    /// object and no data are given; `UnexpectedData` where it made none and data are given; `OutOfMemory` where
-    /// there is none for a note. Each gives the data back, and leaves the event open.
+    /// An event may end its sender (`MessageDesc::is_destructor`). Then the sender is marked as destroyed by both sides. It
+    /// is noted, if it has user data and the client had not destroyed it. The errors are, in this order:
+    ///
+    /// - `NoOpenEvent` if no event is open;
+    /// - `MissingObjectData` if the event made an object, and no data are given;
+    /// - `UnexpectedData` if the event made no object, and data are given;
+    /// - `OutOfMemory` if there is no memory for a note.
+    ///
+    /// Each gives the data back. The event stays open, and nothing is changed.
     pub fn finish_event(&mut self, user_data: Option<U>) -> Result<(), FinishRefused<U>>
         ensures cutting { CutsFinish self.old.session user_data result self.new.session }
         ensures finished { Finishes self.old.session user_data result self.new.session }
@@ -48,7 +53,7 @@ impl<T: Drop, U: Drop> Backend<T, U> {
         Ok(())
     }
 
-    /// Gives the object that an event made, if it made one, these user data.
+    /// Gives the user data to the object that an event made, if it made one.
     fn give_created(&mut self, created: Option<ObjectId>, user_data: Option<U>)
         ensures given { self.new.session ≡ with_core self.old.session (with_data_for (core_of self.old.session) created user_data) }
         ensures refused { self.new.refused ≡ self.old.refused }
@@ -59,8 +64,10 @@ impl<T: Drop, U: Drop> Backend<T, U> {
         }
     }
 
-    /// Marks the object that the id names as destroyed by both sides, and notes it if it has user data and the client
-    /// had not destroyed it. Where there is no memory for the note nothing is changed.
+    /// Marks the object that the id names as destroyed by both sides. It is noted, if it has user data and the client had
+    /// not destroyed it.
+    ///
+    /// If there is no memory for the note, nothing is changed.
     fn end_object(&mut self, id: &ObjectId) -> Result<(), OutOfMemory>
         ensures ended { MatchResult result
             (λ _. self.new.session ≡ with_core self.old.session (with_dead (core_of self.old.session) id.now.number (named self.old.session.store id.now)))

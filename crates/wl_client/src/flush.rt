@@ -1,4 +1,4 @@
-//! The sending of what waits.
+//! Sends what waits to be sent.
 
 ghost use Rattle.std.specs.Prelude.{◌≡◌};
 ghost use Rattle.wl_client.specs.Finish.{SessionFlushed};
@@ -10,12 +10,20 @@ use wl_link::Transport;
 use wl_wire::IoFault;
 
 impl<T: Transport + Drop, U: Drop> Backend<T, U> {
-    /// Sends what waits, as far as the transport takes it. `Ok` says that all bytes were sent, where tokens beyond 28 for
-    /// each byte still wait; or that the transport answered 0 to a send: then the rest still waits, but for the tokens
-    /// that this send was offered.
+    /// Sends what waits to be sent, as far as the transport takes it.
     ///
-    /// `Failed` where the session has an error, or gets one now: a fault of the transport but `WouldBlock` and
-    /// `OutOfMemory` is stored. After these two what was not sent still waits.
+    /// It stands for `wayland_backend::client::Backend::flush`. The answer is `Ok` in these cases:
+    ///
+    /// - All bytes were sent. If there were more than 28 tokens for each byte, the tokens beyond that number still wait. A
+    ///   *token* stands for a file descriptor.
+    /// - The transport answered 0 to a send. Then the rest still waits, but the tokens that this send was offered are lost.
+    ///
+    /// The errors are:
+    ///
+    /// - `Failed` if the session has an error, or gets one now. It gets one by a fault of the transport that is neither
+    ///   `WouldBlock` nor `OutOfMemory`;
+    /// - `WouldBlock` if the transport can send no more now. What was not sent still waits;
+    /// - `OutOfMemory` if the transport had no memory. What was not sent still waits.
     pub fn flush(&mut self) -> Result<(), FlushError>
         ensures flushed { SessionFlushed T.sends self.old.session result self.new.session }
         ensures refused { self.new.refused ≡ refused_flush result }

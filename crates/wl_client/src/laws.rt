@@ -1,4 +1,7 @@
-//! What follows from the definitions of a session alone. Each function has a law as its contract, and does nothing.
+//! Laws that follow from the definitions of a session alone. Each function does nothing; its contract states a law.
+//!
+//! A *run* is a list of calls, each with its reply, from `connect` on if nothing else is said. An id *names* an object if
+//! its number has that object and its serial is that object's.
 
 ghost use Rattle.std.specs.Prelude.{◌≡◌, ◌∷◌, [], List, Option, None, Ok, IsSome, false, length, ℕ};
 ghost use Rattle.wl_wire.specs.Table.{InterfaceRow};
@@ -24,22 +27,21 @@ ghost use Rattle.wl_client.specs.Stretches.{IsRunServed, IsStretch, IsStretchWit
 use crate::next_event::READ_TURNS;
 use wl_link::Transport;
 
-/// The identity law of a session.
+/// The identity law: each id that a session hands out names the object that it was made of, as long as that object is kept,
+/// and then none.
 ///
-/// Over every run of calls from the connecting on there are changes, a list of them for each step, by which the objects
-/// come to what they are. Each id that a reply hands out is made in its step of the object that it then names, that of a
-/// request's new object and that of an event's of an object that the step puts there. It names that object exactly while
-/// that is kept, and afterwards none. A run that met a want of memory has that too: its last entry is the step that did.
+/// Each id in a reply is made in the step of that reply. The id of a new object, of a request or an event, is that of an
+/// object which this step made. The law also holds of a run that was ended by a want of memory; the step in which memory
+/// was refused is then its last one.
 pub fn each_id_names_its_own_object<U>()
     ensures { (table : List InterfaceRow) (transport : Script) (before after : SessionState Script U) (run : List (Entry U)) →
         IsConnected table transport before → Leads before run after → HasOwnIds before run after }
 {}
 
-/// The identity law of any id, however it came to be: one of a look-up or of `display_id` too.
+/// The identity law for any id, no matter where it comes from: also for one that `display_id` or a look-up returned.
 ///
-/// From each point of a run on at which it names an object, it names that very object exactly while that is kept, and
-/// afterwards none (`named`): by changes that also make the ids of the whole run its own. Where it names none at a later
-/// point, it names none ever after (`none`).
+/// From each point of a run on at which the id names an object, it names that object as long as that is kept, and then none
+/// (`named`). If it names none at a later point, it never names one again (`none`).
 pub fn each_id_that_names_an_object_keeps_it<U>()
     ensures named { (table : List InterfaceRow) (transport : Script) (begun point after : SessionState Script U) (done later : List (Entry U)) →
         IsConnected table transport begun → Leads begun done point → Leads point later after →
@@ -49,27 +51,25 @@ pub fn each_id_that_names_an_object_keeps_it<U>()
         (id : IdParts) → IsSome (named point.store id) → ¬ IsSome (named mid.store id) → ¬ IsSome (named after.store id) }
 {}
 
-/// The law of a session's notes.
+/// The law of notes: each object that ends with user data is noted once, and no other.
 ///
-/// Over every run of calls from the connecting on, the notes that were taken, and then those that still wait, are those of
-/// the objects that ended with user data, in order: of each one note, made in the step in which it ended, and no other.
+/// Over every run, the notes that were taken, followed by those that still wait, are those of the objects that ended with
+/// user data, in order. Each note was made in the step in which its object ended.
 pub fn each_object_that_ends_is_noted_once<U>()
     ensures { (table : List InterfaceRow) (transport : Script) (before after : SessionState Script U) (run : List (Entry U)) →
         IsConnected table transport before → Leads before run after → NotesWhatEnded before run after }
 {}
 
-/// The law of a session's error.
-///
-/// Over every run of calls, a session that has an error keeps one, and answers each reading and each flush by `Failed`.
+/// The law of errors: a session that has an error keeps one. Over every run, each reading and each flush answers `Failed`.
 pub fn a_failed_session_stays_failed<U>()
     ensures { (before after : SessionState Script U) (run : List (Entry U)) →
         IsSome before.error → Leads before run after → StaysFailed run after }
 {}
 
-/// Where memory is not refused, each step has one outcome, and so has each run.
+/// If memory is not refused, each step has one outcome, and so has each run.
 ///
-/// The value of a session and the step determine the reply, up to where its lists lie in memory, and the value after
-/// it: the definitions of the calls leave no choice but whether memory is there.
+/// The session before a step, and the step, determine the reply and the session after it. Only where the lists of a reply
+/// lie in memory is left open.
 pub fn each_run_has_one_outcome<U>()
     ensures step { (before after after' : SessionState Script U) (step : Step U) (answer answer' : Reply U) →
         StepOf before step answer false after → StepOf before step answer' false after' →
@@ -80,12 +80,16 @@ pub fn each_run_has_one_outcome<U>()
         SameReplies replies replies' × (after ≡ after') }
 {}
 
-/// The law of cutting, for every transport.
+/// It does not matter how bytes and tokens are cut into receives, for every transport.
 ///
-/// In a reading in which memory is not refused, let each receive bring a byte, or say that the transport would block.
-/// Whatever comes later: what is served of the session before it, over what was received and then the rest, is what the
-/// reading handed out, followed by what is served of the session after it over the rest. An accepted finish of a session
-/// without an error is the next of the finishes. Something is served of whatever waits, and it is determined.
+/// What is *served* of some bytes and tokens is what a session does with them if they have all come at once: the events
+/// that it hands out, and what it is afterwards. What a reading hands out is the beginning of what is served of the whole
+/// stream. The rest of that is what the session, as it is after the reading, serves of the rest of the stream (`reading`).
+/// Each receive of the reading must have brought a byte or have returned `WouldBlock`, and memory must not have been
+/// refused.
+///
+/// If the session has no error and accepts a finish, that is the next of the finishes (`finish`). Something is served of
+/// whatever waits (`some`), and there is one outcome (`one`).
 pub fn cutting_does_not_matter_to_a_client<T: Transport, U>()
     ensures reading { (left : ℕ) (before after : ReaderState T (Core U)) (turns : List Turn) (out : Gives SessionMessage) →
         Reads T.sends client T.receives left before turns out after → AllFed turns → out.refused ≡ false →
@@ -98,13 +102,15 @@ pub fn cutting_does_not_matter_to_a_client<T: Transport, U>()
         (events : List (Given SessionMessage)) × (after : _) × IsServed before more finishes events after }
 {}
 
-/// The same over a stretch of a run: what it hands out, and what it leads to, is what is served of all that arrived,
-/// joined, with the finishes that were accepted. So two stretches over which the same bytes and tokens arrive, however they
-/// are cut, and the same finishes are accepted, hand out the same and lead to the same.
+/// The same for a *stretch* of a run, in which bytes and tokens arrive and events are read and finished.
 ///
-/// Each arrival brings a byte or says that the transport would block, memory is not refused, and no receive found the
-/// storage full. None does where each message is no longer than the incoming storage may become, and its tokens come
-/// no later than its last byte.
+/// What a stretch hands out, and what it leads to, is what is served of all that arrived, joined, with the finishes that
+/// were accepted (`served`). So two stretches with the same bytes and tokens, however they are cut, and with the same
+/// finishes hand out the same and lead to the same (`same`). Each arrival must bring a byte or be `WouldBlock`, memory must
+/// not be refused, and no receive may find the buffer full.
+///
+/// No receive finds the buffer full if each message is no longer than the incoming buffer may become, and its tokens come
+/// no later than its last byte (`within`).
 pub fn cutting_does_not_matter_to_a_run<U>()
     ensures served { (before after : SessionState Script U) (run : List (Entry U)) →
         Leads before run after → IsStretch before run after → IsRunServed before run after }
@@ -115,7 +121,7 @@ pub fn cutting_does_not_matter_to_a_run<U>()
         arrived run ≡ arrived others → finished run ≡ finished others → (events_of run ≡ events_of others) × SameLeft after other }
 {}
 
-/// The constant of this crate: a reading makes at most so many receives.
+/// The value of a constant of this crate: a reading makes at most 64 receives.
 pub fn a_reading_receives_64_times()
     ensures { READ_TURNS ≡ 64 }
 {}

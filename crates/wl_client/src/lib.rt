@@ -1,10 +1,11 @@
-//! The client's session of the Wayland protocol: objects by id, requests, events.
+//! A client's session of the Wayland protocol: objects by id, requests, events.
 //!
-//! A program makes a [`Backend`] of its table of interfaces and a transport. It sends requests with `send_request` and
-//! `flush`, reads events with `next_event`, ends each with `finish_event`, and takes notes of what was destroyed with
-//! `take_notes`. The page of this crate, `README.md`, has an example and the order of the refusals.
+//! A program makes a [`Backend`] from its table of interfaces and a transport. It sends requests with `send_request` and
+//! `flush`. It reads events with `next_event`, and ends each with `finish_event`. It learns with `take_notes` which objects
+//! were destroyed. The page of this crate, `README.md`, has an example, and the order in which refusals are decided.
 //!
-//! `specs/Session` says what a session holds. Each call has one relation between the session before it and after it:
+//! `specs/Session` says what a session holds. The contract of each call is one relation between the session before it and
+//! after it:
 //!
 //! | Calls | Code | Relations, in `specs/` |
 //! |---|---|---|
@@ -15,8 +16,9 @@
 //! | `info`, `get_data`, `set_data`, `destroy_object` | `objects` | `Objects` |
 //! | `replay` | `step`, `replay` | `Steps`, `Handed`, `Named`, `Noted`, `Replies`, `Stretches` |
 //!
-//! The laws of runs are the contracts of the functions of [`laws`]. Each names its statement: `Handed` and `Named` (ids),
-//! `Noted` (notes), `Failed` (errors), `Replies` (there is one outcome), `Cutting` and `Stretches` (cutting does not matter).
+//! The functions of [`laws`] do nothing. Their contracts are the laws of runs of calls. Each contract names its statement:
+//! `Handed` and `Named` (ids), `Noted` (notes), `Failed` (errors), `Replies` (there is one outcome), `Cutting` and
+//! `Stretches` (it does not matter how bytes are cut).
 #![tactic(auto)]
 
 mod arguments;

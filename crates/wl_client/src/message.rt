@@ -1,4 +1,4 @@
-//! One turn of a reading: the message at the front is taken off the link and handled.
+//! One *turn* of a reading: takes the first message off what was received, and handles it.
 
 ghost use Rattle.std.specs.Prelude.{◌≡◌, ◌≢◌, ◌≤◌, [], true, false, None, Some, Ok, Err, MatchResult, length, IfOk, OnErr, OnOk, option_copied, option_map};
 ghost use Rattle.smallvec.specs.SmallVec.{HasRoomFor};
@@ -32,29 +32,30 @@ use wl_wire::{
     ProtocolError, Text, Token,
 };
 
-/// Why no event was handed out, and whether memory was refused.
+/// Why a reading handed out no event, and whether memory was refused.
 #[derive(Clone, Copy)]
 pub struct NoEvent {
-    /// The answer of the reading.
+    /// The error that `next_event` returns.
     pub error: EventError,
     /// Whether memory was refused.
     pub refused: bool,
 }
 
-/// What a turn came to.
+/// How a turn ended.
 #[derive(Clone, Copy)]
 pub enum TurnEnd {
-    /// An event is there to hand out.
+    /// There is an event to hand out.
     Event,
     /// A message was handled, and the reading goes on.
     GoesOn,
-    /// No message waits whole.
+    /// No message is complete: bytes or tokens are missing.
     Lacks,
     /// The reading ends without an event.
     Ends(NoEvent),
 }
 
-/// The event of that opcode of the object that the number holds.
+/// The description of the event with that opcode, of the object with that number. `None` if there is no such object or
+/// event.
 fn event_desc<'p, U: Drop>(
     protocol: &'p Protocol,
     objects: &ObjectMap<Kept<U>>,
@@ -68,8 +69,10 @@ fn event_desc<'p, U: Drop>(
     interface.events.get(opcode as usize)
 }
 
-/// Makes room for what the message at the front becomes, where it is there whole: for its arguments, and for the object
-/// that it may make. Of a message that is not there nothing is asked for.
+/// Makes room for what the first message becomes, if it is complete: for its arguments, and for the object that it may
+/// make.
+///
+/// If the message is not complete, this asks for no memory.
 fn make_room<T: Drop, U: Drop>(
     objects: &mut ObjectMap<Kept<U>>,
     converted: &mut SmallVec<Argument<ObjectId, Token>, INLINE_ARGS>,
@@ -99,9 +102,10 @@ fn make_room<T: Drop, U: Drop>(
     Ok(())
 }
 
-/// Takes the message at the front, of that sender and opcode, off the link, with room for what it becomes: for its
-/// arguments in `converted`, which is emptied, and for the object that it may make in the map. The answer is what the
-/// table says of it.
+/// Takes the first message off what was received. It has this sender and opcode. Returns its description in the table.
+///
+/// First it makes room for what the message becomes: in `converted`, which is emptied, for its arguments, and in the map
+/// for the object that it may make.
 fn take<'p, T: Drop, U: Drop>(
     protocol: &'p Protocol,
     objects: &mut ObjectMap<Kept<U>>,
@@ -134,7 +138,7 @@ fn take<'p, T: Drop, U: Drop>(
 }
 
 impl<T: Transport + Drop, U: Drop> Backend<T, U> {
-    /// Stores the error, or that there was no memory for its texts.
+    /// Stores the error. If there was no memory for its texts, it stores `OutOfMemory`.
     #[cold]
     #[inline(never)]
     fn fail(&mut self, error: Result<ProtocolError, OutOfMemory>) -> NoEvent
@@ -160,7 +164,7 @@ impl<T: Transport + Drop, U: Drop> Backend<T, U> {
         }
     }
 
-    /// Stores the error of a fault: code 0, object 0, no interface, and the fault's text.
+    /// Stores an error that says what is wrong with an event: code 0, object 0, no interface, and the text of the fault.
     #[cold]
     #[inline(never)]
     fn fail_by(&mut self, fault: EventFault) -> NoEvent
@@ -197,7 +201,7 @@ impl<T: Transport + Drop, U: Drop> Backend<T, U> {
         }
     }
 
-    /// Takes the message at the front off the link and handles it. An event that it makes is in `event` then.
+    /// Takes the first message off what was received, and handles it. If it makes an event, that is in `event` then.
     pub(crate) fn turn(&mut self, event: &mut Message<ObjectId, Token>) -> TurnEnd
         requires { INLINE_ARGS ≤ event.old.args.capacity }
         ensures turns { Turns self.old.session (turned result event.new) self.new.session }
@@ -209,7 +213,7 @@ impl<T: Transport + Drop, U: Drop> Backend<T, U> {
         }
     }
 
-    /// The same where this header waits. It is apart, since the place for a message is made only where a header waits.
+    /// Does the same if this header waits. It is a function of its own, so that room for a message is made only then.
     #[inline(never)]
     fn turn_at_header(
         &mut self,
@@ -229,7 +233,8 @@ impl<T: Transport + Drop, U: Drop> Backend<T, U> {
         self.turn_with(header, &mut message, event)
     }
 
-    /// The same with a place for the message that is taken. It is lent, so that an early return has nothing to drop.
+    /// Does the same, with room for the message that is taken. The message is lent, so that an early return has nothing to
+    /// drop.
     fn turn_with(
         &mut self,
         header: (u32, u16),
@@ -280,7 +285,7 @@ impl<T: Transport + Drop, U: Drop> Backend<T, U> {
         }
     }
 
-    /// What it comes to that no message was taken.
+    /// How the turn ends if no message was taken.
     fn not_taken(&mut self, error: MessageParseError) -> TurnEnd
         requires { NotTaken self.old.session error }
         ensures { (event : Message IdParts Token) → NotTakenTo self.old.session (turned result event) self.new.session }

@@ -1,4 +1,4 @@
-//! A reading: messages are handled, and more is received where none waits whole.
+//! A *reading*: handles messages, and receives more if none is complete.
 
 ghost use Rattle.std.specs.Prelude.{◌≤◌, option_map};
 ghost use Rattle.wl_client.specs.Cutting.{CutsReading};
@@ -17,7 +17,8 @@ use wl_wire::{INLINE_ARGS, IoFault, Message, Token};
 pub const READ_TURNS: u32 = 64;
 
 impl<T: Transport + Drop, U: Drop> Backend<T, U> {
-    /// Handles messages until the reading ends, or no message waits whole. An event to hand out is in `event` then.
+    /// Handles messages until the reading ends, or no message is complete (`None`). If there is an event to hand out, it is
+    /// in `event` then.
     fn handle_waiting(
         &mut self,
         event: &mut Message<ObjectId, Token>,
@@ -37,7 +38,7 @@ impl<T: Transport + Drop, U: Drop> Backend<T, U> {
         }
     }
 
-    /// Receives once; the answer is why the reading ends, if it does.
+    /// Receives once. Returns why the reading ends, if it does.
     fn receive(&mut self) -> Option<NoEvent>
         requires { Live self.old.session }
         ensures { ReceivedTo T.sends T.receives self.old.session result self.new.session }
@@ -64,19 +65,26 @@ impl<T: Transport + Drop, U: Drop> Backend<T, U> {
         }
     }
 
-    /// The next event, which is open until `finish_event` ends it.
+    /// Reads and returns the next event. It is *open* until `finish_event` ends it.
     ///
-    /// Events of the display are handled and not handed out, and neither are those for an object that the client has
-    /// destroyed. The refusals are, in this order: `Failed` where the session has an error; `EventOpen`; then what
-    /// the reading comes to: `Failed` where it stores an error, `WouldBlock` where the transport would block or
-    /// no whole message waits after 64 receives, `OutOfMemory`. After the last two what was handled stays handled, and
-    /// what waits is read by the next call.
+    /// It takes the place of `ReadEventsGuard::read` and `ObjectData::event` of `wayland_backend::client`. The session
+    /// handles events of the display by itself. It drops events for an object that the client has destroyed. The errors
+    /// are, in this order:
     ///
-    /// However bytes and tokens are cut into receives, the session before it goes on over all that comes as the session
-    /// after it does over the rest, behind the event that was handed out.
+    /// - `Failed` if the session has an error;
+    /// - `EventOpen` if an event is open;
+    /// - `Failed` if the session gets an error now: the transport failed, the server closed the connection, sent an error,
+    ///   or broke the protocol;
+    /// - `WouldBlock` if the transport can receive no more now, or if no message is complete after 64 receives;
+    /// - `OutOfMemory` if there was no memory.
     ///
-    /// A message that is no longer than the limit or 65536 bytes, whichever is less, and whose tokens come no later than
-    /// its last byte, does not end the session by a full storage.
+    /// After `WouldBlock` and `OutOfMemory` what was handled stays handled, and the next call reads what waits.
+    ///
+    /// It does not matter how bytes and tokens are cut into receives: the events are the same as if they had all come at
+    /// once.
+    ///
+    /// A message does not end the session by a full buffer, if it is no longer than the limit or 65536 bytes, whichever is
+    /// less, and its tokens come no later than its last byte.
     pub fn next_event(&mut self) -> Result<Message<ObjectId, Token>, EventError>
         ensures cutting { CutsReading T.sends T.receives self.old.session (event_content result) self.new.refused self.new.session }
         ensures read { NextEvent T.sends T.receives self.old.session (event_content result) self.new.refused self.new.session }
@@ -109,7 +117,8 @@ impl<T: Transport + Drop, U: Drop> Backend<T, U> {
         }
     }
 
-    /// Handles messages and receives, until there is an event or no receive is left. The event is in `event` then.
+    /// Handles messages and receives, until there is an event or no receive is left. If there is an event, it is in `event`
+    /// then.
     fn read_event(&mut self, event: &mut Message<ObjectId, Token>) -> Result<(), NoEvent>
         requires live { Live self.old.session }
         requires inline { INLINE_ARGS ≤ event.old.args.capacity }

@@ -10,9 +10,11 @@ use std::hash::{Hash, Hasher};
 use std::marker::Model;
 use wl_wire::{ANONYMOUS_INTERFACE, InterfaceId, OutOfMemory, Protocol};
 
-/// The id of an object: its number, the serial that tells it from others of that number, and its interface.
+/// The id of an object: its number in the protocol, its serial, and its interface. It stands for
+/// `wayland_backend::client::ObjectId`.
 ///
-/// Ids are equal where all parts are equal; the hash leaves the interface out. An id of number 0 is null.
+/// The *serial* tells an object from others that had or will have its number. Two ids are equal if all their parts are
+/// equal. The hash leaves the interface out. An id with number 0 is null: it names no object.
 #[derive(Clone, Copy, Debug, PartialEq, Eq)]
 pub struct ObjectId {
     serial: u64,
@@ -47,7 +49,7 @@ impl Hash for ObjectId {
 }
 
 impl ObjectId {
-    /// The id of no object: number 0, serial 0, the anonymous interface.
+    /// The null id: number 0, serial 0, the anonymous interface.
     pub fn null() -> Self
         ensures { result ≡ record { number = 0; serial = 0; interface = anonymous_id } }
     {
@@ -58,7 +60,7 @@ impl ObjectId {
         }
     }
 
-    /// The id of these parts.
+    /// The id with these parts.
     pub fn from_parts(number: u32, serial: u64, interface: InterfaceId) -> Self
         ensures { result ≡ record { number = number; serial = serial; interface = interface } }
     {
@@ -69,28 +71,31 @@ impl ObjectId {
         }
     }
 
-    /// Whether it is the id of no object: whether its number is 0.
+    /// Whether the id is null: whether its number is 0.
     pub fn is_null(&self) -> bool
         ensures { IsTrue result ↔ (self.now.number ≡ 0) }
     {
         self.number == 0
     }
 
-    /// The object's interface.
+    /// The interface of the object.
     pub fn interface(&self) -> InterfaceId
         ensures { result ≡ self.now.interface }
     {
         self.interface
     }
 
-    /// The object's number in the protocol.
+    /// The number of the object in the protocol.
     pub fn protocol_id(&self) -> u32
         ensures { result ≡ self.now.number }
     {
         self.number
     }
 
-    /// The id as a text: the name of its interface, `@`, and its number.
+    /// The id as text: the name of its interface, `@`, and its number. The name is `<unknown>` if the interface is not in
+    /// the table.
+    ///
+    /// The error is `OutOfMemory`.
     pub fn display(&self, alloc: Global, protocol: &Protocol) -> Result<String, OutOfMemory>
         ensures { IfOk result (λ text. string_bytes text ≡ name_of protocol.now self.now.interface.0 ++ codes "@" ++ decimal self.now.number) }
     {
@@ -99,7 +104,7 @@ impl ObjectId {
         Ok(format!(in alloc; "{name}@{number}")?)
     }
 
-    /// The serial, which no other object of the session has.
+    /// The serial of the object, which no other object of the session has.
     pub fn serial(&self) -> u64
         ensures { result ≡ self.now.serial }
     {

@@ -1,4 +1,4 @@
-//! The objects of a session: look-ups among them, and what a program asks and changes of one.
+//! The objects of a session: how they are looked up, and the calls that are about one object.
 
 ghost use Rattle.std.specs.Prelude.{◌≡◌, false, None, Some, IsSome, Ok, Err, MatchOption, MatchResult, option_copied};
 ghost use Rattle.wl_link.specs.Store.{held};
@@ -14,24 +14,23 @@ use crate::object_id::ObjectId;
 use wl_link::{Object, ObjectMap};
 use wl_wire::{InterfaceId, ObjectInfo, OutOfMemory};
 
-/// What the session keeps of an object beside its interface and version.
+/// What the session keeps of an object, beside its interface and version.
 #[derive(Drop)]
 pub struct Kept<U> {
-    /// The serial, which no other object of the session has.
+    /// The serial of the object, which no other object of the session has.
     pub serial: u64,
-    /// The program's data.
+    /// The user data: the program's own data of the object.
     pub user_data: Option<U>,
     /// Whether the client destroyed it, or an event did.
     pub client_destroyed: bool,
-    /// Whether the server gave up its number, or an event destroyed it. It is part of what a session knows of an object;
-    /// no call decides by it.
+    /// Whether the server has given up its number, or an event destroyed it. It is kept, but no call decides by it.
     pub server_destroyed: bool,
 }
 
-/// What happened to an object.
+/// What happened to an object. `Backend::take_notes` returns the notes.
 #[derive(Clone, Copy, Debug, PartialEq, Eq)]
 pub enum Note {
-    /// The object, which had user data, was destroyed: by the client or by an event.
+    /// The object, which had user data, was destroyed: by the client, or by an event.
     Destroyed(ObjectId),
 }
 
@@ -56,7 +55,7 @@ pub fn fresh_object<U>(
     }
 }
 
-/// The object that the id names.
+/// The object that the id names: the one at its number, if it has the id's serial.
 pub fn named_in<'a, U: Drop>(
     objects: &'a ObjectMap<Kept<U>>,
     id: &ObjectId,
@@ -85,15 +84,15 @@ pub fn live_in<'a, U: Drop>(
     }
 }
 
-/// The id of the object that a number holds.
+/// The id of this object, which has that number.
 pub fn id_at<U>(number: u32, object: &Object<Kept<U>>) -> ObjectId
     ensures { result ≡ the_id number object.now }
 {
     ObjectId::from_parts(number, object.value.serial, object.interface)
 }
 
-/// Notes that the object of a number is no longer the program's, where it has user data. Where there is no memory the
-/// notes stay as they were.
+/// Notes that the object with this number has ended, if it has user data. If there is no memory for the note, nothing is
+/// changed.
 pub fn note_end<U>(
     notes: &mut Vec<Note>,
     number: u32,
@@ -112,7 +111,7 @@ pub fn note_end<U>(
     }
 }
 
-/// Gives the object that the id names these user data, in place of what it had.
+/// Gives the object that the id names this user data, in place of what it had. The error says that the id names no object.
 pub fn give_data<U: Drop>(
     objects: &mut ObjectMap<Kept<U>>,
     id: &ObjectId,
@@ -130,7 +129,7 @@ pub fn give_data<U: Drop>(
     Ok(())
 }
 
-/// Flags the object of this number, if it holds one, as destroyed by the client.
+/// Flags the object with this number, if there is one, as destroyed by the client.
 pub fn give_up<U: Drop>(objects: &mut ObjectMap<Kept<U>>, number: u32)
     ensures { objects.new.store ≡ given_up_at objects.old.store number (held objects.old.store number) }
 {
@@ -140,8 +139,10 @@ pub fn give_up<U: Drop>(objects: &mut ObjectMap<Kept<U>>, number: u32)
 }
 
 impl<T: Drop, U: Drop> Backend<T, U> {
-    /// What the protocol says of the object that the id names. `InvalidId` where the id names none, or one that the
-    /// client has destroyed.
+    /// The number, interface and version of the object that the id names.
+    ///
+    /// It stands for `wayland_backend::client::Backend::info`. The error is `InvalidId` if the id names no object, or one
+    /// that the client has destroyed.
     pub fn info(&self, id: &ObjectId) -> Result<ObjectInfo, InvalidId>
         ensures { MatchResult result (λ info. info_of self.now.session id.now ≡ Some info)
             (λ _. info_of self.now.session id.now ≡ None) }
@@ -156,8 +157,10 @@ impl<T: Drop, U: Drop> Backend<T, U> {
         }
     }
 
-    /// The user data of the object that the id names, also of one that was destroyed, until it leaves the map.
-    /// `InvalidId` where the id names none, or one without user data.
+    /// The user data of the object that the id names.
+    ///
+    /// It stands for `wayland_backend::client::Backend::get_data`. It also returns the data of an object that was
+    /// destroyed, until that leaves the map. The error is `InvalidId` if the id names no object, or one without user data.
     pub fn get_data(&self, id: &ObjectId) -> Result<&U, InvalidId>
         ensures { MatchResult result (λ u. user_data_of self.now.session id.now ≡ Some u.now)
             (λ _. user_data_of self.now.session id.now ≡ None) }
@@ -171,8 +174,10 @@ impl<T: Drop, U: Drop> Backend<T, U> {
         }
     }
 
-    /// Gives the object that the id names this user data; what it had is dropped. `InvalidId` where the id names
-    /// none. It takes no memory.
+    /// Gives the object that the id names this user data. The data that it had are dropped. It allocates nothing.
+    ///
+    /// It stands for `wayland_backend::client::Backend::set_data`. The error is `InvalidId` if the id names no object; then
+    /// the given data are dropped.
     pub fn set_data(&mut self, id: &ObjectId, user_data: U) -> Result<(), InvalidId>
         ensures set { DataSet self.old.session id.now user_data result self.new.session }
         ensures refused { self.new.refused ≡ false }
@@ -181,11 +186,12 @@ impl<T: Drop, U: Drop> Backend<T, U> {
         give_data(&mut self.objects, id, user_data)
     }
 
-    /// Destroys the object that the id names, on the client's side: it is noted, if it has user data, and leaves the
-    /// map when the server gives up its number after that.
+    /// Destroys the object that the id names, on the client's side. It is noted, if it has user data.
     ///
-    /// `InvalidId` where the id names none, or the display, or an object that the client has destroyed already;
-    /// `OutOfMemory` where there is none for the note. A refusal changes nothing.
+    /// It stands for `wayland_backend::client::Backend::destroy_object`. The object leaves the map when the server gives up
+    /// its number after that (`wl_display.delete_id`). The error is `InvalidId` if the id names no object, or the display,
+    /// or an object that the client has destroyed before, and else `OutOfMemory` if there is no memory for the note. An
+    /// error changes nothing.
     pub fn destroy_object(&mut self, id: &ObjectId) -> Result<(), DestroyError>
         ensures destroyed { DestroyedBy self.old.session id.now result self.new.session }
         ensures refused { self.new.refused ≡ refused_destroy result }

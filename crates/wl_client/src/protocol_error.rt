@@ -1,4 +1,4 @@
-//! The errors that a reading stores: what is wrong with an event, and what the server told.
+//! The errors that a reading stores: what is wrong with an event, and what the server said with `wl_display.error`.
 
 ghost use Rattle.std.specs.Prelude.{◌≡◌, IfOk};
 ghost use Rattle.std.specs.String.{string_bytes};
@@ -10,21 +10,22 @@ use std::alloc::Global;
 use wl_link::ObjectMap;
 use wl_wire::{CString, InterfaceId, OutOfMemory, Protocol, ProtocolError, Text};
 
-/// Why an event ends the session.
+/// What is wrong with an event. It ends the session.
 #[derive(Clone, Copy)]
 pub enum EventFault {
-    /// The bytes are no event.
+    /// The bytes are not an event of their sender.
     Malformed,
-    /// An object argument has a number that no object holds.
+    /// There is no object with this number, which is an object argument.
     UnknownObject(u32),
-    /// An object argument is of another interface than the one asked for: the number, the interface asked for, and
-    /// the object's.
+    /// An object argument is of a wrong interface. The variant has the number of the object, the interface that the table
+    /// asks for, and the object's interface.
     WrongInterface(u32, InterfaceId, InterfaceId),
-    /// A new id is no number that the server may use: the number, and the interface of the new object.
+    /// The server may not make an object with the number of the new id. The variant has the number, and the interface of
+    /// the new object.
     InvalidNewId(u32, InterfaceId),
 }
 
-/// The text of an object of a wrong interface.
+/// The text for an object of a wrong interface.
 fn wrong_interface_text(
     alloc: Global,
     protocol: &Protocol,
@@ -41,7 +42,7 @@ fn wrong_interface_text(
     )?)
 }
 
-/// The text of a fault.
+/// The text that says what is wrong with an event.
 #[cold]
 #[inline(never)]
 pub fn fault_text(
@@ -66,7 +67,8 @@ pub fn fault_text(
     }
 }
 
-/// What is stored where the server tells an error: with the name of the interface of the object that it is about.
+/// The error to be stored for a `wl_display.error`. It has the name of the interface of the object that the error is about,
+/// or `<unknown>` if there is no such object.
 #[cold]
 #[inline(never)]
 pub fn told_error<U: Drop>(

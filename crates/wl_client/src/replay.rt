@@ -1,4 +1,4 @@
-//! Runs of calls over a transport by script.
+//! Runs of calls over the transport by script, `Memory`.
 
 ghost use Rattle.std.specs.Prelude.{◌≡◌, ◌∷◌, ◌++◌, List, [], true, false, Err, IfOk, IfErr, IsOk, is_err, length, map};
 ghost use Rattle.wl_wire.specs.Table.{InterfaceRow};
@@ -18,7 +18,7 @@ use wl_link::{ArriveError, Memory};
 use wl_wire::{IoFault, OutOfMemory, Token};
 
 impl<U: Drop> Backend<Memory, U> {
-    /// Puts a chunk behind the arrivals.
+    /// Appends a chunk of bytes and tokens to the arrivals of the script.
     fn arrive(&mut self, bytes: Vec<u8>, tokens: Vec<Token>) -> Result<(), ArriveError>
         ensures arrived { ArrivesWith self.old.session (record { bytes = bytes.items; tokens = tokens.items }) result self.new.session }
         ensures refused { self.new.refused ≡ refused_arrive result }
@@ -28,7 +28,7 @@ impl<U: Drop> Backend<Memory, U> {
         answer
     }
 
-    /// Puts a fault behind the arrivals.
+    /// Appends a fault to the arrivals of the script.
     fn arrive_fault(&mut self, fault: IoFault) -> Result<(), OutOfMemory>
         ensures scripted { Scripts self.old.session
             (record self.old.session.link.transport { arrivals = self.old.session.link.transport.arrivals ++ Err fault ∷ [] })
@@ -40,7 +40,7 @@ impl<U: Drop> Backend<Memory, U> {
         answer
     }
 
-    /// Puts a count or a fault behind the send answers.
+    /// Appends a count or a fault to the send answers of the script.
     fn script_answer(&mut self, answer: Result<usize, IoFault>) -> Result<(), OutOfMemory>
         ensures scripted { Scripts self.old.session
             (record self.old.session.link.transport { answers = self.old.session.link.transport.answers ++ answer ∷ [] })
@@ -55,7 +55,7 @@ impl<U: Drop> Backend<Memory, U> {
         scripted
     }
 
-    /// The record of what was taken, which is empty from then on.
+    /// Takes the record of what was sent, and leaves an empty one.
     fn take_sent(&mut self) -> Vec<(Vec<u8>, Vec<Token>)>
         ensures taken { map parcel result.items ≡ self.old.session.link.transport.sent }
         ensures left { self.new.session ≡ with_script self.old.session (record self.old.session.link.transport { sent = [] }) }
@@ -66,8 +66,8 @@ impl<U: Drop> Backend<Memory, U> {
         sent
     }
 
-    /// Makes the call of a step of the transport by script. It is apart from `perform`, since one match over all steps
-    /// makes a derivation for the borrow checker that is too large.
+    /// Makes the call of a step that is about the transport by script. It is a function of its own: one `match` over all
+    /// steps is too large for the borrow checker.
     fn perform_script(&mut self, step: Step<U>) -> Reply<U>
         requires { IsOfScript step }
         ensures { StepOf self.old.session step result self.new.refused self.new.session }
@@ -109,8 +109,8 @@ impl<U: Drop> Backend<Memory, U> {
         }
     }
 
-    /// Makes the calls of the steps, one after another, and puts their replies into the list, which is empty; up to the
-    /// step in which memory is refused. Room for the replies is made first.
+    /// Makes the calls of the steps, one after another, and puts their replies into the list, which is empty. It stops at
+    /// the step in which memory is refused. Room for the replies is made first.
     fn perform_all(&mut self, steps: &mut Vec<Step<U>>, replies: &mut Vec<Reply<U>>)
         requires { replies.old.items ≡ [] }
         ensures none { steps.old.items ≡ [] → self.new.refused ≡ false }
@@ -135,17 +135,22 @@ impl<U: Drop> Backend<Memory, U> {
         }
     }
 
-    /// Makes the calls of the steps, one after another, and answers their replies.
+    /// Makes the calls of the steps, one after another, and returns their replies.
     ///
-    /// Room for the replies is made first. In the first step that meets a want of memory the run stops: `Stopped`
-    /// names that step and has the replies to those before it, and the later ones are dropped. Step 0 is named also
-    /// where there was no room for the replies; nothing was done then. A run of no steps needs none.
+    /// Room for the replies is made first. At the first step in which memory is refused, the run stops. The error names
+    /// that step, and has the replies to those before it; the later steps are dropped. If there was no room for the
+    /// replies, it names step 0, and no call was made. A run of no steps needs no room.
     ///
-    /// The run joins the runs before it. So each id that was handed out since the connecting, by a reply, an event or
-    /// a note, names the object that it was made of exactly while that is kept, and afterwards none; so does any id, from a
-    /// point on at which it names an object (`named`). The notes are those of the objects that ended with user data, in order. A run that stopped has both too. Each part of it in which bytes
-    /// arrive, and events are read and finished, hands out what is served of all that arrived, however it was cut. The
-    /// replies and the session after it are the only ones that the steps may lead to.
+    /// The contract is about this run together with the runs before it, from `connect` on:
+    ///
+    /// - Each id that was handed out, by a reply, an event or a note, names the object that it was made of as long as that
+    ///   is kept, and then none (`identity`). The same holds of any id, from a point on at which it names an object
+    ///   (`named`).
+    /// - The notes are those of the objects that ended with user data, in order (`notes`).
+    /// - A run that stopped has both too (`stopped_accounts`).
+    /// - Each part of the run in which bytes arrive, and events are read and finished, hands out what is served of all that
+    ///   arrived, however it was cut (`cutting`).
+    /// - The steps can lead to no other replies, and to no other session after them (`outcome`).
     pub fn replay(&mut self, steps: Vec<Step<U>>) -> Result<Vec<Reply<U>>, Stopped<U>>
         ensures none { steps.items ≡ [] → IsOk result }
         ensures count { IfOk result (λ replies. length replies.items ≡ length steps.items) }

@@ -1,4 +1,4 @@
-//! Which requests are refused, and the numbers of those that are sent.
+//! Decides which requests are refused, and gives those that are sent their numbers.
 
 ghost use Rattle.std.specs.Prelude.{◌≡◌};
 ghost use Rattle.std.specs.List.{list_all};
@@ -16,16 +16,16 @@ use wl_wire::{
     Numbering, Protocol, Token, check_for_signature, same_interface_or_anonymous,
 };
 
-/// What a request that is not refused creates, and whether it ends its sender.
+/// What is decided of a request that is not refused.
 #[derive(Clone, Copy)]
 pub struct Granted {
-    /// The interface and the version of the new object.
+    /// The interface and the version of the new object, if the request makes one.
     pub child: Option<(InterfaceId, u32)>,
-    /// Whether it ends its sender.
+    /// Whether the request ends its sender.
     pub is_destructor: bool,
 }
 
-/// Whether each new id is null.
+/// Whether each new id among the arguments is null.
 fn are_placeholders(args: &[Argument<ObjectId, Token>]) -> bool
     ensures { result ≡ list_all is_placeholder args.now }
 {
@@ -35,7 +35,8 @@ fn are_placeholders(args: &[Argument<ObjectId, Token>]) -> bool
     })
 }
 
-/// Why an argument of that type is refused, where the table asks for this interface next.
+/// Why the argument is refused, if it is. `kind` is its type in the signature, and `asked` the interface that the table
+/// asks for.
 fn argument_fault<U: Drop>(
     objects: &ObjectMap<Kept<U>>,
     kind: ArgumentType,
@@ -62,7 +63,7 @@ fn argument_fault<U: Drop>(
     }
 }
 
-/// What the table asks for behind the argument: each object takes one of the interfaces.
+/// The interfaces that the table asks for after this argument. Each object argument takes one.
 fn left_after<'a>(arg: &Argument<ObjectId, Token>, asked: &'a [InterfaceId]) -> &'a [InterfaceId]
     ensures { result.now ≡ left_after arg.now asked.now }
 {
@@ -72,7 +73,7 @@ fn left_after<'a>(arg: &Argument<ObjectId, Token>, asked: &'a [InterfaceId]) -> 
     }
 }
 
-/// Why the first of the arguments that is refused is, from left to right, where the table asks for these interfaces.
+/// Why the first argument that is refused is refused, from left to right. `interfaces` are those that the table asks for.
 fn first_fault<U: Drop>(
     objects: &ObjectMap<Kept<U>>,
     signature: &[ArgumentType],
@@ -93,7 +94,7 @@ fn first_fault<U: Drop>(
     None
 }
 
-/// Why a request is refused for the object that it creates.
+/// Why a request is refused because of the object that it makes, if it is.
 fn child_refusal(
     protocol: &Protocol,
     desc: &MessageDesc,
@@ -126,7 +127,7 @@ fn child_refusal(
     None
 }
 
-/// Why the request is refused, where it is of that sender and that description.
+/// Why the request with that sender and that description is refused, if it is.
 fn refusal<U: Drop>(
     protocol: &Protocol,
     objects: &ObjectMap<Kept<U>>,
@@ -153,7 +154,7 @@ fn refusal<U: Drop>(
     first_fault(objects, &desc.signature, &desc.arg_interfaces, args)
 }
 
-/// What the request is granted, or the first reason for which it is refused.
+/// Decides on a request. The error is the first reason for which it is refused.
 pub(crate) fn check_request<U: Drop>(
     protocol: &Protocol,
     objects: &ObjectMap<Kept<U>>,
@@ -187,7 +188,8 @@ pub(crate) fn check_request<U: Drop>(
     })
 }
 
-/// The numbers that a request's ids have on the wire: each its own, and this one for the object that it creates.
+/// The numbers of a request's ids on the wire. Each id has its own number; the new object has the number that is given
+/// here.
 #[derive(Clone, Copy)]
 pub(crate) struct RequestNumbers {
     /// The number of the new object.

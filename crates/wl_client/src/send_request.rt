@@ -1,4 +1,4 @@
-//! The sending of a request.
+//! Sends a request.
 
 ghost use Rattle.std.specs.Prelude.{◌≡◌, ◌<◌, ◌⊎◌, true, IfSome, IsSome, IsTrue, OnErr, OnOk, MatchResult, is_some, vec_len, vec_capacity};
 ghost use Rattle.wl_wire.specs.MapIds.{numbered};
@@ -14,7 +14,7 @@ use crate::request::{Granted, RequestNumbers, check_request};
 use wl_link::{BufferedSocket, Object, ObjectMap, Transport};
 use wl_wire::{InterfaceId, IoFault, Message, OutOfMemory, Token};
 
-/// The sender, where the request ends it, and whether it has user data.
+/// The sender, if the request ends it, and whether it has user data.
 fn ended_sender<U: Drop>(
     objects: &ObjectMap<Kept<U>>,
     message: &Message<ObjectId, Token>,
@@ -34,7 +34,7 @@ fn ended_sender<U: Drop>(
     }
 }
 
-/// The number of the new object, and 0 where there is none.
+/// The number of the new object; 0 if there is none.
 fn number_of<U>(new: &Option<(u32, Object<Kept<U>>)>) -> u32
     ensures { result ≡ number_of_new new.now }
 {
@@ -44,7 +44,7 @@ fn number_of<U>(new: &Option<(u32, Object<Kept<U>>)>) -> u32
     }
 }
 
-/// Makes room for a new object and for a note, where these are wanted.
+/// Makes room for a new object, if `creates` is set, and for a note, if `is_noted` is set.
 fn make_room<U: Drop>(
     objects: &mut ObjectMap<Kept<U>>,
     notes: &mut Vec<Note>,
@@ -66,8 +66,9 @@ fn make_room<U: Drop>(
     Ok(())
 }
 
-/// Writes the message, where the new object gets this number. A fault is kept in place of the last error, but for a want
-/// of memory, which is answered.
+/// Writes the message. The new object gets this number.
+///
+/// The error says that there was no memory. Any other fault is stored as the session's error, in place of the last one.
 fn write<T: Transport>(
     socket: &mut BufferedSocket<T>,
     error: &mut Option<WaylandError>,
@@ -86,7 +87,8 @@ fn write<T: Transport>(
     }
 }
 
-/// Takes the new object, if there is one, puts it at its number, and uses up its serial. The answer is its id.
+/// Takes the new object, if there is one, and puts it at its number. Its serial is given out by that. Returns its id, or
+/// the null id.
 fn put_new<U: Drop>(
     objects: &mut ObjectMap<Kept<U>>,
     last_serial: &mut u64,
@@ -112,7 +114,7 @@ fn put_new<U: Drop>(
     }
 }
 
-/// Gives up the sender that the request ends, if it does, and notes it where it has user data.
+/// Flags the sender as destroyed by the client, if the request ends it. It is noted, if it has user data.
 fn end_sender<U: Drop>(
     objects: &mut ObjectMap<Kept<U>>,
     notes: &mut Vec<Note>,
@@ -139,7 +141,9 @@ fn lacks_memory(answer: &Result<ObjectId, RequestError>) -> bool
 }
 
 impl<T: Transport + Drop, U: Drop> Backend<T, U> {
-    /// The next object of the client, with its number; nothing is changed.
+    /// The next new object of the client, with its number. Nothing is changed.
+    ///
+    /// The error is `IdsExhausted` if no number is left, and else `SerialsExhausted` if no serial is left.
     fn next_object(
         &mut self,
         child: (InterfaceId, u32),
@@ -159,9 +163,11 @@ impl<T: Transport + Drop, U: Drop> Backend<T, U> {
         Ok((number, object))
     }
 
-    /// Sends a request that was not refused: makes room for what the session keeps of it, writes it, and then puts the
-    /// new object and gives up the sender, where the request creates the one or ends the other. Where there is no
-    /// memory, neither is done. The new object is lent, so that an early return has nothing to drop.
+    /// Sends a request that was not refused. First it makes room for what the session keeps of the request, then it writes
+    /// the request. After that it puts the new object, and ends the sender, if the request makes or ends one.
+    ///
+    /// If there is no memory, no object is put and none is ended. The new object is lent, so that an early return has
+    /// nothing to drop.
     fn send(
         &mut self,
         message: &Message<ObjectId, Token>,
@@ -188,8 +194,9 @@ impl<T: Transport + Drop, U: Drop> Backend<T, U> {
         Ok(id)
     }
 
-    /// Sends a request that creates an object of this interface and version, with these user data. It is refused where
-    /// no number or no serial is left for the object.
+    /// Sends a request that makes an object with this interface, version and user data.
+    ///
+    /// The request is refused if no number or no serial is left for the object.
     fn send_with_child(
         &mut self,
         message: &Message<ObjectId, Token>,
@@ -204,7 +211,7 @@ impl<T: Transport + Drop, U: Drop> Backend<T, U> {
         self.send(message, &mut Some(new), is_destructor)
     }
 
-    /// Sends a request that is granted; one that creates an object has user data for it.
+    /// Sends a request that was not refused. If it makes an object, `user_data` has its data.
     fn send_granted(
         &mut self,
         message: &Message<ObjectId, Token>,
@@ -224,18 +231,22 @@ impl<T: Transport + Drop, U: Drop> Backend<T, U> {
         }
     }
 
-    /// Writes the request behind what waits to be sent, and answers the id of the object that it creates, or null.
+    /// Checks the request, and appends it to what waits to be sent. Returns the id of the object that it makes, or the null
+    /// id.
     ///
-    /// A request with a new id has it null in its arguments; the session puts the number in. Its object gets this
-    /// user data, and the interface and version of `child_spec`, which may be left out where the table names a child
-    /// interface: then the version is the sender's. For another request data and spec are dropped. A destructor
-    /// request destroys its sender on the client's side, as `destroy_object` does.
+    /// It stands for `wayland_backend::client::Backend::send_request`. If the request makes an object, the new id among its
+    /// arguments must be null; the session puts the number in. The object gets this user data. Its interface and version
+    /// are those of `child_spec`. If the table names the interface, `child_spec` may be `None`; the version is then the
+    /// sender's. If the request makes no object, `user_data` and `child_spec` are dropped. A destructor request destroys
+    /// its sender on the client's side, as `destroy_object` does.
     ///
-    /// The refusals are those of `RequestError`, decided in the order of its variants, but that an unknown sender
-    /// comes before an unknown opcode and a destroyed one after it; object arguments are looked at from left to
-    /// right, before the new object is made. A refusal changes nothing, but that after `OutOfMemory` what a flush of the
-    /// write sent or dropped is gone from the link, and a storage that grew stays so. A fault of the transport is stored
-    /// as the session's error, and the answer is `Ok`; so is `TooBig`, where the request is too long.
+    /// The errors are the variants of `RequestError`, which says in which order they are decided. The object arguments are
+    /// looked at from left to right, before the new object is made. An error changes nothing, with one exception: after
+    /// `OutOfMemory`, what a flush before the write sent or lost no longer waits, and a buffer that grew keeps its
+    /// capacity.
+    ///
+    /// If the transport fails, or the request is too long (`TooBig`), that is stored as the session's error, and the answer
+    /// is `Ok`.
     pub fn send_request(
         &mut self,
         message: Message<ObjectId, Token>,

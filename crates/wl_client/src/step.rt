@@ -1,4 +1,4 @@
-//! The calls of a session as values, for a run of them.
+//! The calls of a session as values, so that a program can make a list of them.
 
 use crate::error::{
     DestroyError, EventError, FinishRefused, FlushError, InvalidId, RequestError, WaylandError,
@@ -8,7 +8,7 @@ use crate::objects::Note;
 use wl_link::ArriveError;
 use wl_wire::{InterfaceId, IoFault, Message, OutOfMemory, Token};
 
-/// A call that changes a session over a transport by script: one of the session's own, or one of its transport's.
+/// A call that changes a session over the transport by script: a call of the session, or one of its transport, `Memory`.
 #[derive(Drop)]
 pub enum Step<U> {
     /// `Backend::set_data`.
@@ -41,40 +41,40 @@ pub enum Step<U> {
     TakeSent,
 }
 
-/// The answer of a step's call.
+/// The answer to the call of a step.
 #[derive(Drop)]
 pub enum Reply<U> {
-    /// To `Step::SetData`.
+    /// The answer to `Step::SetData`.
     SetData(Result<(), InvalidId>),
-    /// To `Step::DestroyObject`.
+    /// The answer to `Step::DestroyObject`.
     DestroyObject(Result<(), DestroyError>),
-    /// To `Step::SendRequest`.
+    /// The answer to `Step::SendRequest`.
     SendRequest(Result<ObjectId, RequestError>),
-    /// To `Step::Flush`.
+    /// The answer to `Step::Flush`.
     Flush(Result<(), FlushError>),
-    /// To `Step::NextEvent`.
+    /// The answer to `Step::NextEvent`.
     NextEvent(Result<Message<ObjectId, Token>, EventError>),
-    /// To `Step::FinishEvent`.
+    /// The answer to `Step::FinishEvent`.
     FinishEvent(Result<(), FinishRefused<U>>),
-    /// To `Step::DispatchInnerQueue`.
+    /// The answer to `Step::DispatchInnerQueue`.
     DispatchInnerQueue(Result<usize, WaylandError>),
-    /// To `Step::SetMaxBufferSize`.
+    /// The answer to `Step::SetMaxBufferSize`, which returns nothing.
     SetMaxBufferSize,
-    /// To `Step::TakeNotes`.
+    /// The answer to `Step::TakeNotes`.
     TakeNotes(Vec<Note>),
-    /// To `Step::Arrive`.
+    /// The answer to `Step::Arrive`.
     Arrive(Result<(), ArriveError>),
-    /// To `Step::ArriveFault`.
+    /// The answer to `Step::ArriveFault`.
     ArriveFault(Result<(), OutOfMemory>),
-    /// To `Step::Accept`.
+    /// The answer to `Step::Accept`.
     Accept(Result<(), OutOfMemory>),
-    /// To `Step::AcceptFault`.
+    /// The answer to `Step::AcceptFault`.
     AcceptFault(Result<(), OutOfMemory>),
-    /// To `Step::TakeSent`.
+    /// The answer to `Step::TakeSent`.
     TakeSent(Vec<(Vec<u8>, Vec<Token>)>),
 }
 
-/// A run that met a want of memory.
+/// The error of `Backend::replay`: memory was refused in a step.
 #[derive(Drop)]
 pub struct Stopped<U> {
     /// The step in which memory was refused, counted from 0.
