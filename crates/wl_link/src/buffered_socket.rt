@@ -2,6 +2,7 @@
 
 ghost use Rattle.std.specs.Prelude.{◌≡◌, ◌≢◌, ◌+◌, ◌<◌, ◌≤◌, ◌∷◌, [], length, take, ◌↔◌, nat_le, if◌then◌else◌, IsTrue, Some, Ok, Err, IfOk, IfErr, OnOk, OnErr, MatchOption, MatchResult};
 ghost use Rattle.std.specs.Borrow.{sem};
+ghost use Rattle.std.specs.VecDeque.{deque_capacity, deque_len};
 ghost use Rattle.wl_wire.specs.Argument.{Matches};
 ghost use Rattle.wl_wire.specs.MapIds.{numbered};
 ghost use Rattle.wl_wire.specs.Message.{IsMessage, content, size};
@@ -17,7 +18,7 @@ use crate::limit::{DEFAULT_MAX_BUFFER_SIZE, grown_size, incoming_limit, rounded}
 use crate::token_queue::TokenQueue;
 use crate::transport::{MAX_BYTES_OUT, MAX_FDS_OUT, Transport};
 use smallvec::SmallVec;
-use std::alloc::Global;
+use std::alloc::{AllocError, Global};
 use std::collections::VecDeque;
 use std::marker::Model;
 use wl_wire::{
@@ -469,7 +470,7 @@ impl<T: Transport> BufferedSocket<T> {
         ensures doubled { FindsRoom self.old (grown_capacity self.old) }
     {
         let size = size_with_room(&self.incoming, self.limit);
-        let Ok(()) = self.fds_in.reserve(MAX_FDS_OUT) else {
+        let Ok(()) = reserve_tokens(&mut self.fds_in) else {
             return Err(IoFault::OutOfMemory);
         };
         let Ok(()) = self.incoming.grow(size) else {
@@ -491,6 +492,17 @@ fn size_with_room(incoming: &Buffer, limit: Option<usize>) -> usize
         return size;
     }
     size * 2
+}
+
+/// Makes room for as many tokens as a receive may give at most. If there is room already, this is one comparison.
+fn reserve_tokens(tokens: &mut VecDeque<Token>) -> Result<(), AllocError>
+    ensures items { tokens.new.items ≡ tokens.old.items }
+    ensures room { OnOk result (deque_len tokens.new + 28 ≤ deque_capacity tokens.new) }
+{
+    if tokens.capacity() - tokens.len() >= MAX_FDS_OUT {
+        return Ok(());
+    }
+    tokens.reserve(MAX_FDS_OUT)
 }
 
 /// The bytes that the next send is offered, if `tokens` tokens wait.

@@ -85,6 +85,9 @@ fn append(to: &mut VecDeque<Token>, tokens: &[Token]) -> Result<(), AllocError>
         (λ _. (to.new.items ≡ to.old.items) × (tokens.now ≢ [])) }
     ensures room { deque_len to.old + length tokens.now ≤ deque_capacity to.old → IsOk result }
 {
+    if tokens.is_empty() {
+        return Ok(());
+    }
     to.reserve(tokens.len())?;
     for token in tokens {
         to.push_back_reserved(*token);
