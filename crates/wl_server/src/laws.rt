@@ -1,7 +1,16 @@
 //! What follows from the definitions of a server alone. Each function has a law as its contract, and does nothing.
 //!
-//! A clause whose name begins with `script` says of steps with their replies, over the transport by script, what the others
-//! of its function say of calls over every transport.
+//! These words are used in this file:
+//!
+//! - A *run* is a list of calls, one after another. Changes of a transport through `transport_mut` may be among them.
+//!   Most laws are about each run of a new server (`Backend::new`).
+//! - A *shared* call is about no single client: for instance `create_global` or `cleanup`.
+//! - The *deeds* with a client are what a call does with it: what is sent and received, which messages are put into its
+//!   buffer, which actions are handed out, which objects with user data leave, and which notes are made.
+//! - The *transport by script* is `wl_link::Memory`, whose answers are given beforehand.
+//!
+//! A clause whose name begins with `script` is about steps with their replies, over the transport by script. It says of
+//! them what the other clauses of its function say of calls over every transport.
 
 ghost use Rattle.std.specs.Prelude.{◌≡◌, ◌≢◌, ◌<◌, ◌∷◌, ℕ, Bool, false, List, Option, Some, Result, Err};
 ghost use Rattle.wl_wire.specs.Table.{InterfaceRow};
@@ -41,12 +50,12 @@ ghost use Rattle.wl_server.specs.WholeOutcome.{AnswersAlike, PerformancesHaveOne
 use crate::globals::handler::GlobalHandler;
 use wl_link::Transport;
 
-/// The isolation law of a server, over every transport.
+/// The isolation law of a server, over every transport: no client's calls matter to another client.
 ///
-/// Over every run of calls of a new server, what is held of a client that was inserted is what its own calls and the
-/// shared ones lead to alone, from its insertion on: its part, its notes, its replies, its share of the shared replies,
-/// and the deeds with it. Of a client that was not inserted nothing is held. What all clients share is what the shared
-/// calls lead to alone, and so are the ids of globals and the serials of clients.
+/// After each run of a new server, a client that was inserted is as if only its own calls and the shared ones had been
+/// made since then. That concerns what is held of it, its notes, the replies to it, its share of the shared replies, and
+/// the deeds with it. Nothing is held of a client that was not inserted. What all clients share depends on the shared
+/// calls alone. So do the ids of globals and the serials of clients.
 pub fn each_client_is_alone<T: Transport, U, G: GlobalHandler<C>, C>()
     ensures run { (table : List InterfaceRow) (run : List (Entry T U G C)) (after : ServerState T U G C) →
         Leads (over T.sends T.receives G.views) (new_server table) run after → IsIsolated (over T.sends T.receives G.views) table run after }
@@ -56,11 +65,11 @@ pub fn each_client_is_alone<T: Transport, U, G: GlobalHandler<C>, C>()
 
 /// What a server does with a client has one outcome, over every transport whose answers follow from its value.
 ///
-/// Where memory is not refused, a step determines its deeds with each client and what is then held of it; and where the
-/// step is the client's own or shared, what it replies to this client, up to where lists lie in memory. So it is of a
-/// client's own calls and the shared ones, one after another, and of two runs of a server whatever other clients do in
-/// them: the definitions of the calls leave no choice but whether memory is there. The offer in which a client begins is
-/// determined by the shared calls before.
+/// If memory is not refused, a step determines its deeds with each client, and what is held of the client afterwards. If
+/// the step is the client's own or a shared one, it also determines the reply to this client, up to where lists lie in
+/// memory. The same holds of a list of a client's own calls and the shared ones, and of two runs of a server, whatever
+/// other clients do in them. So the definitions of the calls leave no choice except whether memory is refused. The
+/// globals and limits that a client finds at its insertion are determined by the shared calls before it.
 pub fn each_client_has_one_outcome<T: Transport, U, G: GlobalHandler<C>, C>()
     ensures step { IsFunction T.sends → IsReceiveFunction T.receives → StepsHaveOneOutcome U (over T.sends T.receives G.views) }
     ensures alone { IsFunction T.sends → IsReceiveFunction T.receives → OwnRunsHaveOneOutcome U (over T.sends T.receives G.views) }
@@ -74,14 +83,15 @@ pub fn each_client_has_one_outcome<T: Transport, U, G: GlobalHandler<C>, C>()
 
 /// A run of a server has one outcome, over every transport whose answers follow from its value.
 ///
-/// Two runs of the same calls, in which memory is not refused, from values of a server that are the same to their program,
-/// have the same replies and lead to values that are the same: what is held of each client id, the offer, and how many
-/// clients there were. Which lists lie where in memory is not told, nor in which order the notes of two clients stand.
+/// Take two runs of the same calls, in which memory is not refused, from servers that look the same to their program.
+/// Their replies are the same, and the servers look the same afterwards: what is held of each client id, the globals and
+/// limits, and how many clients were inserted. A program does not see where lists lie in memory, nor the order between
+/// the notes of two clients.
 ///
-/// Values that are the same to their program answer the same of themselves (`answers`): which clients are live, what is known
-/// of a client, an object and a global, and what handler a global has. And what a call answers of what all clients share has
-/// one outcome: the id of a new client, that of a new global, and why there is none; and the list that a cleanup hands out,
-/// by each client's share.
+/// Servers that look the same answer the same in look-ups (clause `answers`): which clients are live, what is known of a
+/// client, an object and a global, and which handler a global has. Answers about what all clients share have one outcome,
+/// too: the id of a new client, the id of a new global, why there is none, and the list that a cleanup answers if each
+/// client's share of it is given.
 pub fn each_run_of_a_server_has_one_outcome<T: Transport, U, G: GlobalHandler<C>, C>()
     ensures run { IsFunction T.sends → IsReceiveFunction T.receives → RunsHaveOneOutcome U (over T.sends T.receives G.views) }
     ensures steps { IsFunction T.sends → IsReceiveFunction T.receives → PerformancesHaveOneOutcome U (over T.sends T.receives G.views) }
@@ -98,13 +108,13 @@ pub fn each_run_of_a_server_has_one_outcome<T: Transport, U, G: GlobalHandler<C>
         ((id : ClientParts) → share_of id out ≡ share_of id out') → out ≡ out' }
 {}
 
-/// The identity law of a server, over every transport.
+/// The identity law of a server, over every transport: each id that is handed out names its own object.
 ///
-/// Over every run of calls of a new server, each client that was inserted has changes, a list of them for each of its own
-/// calls and the shared ones, by which its objects come to what they are. Each id that a reply or an action hands out is of
-/// that client, and is made in its call of the object that it then names, that of a new object of one that the call puts
-/// there; the id of a note is made where its object leaves. It names that object exactly while that is kept and its client
-/// stored, and afterwards none. No object leaves twice.
+/// In each run of a new server, the objects of each client that was inserted come about by changes, a list of them for
+/// each of its own calls and the shared ones. Each id that a reply or an action hands out is of that client. It is made
+/// in that call, and names an object then. The id of a new object names one that the call itself makes. The id in a note
+/// is made when its object leaves. An id names its object as long as that is there and its client is stored, and
+/// afterwards none. No object leaves twice.
 pub fn each_id_names_its_own_object<T: Transport, U, G: GlobalHandler<C>, C>()
     ensures run { (table : List InterfaceRow) (run : List (Entry T U G C)) (after : ServerState T U G C) →
         Leads (over T.sends T.receives G.views) (new_server table) run after → EachHasOwnIds (over T.sends T.receives G.views) table run after }
@@ -112,11 +122,12 @@ pub fn each_id_names_its_own_object<T: Transport, U, G: GlobalHandler<C>, C>()
         Performs (over_scripts G.views) (new_server table) steps after → HaveOwnIds (over_scripts G.views) table steps after }
 {}
 
-/// The identity law of any id, however it came to be: one that `object_for_protocol_id` or `with_all_objects_for` answers too.
+/// The identity law of any id, however it came to be, for instance by `object_for_protocol_id` or `with_all_objects_for`.
 ///
-/// From each point of a run on at which an id names an object of a client, it names that very object exactly while that is
-/// kept and its client stored, and afterwards none (`named`): by changes that also make the ids of the client's whole run
-/// its own. Where it names none at a later point, it names none ever after (`none`).
+/// If an id names an object of a client at some point of a run, it names that very object as long as that is there and
+/// its client is stored, and afterwards none (clause `named`). The changes of objects that show this are the same as
+/// those of the client's whole run, in the law before. If the id names none at a later point, it never names one again
+/// (clause `none`).
 pub fn each_id_that_names_an_object_keeps_it<T: Transport, U, G: GlobalHandler<C>, C>()
     ensures named { (table : List InterfaceRow) (done later : List (Entry T U G C)) (point after : ServerState T U G C) →
         Leads (over T.sends T.receives G.views) (new_server table) done point → Leads (over T.sends T.receives G.views) point later after →
@@ -132,11 +143,11 @@ pub fn each_id_that_names_an_object_keeps_it<T: Transport, U, G: GlobalHandler<C
         Leads (over_scripts G.views) mid later after → EachNamesNoneAgain done point mid after }
 {}
 
-/// Log equals bytes, over every transport.
+/// The log law, over every transport: the bytes that are sent are those of the messages that were put.
 ///
-/// Over every run of calls of a new server, what the transport of a client took since its insertion, followed by what
-/// waits to be sent, is the spelling of the messages that were put, in order; the tokens too, where no send answered 0. Of
-/// a client that was taken out, what waits is what was left over at its end.
+/// In each run of a new server, take what the transport of a client took since its insertion, followed by what waits to
+/// be sent. That is the messages that were put for the client, in order, as bytes. It is their tokens, too, if no send
+/// was answered by 0. For a client that was taken out, what waits is what was left over at its end.
 pub fn log_is_what_was_sent<T: Transport, U, G: GlobalHandler<C>, C>()
     ensures run { (table : List InterfaceRow) (run : List (Entry T U G C)) (after : ServerState T U G C) →
         Leads (over T.sends T.receives G.views) (new_server table) run after → EachLogIsSpelled run after }
@@ -144,13 +155,15 @@ pub fn log_is_what_was_sent<T: Transport, U, G: GlobalHandler<C>, C>()
         Performs (over_scripts G.views) (new_server table) steps after → HaveSpelledLogs (over_scripts G.views) table steps after }
 {}
 
-/// The law of a server's notes, over every transport.
+/// The law of notes, over every transport: each object that leaves with user data has one note.
 ///
-/// Over every run of calls of a new server, the objects of a client that left with user data are those that its notes tell
-/// of as destroyed, those that were handed out, that were made, and that wait for the next cleanup; none of them left
-/// twice. Each of these notes has the id of an object of this client that left with user data. The end of a client is told of
-/// once if it was killed, and else never. After a cleanup that succeeds no note waits, and by the end of a request none begins
-/// to: what leaves by it with user data is told of at once, by the notes that are made in that call.
+/// In each run of a new server, the objects of a client that left with user data are those in its notes of destroyed
+/// objects. These are the notes that were handed out, that were made, and that wait for the next cleanup. No object left
+/// twice. Each of these notes has the id of an object of this client that left with user data. There is one note of the
+/// client's end if it was killed, and else none.
+///
+/// After a cleanup that succeeds no note waits. When a request is finished, no note begins to wait: if an object with
+/// user data leaves by that, its note is made in that call.
 pub fn each_object_that_leaves_is_noted_once<T: Transport, U, G: GlobalHandler<C>, C>()
     ensures noted { (table : List InterfaceRow) (run : List (Entry T U G C)) (after : ServerState T U G C) →
         Leads (over T.sends T.receives G.views) (new_server table) run after → EachIsNoted run after }
@@ -168,12 +181,12 @@ pub fn each_object_that_leaves_is_noted_once<T: Transport, U, G: GlobalHandler<C
     ensures script_at_once { EndIsNotedAtOnce U (over_scripts {C = C} G.views) }
 {}
 
-/// The law of announcements, over every transport.
+/// The law of announcements, over every transport: a registry announces the globals that its client may see.
 ///
-/// Over every run of calls of a new server, while a client is live: on each registry that `get_registry` made for it, the
-/// globals that were announced and not taken back, by the messages of this object that were put, are exactly the enabled
-/// globals that the client may see. That is promised of a registry of which the program itself sends no event, and which it
-/// does not destroy.
+/// In each run of a new server, take a live client and a registry that `get_registry` made for it. The globals that the
+/// registry announced and did not take back, by the messages that were put for it, are exactly the enabled globals that
+/// the client may see. This is promised only if the program itself sends no event of the registry and does not destroy
+/// it.
 pub fn registries_announce_what_is_shown<T: Transport, U, G: GlobalHandler<C>, C>()
     ensures run { (table : List InterfaceRow) (run : List (Entry T U G C)) (after : ServerState T U G C) →
         Leads (over T.sends T.receives G.views) (new_server table) run after → EachAnnouncesShown (over T.sends T.receives G.views) run after }
@@ -181,9 +194,11 @@ pub fn registries_announce_what_is_shown<T: Transport, U, G: GlobalHandler<C>, C
         Performs (over_scripts G.views) (new_server table) steps after → HaveAnnouncements (over_scripts G.views) table steps after }
 {}
 
-/// Over the transport by script a call does what its step does in a run by `Backend::replay`, and a change of a client's
-/// transport is what it is among such steps (`entry`, and of a run of both `run`). So one history may be made of calls, changes
-/// of transports and runs by `replay`: what is said here and there of steps over the transport by script holds of it.
+/// Over the transport by script a call is the same as its step in `Backend::replay`.
+///
+/// A change of a client's transport may stand among such steps, too (clause `entry`, and `run` for a list of both). So
+/// one history may be made of calls, changes of transports and runs by `replay`. What is said of calls or of steps over
+/// the transport by script holds of the whole.
 pub fn calls_over_scripts_are_steps<U, G: GlobalHandler<C>, C>()
     ensures step { (before after : ServerState Script U G C) (call : Step Script U G C) (answer : Reply Script U) (refused : Bool) →
         StepOf (over ScriptSends ScriptReceives G.views) before call answer refused after → StepOf (over_scripts G.views) before call answer refused after }
@@ -193,9 +208,10 @@ pub fn calls_over_scripts_are_steps<U, G: GlobalHandler<C>, C>()
         Leads (over ScriptSends ScriptReceives G.views) before run after → Leads (over_scripts G.views) before run after }
 {}
 
-/// Steps over the transport by script have one history, of which all the laws of runs hold: isolation, identity, log equals
-/// bytes, announcements, and each note once (`steps`). So has every history over that transport, changes of a client's
-/// transport among its entries (`history`).
+/// All laws of runs hold of one history of steps over the transport by script (clause `steps`).
+///
+/// These laws are isolation, identity, log, announcements, and notes. They hold of every history over that transport,
+/// too, in which a client's transport may be changed between the steps (clause `history`).
 pub fn each_client_of_a_script_is_accounted_for<U, G: GlobalHandler<C>, C>()
     ensures history { (table : List InterfaceRow) (run : List (Entry Script U G C)) (after : ServerState Script U G C) →
         Leads (over_scripts G.views) (new_server table) run after → IsAccountedFor (over_scripts G.views) table run after }
@@ -203,14 +219,18 @@ pub fn each_client_of_a_script_is_accounted_for<U, G: GlobalHandler<C>, C>()
         Performs (over_scripts G.views) (new_server table) steps after → AreAccountedFor (over_scripts G.views) table steps after }
 {}
 
-/// The law of cutting, for every transport.
+/// The law of cutting, for every transport: it does not matter how bytes and tokens are cut into receives.
 ///
-/// In a reading in which memory is not refused, let each receive bring a byte, or say that the transport would block.
-/// Whatever comes later, and whatever later sends are answered: what is served of the client before it, over what was
-/// received and then the rest, is what the reading gave, followed by what is served of the client after it over the rest.
-/// The end of an action is the next of the finishes. So it is of each history that a call may have: its deeds are those of such
-/// turns, or of such an end. What is served is determined; and of whatever waits something is served, by some answers to the
-/// sends, where the storage for what is sent holds a byte: so of each client that is stored, over every run of calls.
+/// What is *served* of a client is what it gets if all bytes and tokens had come at once: the messages that are put, what
+/// is done, and the actions that are handed out. Take a reading in which memory is not refused, and each receive brings a
+/// byte or says that the transport would block. What is served of the client before the reading, from what the reading
+/// received and from all that comes later, has two parts. The first is what the reading gave. The second is what is
+/// served of the client after the reading, from what comes later. This holds whatever comes later, and however later
+/// sends are answered.
+///
+/// When an action is finished, that is the next of the finishes. The same holds of each history that a call may have.
+/// What is served is determined. Something is always served of what waits, by some answers to the sends, if the outgoing
+/// buffer has room for a byte. So it is for each client that is stored, in each run.
 pub fn cutting_does_not_matter_to_a_client<T: Transport, U, G, C>()
     ensures reading { (a : Around G C) (left : ℕ) (before after : ReaderState T (Core U C)) (turns : List Turn) (out : Gives (Told U)) →
         Reads T.sends (server a) T.receives left before turns out after → AllFed turns → out.refused ≡ false →
@@ -229,14 +249,16 @@ pub fn cutting_does_not_matter_to_a_client<T: Transport, U, G, C>()
         Leads (over T.sends T.receives views) (new_server table) run after → EachIsServed (over T.sends T.receives views) run after }
 {}
 
-/// The same over a stretch of a client's own run, over the transport by script: what it gives, and what it leads to, is
-/// what is served of all that arrived, joined, with the finishes that were accepted. So two stretches over which the same
-/// bytes and tokens arrive, however they are cut, and the same finishes are accepted, do the same, answer the same, and lead
-/// to the same.
+/// The law of cutting for a stretch of a client's own run, over the transport by script.
 ///
-/// A stretch begins with a live client. Each arrival brings a byte or says that the transport would block, memory is not
-/// refused, and no receive found the storage full. None does where each message is no longer than the incoming storage may
-/// become, and its tokens come no later than its last byte.
+/// A *stretch* is a part of a client's run in which bytes arrive, and actions are read and finished. What a stretch
+/// gives, and how it leaves the client, is what is served of all that arrived, joined, with the finishes that were
+/// accepted. So take two stretches in which the same bytes and tokens arrive, however they are cut, and the same finishes
+/// are accepted. They do the same, answer the same, and leave the client the same.
+///
+/// A stretch begins with a live client. Each arrival brings a byte or says that the transport would block. Memory is not
+/// refused, and no receive finds the buffer full. The last holds if each message is no longer than the incoming buffer
+/// may become, and its tokens come no later than its last byte.
 pub fn cutting_does_not_matter_to_a_run<U, G: GlobalHandler<C>, C>()
     ensures served { (id : ClientParts) (offer : Offer G) (before after : Seen Script U C) (p q : Part Script U C) (run : List (Own Script U G C)) →
         before.part ≡ Some p → after.part ≡ Some q → Alone (over_scripts G.views) id offer before run after →

@@ -1,4 +1,8 @@
-//! What a server tells its program beside the answers of its calls.
+//! Notes: what happened to clients and their objects, for the program to know.
+//!
+//! A note is *made* when something happens. `take_notes` hands out the notes that were made. Some notes of destroyed
+//! objects *wait* first, until the next cleanup makes them. Until they are *gathered* in one list of the server, notes
+//! are kept with their client.
 
 pub mod cleanup;
 pub mod gather;
@@ -11,32 +15,37 @@ use crate::ids::object_id::ObjectId;
 use wl_wire::ProtocolError;
 
 /// Why a client was killed.
+///
+/// It stands for `wayland_backend::server::DisconnectReason`.
 #[derive(Drop)]
 pub enum DisconnectReason {
     /// The connection is closed.
     ConnectionClosed,
-    /// The client broke the protocol.
+    /// The client was killed for this error in its use of the protocol.
     ProtocolError(ProtocolError),
 }
 
-/// What happened to a client.
+/// What happened to a client or to one of its objects. `take_notes` hands notes out.
+///
+/// The notes stand for the calls `ClientData::initialized`, `ClientData::disconnected` and `ObjectData::destroyed` of
+/// `wayland_backend::server`.
 #[derive(Drop)]
 pub enum Note<U> {
-    /// It was inserted.
+    /// The client was inserted.
     Initialized(ClientId),
-    /// It was killed.
+    /// The client was killed, for this reason.
     Disconnected(ClientId, DisconnectReason),
-    /// One of its objects, which had these data, is gone.
+    /// An object of the client is gone. It had this user data.
     Destroyed(ClientId, ObjectId, U),
 }
 
-/// What happened to a client whose id is known.
+/// What happened to a client or to one of its objects, without the id of the client.
 #[derive(Drop)]
 pub enum Happening<U> {
-    /// It was inserted.
+    /// The client was inserted.
     Initialized,
-    /// It was killed.
+    /// The client was killed, for this reason.
     Disconnected(DisconnectReason),
-    /// One of its objects, which had these data, is gone.
+    /// An object of the client is gone. It had this user data.
     Destroyed(ObjectId, U),
 }

@@ -1,4 +1,4 @@
-//! The end of killed clients, and of what waited for a cleanup.
+//! The cleanup: takes out the clients that were killed, and makes the notes that waited for it.
 
 ghost use Rattle.std.specs.Prelude.{◌≡◌, ℕ, ◌+◌, ◌++◌, ◌<◌, ◌≤◌, [], length, true, IfOk, OnErr, OnOk};
 ghost use Rattle.std.specs.Vec.{vec_capacity, vec_len};
@@ -25,7 +25,7 @@ use wl_link::Transport;
 use wl_wire::OutOfMemory;
 
 impl<T: Drop, U: Drop, C: Drop> Client<T, U, C> {
-    /// Its transport, where all else of it is given up.
+    /// Drops all of the client but its transport, and answers that.
     fn into_transport(self) -> T
         ensures { result ≡ self.part.link.transport }
     {
@@ -33,7 +33,8 @@ impl<T: Drop, U: Drop, C: Drop> Client<T, U, C> {
     }
 }
 
-/// A killed client leaves its slot: its objects are noted, and its transport is given.
+/// Takes the client of a slot out, if it was killed. Notes are made of the end of its objects that have user data, and
+/// its transport is put into `given`.
 fn leave_at<T: Drop, U: Drop, C: Drop>(
     slot: u32,
     place: &mut Option<Client<T, U, C>>,
@@ -64,7 +65,7 @@ fn leave_at<T: Drop, U: Drop, C: Drop>(
     }
 }
 
-/// All killed clients leave, by slot.
+/// Takes all killed clients out, by ascending slot.
 pub fn leave_all<T: Drop, U: Drop, C: Drop>(
     clients: &mut Vec<Option<Client<T, U, C>>>,
     numbers: &mut Vec<u32>,
@@ -84,7 +85,8 @@ pub fn leave_all<T: Drop, U: Drop, C: Drop>(
     }
 }
 
-/// At least how many objects of the client of a slot are noted where it leaves; the greatest number stands for more.
+/// How many notes are made of the end of objects if the client of a slot is taken out. The answer may be larger than
+/// that, and `usize::MAX` stands for any larger number.
 fn count_ends_at<T: Drop, U: Drop, C: Drop>(client: &Option<Client<T, U, C>>) -> usize
     ensures { (slot : ℕ) → result < 0xFFFFFFFFFFFFFFFF → length (ends_at slot client.now) ≤ result }
 {
@@ -94,7 +96,8 @@ fn count_ends_at<T: Drop, U: Drop, C: Drop>(client: &Option<Client<T, U, C>>) ->
     }
 }
 
-/// The same of all clients.
+/// How many notes are made of the end of objects of all clients that are taken out. The answer may be larger than that,
+/// and `usize::MAX` stands for any larger number.
 pub fn count_ends<T: Drop, U: Drop, C: Drop>(clients: &[Option<Client<T, U, C>>]) -> usize
     ensures { result < 0xFFFFFFFFFFFFFFFF → length (collected ends_at 0 clients.now) ≤ result }
 {
@@ -105,7 +108,7 @@ pub fn count_ends<T: Drop, U: Drop, C: Drop>(clients: &[Option<Client<T, U, C>>]
     count
 }
 
-/// One where the client of a slot leaves, and else nothing.
+/// 1 if the client of a slot is to be taken out, and else 0.
 fn count_given_at<T, U, C>(client: &Option<Client<T, U, C>>) -> usize
     ensures { (slot : ℕ) → length (given_at slot client.now) ≡ result }
 {
@@ -115,7 +118,7 @@ fn count_given_at<T, U, C>(client: &Option<Client<T, U, C>>) -> usize
     }
 }
 
-/// How many clients leave; the greatest number stands for more.
+/// How many clients are to be taken out. `usize::MAX` stands for any larger number.
 pub fn count_given<T, U, C>(clients: &[Option<Client<T, U, C>>]) -> usize
     ensures all { result < 0xFFFFFFFFFFFFFFFF → length (collected given_at 0 clients.now) ≤ result }
     ensures no_more { result ≤ length (collected given_at 0 clients.now) }
@@ -127,19 +130,19 @@ pub fn count_given<T, U, C>(clients: &[Option<Client<T, U, C>>]) -> usize
     count
 }
 
-/// The memory that a cleanup takes.
+/// The memory that a cleanup needs.
 #[derive(Drop)]
 pub struct CleanupMemory<T> {
-    /// The places of the notes that it gathers.
+    /// The places of the notes that it gathers, in order of time.
     pub order: Vec<NotePlace>,
-    /// For the numbers of one client's objects.
+    /// Room for the numbers of one client's objects.
     pub numbers: Vec<u32>,
-    /// For the clients that leave.
+    /// Room for the clients that are taken out, with their transports.
     pub given: Vec<(ClientId, T)>,
 }
 
-/// Takes memory for the notes of a cleanup, of which so many are gathered. The answer has room for the numbers of the objects
-/// that are noted.
+/// Allocates the memory for the notes of a cleanup. `gathered` is how many are gathered. The answer has room for the
+/// numbers of the objects whose end is noted.
 fn memory_for_notes<T: Drop, U: Drop, C: Drop>(
     clients: &[Option<Client<T, U, C>>],
     gathered: usize,
@@ -156,8 +159,8 @@ fn memory_for_notes<T: Drop, U: Drop, C: Drop>(
     Ok(numbers)
 }
 
-/// Takes the memory of a cleanup, and that for its notes. Where no notes are to be gathered and no client leaves, it
-/// asks for no memory.
+/// Allocates all memory that a cleanup needs. If no notes are to be gathered and no client is to be taken out, it
+/// allocates nothing.
 pub fn memory_for<T: Drop, U: Drop, C: Drop>(
     clients: &[Option<Client<T, U, C>>],
     notes: &mut Vec<Note<U>>,
@@ -192,8 +195,8 @@ pub fn memory_for<T: Drop, U: Drop, C: Drop>(
     })
 }
 
-/// Flushes the killed clients, gathers all notes, and takes the killed clients out. No note waits any more, so the numbers of
-/// those that wait begin anew. The answer is whether memory was refused to a flush.
+/// Flushes the killed clients, gathers all notes, and takes the killed clients out. No note waits any more, so the
+/// numbers of the notes that wait begin at 0 again. The answer is whether a flush ran out of memory.
 fn clean_up<T: Transport + Drop, U: Drop, C: Drop>(
     clients: &mut Vec<Option<Client<T, U, C>>>,
     notes: &mut Vec<Note<U>>,
@@ -217,13 +220,18 @@ fn clean_up<T: Transport + Drop, U: Drop, C: Drop>(
 }
 
 impl<T: Transport + Drop, U: Drop, G: GlobalHandler<C> + Drop, C: Drop> Backend<T, U, G, C> {
-    /// Ends what was left for it: the notes that waited are made, in order of time, and killed clients are taken out, by
-    /// slot. The objects of such a client that have user data are noted as destroyed, by ascending number, and what waits
-    /// for it is sent, as far as its transport takes it; a fault is dropped. The answer is the clients that were taken
-    /// out, with their transports. Their slots are free then.
+    /// Takes out the clients that were killed, and makes the notes that waited for a cleanup. The answer is the clients
+    /// that were taken out, by ascending slot, with their transports.
     ///
-    /// Where there is no memory for it, nothing changes. It asks for none where no notes are to be gathered and no client is
-    /// to be taken out.
+    /// What waits for such a client is sent before, as far as its transport takes it. A fault of that is dropped. A note
+    /// is made of the end of each of its objects that has user data, by ascending number. The slot of the client is free
+    /// again.
+    ///
+    /// The notes that waited are made in order of time, and come before those of the objects of clients that are taken
+    /// out. `take_notes` hands them out.
+    ///
+    /// The error is `OutOfMemory`. Then nothing is changed. If no notes are to be gathered and no client is to be taken
+    /// out, the call allocates nothing.
     pub fn cleanup(&mut self) -> Result<Vec<(ClientId, T)>, OutOfMemory>
         ensures call { Calls (over T.sends T.receives G.views) self.old step.Cleanup (reply.Cleanup result) self.new }
         ensures plain { CleansUpClients T.sends self.old result self.new }

@@ -1,4 +1,6 @@
-//! The notes of all clients in one list, in order of time.
+//! Gathers the notes of all clients in one list, in order of time.
+//!
+//! In this file `waits` says whether the notes that wait for a cleanup are gathered, too, after those that were made.
 
 ghost use Rattle.std.specs.Prelude.{◌≡◌, ℕ, ◌+◌, ◌++◌, ◌≤◌, ◌<◌, ◌==◌, ◌∷◌, [], if◌then◌else◌, length, map, false, None, Some, MatchOption, IfOk, IsPermutation, OnErr, OnOk};
 ghost use Rattle.std.specs.Vec.{vec_capacity, vec_len};
@@ -13,7 +15,7 @@ use crate::notes::{Happening, Note};
 use std::alloc::Global;
 use wl_wire::OutOfMemory;
 
-/// The note of what happened to a client.
+/// The note that this happened to the client.
 fn note_of<U>(id: ClientId, happening: Happening<U>) -> Note<U>
     ensures { result ≡ the_note id happening }
 {
@@ -25,8 +27,8 @@ fn note_of<U>(id: ClientId, happening: Happening<U>) -> Note<U>
 }
 
 impl<T, U, C> Client<T, U, C> {
-    /// Takes the next note that is gathered: of those that were made, and behind them, where they are to be, of those that
-    /// wait.
+    /// Takes the next note of the client: the oldest that was made, or if there is none and `waits` is set, the oldest
+    /// that waits.
     fn take_note(&mut self, waits: bool) -> Option<Happening<U>>
         ensures { MatchOption result ((self.new ≡ self.old) × (leaving waits (Some self.old) ≡ []))
             (λ h. (leaving waits (Some self.old) ≡ h ∷ leaving waits (Some self.new)) × (emptied waits self.new ≡ emptied waits self.old)) }
@@ -41,7 +43,7 @@ impl<T, U, C> Client<T, U, C> {
     }
 }
 
-/// Moves the next note of the client of a slot, which has one.
+/// Moves the next note of the client of a slot to the end of the list. There is such a note, and room for it.
 fn move_note<T, U, C>(
     slot: u32,
     client: &mut Option<Client<T, U, C>>,
@@ -61,9 +63,10 @@ fn move_note<T, U, C>(
     notes.push_reserved(note_of(id, happening));
 }
 
-/// Moves the notes of all clients behind these notes: those that were made, and behind them, where they are to be, those
-/// that wait; each in its order. There is room for them. Over all clients they stand in this order, by the slots of their
-/// clients.
+/// Moves the notes of all clients to the end of the list. There is room for them.
+///
+/// `order` has the place of each note. Its slots say of which client the next note is taken. The notes of one client keep
+/// their order.
 pub fn gather<T, U, C>(
     clients: &mut Vec<Option<Client<T, U, C>>>,
     waits: bool,
@@ -94,7 +97,7 @@ fn count_of<T, U, C>(client: &Option<Client<T, U, C>>, waits: bool) -> usize
     }
 }
 
-/// How many notes of all clients are gathered; the greatest number stands for more.
+/// How many notes of all clients are gathered. `usize::MAX` stands for any larger number.
 pub fn count_notes<T, U, C>(clients: &[Option<Client<T, U, C>>], waits: bool) -> usize
     ensures all { result < 0xFFFFFFFFFFFFFFFF → count_leaving waits clients.now ≤ result }
     ensures no_more { result ≤ count_leaving waits clients.now }
@@ -106,7 +109,7 @@ pub fn count_notes<T, U, C>(clients: &[Option<Client<T, U, C>>], waits: bool) ->
     count
 }
 
-/// Puts the places of the notes of the client of a slot that are gathered behind these places.
+/// Appends the places of the notes of the client of a slot that are gathered.
 fn put_places_at<T, U, C>(
     client: &Option<Client<T, U, C>>,
     waits: bool,
@@ -125,7 +128,7 @@ fn put_places_at<T, U, C>(
     Ok(())
 }
 
-/// Puts the places in order of time.
+/// Sorts the places by time.
 fn put_in_order(order: &mut Vec<NotePlace>)
     ensures rise { Rise order.new.items }
     ensures moved { IsPermutation order.old.items order.new.items }
@@ -133,7 +136,7 @@ fn put_in_order(order: &mut Vec<NotePlace>)
     order.sort_unstable();
 }
 
-/// The places of all notes that are gathered, in order of time. Memory is taken for so many at once.
+/// The places of all notes that are gathered, in order of time. Room for `count` places is allocated first.
 pub fn order_of<T, U, C>(
     alloc: Global,
     clients: &[Option<Client<T, U, C>>],
@@ -151,8 +154,8 @@ pub fn order_of<T, U, C>(
     Ok(order)
 }
 
-/// Moves the notes of all clients that were made behind these notes, in order of time. Where there is no memory for it,
-/// nothing changes; where there are no such notes, none is asked for.
+/// Moves the notes of all clients that were made to the end of the list, in order of time. If there is no memory, nothing
+/// is changed. If there are no such notes, it allocates nothing.
 pub fn gather_made<T, U, C>(
     clients: &mut Vec<Option<Client<T, U, C>>>,
     notes: &mut Vec<Note<U>>,

@@ -1,4 +1,4 @@
-//! Clients that leave a server.
+//! The objects of clients that are taken out.
 
 ghost use Rattle.std.specs.Prelude.{◌≡◌, ◌+◌, ◌++◌, ◌<◌, ◌≤◌, length, map, MatchOption};
 ghost use Rattle.std.specs.FinMap.{entries};
@@ -13,7 +13,7 @@ use crate::notes::Note;
 use crate::objects::{Kept, id_at};
 use wl_link::ObjectMap;
 
-/// At least how many objects have user data; the greatest number stands for more.
+/// How many objects have user data. `usize::MAX` stands for any larger number.
 pub fn count_ending<U: Drop>(objects: &ObjectMap<Kept<U>>) -> usize
     ensures { result < 0xFFFFFFFFFFFFFFFF → length (ending (entries objects.now.store.objects)) ≤ result }
 {
@@ -27,7 +27,7 @@ pub fn count_ending<U: Drop>(objects: &ObjectMap<Kept<U>>) -> usize
     count
 }
 
-/// Puts the numbers of the objects that have user data behind these numbers.
+/// Appends the numbers of the objects that have user data.
 fn put_numbers<U: Drop>(objects: &ObjectMap<Kept<U>>, numbers: &mut Vec<u32>)
     requires { vec_len numbers.old + length (ending (entries objects.now.store.objects)) ≤ vec_capacity numbers.old }
     ensures put { numbers.new.items ≡ numbers.old.items ++ map (λ e. e.0) (ending (entries objects.now.store.objects)) }
@@ -41,7 +41,7 @@ fn put_numbers<U: Drop>(objects: &ObjectMap<Kept<U>>, numbers: &mut Vec<u32>)
     }
 }
 
-/// The object of this number leaves, and is noted if it has user data.
+/// Takes the object of this number out, and makes a note of that if it has user data.
 fn end_object<U: Drop>(
     objects: &mut ObjectMap<Kept<U>>,
     client: &ClientId,
@@ -63,7 +63,7 @@ fn end_object<U: Drop>(
     }
 }
 
-/// All objects that have user data leave, and are noted, by ascending number.
+/// Takes all objects that have user data out, by ascending number, and makes a note of each.
 pub fn end_objects<U: Drop>(
     objects: &mut ObjectMap<Kept<U>>,
     client: &ClientId,

@@ -1,7 +1,7 @@
-//! The notes that stand with a client, each with its number.
+//! The notes that are kept with a client, each with its number.
 //!
-//! The numbers and the queues are private to this file. So a note gets its number where it is put into a queue, and the place of
-//! a note in the order of time has the number that stands with it.
+//! The numbers and the queues are private to this file. So a note gets its number when it is put into a queue, and the
+//! place of a note has the number that is kept with it.
 
 ghost use Rattle.std.specs.Prelude.{◌≡◌, ◌+◌, ◌++◌, ◌∷◌, ◌<◌, ◌≤◌, [], false, true, length, map, IfOk, MatchOption, OnOk};
 ghost use Rattle.std.specs.VecDeque.{deque_capacity, deque_len};
@@ -12,17 +12,17 @@ use std::alloc::Global;
 use std::collections::VecDeque;
 use wl_wire::OutOfMemory;
 
-/// The numbers that the next notes get. Notes stand with their client; by their numbers they are put in order of time
-/// over all clients.
+/// The numbers that the next notes get. Notes are kept with their client. Their numbers tell in which order the notes of
+/// all clients were put into the queues.
 #[derive(Drop)]
 pub struct NoteNumbers {
-    /// That of the next note that waits for a cleanup: how many wait.
+    /// The number of the next note that waits for a cleanup. So many wait now.
     waiting: u128,
-    /// That of the next note that is made.
+    /// The number of the next note that is made.
     made: u128,
 }
 
-/// The next number. From then on the one behind it is the next.
+/// Answers the next number, and counts it up.
 fn next_number(next: &mut u128) -> u128
     ensures given { result ≡ next.old }
     ensures counted { next.new ≡ number_behind next.old }
@@ -33,7 +33,7 @@ fn next_number(next: &mut u128) -> u128
 }
 
 impl NoteNumbers {
-    /// Those of a server without notes.
+    /// The numbers of a server without notes.
     pub fn new() -> Self
         ensures { result ≡ record { waiting = 0; made = 0 } }
     {
@@ -43,7 +43,7 @@ impl NoteNumbers {
         }
     }
 
-    /// No note waits any more: the numbers of those that wait begin anew.
+    /// Says that no note waits any more: the numbers of those that wait begin at 0 again.
     pub fn begin_waiting_anew(&mut self)
         ensures { self.new ≡ record self.old { waiting = 0 } }
     {
@@ -51,7 +51,8 @@ impl NoteNumbers {
     }
 }
 
-/// Where a note stands in time: those that were made before those that wait, each by its number; and the slot of its client.
+/// The place of a note in the order of time, and the slot of its client. Notes that were made come before those that
+/// wait; among each kind they are ordered by number.
 #[derive(Drop, PartialEq, Eq, PartialOrd, Ord)]
 pub struct NotePlace {
     waits: bool,
@@ -60,7 +61,7 @@ pub struct NotePlace {
 }
 
 impl NotePlace {
-    /// The slot of its client.
+    /// The slot of the note's client.
     pub fn slot(&self) -> u32
         ensures { result ≡ self.now.slot }
     {
@@ -68,7 +69,7 @@ impl NotePlace {
     }
 }
 
-/// Puts the places of these notes, which wait or not, behind those places.
+/// Appends the places of the notes of this queue. `waits` says whether they wait.
 fn put_places<U>(
     queue: &VecDeque<(u128, Happening<U>)>,
     waits: bool,
@@ -88,14 +89,14 @@ fn put_places<U>(
     Ok(())
 }
 
-/// The notes of a client that were made and not gathered yet, in order.
+/// The notes of a client that were made and are not gathered yet, in order.
 #[derive(Drop)]
 pub struct MadeNotes<U> {
     queue: VecDeque<(u128, Happening<U>)>,
 }
 
 impl<U> MadeNotes<U> {
-    /// None, with room for so many.
+    /// A queue without notes, with room for this many.
     pub fn with_capacity(alloc: Global, count: usize) -> Result<Self, OutOfMemory>
         ensures none { IfOk result (λ notes. notes.queue.items ≡ []) }
         ensures len { IfOk result (λ notes. deque_len notes.queue ≡ 0) }
@@ -105,7 +106,7 @@ impl<U> MadeNotes<U> {
         Ok(MadeNotes { queue })
     }
 
-    /// Makes room for so many more.
+    /// Makes room for this many more.
     pub fn reserve(&mut self, additional: usize) -> Result<(), OutOfMemory>
         ensures items { self.new.queue.items ≡ self.old.queue.items }
         ensures len { deque_len self.new.queue ≡ deque_len self.old.queue }
@@ -115,7 +116,7 @@ impl<U> MadeNotes<U> {
         Ok(self.queue.reserve(additional)?)
     }
 
-    /// A note is made. It gets the next number of those that are made.
+    /// Adds a note that is made. It gets the next number of those that are made.
     pub fn push(&mut self, numbers: &mut NoteNumbers, happening: Happening<U>)
         requires { deque_len self.old.queue < deque_capacity self.old.queue }
         ensures items { self.new.queue.items ≡ self.old.queue.items ++ (numbers.old.made, happening) ∷ [] }
@@ -127,7 +128,7 @@ impl<U> MadeNotes<U> {
         self.queue.push_back_reserved((number, happening));
     }
 
-    /// Takes the oldest one.
+    /// Takes the oldest note.
     pub fn pop(&mut self) -> Option<Happening<U>>
         ensures oldest { MatchOption result ((self.old.queue.items ≡ []) × (self.new.queue.items ≡ []))
             (λ h. map (λ n. n.1) self.old.queue.items ≡ h ∷ map (λ n. n.1) self.new.queue.items) }
@@ -137,14 +138,14 @@ impl<U> MadeNotes<U> {
         Some(happening)
     }
 
-    /// How many they are.
+    /// How many notes there are.
     pub fn len(&self) -> usize
         ensures { result ≡ length self.now.queue.items }
     {
         self.queue.len()
     }
 
-    /// Puts their places behind these.
+    /// Appends the places of the notes.
     pub fn put_places(&self, slot: u32, order: &mut Vec<NotePlace>) -> Result<(), OutOfMemory>
         ensures { OnOk result (order.new.items ≡ order.old.items ++ map (place_of false slot) self.now.queue.items) }
     {
@@ -159,7 +160,7 @@ pub struct WaitingNotes<U> {
 }
 
 impl<U> WaitingNotes<U> {
-    /// None.
+    /// A queue without notes.
     pub fn new(alloc: Global) -> Self
         ensures { result.queue.items ≡ [] }
     {
@@ -176,7 +177,7 @@ impl<U> WaitingNotes<U> {
         Ok(self.queue.reserve(1)?)
     }
 
-    /// A note begins to wait. It gets the next number of those that wait.
+    /// Adds a note that waits. It gets the next number of those that wait.
     pub fn push(&mut self, numbers: &mut NoteNumbers, happening: Happening<U>)
         requires { deque_len self.old.queue < deque_capacity self.old.queue }
         ensures items { self.new.queue.items ≡ self.old.queue.items ++ (numbers.old.waiting, happening) ∷ [] }
@@ -186,7 +187,7 @@ impl<U> WaitingNotes<U> {
         self.queue.push_back_reserved((number, happening));
     }
 
-    /// Takes the oldest one.
+    /// Takes the oldest note.
     pub fn pop(&mut self) -> Option<Happening<U>>
         ensures { MatchOption result ((self.old.queue.items ≡ []) × (self.new.queue.items ≡ []))
             (λ h. map (λ n. n.1) self.old.queue.items ≡ h ∷ map (λ n. n.1) self.new.queue.items) }
@@ -195,14 +196,14 @@ impl<U> WaitingNotes<U> {
         Some(happening)
     }
 
-    /// How many they are.
+    /// How many notes there are.
     pub fn len(&self) -> usize
         ensures { result ≡ length self.now.queue.items }
     {
         self.queue.len()
     }
 
-    /// Puts their places behind these.
+    /// Appends the places of the notes.
     pub fn put_places(&self, slot: u32, order: &mut Vec<NotePlace>) -> Result<(), OutOfMemory>
         ensures { OnOk result (order.new.items ≡ order.old.items ++ map (place_of true slot) self.now.queue.items) }
     {

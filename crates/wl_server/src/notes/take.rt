@@ -1,4 +1,4 @@
-//! The notes, as a program takes them.
+//! Hands the notes out to the program.
 
 ghost use Rattle.wl_server.specs.Backend.{Calls};
 ghost use Rattle.wl_server.specs.PartStep.{over};
@@ -15,8 +15,10 @@ use wl_link::Transport;
 use wl_wire::OutOfMemory;
 
 impl<T: Transport + Drop, U: Drop, G: GlobalHandler<C> + Drop, C: Drop> Backend<T, U, G, C> {
-    /// Takes the notes that were made, the oldest first. Where there is no memory for the list, nothing changes. It asks for
-    /// none where no note was made since the last call of this or of `cleanup`.
+    /// Takes the notes that were made, the oldest first.
+    ///
+    /// The error is `OutOfMemory`, if there is no memory for the list. Then nothing is changed. If no note was made since
+    /// the last call of `take_notes` or `cleanup`, the call allocates nothing.
     pub fn take_notes(&mut self) -> Result<Vec<Note<U>>, OutOfMemory>
         ensures call { Calls (over T.sends T.receives G.views) self.old step.TakeNotes (reply.TakeNotes result) self.new }
         ensures plain { TakesNotes self.old result self.new }

@@ -1,4 +1,4 @@
-//! Runs of calls over transports by script.
+//! Carries out a list of calls over transports by script (`wl_link::Memory`).
 
 ghost use Rattle.std.specs.Prelude.{◌≡◌, ◌++◌, List, [], true, false, IfOk, IfErr, IsOk, is_err, length};
 ghost use Rattle.wl_link.specs.Runs.{AllSame, RunEntry, entries};
@@ -42,7 +42,7 @@ impl<U: Drop, G: GlobalHandler<C> + Drop, C: Drop> Backend<Memory, U, G, C> {
         }
     }
 
-    /// Makes the call of a step that reads of a client, or ends what was read.
+    /// Makes the call of a step that reads a client, or finishes an action.
     fn perform_reading(&mut self, step: Step<Memory, U, G, C>) -> Reply<Memory, U>
         requires { IsOfReading step }
         ensures { Calls (over_scripts G.views) self.old step result self.new }
@@ -64,7 +64,7 @@ impl<U: Drop, G: GlobalHandler<C> + Drop, C: Drop> Backend<Memory, U, G, C> {
         }
     }
 
-    /// Makes the call of a step that is about globals, or that kills or limits a client.
+    /// Makes the call of a step that is about globals, or that kills a client or limits its buffers.
     fn perform_global(&mut self, step: Step<Memory, U, G, C>) -> Reply<Memory, U>
         requires { IsOfGlobals step }
         ensures { Calls (over_scripts G.views) self.old step result self.new }
@@ -93,7 +93,7 @@ impl<U: Drop, G: GlobalHandler<C> + Drop, C: Drop> Backend<Memory, U, G, C> {
         }
     }
 
-    /// Makes the call of a step that is about all clients, or a new one.
+    /// Makes the call of a step that is about all clients, or that inserts one.
     fn perform_shared(&mut self, step: Step<Memory, U, G, C>) -> Reply<Memory, U>
         requires { IsOfAll step }
         ensures { Calls (over_scripts G.views) self.old step result self.new }
@@ -113,7 +113,7 @@ impl<U: Drop, G: GlobalHandler<C> + Drop, C: Drop> Backend<Memory, U, G, C> {
         }
     }
 
-    /// Makes the call of a step of a transport by script.
+    /// Makes the call of a step that is about a client's transport by script.
     fn perform_script(&mut self, step: Step<Memory, U, G, C>) -> Reply<Memory, U>
         requires { IsOfScript step }
         ensures { Calls (over_scripts G.views) self.old step result self.new }
@@ -164,8 +164,8 @@ impl<U: Drop, G: GlobalHandler<C> + Drop, C: Drop> Backend<Memory, U, G, C> {
         }
     }
 
-    /// Makes the calls of the steps, one after another, and puts their replies into the list, which is empty; up to the
-    /// step in which memory is refused. Room for the replies is made first.
+    /// Makes the calls of the steps, one after another, and puts their replies into the list, which is empty. It stops
+    /// after the first step in which memory is refused. Room for the replies is allocated first.
     fn perform_all(
         &mut self,
         steps: &mut Vec<Step<Memory, U, G, C>>,
@@ -197,18 +197,26 @@ impl<U: Drop, G: GlobalHandler<C> + Drop, C: Drop> Backend<Memory, U, G, C> {
 
     /// Makes the calls of the steps, one after another, and answers their replies.
     ///
-    /// Room for the replies is made first. In the first step that meets a want of memory the run stops: `Stopped`
-    /// names that step and has the replies to those before it, and the later ones are dropped. Step 0 is named also
-    /// where there was no room for the replies; nothing was done then. A run of no steps needs none.
+    /// It stops at the first step in which memory is refused. Then the error `Stopped` has the index of that step and the
+    /// replies to the steps before it. The later steps are dropped. Room for the replies is allocated first. If there is
+    /// none, `Stopped` has index 0, and nothing was done. A list without steps never stops.
     ///
-    /// The run joins the runs before it, and extends each history that led to the server before it: calls, changes of a
-    /// client's transport by `transport_mut`, and other runs (`history`, `stopped_history`). So what is held of each client
-    /// that was inserted since the server was made is what its own steps and the shared ones lead to alone, begun with the id
-    /// that it got; no other client's steps matter to it. Each id of an object that was handed out names its own object and no
-    /// later one, what a client's transport took is what was put for it, what its registries announced is what it is shown,
-    /// and each object that left with user data is noted once. A stretch of a client's own steps in which bytes arrive, and
-    /// actions are read and finished, gives what is served of all that arrived, however it was cut. The same steps give the
-    /// same replies of any server that is the same to its program, and leave one that is, if neither run stops.
+    /// # What is promised
+    ///
+    /// The steps are a run of calls like any other. So they may follow any history of the server: calls, changes of a
+    /// client's transport by `transport_mut`, and other lists of steps. All laws of runs (`laws`) hold of the whole
+    /// (clauses `history` and `stopped_history`):
+    ///
+    /// - Each client that was inserted since the server was made depends only on its own steps and on the shared ones.
+    ///   Steps about other clients do not matter to it.
+    /// - Each id of an object that was handed out names its own object and never a later one.
+    /// - What a client's transport took is what was written for it.
+    /// - What its registries announced is what it may see.
+    /// - Each object that is gone and had user data has one note.
+    /// - If bytes arrive for a client and its actions are read and finished, it does not matter how the bytes were cut
+    ///   into arrivals.
+    /// - The same steps on a server that looks the same to its program get the same replies, and leave a server that
+    ///   looks the same, if neither stops.
     pub fn replay(
         &mut self,
         steps: Vec<Step<Memory, U, G, C>>,

@@ -15,20 +15,20 @@ use crate::ids::client_id::ClientId;
 use wl_link::{ArriveError, Memory};
 use wl_wire::{IoFault, OutOfMemory, Token};
 
-/// A call that puts something behind what a script has.
+/// A call that adds something to the script of a transport.
 #[derive(Drop)]
 pub enum ScriptCall {
-    /// `Memory::arrive`.
+    /// `Memory::arrive`: these bytes and tokens arrive.
     Arrive(Vec<u8>, Vec<Token>),
-    /// `Memory::arrive_fault`.
+    /// `Memory::arrive_fault`: a receive is answered by this fault.
     ArriveFault(IoFault),
-    /// `Memory::accept`.
+    /// `Memory::accept`: a send takes at most this many bytes.
     Accept(usize),
-    /// `Memory::accept_fault`.
+    /// `Memory::accept_fault`: a send is answered by this fault.
     AcceptFault(IoFault),
 }
 
-/// What the arrival of a chunk answers to a server's program.
+/// The answer of an arrival, as the server's program gets it.
 fn arrived(answer: Result<(), ArriveError>) -> Result<(), ScriptError>
     ensures { result ≡ arrived_as answer }
 {
@@ -39,7 +39,7 @@ fn arrived(answer: Result<(), ArriveError>) -> Result<(), ScriptError>
     }
 }
 
-/// What a call answers that only memory can refuse.
+/// The answer of a call that fails only if memory runs out, as the server's program gets it.
 fn scripted(answer: Result<(), OutOfMemory>) -> Result<(), ScriptError>
     ensures { result ≡ scripted_as answer }
 {
@@ -49,7 +49,7 @@ fn scripted(answer: Result<(), OutOfMemory>) -> Result<(), ScriptError>
     }
 }
 
-/// Makes the call of a script.
+/// Makes this call of the script.
 fn make_move(script: &mut Memory, call: ScriptCall) -> Result<(), ScriptError>
     ensures { ScriptMoves script.old (move_of call) (done result) script.new }
 {
@@ -61,7 +61,7 @@ fn make_move(script: &mut Memory, call: ScriptCall) -> Result<(), ScriptError>
     }
 }
 
-/// Whether there was no memory for a call of a script.
+/// Whether a call of a script that was answered so ran out of memory.
 fn lacks_memory(answer: &Result<(), ScriptError>) -> bool
     ensures { result ≡ lacks_move (done answer.now) }
 {
@@ -69,7 +69,10 @@ fn lacks_memory(answer: &Result<(), ScriptError>) -> bool
 }
 
 impl<U: Drop, G: GlobalHandler<C> + Drop, C: Drop> Backend<Memory, U, G, C> {
-    /// Makes the call of the client's script.
+    /// Makes this call of the client's transport.
+    ///
+    /// The error is `InvalidId` if the client is not stored, `TooManyTokens` if a chunk that arrives has more than 28
+    /// tokens, and `OutOfMemory`.
     pub(crate) fn script(&mut self, id: &ClientId, call: ScriptCall) -> Result<(), ScriptError>
         ensures { Calls (over_scripts G.views) self.old (step_of id.now call) (reply_to call result) self.new }
     {
@@ -85,7 +88,9 @@ impl<U: Drop, G: GlobalHandler<C> + Drop, C: Drop> Backend<Memory, U, G, C> {
         answer
     }
 
-    /// The record of what the client's script took, which is empty from then on.
+    /// Takes the record of what the client's transport was sent. The record is empty from then on.
+    ///
+    /// The error is `InvalidId` if the client is not stored.
     pub(crate) fn take_sent(
         &mut self,
         id: &ClientId,

@@ -1,4 +1,4 @@
-//! The calls of a server as values, for a run of them.
+//! The calls of a server as values, and their answers.
 
 use crate::error::{
     ActionError, CreateError, DestroyError, EventError, FinishRefused, GlobalError,
@@ -11,7 +11,10 @@ use crate::notes::{DisconnectReason, Note};
 use crate::reading::action::{Action, Reading};
 use wl_wire::{CString, InterfaceId, IoFault, Message, OutOfMemory, Token};
 
-/// A call that changes a server: one of its own, or one of a client's transport by script.
+/// A call that changes a server, as a value: a call of the server, or one of a client's transport by script.
+///
+/// The values of a variant are the arguments of the call, in order. The calls of `wl_link::Memory` have the client first
+/// whose transport it is.
 #[derive(Drop)]
 pub enum Step<T, U, G, C> {
     /// `Backend::insert_client`.
@@ -64,7 +67,7 @@ pub enum Step<T, U, G, C> {
     TakeSent(ClientId),
 }
 
-/// The answer of a step's call.
+/// The answer of the call of a step.
 #[derive(Drop)]
 pub enum Reply<T, U> {
     /// To `Step::InsertClient`.
@@ -117,10 +120,11 @@ pub enum Reply<T, U> {
     TakeSent(Result<Vec<(Vec<u8>, Vec<Token>)>, InvalidId>),
 }
 
-/// A run that met a want of memory.
+/// A run that stopped because memory was refused.
 #[derive(Drop)]
 pub struct Stopped<T, U> {
-    /// The step in which memory was refused, counted from 0.
+    /// The index of the step in which memory was refused, counted from 0. It is 0 also if there was no memory for the
+    /// replies, and nothing was done.
     pub step: usize,
     /// The replies to the steps before it.
     pub replies: Vec<Reply<T, U>>,
