@@ -30,13 +30,21 @@ pub(crate) const DISPLAY: u32 = 1;
 /// - `U` is the user data of an object.
 #[derive(Drop)]
 pub struct Backend<T, U> {
+    /// The table of interfaces.
     pub(crate) protocol: Protocol,
+    /// The connection: the transport, and the buffers of what was received and of what is to be sent.
     pub(crate) socket: BufferedSocket<T>,
+    /// The objects by number.
     pub(crate) objects: ObjectMap<Kept<U>>,
+    /// The serial of the object that was made last; 0 if none was.
     pub(crate) last_serial: u64,
+    /// The session's error, if it has one.
     pub(crate) error: Option<WaylandError>,
+    /// The event that was handed out and is not finished yet.
     pub(crate) open_event: Option<OpenEvent>,
+    /// The notes that were not taken yet, the oldest first.
     pub(crate) notes: Vec<Note>,
+    /// Whether memory was refused in the last call that took `&mut self`.
     pub(crate) refused: bool,
 }
 

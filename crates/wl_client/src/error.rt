@@ -36,8 +36,8 @@ pub enum DestroyError {
 
 /// Why a request was not sent.
 ///
-/// The reasons are looked for in the order of the variants, with two exceptions. Whether the client has destroyed the
-/// sender is looked at after the opcode. The object arguments are looked at after `NotPlaceholder`, one after the other:
+/// The reasons are looked for in the order of the variants, with two exceptions. A sender that the client has destroyed is
+/// refused after the opcode was looked at. The object arguments are looked at after `NotPlaceholder`, one after the other:
 /// the first one with a reason decides.
 #[derive(Clone, Copy, Debug, PartialEq, Eq)]
 pub enum RequestError {

@@ -62,7 +62,7 @@ pub fn handle_event<U: Drop>(
         child: desc.child_interface,
         created: None,
     };
-    // The first argument is then the last, which is taken out without moving the others.
+    // After this the first argument comes last: it is taken out without moving the others.
     message.args.reverse();
     let created = convert(
         objects,

@@ -59,7 +59,7 @@ impl<T: Drop, U: Drop> Backend<T, U> {
         ensures refused { self.new.refused ≡ self.old.refused }
     {
         if let (Some(id), Some(user_data)) = (created, user_data) {
-            // An object leaves the map in a reading only, and none is made while the event is open: it is still there.
+            // The object is still there: objects leave the map only in a reading, and there is none while the event is open.
             let _ = give_data(&mut self.objects, &id, user_data);
         }
     }

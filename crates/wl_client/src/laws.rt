@@ -31,8 +31,8 @@ use wl_link::Transport;
 /// and then none.
 ///
 /// Each id in a reply is made in the step of that reply. The id of a new object, of a request or an event, is that of an
-/// object which this step made. The law also holds of a run that was ended by a want of memory; the step in which memory
-/// was refused is then its last one.
+/// object which this step made. The law also holds of a run that stopped because memory was refused. Its last step is then
+/// the one in which that happened.
 pub fn each_id_names_its_own_object<U>()
     ensures { (table : List InterfaceRow) (transport : Script) (before after : SessionState Script U) (run : List (Entry U)) →
         IsConnected table transport before → Leads before run after → HasOwnIds before run after }
@@ -68,8 +68,8 @@ pub fn a_failed_session_stays_failed<U>()
 
 /// If memory is not refused, each step has one outcome, and so has each run.
 ///
-/// The session before a step, and the step, determine the reply and the session after it. Only where the lists of a reply
-/// lie in memory is left open.
+/// The session before a step, and the step, determine the reply and the session after it. This leaves open only the
+/// addresses of a reply's lists in memory.
 pub fn each_run_has_one_outcome<U>()
     ensures step { (before after after' : SessionState Script U) (step : Step U) (answer answer' : Reply U) →
         StepOf before step answer false after → StepOf before step answer' false after' →
@@ -82,14 +82,13 @@ pub fn each_run_has_one_outcome<U>()
 
 /// It does not matter how bytes and tokens are cut into receives, for every transport.
 ///
-/// What is *served* of some bytes and tokens is what a session does with them if they have all come at once: the events
-/// that it hands out, and what it is afterwards. What a reading hands out is the beginning of what is served of the whole
-/// stream. The rest of that is what the session, as it is after the reading, serves of the rest of the stream (`reading`).
-/// Each receive of the reading must have brought a byte or have returned `WouldBlock`, and memory must not have been
-/// refused.
+/// A session *serves* bytes and tokens: it handles them as if they had all come at once, and hands out events. If the
+/// session before a reading serves the whole stream, it first hands out the events of the reading. Then it hands out what
+/// the session after the reading hands out if it serves the rest of the stream (`reading`). Each receive of the reading
+/// must have brought a byte or have returned `WouldBlock`, and memory must not have been refused.
 ///
-/// If the session has no error and accepts a finish, that is the next of the finishes (`finish`). Something is served of
-/// whatever waits (`some`), and there is one outcome (`one`).
+/// If the session has no error and accepts a finish, that is the next of the finishes (`finish`). A session can always
+/// serve what waits (`some`), and that has one outcome (`one`).
 pub fn cutting_does_not_matter_to_a_client<T: Transport, U>()
     ensures reading { (left : ℕ) (before after : ReaderState T (Core U)) (turns : List Turn) (out : Gives SessionMessage) →
         Reads T.sends client T.receives left before turns out after → AllFed turns → out.refused ≡ false →
@@ -104,7 +103,7 @@ pub fn cutting_does_not_matter_to_a_client<T: Transport, U>()
 
 /// The same for a *stretch* of a run, in which bytes and tokens arrive and events are read and finished.
 ///
-/// What a stretch hands out, and what it leads to, is what is served of all that arrived, joined, with the finishes that
+/// A stretch hands out the same, and leads to the same, as if the session served all that arrived, with the finishes that
 /// were accepted (`served`). So two stretches with the same bytes and tokens, however they are cut, and with the same
 /// finishes hand out the same and lead to the same (`same`). Each arrival must bring a byte or be `WouldBlock`, memory must
 /// not be refused, and no receive may find the buffer full.

@@ -4,8 +4,9 @@
 //! `flush`. It reads events with `next_event`, and ends each with `finish_event`. It learns with `take_notes` which objects
 //! were destroyed. The page of this crate, `README.md`, has an example, and the order in which refusals are decided.
 //!
-//! `specs/Session` says what a session holds. The contract of each call is one relation between the session before it and
-//! after it:
+//! The `requires` and `ensures` lines of a function are its *contract*: what the caller has to see to, and what is proved
+//! of each call. `specs/Session` says what a session holds. The contract of each call is one relation between the session
+//! before it and after it:
 //!
 //! | Calls | Code | Relations, in `specs/` |
 //! |---|---|---|

@@ -104,12 +104,12 @@ impl<T: Transport + Drop, U: Drop> Backend<T, U> {
         };
         match self.read_event(&mut event) {
             Ok(()) => {
-                // What `read_event` promises does not speak of it.
+                // The contract of `read_event` does not say what this field becomes.
                 self.refused = false;
                 Ok(event)
             }
             Err(end) => {
-                // No event: the arguments that were already put there are dropped.
+                // There is no event. The arguments that were already put there are dropped.
                 drop(event);
                 self.refused = end.refused;
                 Err(end.error)

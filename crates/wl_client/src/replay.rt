@@ -122,7 +122,7 @@ impl<U: Drop> Backend<Memory, U> {
             self.refused = true;
             return;
         };
-        // The first step is then the last, which is taken out without moving the others.
+        // After this the first step comes last: it is taken out without moving the others.
         steps.reverse();
         self.refused = false;
         while let Some(step) = steps.pop() {
@@ -148,8 +148,8 @@ impl<U: Drop> Backend<Memory, U> {
     ///   (`named`).
     /// - The notes are those of the objects that ended with user data, in order (`notes`).
     /// - A run that stopped has both too (`stopped_accounts`).
-    /// - Each part of the run in which bytes arrive, and events are read and finished, hands out what is served of all that
-    ///   arrived, however it was cut (`cutting`).
+    /// - Each part of the run in which bytes arrive, and events are read and finished, hands out the same as if all that
+    ///   arrived had come at once (`cutting`).
     /// - The steps can lead to no other replies, and to no other session after them (`outcome`).
     pub fn replay(&mut self, steps: Vec<Step<U>>) -> Result<Vec<Reply<U>>, Stopped<U>>
         ensures none { steps.items ≡ [] → IsOk result }

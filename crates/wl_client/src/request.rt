@@ -84,7 +84,7 @@ fn first_fault<U: Drop>(
 {
     let mut asked = interfaces;
     for (kind, arg) in signature.iter().zip(args) {
-        // Where the table names no further interface, any object fits.
+        // If the table names no further interface, any object fits.
         let next = asked.first().copied().unwrap_or(ANONYMOUS_INTERFACE);
         if let Some(error) = argument_fault(objects, *kind, next, arg) {
             return Some(error);
@@ -176,7 +176,7 @@ pub(crate) fn check_request<U: Drop>(
     if let Some(error) = refusal(protocol, objects, sender, desc, message, has_data, spec) {
         return Err(error);
     }
-    // As the caller says, or else as the table says, of the sender's version.
+    // What the caller asks for, or else the table's interface with the sender's version.
     let child = match (desc.creates_object(), spec, desc.child_interface) {
         (true, Some(spec), _) => Some(spec),
         (true, None, Some(child)) => Some((child, sender.version)),

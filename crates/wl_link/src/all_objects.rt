@@ -9,7 +9,9 @@ use std::marker::Model;
 /// the server's.
 #[derive(Drop)]
 pub struct AllObjects<'a, Data> {
+    /// The objects of the client's range that are still to come.
     pub(crate) clients: RangeObjects<'a, Data>,
+    /// The objects of the server's range that are still to come.
     pub(crate) servers: RangeObjects<'a, Data>,
 }
 
@@ -45,8 +47,9 @@ impl<'a, Data> Iterator for AllObjects<'a, Data> {
 /// An iterator over the objects of one range, each with its number. The numbers ascend.
 #[derive(Drop)]
 pub(crate) struct RangeObjects<'a, Data> {
+    /// The places of the range that are still to come.
     pub(crate) slots: &'a [Option<Object<Data>>],
-    // The number of the first of `slots`; after the last of all numbers it is 2^32.
+    /// The number of the first of `slots`. After the last number of all it is 2^32.
     pub(crate) number: u64,
 }
 

@@ -169,7 +169,7 @@ impl<T> BufferedSocket<T> {
     ) -> Result<Message<u32, Token>, MessageParseError>
     where
         F: FnOnce(u32, u16) -> Option<&'s [ArgumentType]> + Drop,
-        // It is called only where a header waits.
+        // The closure is called only if a header waits.
         requires { 8 ≤ length self.old.incoming.bytes → F.IsAlwaysCallable signature }
         ensures read { ReadOne (looked_up (F.post signature)) self.old (read_content result) self.new }
         ensures first { ReadTakes (looked_up (F.post signature)) self.old (read_content result) self.new }
@@ -182,7 +182,7 @@ impl<T> BufferedSocket<T> {
         let Some(signature) = signature(header.sender_id, header.opcode) else {
             return Err(MessageParseError::Malformed);
         };
-        // Where a part of the message is missing, no place is made for it.
+        // If a part of the message is missing, no room is made for the message.
         if 8 <= header.len && self.incoming.len() < header.len {
             return Err(MessageParseError::MissingData);
         }
@@ -207,7 +207,7 @@ impl<T> BufferedSocket<T> {
     ) -> Result<(), MessageParseError>
     where
         F: FnOnce(u32, u16) -> Option<&'s [ArgumentType]> + Drop,
-        // It is called only where a header waits.
+        // The closure is called only if a header waits.
         requires callable { 8 ≤ length self.old.incoming.bytes → F.IsAlwaysCallable signature }
         requires inline { INLINE_ARGS ≤ message.old.args.capacity }
         ensures read { ReadOne (looked_up (F.post signature)) self.old (read_into result message.new) self.new }
@@ -325,8 +325,9 @@ impl<T: Transport> BufferedSocket<T> {
     /// Sends what waits to be sent, until no bytes wait.
     ///
     /// Each send is offered the first 4096 bytes that wait, or all if they are fewer, with all the tokens that wait. If
-    /// more than 28 tokens wait, it is offered 1 byte with the first 28 tokens. What a send takes no longer waits. If a
-    /// send takes no bytes, the flush ends with `Ok`; the bytes still wait, but the tokens that were offered are lost.
+    /// more than 28 tokens wait, it is offered 1 byte with the first 28 tokens. The bytes and tokens that a send takes no
+    /// longer wait. If a send takes no bytes, the flush ends with `Ok`; the bytes still wait, but the tokens that were
+    /// offered are lost.
     ///
     /// The error is the fault of the transport, which ends the flush. What was not sent still waits.
     pub fn flush(&mut self) -> Result<(), IoFault>
@@ -375,8 +376,8 @@ impl<T: Transport> BufferedSocket<T> {
     /// - `OutOfMemory` if there is no memory to double the buffer, or for the message's tokens;
     /// - a fault of that flush, but not `WouldBlock`.
     ///
-    /// After an error the message is not written. What the flush sent no longer waits, though, and a buffer that was
-    /// doubled keeps its capacity. If there is no memory to double the buffer, nothing is changed.
+    /// After an error the message is not written. A buffer that was doubled keeps its capacity, though, and the flush may
+    /// have sent something. If there is no memory to double the buffer, nothing is changed.
     pub fn write_message(&mut self, message: &Message<u32, Token>) -> Result<(), IoFault>
         ensures wrote { Wrote T.sends self.old (content message.now) result self.new }
         ensures kept { WriteKeeps T.sends self.old (content message.now) result self.new }

@@ -38,7 +38,7 @@ impl FreeTree {
         ensures reads { reads.new ≡ reads.old + reads_of result (words_of self.now.levels.items) }
         ensures height { HasHeight (words_of self.now.levels.items) }
     {
-        // Up to 64 places have one word, and no level above is asked.
+        // Up to 64 places have one word, and no level above it is read.
         match self.levels.as_slice().split_first() {
             Some((words, _)) if words.len() == 1 => lowest(words, 0, reads),
             _ => least(self.levels.as_slice(), reads),

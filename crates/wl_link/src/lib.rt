@@ -10,10 +10,11 @@
 //! | of a `Transport`, and of `Memory`, the transport by script | `transport`, `memory` | `Exchange`, `Script` |
 //! | of an `ObjectMap`, and of `AllObjects`, the walk over it | `object_map`, `all_objects` | `Store`, `ObjectMap` |
 //!
-//! The functions of [`laws`] do nothing. Their contracts state what follows from the definitions alone. The statements are
-//! in these files of `specs/`: for calls `Kept` (nothing is lost), `Outcome` (there is one outcome) and `Sides` (messages
-//! come back); for readers `Reader`, `Served`, `Respect`, `Total` and `Stretch`; for runs `Runs`; for ids `Identity` and
-//! `Named`.
+//! The `requires` and `ensures` lines of a function are its *contract*: what the caller has to see to, and what is proved
+//! of each call. The functions of [`laws`] do nothing. Their contracts state what follows from the definitions alone. The
+//! statements are in these files of `specs/`: for calls `Kept` (nothing is lost), `Outcome` (there is one outcome) and
+//! `Sides` (messages come back); for readers `Reader`, `Served`, `Respect`, `Total` and `Stretch`; for runs `Runs`; for ids
+//! `Identity` and `Named`.
 #![tactic(auto)]
 
 mod all_objects;

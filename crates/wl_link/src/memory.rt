@@ -200,7 +200,7 @@ impl Transport for Memory {
             (receipt result buffer.new tokens.old.items tokens.new.items) self.new }
         ensures lands { Lands result buffer.old tokens.old.items buffer.new tokens.new.items }
 
-        // What lies behind the bytes that came stays, and where 28 tokens more fit into the queue no memory is wanted.
+        // The rest of the buffer stays as it was. If the queue has the capacity for 28 more tokens, no memory is needed.
         ensures behind { IfOk result (λ n. drop n buffer.new ≡ drop n buffer.old) }
         ensures room { deque_len tokens.old + 28 ≤ deque_capacity tokens.old
             → receipt result buffer.new tokens.old.items tokens.new.items ≡ script_gives self.old (length buffer.old) }

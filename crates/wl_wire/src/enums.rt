@@ -63,6 +63,7 @@ impl<T: WaylandEnum> WEnum<T> {
     }
 }
 
+/// The value that the number stands for, or the number as `Unknown`.
 impl<T: WaylandEnum> From<u32> for WEnum<T> {
     ghost from_gives = { λ n e. (e ≡ read_as T.read n) × (number_of T.number e ≡ n) };
 
@@ -74,6 +75,7 @@ impl<T: WaylandEnum> From<u32> for WEnum<T> {
     }
 }
 
+/// The number again: that of the value, or the unknown one.
 impl<T: WaylandEnum> From<WEnum<T>> for u32 {
     ghost from_gives = { λ e n. n ≡ number_of T.number e };
 
@@ -85,6 +87,7 @@ impl<T: WaylandEnum> From<WEnum<T>> for u32 {
     }
 }
 
+/// The same as `into_result`.
 impl<T: WaylandEnum> From<WEnum<T>> for Result<T, WEnumError> {
     ghost from_gives = { λ e r. IfOk r (λ value. e ≡ Value value) × IfErr r (λ error. e ≡ Unknown error.value) };
 

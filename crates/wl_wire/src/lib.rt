@@ -12,6 +12,9 @@
 //! | `Message::map_ids`, `Message::map_fd` | `map_ids`, `message` | `MapIds`, `MapFd` |
 //! | `WEnum`, `WaylandEnum` | `enums` | `Enum` |
 //!
+//! The `requires` and `ensures` lines of a function are its *contract*: what the caller has to see to, and what is proved
+//! of each call. Lines that begin with `ghost` are for the checker alone.
+//!
 //! The functions of [`laws`] do nothing. Their contracts state what follows from the definitions alone.
 #![tactic(auto)]
 

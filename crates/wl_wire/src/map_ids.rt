@@ -62,7 +62,7 @@ fn number_arguments<Id: Drop, F: FnMut(Id) -> u32 + Drop, G: FnMut(Id) -> u32 + 
     requires room { length old.old.items ≤ args.old.capacity }
     ensures { (f : F) × (g : G) × MapsIds F.step G.step object_id new_id old.old.items args.new.items f g }
 {
-    // The first argument is then the last, which `pop` takes out without moving the others.
+    // After this the first argument comes last: `pop` takes it out without moving the others.
     old.reverse();
     while let Some(arg) = old.pop() {
         let (object_ids, new_ids, numbered) = number_argument(object_id, new_id, arg);

@@ -68,7 +68,7 @@ fn map_arguments<Id: Drop, Fd: Drop, T: Drop, F: FnMut(Fd) -> T + Drop>(
     requires room { length old.old.items ≤ args.old.capacity }
     ensures mapped { (g : F) × MapsFds F.step f old.old.items args.new.items g }
 {
-    // The first argument is then the last, which `pop` takes out without moving the others.
+    // After this the first argument comes last: `pop` takes it out without moving the others.
     old.reverse();
     while let Some(arg) = old.pop() {
         let (next, mapped) = map_argument(f, arg);

@@ -381,7 +381,7 @@ pub fn parse_into<'a>(
     ensures rest { IfOk result (λ rest. rest.now ≡ drop (length_of raw.now) raw.now) }
     ensures tokens { OnOk result (fds.new.items ≡ drop (fd_count signature.now) fds.old.items) }
 
-    // What was written is read, and leaves what follows it.
+    // What was written is read back, and what follows it is left.
     ensures written { (m : WireMessage) (behind : List ℕ) (others : List WireToken) → IsMessage m → Matches signature.now m.args
         → raw.now ≡ spelling m ++ behind → fds.old.items ≡ tokens m.args ++ others
         → MatchResult result (λ rest. (content message.new ≡ m) × (rest.now ≡ behind) × (fds.new.items ≡ others)) (λ e. e ≡ OutOfMemory) }
@@ -427,7 +427,7 @@ pub fn parse_message<'a>(
     ensures rest { IfOk result (λ x. x.1.now ≡ drop (length_of raw.now) raw.now) }
     ensures tokens { OnOk result (fds.new.items ≡ drop (fd_count signature.now) fds.old.items) }
 
-    // What was written is read, and leaves what follows it.
+    // What was written is read back, and what follows it is left.
     ensures written { (m : WireMessage) (behind : List ℕ) (others : List WireToken) → IsMessage m → Matches signature.now m.args
         → raw.now ≡ spelling m ++ behind → fds.old.items ≡ tokens m.args ++ others
         → MatchResult result (λ x. (content x.0 ≡ m) × (x.1.now ≡ behind) × (fds.new.items ≡ others)) (λ e. e ≡ OutOfMemory) }

@@ -192,7 +192,7 @@ fn first_repeat(alloc: Global, interfaces: &[Interface]) -> usize
         match names.insert(name) {
             Ok(true) => {}
             Ok(false) => return at,
-            // A want of memory is no fault of the list.
+            // If there is no memory, that is no fault of the list.
             Err(_) => return search_repeat(interfaces, at),
         }
     }

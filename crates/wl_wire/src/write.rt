@@ -135,7 +135,7 @@ fn put_word(payload: &mut [u8], at: usize, n: u32) -> usize
 /// padding.
 ///
 /// `ending` zeros (none or one) follow the bytes, and count with them. First a word of zeros is written over the last four
-/// bytes, and then the count and the bytes. What is left of that word is the ending and the padding.
+/// bytes, and then the count and the bytes. The rest of that word is the ending and the padding.
 #[inline(never)]
 fn put_counted(payload: &mut [u8], at: usize, bytes: &[u8], ending: usize) -> usize
     requires room { at + counted_len (length bytes.now + ending) ≤ length payload.old }
@@ -482,12 +482,12 @@ pub fn write_to_buffers(
     ensures too_long { (result ≡ Err MessageWriteError.TooLong) ↔ (65535 < size (content message.now)) }
     ensures too_small { (result ≡ Err MessageWriteError.BufferTooSmall) ↔ ((size (content message.now) ≤ 65535) × (length payload.old < size (content message.now))) }
 
-    // Memory is wanted only where the room for the tokens is not there.
+    // No memory is needed if the capacity of `fds` is large enough for the tokens.
     ensures memory { (result ≡ Err MessageWriteError.OutOfMemory) → (vec_capacity fds.old < vec_len fds.old + length (tokens message.now.args.items)) }
     ensures no_tokens { tokens message.now.args.items ≡ [] → result ≢ Err MessageWriteError.OutOfMemory }
     ensures unchanged { OnErr result ((payload.new ≡ payload.old) × (fds.new.items ≡ fds.old.items)) }
 
-    // The room for tokens stays as it was but where a message is written whose tokens do not fit.
+    // The capacity of `fds` changes only if the message is written and its tokens do not fit.
     ensures refused_room { OnErr result (vec_capacity fds.new ≡ vec_capacity fds.old) }
     ensures room { vec_len fds.old + length (tokens message.now.args.items) ≤ vec_capacity fds.old → vec_capacity fds.new ≡ vec_capacity fds.old }
 {

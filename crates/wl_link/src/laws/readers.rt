@@ -4,7 +4,7 @@
 //! that it holds beside the link. A *verdict* is what it decides for a message, for malformed bytes, or for the end of what
 //! is open: the new core, the messages that are *put* (written, one after another, up to the first that fails), and the
 //! events that are handed out. A *reading* is a list of receives and of verdicts that were carried out. A *finish* ends
-//! what is open. What is *served* of some bytes and tokens is what the reader does with them if they have all come at once.
+//! what is open. A reader *serves* bytes and tokens: it handles them as if they had all come at once.
 
 ghost use Rattle.std.specs.Prelude.{◌≡◌, ◌≢◌, ◌<◌, ◌∷◌, ℕ, Bool, false, IsTrue, List, Result, Err};
 ghost use Rattle.wl_wire.specs.declared.error.IoFault.{IoFault};
@@ -24,8 +24,8 @@ ghost use Rattle.wl_link.specs.Sides.{spelled_all};
 
 use crate::transport::Transport;
 
-/// No message that is put is lost. What waited before, followed by the messages that were put, is what the sends took,
-/// followed by what waits after. Tokens that a send dropped count as taken.
+/// No message that is put is lost. The bytes and tokens that waited before, followed by those of the messages that were
+/// put, are the ones that the sends took, followed by those that wait after. Tokens that a send dropped count as taken.
 ///
 /// This holds of messages that are put (`puts`), of a reading, and of a finish.
 pub fn nothing_that_is_put_is_lost<T: Transport, Core, Event, Finish>()
@@ -75,9 +75,9 @@ pub fn readings_respect_what_verdicts_do<T: Transport, Core, Event, Finish>()
 
 /// It does not matter to a reader how bytes and tokens are cut into receives.
 ///
-/// What a reading or an accepted finish gave is the beginning of what is served of the whole stream. The rest of that is
-/// what the reader, as it is after the reading or finish, serves of the rest of the stream. Each receive of the reading
-/// must have brought a byte or have returned `WouldBlock`, and memory must not have been refused.
+/// If the reader serves the whole stream, it first gives what the reading or the accepted finish gave. Then it gives what
+/// the reader as it is after that gives if it serves the rest of the stream. Each receive of the reading must have brought
+/// a byte or have returned `WouldBlock`, and memory must not have been refused.
 ///
 /// The sends may go to any deterministic transport (`reading`, `finish`), or their answers may be given as a list (`told`,
 /// `told_finish`).
@@ -103,7 +103,7 @@ pub fn cutting_does_not_matter_to_a_reader<T: Transport, S: Transport, Core, Eve
         GoesOnAs AsTold reader before nothing es (u ∷ finishes) gave after finishes }
 {}
 
-/// What is served has one outcome, if the sends are deterministic, or their answers are given as a list.
+/// Serving has one outcome, if the sends are deterministic, or their answers are given as a list.
 pub fn what_is_served_has_one_outcome<S: Transport, Core, Event, Finish>()
     ensures transport { IsFunction S.sends → (reader : Reader Core Event Finish) (before x y : ReaderState S Core)
         (finishes : List Finish) (g h : List (Given Event)) → ServedFrom S.sends reader before finishes g x →
@@ -113,7 +113,7 @@ pub fn what_is_served_has_one_outcome<S: Transport, Core, Event, Finish>()
         ServedFrom AsTold reader before finishes h y → (g ≡ h) × (x ≡ y) }
 {}
 
-/// Something is always served, if each verdict of the reader can be carried out and malformed bytes end the reader
+/// A reader can always serve what waits, if each of its verdicts can be carried out and malformed bytes end it
 /// (`transport`, `told`).
 ///
 /// Each verdict can be carried out if the transport answers each send and the outgoing buffer has a capacity above 0
@@ -133,9 +133,9 @@ pub fn something_is_always_served<S: Transport, Core, Event, Finish>()
 /// It does not matter to a stretch how bytes and tokens are cut. A *stretch* is a list of arrivals, readings and finishes
 /// over the transport by script, `Memory`.
 ///
-/// A stretch gives what is served of all that arrived, with the same finishes (`served`). So two stretches with the same
-/// arrivals, joined, and the same finishes give the same and lead to the same (`same`). Each arrival must bring a byte or
-/// be `WouldBlock`, memory must not be refused, and no receive may find the buffer full.
+/// A stretch gives the same as the reader gives if it serves all that arrived, with the same finishes (`served`). So two
+/// stretches with the same arrivals, joined, and the same finishes give the same and lead to the same (`same`). Each
+/// arrival must bring a byte or be `WouldBlock`, memory must not be refused, and no receive may find the buffer full.
 ///
 /// No receive finds the buffer full if each message is no longer than the incoming buffer may become, and its tokens come
 /// no later than its last byte (`within`).
