@@ -85,7 +85,8 @@ impl ObjectId {
         self.interface
     }
 
-    /// The number of the object in the protocol.
+    /// The number of the object in the protocol: 1 to 0xFEFFFFFF if the client made it, 0xFF000000 or more if the server
+    /// made it. It is 0 if the id is null.
     pub fn protocol_id(&self) -> u32
         ensures { result ≡ self.now.number }
     {

@@ -11,31 +11,31 @@ use wl_wire::{InterfaceId, IoFault, Message, OutOfMemory, Token};
 /// A call that changes a session over the transport by script: a call of the session, or one of its transport, `Memory`.
 #[derive(Drop)]
 pub enum Step<U> {
-    /// `Backend::set_data`.
+    /// `Backend::set_data`, with the object and its user data.
     SetData(ObjectId, U),
-    /// `Backend::destroy_object`.
+    /// `Backend::destroy_object`, with the object.
     DestroyObject(ObjectId),
-    /// `Backend::send_request`.
+    /// `Backend::send_request`, with the request, and for a new object its user data, and its interface and version.
     SendRequest(Message<ObjectId, Token>, Option<U>, Option<(InterfaceId, u32)>),
     /// `Backend::flush`.
     Flush,
     /// `Backend::next_event`.
     NextEvent,
-    /// `Backend::finish_event`.
+    /// `Backend::finish_event`, with the user data of the object that the event made.
     FinishEvent(Option<U>),
     /// `Backend::dispatch_inner_queue`.
     DispatchInnerQueue,
-    /// `Backend::set_max_buffer_size`.
+    /// `Backend::set_max_buffer_size`, with the limit in bytes.
     SetMaxBufferSize(Option<usize>),
     /// `Backend::take_notes`.
     TakeNotes,
-    /// `Memory::arrive`.
+    /// `Memory::arrive`, with the bytes and tokens that a receive will give.
     Arrive(Vec<u8>, Vec<Token>),
-    /// `Memory::arrive_fault`.
+    /// `Memory::arrive_fault`, with the fault that a receive will return.
     ArriveFault(IoFault),
-    /// `Memory::accept`.
+    /// `Memory::accept`, with the number of bytes that a send will take.
     Accept(usize),
-    /// `Memory::accept_fault`.
+    /// `Memory::accept_fault`, with the fault that a send will return.
     AcceptFault(IoFault),
     /// `Memory::take_sent`.
     TakeSent,

@@ -1,8 +1,9 @@
 //! A buffered connection to a peer, and the objects of a session by number.
 //!
 //! A [`BufferedSocket`] is a *link*: it keeps what waits to be sent and what was received, writes and reads messages, and
-//! sends and receives over a [`Transport`]. An [`ObjectMap`] keeps the objects of a session. A *token* is a number that
-//! stands for a file descriptor. The page of this crate, `README.md`, has an example.
+//! sends and receives over a [`Transport`]. An [`ObjectMap`] keeps the objects of a session. Both stand for the types of
+//! the same names in the pure Rust backend of `wayland-backend`. A *token* is a number that stands for a file descriptor.
+//! The page of this crate, `README.md`, has an example.
 //!
 //! | Calls | Code | Definitions, in `specs/` |
 //! |---|---|---|

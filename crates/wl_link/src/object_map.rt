@@ -49,7 +49,7 @@ pub enum NewError {
 }
 
 /// The objects of a session, by number. The *client's range* is 1 to 0xFEFFFFFF, for the objects that the client makes. The
-/// *server's range* is 0xFF000000 to 0xFFFFFFFF, for those that the server makes.
+/// *server's range* is 0xFF000000 to 0xFFFFFFFF, for those that the server makes. The Wayland protocol has these ranges.
 ///
 /// A new object gets the least number of its range that holds no object. It is looked up in a tree of words. The search
 /// reads one word more each time that there are 64 times as many objects; apart from that its time does not grow with them.

@@ -2,7 +2,9 @@
 //!
 //! [`write_to_buffers`] writes a [`Message`]. [`parse_message`] reads one under a signature, which is the list of the types
 //! of its arguments. A [`Protocol`] is the table of the interfaces that a session knows; the signatures stand there. The
-//! page of this crate, `README.md`, has an example.
+//! format is the one that the Wayland documentation describes in the section "Wire Format"; numbers are little-endian on
+//! every machine. Types and constants that are also in `wayland_backend::protocol` have the same names here: `Message`,
+//! `Argument`, `Interface` and others. The page of this crate, `README.md`, has an example.
 //!
 //! | Calls | Code | Definitions, in `specs/` |
 //! |---|---|---|
