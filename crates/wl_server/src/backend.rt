@@ -29,17 +29,25 @@ use wl_wire::Protocol;
 /// killed.
 #[derive(Drop)]
 pub struct Backend<T, U, G, C> {
+    /// The table of interfaces.
     pub(crate) protocol: Protocol,
+    /// The globals by name.
     pub(crate) globals: ObjectMap<KeptGlobal<G>>,
+    /// The serial of the global that was created last; 0 if none was.
     pub(crate) last_global: u64,
+    /// How far the buffers of new clients may grow, in bytes.
     pub(crate) default_limit: usize,
+    /// The serial of the client that was inserted last; 0 if none was.
     pub(crate) last_client: u64,
     /// The clients by slot, which is an index of 32 bits. `None` is a free slot.
     pub(crate) clients: Vec<Option<Client<T, U, C>>>,
     /// The first slot that may be free: each slot below it has a client. The search for a free slot begins here.
     pub(crate) free_from: usize,
+    /// The notes that are gathered and not taken by the program yet, the oldest first.
     pub(crate) notes: Vec<Note<U>>,
+    /// The numbers that the next notes get.
     pub(crate) numbers: NoteNumbers,
+    /// What `memory_refused` answers.
     pub(crate) refused: bool,
     /// The message that is being read. It is kept here so that its memory is used again.
     pub(crate) place: MessagePlace,
