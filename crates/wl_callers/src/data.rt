@@ -6,7 +6,7 @@ ghost use Rattle.wl_server.specs.Lookups.{object_of};
 use wl_link::Transport;
 use wl_server::{Backend, GlobalHandler, InvalidId, ObjectId};
 
-/// Sets the data of an object to this count, and answers what is read back. The error is `InvalidId` if the id names no
+/// Sets the data of an object to this count, and returns what is read back. The error is `InvalidId` if the id names no
 /// object.
 pub fn set_count<T: Transport + Drop, G: GlobalHandler<C> + Drop, C: Drop>(
     server: &mut Backend<T, u32, G, C>,

@@ -11,8 +11,8 @@ use wl_wire::OutOfMemory;
 
 /// Kills a client, and takes out the clients that are killed, with their transports.
 ///
-/// A client that was stored is in the answer once, with its transport, to which what waited was flushed. It is no longer
-/// stored. A client that was not stored is not in the answer. The error is `OutOfMemory`.
+/// A client that was stored is in the result once, with its transport, to which what waited was flushed. It is no longer
+/// stored. A client that was not stored is not in the result. The error is `OutOfMemory`.
 pub fn disconnect<T: Transport + Drop, U: Drop, G: GlobalHandler<C> + Drop, C: Drop>(
     server: &mut Backend<T, U, G, C>,
     client: &ClientId,

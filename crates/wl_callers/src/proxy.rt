@@ -18,7 +18,7 @@ use wl_wire::{Message, Token};
 /// - `EventOpen`: the last event that was appended could not be finished, for instance because it makes an object. Or an
 ///   event was open before the call.
 /// - `OutOfMemory`: memory ran out.
-/// - Any other error of `next_event`, except `WouldBlock`: if no more events are there, the answer is `Ok`.
+/// - Any other error of `next_event`, except `WouldBlock`: if no more events are there, the call returns `Ok`.
 pub fn hand_on<T: Transport + Drop, U: Drop>(
     client: &mut Backend<T, U>,
     most: u32,

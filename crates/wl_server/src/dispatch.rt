@@ -2,6 +2,7 @@
 //!
 //! An *action* is a request or a bind that the program has to do something about (`Action`). The handler's answer
 //! finishes it.
+//! A client is *stored* from its insertion until `Backend::cleanup` takes it out.
 
 ghost use Rattle.std.specs.Prelude.{◌≡◌, false};
 ghost use Rattle.wl_server.specs.Dispatch.{DispatchesAll, DispatchesClient, answering, behind_cleanup, total_with};
@@ -48,8 +49,10 @@ impl<T: Transport + Drop, U: Drop, G: GlobalHandler<C> + Drop, C: Drop> Backend<
     /// their transports.
     ///
     /// It stands for `wayland_backend::server::Backend::dispatch_single_client`. It receives from the client's transport
-    /// at most 64 times. The answer is how many requests were read, including those that the server answered by itself.
-    /// It is at least 1. It is given if the reading ended with `WouldBlock`, so more may come later.
+    /// at most 64 times.
+    ///
+    /// Returns how many requests were read, including those that the server answered by itself. This number is at least
+    /// 1. It is returned only if the reading ended with `WouldBlock`, so more may come later.
     ///
     /// # Errors
     ///
@@ -59,12 +62,12 @@ impl<T: Transport + Drop, U: Drop, G: GlobalHandler<C> + Drop, C: Drop> Backend<
     /// - `Pipe`: the client was killed or broke the protocol.
     /// - `OutOfMemory`: memory ran out while reading, while finishing an action, or in the cleanup. An action that could
     ///   not be finished stays open, and the user data that the handler gave for it are dropped.
-    /// - Any other fault that ended the reading, as `next_action` answers it.
+    /// - Any other fault that ended the reading, as `next_action` returns it.
     ///
     /// After the call `memory_refused` tells of the calls that the dispatch itself makes, and not of those that the
     /// handler makes.
     ///
-    /// A dispatch is a run of calls of the server, so all laws of such runs hold of it.
+    /// A dispatch is a run of calls of the server, so all laws of such runs hold of it (`laws`).
     pub fn dispatch_single_client<H: Handler<T, U, G, C>>(
         &mut self,
         handler: &mut H,
@@ -81,8 +84,10 @@ impl<T: Transport + Drop, U: Drop, G: GlobalHandler<C> + Drop, C: Drop> Backend<
     /// once, at the end.
     ///
     /// It stands for `wayland_backend::server::Backend::dispatch_all_clients`. Each client's transport receives at most
-    /// 64 times. The answer is the sum of the clients' counts, which saturates at `usize::MAX`. A client's error counts
-    /// as 0 and is not told. The only error is `OutOfMemory`, if there was no memory for the cleanup.
+    /// 64 times.
+    ///
+    /// Returns the sum of the clients' counts, which saturates at `usize::MAX`. A client's error counts as 0 and is not
+    /// told. The only error is `OutOfMemory`, if there was no memory for the cleanup.
     pub fn dispatch_all_clients<H: Handler<T, U, G, C>>(
         &mut self,
         handler: &mut H,
@@ -98,9 +103,9 @@ impl<T: Transport + Drop, U: Drop, G: GlobalHandler<C> + Drop, C: Drop> Backend<
         self.end_dispatch(Ok(total))
     }
 
-    /// Takes out the clients that were killed, and drops their transports. The answer is the given one, or `OutOfMemory`
-    /// if there was no memory for that. Afterwards `memory_refused` tells of this cleanup and of the dispatch's calls
-    /// before it.
+    /// Takes out the clients that were killed, and drops their transports. Returns the given answer, or `OutOfMemory` if
+    /// there was no memory for that. Afterwards `memory_refused` tells of this cleanup and of the dispatch's calls before
+    /// it.
     fn end_dispatch(&mut self, answer: Result<usize, IoFault>) -> Result<usize, IoFault>
         ensures { CleansUp (over T.sends T.receives G.views) self.old answer result self.new }
     {

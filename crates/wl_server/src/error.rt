@@ -2,6 +2,8 @@
 //!
 //! If several reasons for a refusal hold at once, the first one in the order of the variants is answered, unless the call
 //! says otherwise.
+//! A client is *stored* from its insertion until `Backend::cleanup` takes it out. The *slot* of a client is its index in
+//! the server's list of clients.
 
 use std::fmt;
 use thiserror::Error;

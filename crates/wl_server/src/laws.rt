@@ -4,9 +4,13 @@
 //!
 //! - A *run* is a list of calls, one after another. Changes of a transport through `transport_mut` may be among them.
 //!   Most laws are about each run of a new server (`Backend::new`).
+//! - A client is *stored* from its insertion until `Backend::cleanup` takes it out. It is *live* as long as it is stored
+//!   and not killed.
 //! - A *shared* call is about no single client: for instance `create_global` or `cleanup`.
+//! - A *note* tells the program what happened to a client or an object (`Note`).
 //! - The *deeds* with a client are what a call does with it: what is sent and received, which messages are put into its
 //!   buffer, which actions are handed out, which objects with user data leave, and which notes are made.
+//! - A *token* stands for a file descriptor.
 //! - The *transport by script* is `wl_link::Memory`, whose answers are given beforehand.
 //!
 //! A clause whose name begins with `script` is about steps with their replies, over the transport by script. It says of

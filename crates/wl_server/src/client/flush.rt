@@ -1,4 +1,6 @@
 //! Sends what waits in the buffers of clients.
+//! A client is *stored* from its insertion until `Backend::cleanup` takes it out. It is *live* as long as it is stored
+//! and not killed. The *slot* of a client is its index in the server's list of clients.
 
 ghost use Rattle.std.specs.Prelude.{◌≡◌, ℕ, length};
 ghost use Rattle.wl_link.specs.Puts.{lacked_memory};
@@ -30,7 +32,7 @@ impl<T: Transport + Drop, U: Drop, C: Drop> Client<T, U, C> {
 }
 
 /// Sends what waits for the client of a slot: only if it is killed, or only if it is live, as `killed` says. A fault is
-/// dropped. The answer is whether memory was refused.
+/// dropped. Returns whether memory was refused.
 fn flush_at<T: Transport + Drop, U: Drop, C: Drop>(
     client: &mut Option<Client<T, U, C>>,
     killed: bool,
@@ -46,8 +48,8 @@ fn flush_at<T: Transport + Drop, U: Drop, C: Drop>(
     }
 }
 
-/// Sends what waits for each killed client, or for each live one, as `killed` says. Faults are dropped. The answer is
-/// whether memory was refused.
+/// Sends what waits for each killed client, or for each live one, as `killed` says. Faults are dropped. Returns whether
+/// memory was refused.
 pub fn flush_each<T: Transport + Drop, U: Drop, C: Drop>(
     clients: &mut Vec<Option<Client<T, U, C>>>,
     killed: bool,
@@ -64,18 +66,18 @@ pub fn flush_each<T: Transport + Drop, U: Drop, C: Drop>(
 impl<T: Transport + Drop, U: Drop, G: GlobalHandler<C> + Drop, C: Drop> Backend<T, U, G, C> {
     /// Sends what waits for the client, as far as its transport takes it. It does so for a killed client, too.
     ///
-    /// It stands for `wayland_backend::server::Backend::flush`. The answer is `Ok` in these cases:
+    /// It stands for `wayland_backend::server::Backend::flush`. It returns `Ok` in these cases:
     ///
-    /// - All bytes were sent. If there were more than 28 tokens for each byte, the tokens beyond that number still wait. A
-    ///   *token* stands for a file descriptor.
+    /// - All bytes were sent. If there were more than 28 tokens for each byte, the tokens beyond that number still wait.
+    ///   A *token* stands for a file descriptor.
     /// - The transport answered 0 to a send. Then the rest still waits, but the tokens that this send was offered are
     ///   gone.
     /// - The client is not stored. Then there is nothing to send.
     ///
-    /// Else the answer is the transport's fault, and what was not sent still waits.
+    /// Otherwise the error is the transport's fault, and what was not sent still waits.
     ///
-    /// If `client` is `None`, it sends what waits for each live client. A fault of one of them is dropped, and the answer
-    /// is `Ok`.
+    /// If `client` is `None`, it sends what waits for each live client. A fault of one of them is dropped, and the call
+    /// returns `Ok`.
     pub fn flush(&mut self, client: Option<ClientId>) -> Result<(), IoFault>
         ensures call { Calls (over T.sends T.receives G.views) self.old (step.Flush client) (reply.Flush result) self.new }
         ensures plain { FlushesClients T.sends self.old client result self.new }

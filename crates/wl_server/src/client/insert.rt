@@ -1,4 +1,6 @@
 //! New clients.
+//! The *slot* of a client is its index in the server's list of clients. A *note* tells the program what happened to a
+//! client or an object (`Note`).
 
 ghost use Rattle.std.specs.Prelude.{◌≡◌, ℕ, ◌<◌, ◌≤◌, None, Some, IfOk, OnErr, OnOk, IsSome, ◌∷◌, [], map, MatchOption, length, vec_capacity, vec_len};
 ghost use Rattle.std.specs.VecDeque.{deque_capacity, deque_len};
@@ -61,7 +63,7 @@ fn first_parts<T: Drop, U: Drop>(
     ensures room { IfOk result (λ parts. deque_len parts.2.queue < deque_capacity parts.2.queue) }
 {
     let socket = BufferedSocket::new(alloc, transport, Some(max_buffer_size))?;
-    // Last, since it uses up a note's number, which no refusal does.
+    // This is last because it uses up the number of a note, and an error must not use up one.
     let (objects, made) = first_lists(alloc, numbers)?;
     Ok((socket, objects, made))
 }
@@ -179,7 +181,7 @@ fn put_new<T: Drop, U: Drop, C: Drop>(
 }
 
 impl<T: Transport + Drop, U: Drop, G: GlobalHandler<C> + Drop, C: Drop> Backend<T, U, G, C> {
-    /// Inserts a new client with this transport and this data of the program, and answers its id.
+    /// Inserts a new client with this transport and this data of the program, and returns its id.
     ///
     /// It stands for `wayland_backend::server::Handle::insert_client`. The client gets the least free slot and the next
     /// serial. It has one object, the display, with number 1. Its buffers may grow up to the limit for new clients

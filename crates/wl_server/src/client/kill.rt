@@ -1,4 +1,6 @@
 //! The killing of a client.
+//! A client is *stored* from its insertion until `Backend::cleanup` takes it out. A *note* tells the program what
+//! happened to a client or an object (`Note`).
 
 ghost use Rattle.std.specs.Prelude.{◌≡◌, MatchResult};
 ghost use Rattle.wl_link.specs.Puts.{lacked_memory};
@@ -33,8 +35,8 @@ impl<T: Drop, U: Drop, C: Drop> Client<T, U, C> {
         self.made.push(numbers, Happening::Disconnected(reason));
     }
 
-    /// Kills the client as one whose connection is closed, if a write to it was answered by a fault. The answer is
-    /// whether memory was refused.
+    /// Kills the client with the reason `ConnectionClosed`, if a write to it was answered by a fault. Returns whether
+    /// memory was refused.
     pub fn kill_unless_written(
         &mut self,
         numbers: &mut NoteNumbers,

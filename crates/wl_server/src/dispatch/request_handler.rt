@@ -30,7 +30,7 @@ pub trait Handler<T: Transport, U, G: GlobalHandler<C>, C> {
 
     ghost binds: { Self → BackendState T U G C → ClientParts → GlobalParts → IdParts → U → Self → BackendState T U G C → Type 0 };
 
-    /// Handles a request. The answer is the user data of the object that the request made, if it made one.
+    /// Handles a request. Returns the user data of the object that the request made, if it made one.
     ///
     /// `sender` is the object that the request was sent to. `opcode` is the index of the request among those of the
     /// sender's interface. `args` are its arguments, in order. `created` is the object that the request made, if it made
@@ -47,7 +47,7 @@ pub trait Handler<T: Transport, U, G: GlobalHandler<C>, C> {
         ensures answers { requests self.old backend.old client.now sender opcode args.items created result self.new backend.new }
         ensures reached { Reached (over T.sends T.receives G.views) client.now backend.old.server backend.new.server };
 
-    /// Handles a bind: the client bound the new object `object` to the global. The answer is the object's user data.
+    /// Handles a bind: the client bound the new object `object` to the global. Returns the object's user data.
     fn bind(
         &mut self,
         backend: &mut Backend<T, U, G, C>,

@@ -46,8 +46,7 @@ fn answer_of(fault: IoFault, read: usize) -> Result<usize, IoFault>
 }
 
 impl<T: Transport + Drop, U: Drop, G: GlobalHandler<C> + Drop, C: Drop> Backend<T, U, G, C> {
-    /// Calls the handler with the action, and finishes the action with its answer. The answer is the error if that is
-    /// refused.
+    /// Calls the handler with the action, and finishes the action with its answer. Returns the error if that is refused.
     fn handle<H: Handler<T, U, G, C>>(
         &mut self,
         handler: &mut H,
@@ -89,8 +88,8 @@ impl<T: Transport + Drop, U: Drop, G: GlobalHandler<C> + Drop, C: Drop> Backend<
         self.refused = refused;
     }
 
-    /// Reads the client's next action, and handles it. The answer is the fault that ends the dispatch, if one does.
-    /// Afterwards `memory_refused` tells of all calls of the dispatch so far.
+    /// Reads the client's next action, and handles it. Returns the fault that ends the dispatch, if one does. Afterwards
+    /// `memory_refused` tells of all calls of the dispatch so far.
     fn serve_action<H: Handler<T, U, G, C>>(
         &mut self,
         handler: &mut H,
@@ -116,8 +115,8 @@ impl<T: Transport + Drop, U: Drop, G: GlobalHandler<C> + Drop, C: Drop> Backend<
         }
     }
 
-    /// Reads and handles the client's actions until a receive was made. The answer is the fault that ends the dispatch
-    /// before that, if one does.
+    /// Reads and handles the client's actions until a receive was made. Returns the fault that ends the dispatch before
+    /// that, if one does.
     fn serve_some<H: Handler<T, U, G, C>>(
         &mut self,
         handler: &mut H,
@@ -137,8 +136,8 @@ impl<T: Transport + Drop, U: Drop, G: GlobalHandler<C> + Drop, C: Drop> Backend<
         }
     }
 
-    /// Reads and handles the client's actions, until none is handed out or one cannot be finished. The answer is that of
-    /// the dispatch of this client, without the cleanup.
+    /// Reads and handles the client's actions, until none is handed out or one cannot be finished. Returns what the
+    /// dispatch of this client returns if the cleanup succeeds.
     pub(crate) fn serve<H: Handler<T, U, G, C>>(
         &mut self,
         handler: &mut H,

@@ -1,4 +1,6 @@
 //! Errors that are posted on objects.
+//! A client is *stored* from its insertion until `Backend::cleanup` takes it out. It is *live* as long as it is stored
+//! and not killed. A *note* tells the program what happened to a client or an object (`Note`).
 
 ghost use Rattle.std.specs.Prelude.{◌≡◌, IsSome, true, false};
 ghost use Rattle.wl_link.specs.Link.{Wrote};
@@ -31,9 +33,9 @@ impl<T: Transport + Drop, U: Drop, C: Drop> Client<T, U, C> {
     /// Posts an error on an object, and kills the client.
     ///
     /// The client is told of the error if it is live and the object is there. Then what waits is flushed, also if that
-    /// failed. Then the client is killed: for the error, or as one whose connection is closed if it could not be told. If
-    /// there is no memory for the texts of the error, nothing is told or flushed, and the client is killed as one whose
-    /// connection is closed. The answer is whether memory was refused.
+    /// failed. Then the client is killed: for the error, or with the reason `ConnectionClosed` if it could not be told.
+    /// If there is no memory for the texts of the error, nothing is told or flushed, and the client is killed with the
+    /// reason `ConnectionClosed`. Returns whether memory was refused.
     pub fn posts(
         &mut self,
         protocol: &Protocol,
@@ -61,8 +63,8 @@ impl<T: Transport + Drop, U: Drop, C: Drop> Client<T, U, C> {
         }
     }
 
-    /// Posts an error on an object, as the program asks. A null id is of no object, and nothing is done. The answer is
-    /// whether memory was refused.
+    /// Posts an error on an object, as the program asks. A null id is of no object, and nothing is done. Returns whether
+    /// memory was refused.
     pub fn post_error(
         &mut self,
         protocol: &Protocol,
@@ -94,7 +96,7 @@ impl<T: Transport + Drop, U: Drop, C: Drop> Client<T, U, C> {
         put_error(alloc, &mut self.socket, id.protocol_id(), code, text)
     }
 
-    /// Flushes what waits. A fault of that is dropped. The answer is whether memory was refused.
+    /// Flushes what waits. A fault of that is dropped. Returns whether memory was refused.
     fn flush_dropped(&mut self) -> bool
         ensures flushed { (es : _) × FlushesOut T.sends true self.old.part.link es result self.new.part.link }
         ensures rest { self.new ≡ record self.old { part = with_link self.old.part self.new.part.link } }

@@ -1,4 +1,5 @@
 //! The sending of an event.
+//! A *note* tells the program what happened to a client or an object (`Note`).
 
 ghost use Rattle.std.specs.Prelude.{◌≡◌, ◌<◌, ◌++◌, IfSome, OnErr, OnOk, Some, map};
 ghost use Rattle.std.specs.VecDeque.{deque_capacity, deque_len};
@@ -68,8 +69,8 @@ fn end_sender<U: Drop>(
     }
 }
 
-/// Tells the client that the number is free again, if an event was written that ends the object of this number. The
-/// answer is that of the write that failed, if one did.
+/// Tells the client that the number is free again, if an event was written that ends the object of this number. Returns
+/// the fault of the write that failed, if one did.
 fn put_end<T: Transport>(
     alloc: Global,
     socket: &mut BufferedSocket<T>,
@@ -88,8 +89,8 @@ fn put_end<T: Transport>(
 
 impl<T: Transport + Drop, U: Drop, C: Drop> Client<T, U, C> {
     /// Tells the client that the object of this number is gone, if the event that was written ends it. If the event could
-    /// not be written, or the client could not be told, the client is killed as one whose connection is closed. The
-    /// answer is whether memory was refused.
+    /// not be written, or the client could not be told, the client is killed with the reason `ConnectionClosed`. Returns
+    /// whether memory was refused.
     fn tell_end(
         &mut self,
         numbers: &mut NoteNumbers,
@@ -187,16 +188,16 @@ impl<T: Transport + Drop, U: Drop, G: GlobalHandler<C> + Drop, C: Drop> Backend<
 
     /// Puts the event after what waits to be sent to the client of its sender.
     ///
-    /// It stands for `wayland_backend::server::Handle::send_event`. To a killed client nothing is sent, and the answer is
-    /// `Ok`, whatever the event.
+    /// It stands for `wayland_backend::server::Handle::send_event`. To a killed client nothing is sent, and the call
+    /// returns `Ok`, whatever the event.
     ///
     /// A destructor event ends its sender: the object is destroyed. If it had user data, a note of its end waits for the
     /// next cleanup. If its number is one of the client's own, the client is told by `wl_display.delete_id` that the
     /// number is free again.
     ///
     /// If the write fails for another reason than memory (`TooBig`, if the event is too long), or the client cannot be
-    /// told of the free number, the answer is `Ok` and the client is killed as one whose connection is closed. A sender
-    /// that the event ends is destroyed in this case, too.
+    /// told of the free number, the call returns `Ok` and the client is killed with the reason `ConnectionClosed`. A
+    /// sender that the event ends is destroyed in this case, too.
     ///
     /// # Errors
     ///

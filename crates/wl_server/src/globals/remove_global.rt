@@ -1,4 +1,5 @@
 //! The calls that withdraw a global.
+//! A client is *live* if it is not killed. The *slot* of a client is its index in the server's list of clients.
 
 ghost use Rattle.std.specs.Prelude.{◌≡◌, ℕ, length};
 ghost use Rattle.wl_link.specs.Identity.{names};
@@ -33,8 +34,8 @@ fn is_enabled<G: Drop>(globals: &ObjectMap<KeptGlobal<G>>, id: &GlobalId) -> boo
     }
 }
 
-/// Tells the client of a slot, if it is live, by `wl_registry.global_remove` that the global of that name is gone. The
-/// answer is whether memory was refused.
+/// Tells the client of a slot, if it is live, by `wl_registry.global_remove` that the global of that name is gone.
+/// Returns whether memory was refused.
 fn tell_loss_at<T: Transport + Drop, U: Drop, C: Drop>(
     client: &mut Option<Client<T, U, C>>,
     numbers: &mut NoteNumbers,
@@ -53,8 +54,8 @@ fn tell_loss_at<T: Transport + Drop, U: Drop, C: Drop>(
     }
 }
 
-/// Tells each live client by `wl_registry.global_remove` that the global of that name is gone. The answer is whether
-/// memory was refused.
+/// Tells each live client by `wl_registry.global_remove` that the global of that name is gone. Returns whether memory was
+/// refused.
 fn tell_loss<T: Transport + Drop, U: Drop, C: Drop>(
     clients: &mut [Option<Client<T, U, C>>],
     numbers: &mut NoteNumbers,

@@ -1,4 +1,7 @@
 //! The cleanup: takes out the clients that were killed, and makes the notes that waited for it.
+//!
+//! The *slot* of a client is its index in the server's list of clients. The page of the module `notes` explains what
+//! notes are, and which of them are made, wait, or are gathered.
 
 ghost use Rattle.std.specs.Prelude.{◌≡◌, ℕ, ◌+◌, ◌++◌, ◌<◌, ◌≤◌, [], length, true, IfOk, OnErr, OnOk};
 ghost use Rattle.std.specs.Vec.{vec_capacity, vec_len};
@@ -25,7 +28,7 @@ use wl_link::Transport;
 use wl_wire::OutOfMemory;
 
 impl<T: Drop, U: Drop, C: Drop> Client<T, U, C> {
-    /// Drops all of the client but its transport, and answers that.
+    /// Drops all of the client but its transport, and returns that.
     fn into_transport(self) -> T
         ensures { result ≡ self.part.link.transport }
     {
@@ -196,7 +199,7 @@ pub fn memory_for<T: Drop, U: Drop, C: Drop>(
 }
 
 /// Flushes the killed clients, gathers all notes, and takes the killed clients out. No note waits any more, so the
-/// numbers of the notes that wait begin at 0 again. The answer is whether a flush ran out of memory.
+/// numbers of the notes that wait begin at 0 again. Returns whether a flush ran out of memory.
 fn clean_up<T: Transport + Drop, U: Drop, C: Drop>(
     clients: &mut Vec<Option<Client<T, U, C>>>,
     notes: &mut Vec<Note<U>>,
@@ -220,8 +223,8 @@ fn clean_up<T: Transport + Drop, U: Drop, C: Drop>(
 }
 
 impl<T: Transport + Drop, U: Drop, G: GlobalHandler<C> + Drop, C: Drop> Backend<T, U, G, C> {
-    /// Takes out the clients that were killed, and makes the notes that waited for a cleanup. The answer is the clients
-    /// that were taken out, by ascending slot, with their transports.
+    /// Takes out the clients that were killed, and makes the notes that waited for a cleanup. Returns the clients that
+    /// were taken out, by ascending slot, with their transports.
     ///
     /// What waits for such a client is sent before, as far as its transport takes it. A fault of that is dropped. A note
     /// is made of the end of each of its objects that has user data, by ascending number. The slot of the client is free

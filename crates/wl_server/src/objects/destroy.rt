@@ -1,4 +1,6 @@
 //! Objects that the program destroys.
+//! A client is *stored* from its insertion until `Backend::cleanup` takes it out. A *note* tells the program what
+//! happened to a client or an object (`Note`).
 
 ghost use Rattle.std.specs.Prelude.{◌≡◌, ◌==◌, if◌then◌else◌, None, option_copied};
 ghost use Rattle.wl_server.specs.Backend.{Calls};
@@ -81,8 +83,8 @@ impl<T: Transport + Drop, U: Drop, G: GlobalHandler<C> + Drop, C: Drop> Backend<
     /// own, the client is told by `wl_display.delete_id` that the number is free again. If the object had user data, a
     /// note of its end waits for the next cleanup.
     ///
-    /// If the client cannot be told, it is killed as one whose connection is closed. The object is destroyed all the
-    /// same, and the answer is `Ok`.
+    /// If the client cannot be told, it is killed with the reason `ConnectionClosed`. The object is destroyed all the
+    /// same, and the call returns `Ok`.
     ///
     /// # Errors
     ///

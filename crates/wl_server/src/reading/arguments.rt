@@ -56,7 +56,7 @@ fn object_argument<U: Drop>(
     Ok(id_at(&client, number, object))
 }
 
-/// Makes an object of a client with this number, and answers its id. It is `None` if the client may not use the number
+/// Makes an object of a client with this number, and returns its id. It is `None` if the client may not use the number
 /// for a new object, or if no serial is left. Then nothing is changed.
 pub fn make_object<U: Drop>(
     client: ClientId,
@@ -181,7 +181,7 @@ fn convert_one<U: Drop>(
     }
 }
 
-/// Converts the arguments of a request, from left to right, and answers the object that the request makes. `args` has
+/// Converts the arguments of a request, from left to right, and returns the object that the request makes. `args` has
 /// them in reverse order, and they are taken out of it.
 pub fn convert<U: Drop>(
     client: ClientId,

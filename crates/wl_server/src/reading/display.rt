@@ -25,7 +25,7 @@ use wl_wire::{Argument, Message, Token, WL_CALLBACK_INTERFACE, WL_REGISTRY_INTER
 /// The opcode of `wl_display.sync`.
 const SYNC: u16 = 0;
 
-/// Handles a request to a display, and answers what is still to be done for it.
+/// Handles a request to a display, and returns what is still to be done for it.
 pub fn display_request<'m, U: Drop, G: GlobalHandler<C>, C>(
     around: &Surroundings<'_, G>,
     info: &C,

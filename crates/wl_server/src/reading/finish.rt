@@ -1,4 +1,6 @@
 //! Finishes an action that was handed out.
+//! A client is *stored* from its insertion until `Backend::cleanup` takes it out. A *note* tells the program what
+//! happened to a client or an object (`Note`).
 
 ghost use Rattle.std.specs.Prelude.{◌≡◌, ◌+◌, ◌<◌, ◌≤◌, ◌++◌, IsSome, Some, OnErr, OnOk, false, is_some, true, map, option_copied};
 ghost use Rattle.std.specs.VecDeque.{deque_capacity, deque_len};
@@ -107,7 +109,7 @@ fn take_out_made<U: Drop>(
 
 impl<T: Transport + Drop, U: Drop, C: Drop> Client<T, U, C> {
     /// Destroys the sender of a request, if the request is a destructor and the object is there: tells the client that
-    /// the number is free, takes the object out, and makes a note of that if it had user data. The inner answer is that
+    /// the number is free, takes the object out, and makes a note of that if it had user data. The inner result is that
     /// of telling the client. If there is no memory for the note or for telling the client, the object stays.
     fn end_sender(
         &mut self,
@@ -241,7 +243,7 @@ impl<T: Transport + Drop, U: Drop, G: GlobalHandler<C> + Drop, C: Drop> Backend<
     ///
     /// If the request is a destructor, its sender is destroyed, if that is still there: if its number is one of the
     /// client's own, the client is told by `wl_display.delete_id` that the number is free again, and if it has user data,
-    /// a note is made of its end. If the client cannot be told, it is killed as one whose connection is closed, and the
+    /// a note is made of its end. If the client cannot be told, it is killed with the reason `ConnectionClosed`, and the
     /// action is finished all the same.
     ///
     /// # Errors

@@ -85,8 +85,8 @@ fn make_room<T: Drop, U: Drop>(
     Ok(())
 }
 
-/// Takes the message at the front off the incoming buffer. Its sender and its opcode are those of the header. The answer
-/// is what the table says of it.
+/// Takes the message at the front off the incoming buffer. Its sender and its opcode are those of the header. Returns the
+/// description of the request in the table.
 ///
 /// There is room then for what becomes of it: for its arguments in `converted`, which is emptied, and for the object that
 /// it may make in the map and among the registries.

@@ -1,4 +1,5 @@
 //! A reading: handles messages, and receives more if no whole message waits.
+//! A client is *stored* from its insertion until `Backend::cleanup` takes it out.
 
 ghost use Rattle.std.specs.Prelude.{◌≡◌, ◌≤◌, Result, option_map};
 ghost use Rattle.wl_server.specs.declared.error.ActionError.{ActionError as ActionErrorOf};
@@ -62,7 +63,7 @@ impl<T: Transport + Drop, U: Drop, C: Drop> Client<T, U, C> {
         ensures place { INLINE_ARGS ≤ message.new.args.capacity }
         ensures inline { INLINE_ARGS ≤ args.new.capacity }
     {
-        // That the count is a number of 64 bits is known of this.
+        // The proof learns from this that the count is a number of 64 bits.
         let _read = reading.read;
         loop {
             match self.turn(numbers, around, reading, message, found, args) {
@@ -74,8 +75,8 @@ impl<T: Transport + Drop, U: Drop, C: Drop> Client<T, U, C> {
         }
     }
 
-    /// Receives once. The answer is why the reading ends, if it does. The client is killed as one whose connection is
-    /// closed by a fault other than `WouldBlock` and `OutOfMemory`.
+    /// Receives once. Returns why the reading ends, if it does. The client is killed with the reason `ConnectionClosed`
+    /// by a fault other than `WouldBlock` and `OutOfMemory`.
     fn receive(&mut self, numbers: &mut NoteNumbers) -> Option<NoAction>
         ensures { Fills T.receives self.old result self.new }
     {
@@ -118,7 +119,7 @@ impl<T: Transport + Drop, U: Drop, C: Drop> Client<T, U, C> {
         ensures ends { EndsAs T.sends T.receives (around_of G.views around.now) self.old reading.old (action_of result found.new args.new.items) self.new reading.new }
         ensures place { INLINE_ARGS ≤ message.new.args.capacity }
     {
-        // That the count is a number of 64 bits is known of this.
+        // The proof learns from this that the count is a number of 64 bits.
         let _read = reading.read;
         loop {
             if let Some(end) = self.handle_waiting(numbers, around, reading, message, found, args) {

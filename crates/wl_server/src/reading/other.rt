@@ -29,7 +29,7 @@ use smallvec::SmallVec;
 use wl_link::ObjectMap;
 use wl_wire::{Argument, INLINE_ARGS, Message, MessageDesc, Token};
 
-/// Converts the arguments of a request, and answers the object that the request makes. `version` is the version of the
+/// Converts the arguments of a request, and returns the object that the request makes. `version` is the version of the
 /// object that it was sent to. The arguments are taken out of the message and put into `args`, which has room for them.
 fn convert_request<U: Drop>(
     client: ClientId,
@@ -58,7 +58,7 @@ fn convert_request<U: Drop>(
         child: desc.child_interface,
         created: None,
     };
-    // The first argument is then the last, which is taken out without moving the others.
+    // The arguments are taken out from the end, so that the others need not be moved.
     message.args.reverse();
     convert(
         client,
@@ -71,7 +71,7 @@ fn convert_request<U: Drop>(
     )
 }
 
-/// Handles a request to an object that is neither a display nor a registry, and answers what is still to be done for it.
+/// Handles a request to an object that is neither a display nor a registry, and returns what is still to be done for it.
 /// Its arguments are taken out of the message. If it is handed out, they are in `args` then, converted.
 pub fn other_request<'m, U: Drop, G: GlobalHandler<C>, C>(
     around: &Surroundings<'_, G>,

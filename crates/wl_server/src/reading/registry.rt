@@ -82,7 +82,7 @@ fn may_bind<G: GlobalHandler<C>, C>(
     global.value.handler.can_view(&around.client, info, &id)
 }
 
-/// Handles a request to a registry, and answers what is still to be done for it.
+/// Handles a request to a registry, and returns what is still to be done for it.
 pub fn registry_request<'m, U: Drop, G: GlobalHandler<C> + Drop, C>(
     around: &Surroundings<'_, G>,
     info: &C,

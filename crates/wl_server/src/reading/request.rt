@@ -29,7 +29,7 @@ use wl_wire::{
     Argument, INLINE_ARGS, Message, MessageDesc, Token, WL_DISPLAY_INTERFACE, WL_REGISTRY_INTERFACE,
 };
 
-/// Handles a request, by the kind of its object, and answers what is still to be done for it. If it is handed out, its
+/// Handles a request, by the kind of its object, and returns what is still to be done for it. If it is handed out, its
 /// arguments are taken out of the message, and they are in `args` then, converted.
 pub fn request<'m, U: Drop, G: GlobalHandler<C> + Drop, C>(
     around: &Surroundings<'_, G>,

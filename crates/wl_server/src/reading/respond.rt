@@ -1,4 +1,5 @@
 //! What the server does after a request was handled: it writes to the client, kills it, or hands an action out.
+//! A client is *live* if it is not killed.
 
 ghost use Rattle.std.specs.Prelude.{◌≡◌, ◌∷◌, map, List, [], false, Err, Some, IfOk, MatchResult};
 ghost use Rattle.wl_wire.specs.declared.argument.Argument.{Argument as Arg};
@@ -79,7 +80,7 @@ fn open_action(found: &Found) -> OpenAction
 }
 
 impl<T: Transport + Drop, U: Drop, C: Drop> Client<T, U, C> {
-    /// Kills the client as one whose connection is closed, because it sent bytes that are no message that it may send.
+    /// Kills the client with the reason `ConnectionClosed`, because it sent bytes that are no message that it may send.
     #[cold]
     #[inline(never)]
     pub fn garbled(&mut self, numbers: &mut NoteNumbers) -> NoAction
@@ -93,7 +94,7 @@ impl<T: Transport + Drop, U: Drop, C: Drop> Client<T, U, C> {
     }
 
     /// Kills a live client that broke the protocol: posts the breach as an error on its display. If there is no memory
-    /// for the text, the client is killed as one whose connection is closed.
+    /// for the text, the client is killed with the reason `ConnectionClosed`.
     #[cold]
     #[inline(never)]
     fn ends_by<G: GlobalHandler<C>>(

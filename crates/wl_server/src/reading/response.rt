@@ -35,7 +35,7 @@ pub enum Breach<'m> {
 /// What is still to be done for a request after it changed the client's objects.
 #[derive(Drop)]
 pub enum Response<'m> {
-    /// The client may not send it, and is killed as one whose connection is closed.
+    /// The client may not send it, and is killed with the reason `ConnectionClosed`.
     Garbled,
     /// The client broke the protocol.
     Breaks(Breach<'m>),

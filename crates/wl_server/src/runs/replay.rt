@@ -1,4 +1,5 @@
 //! Carries out a list of calls over transports by script (`wl_link::Memory`).
+//! A *note* tells the program what happened to a client or an object (`Note`).
 
 ghost use Rattle.std.specs.Prelude.{◌≡◌, ◌++◌, List, [], true, false, IfOk, IfErr, IsOk, is_err, length};
 ghost use Rattle.wl_link.specs.Runs.{AllSame, RunEntry, entries};
@@ -182,7 +183,7 @@ impl<U: Drop, G: GlobalHandler<C> + Drop, C: Drop> Backend<Memory, U, G, C> {
             self.refused = true;
             return;
         };
-        // The first step is then the last, which is taken out without moving the others.
+        // The steps are taken out from the end, so that the others need not be moved.
         steps.reverse();
         self.refused = false;
         while let Some(step) = steps.pop() {
@@ -195,7 +196,7 @@ impl<U: Drop, G: GlobalHandler<C> + Drop, C: Drop> Backend<Memory, U, G, C> {
         }
     }
 
-    /// Makes the calls of the steps, one after another, and answers their replies.
+    /// Makes the calls of the steps, one after another, and returns their replies.
     ///
     /// It stops at the first step in which memory is refused. Then the error `Stopped` has the index of that step and the
     /// replies to the steps before it. The later steps are dropped. Room for the replies is allocated first. If there is
