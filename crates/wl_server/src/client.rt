@@ -2,6 +2,7 @@
 //!
 //! A method of `Client` is what a call does to the client, after the call has looked the client up. It stands with that
 //! call: in `objects`, `events`, `reading`, or here.
+//!
 //! A client is *live* if it is not killed.
 
 pub mod flush;

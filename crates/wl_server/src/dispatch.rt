@@ -2,6 +2,7 @@
 //!
 //! An *action* is a request or a bind that the program has to do something about (`Action`). The handler's answer
 //! finishes it.
+//!
 //! A client is *stored* from its insertion until `Backend::cleanup` takes it out.
 
 ghost use Rattle.std.specs.Prelude.{◌≡◌, false};

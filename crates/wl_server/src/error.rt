@@ -2,6 +2,7 @@
 //!
 //! If several reasons for a refusal hold at once, the first one in the order of the variants is answered, unless the call
 //! says otherwise.
+//!
 //! A client is *stored* from its insertion until `Backend::cleanup` takes it out. The *slot* of a client is its index in
 //! the server's list of clients.
 
@@ -128,7 +129,7 @@ pub enum ActionError {
     /// - `Pipe`: the client was killed, or broke the protocol in another way.
     /// - `InvalidInput`: the client is not stored.
     /// - `OutOfMemory`: memory ran out.
-    /// - any fault of the transport, as it answered it.
+    /// - Any fault with which the transport failed.
     #[error("Io error: {0}")]
     Io(IoFault),
     /// An action of this client was handed out before, and is not finished yet.

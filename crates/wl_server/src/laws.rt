@@ -232,9 +232,12 @@ pub fn each_client_of_a_script_is_accounted_for<U, G: GlobalHandler<C>, C>()
 /// served of the client after the reading, from what comes later. This holds whatever comes later, and however later
 /// sends are answered.
 ///
-/// When an action is finished, that is the next of the finishes. The same holds of each history that a call may have.
-/// What is served is determined. Something is always served of what waits, by some answers to the sends, if the outgoing
-/// buffer has room for a byte. So it is for each client that is stored, in each run.
+/// What is served depends also on the *finishes*, which are the user data with which the actions are finished, in order.
+/// A call that finishes an action uses up the next of them. The same holds for each history that a call may have: its
+/// deeds are those of such a reading, or of such a finish.
+///
+/// What is served has one outcome. Something is always served of what waits, by some answers to the sends, if the
+/// outgoing buffer has room for a byte. So it is for each client that is stored, in each run.
 pub fn cutting_does_not_matter_to_a_client<T: Transport, U, G, C>()
     ensures reading { (a : Around G C) (left : ℕ) (before after : ReaderState T (Core U C)) (turns : List Turn) (out : Gives (Told U)) →
         Reads T.sends (server a) T.receives left before turns out after → AllFed turns → out.refused ≡ false →

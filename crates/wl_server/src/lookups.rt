@@ -1,4 +1,5 @@
 //! Look-ups of clients and objects. None of them changes the server.
+//!
 //! A client is *stored* from its insertion until `Backend::cleanup` takes it out.
 
 ghost use Rattle.std.specs.Prelude.{◌≡◌, MatchResult, None, Some, option_copied};

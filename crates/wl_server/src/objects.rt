@@ -1,4 +1,5 @@
 //! The objects of a client: what is kept of each, how one is found, and how one is removed.
+//!
 //! A *note* tells the program what happened to a client or an object (`Note`).
 
 ghost use Rattle.std.specs.Prelude.{◌≡◌, ◌<◌, ◌++◌, false, true, Err, IfSome, IsSome, Ok, OnErr, OnOk, MatchOption, is_some, map, not, option_copied};

@@ -1,4 +1,5 @@
 //! Sends what waits in the buffers of clients.
+//!
 //! A client is *stored* from its insertion until `Backend::cleanup` takes it out. It is *live* as long as it is stored
 //! and not killed. The *slot* of a client is its index in the server's list of clients.
 

@@ -1,4 +1,5 @@
 //! New clients.
+//!
 //! The *slot* of a client is its index in the server's list of clients. A *note* tells the program what happened to a
 //! client or an object (`Note`).
 

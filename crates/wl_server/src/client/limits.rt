@@ -1,4 +1,5 @@
 //! How far the buffers of clients may grow.
+//!
 //! A client is *stored* from its insertion until `Backend::cleanup` takes it out.
 
 ghost use Rattle.std.specs.Prelude.{◌≡◌, Some, false};

@@ -1,4 +1,5 @@
 //! A client's transport, borrowed mutably.
+//!
 //! A client is *stored* from its insertion until `Backend::cleanup` takes it out. The *slot* of a client is its index in
 //! the server's list of clients.
 

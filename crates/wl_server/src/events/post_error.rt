@@ -1,4 +1,5 @@
 //! Errors that are posted on objects.
+//!
 //! A client is *stored* from its insertion until `Backend::cleanup` takes it out. It is *live* as long as it is stored
 //! and not killed. A *note* tells the program what happened to a client or an object (`Note`).
 
@@ -109,9 +110,9 @@ impl<T: Transport + Drop, U: Drop, G: GlobalHandler<C> + Drop, C: Drop> Backend<
     /// Posts an error on an object: its client is told of it by `wl_display.error`, what waits is flushed, and the client
     /// is killed.
     ///
-    /// It stands for `wayland_backend::server::Handle::post_error`. A fault of the flush is dropped. A note says that the
-    /// client was disconnected, and gives this error as the reason. The reason is a closed connection instead in these
-    /// cases:
+    /// It stands for `wayland_backend::server::Handle::post_error`. `code` and `text` are the code and the message of
+    /// `wl_display.error`. A fault of the flush is dropped. A note says that the client was disconnected, and gives this
+    /// error as the reason. The reason is `ConnectionClosed` instead in these cases:
     ///
     /// - The client could not be told of the error.
     /// - There was no memory for the texts of the error. Then nothing is told or flushed.

@@ -1,4 +1,5 @@
 //! The creation of a global.
+//!
 //! A client is *live* if it is not killed. The *slot* of a client is its index in the server's list of clients.
 
 ghost use Rattle.std.specs.Prelude.{◌≤◌, IfSome, length};

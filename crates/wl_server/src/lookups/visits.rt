@@ -1,4 +1,5 @@
 //! Calls a closure for each live client, or for each object of a client.
+//!
 //! A client is *stored* from its insertion until `Backend::cleanup` takes it out. It is *live* as long as it is stored
 //! and not killed. The *slot* of a client is its index in the server's list of clients.
 

@@ -1,4 +1,5 @@
 //! The objects of clients that are taken out.
+//!
 //! A *note* tells the program what happened to a client or an object (`Note`).
 
 ghost use Rattle.std.specs.Prelude.{◌≡◌, ◌+◌, ◌++◌, ◌<◌, ◌≤◌, length, map, MatchOption};

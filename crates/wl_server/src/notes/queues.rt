@@ -19,13 +19,13 @@ use wl_wire::OutOfMemory;
 /// all clients were put into the queues.
 #[derive(Drop)]
 pub struct NoteNumbers {
-    /// The number of the next note that waits for a cleanup. So many wait now.
+    /// The number of the next note that waits for a cleanup: how many wait now.
     waiting: u128,
     /// The number of the next note that is made.
     made: u128,
 }
 
-/// Answers the next number, and counts it up.
+/// Returns the next number, and counts up.
 fn next_number(next: &mut u128) -> u128
     ensures given { result ≡ next.old }
     ensures counted { next.new ≡ number_behind next.old }

@@ -1,4 +1,5 @@
 //! Objects that the server creates.
+//!
 //! A client is *stored* from its insertion until `Backend::cleanup` takes it out.
 
 ghost use Rattle.std.specs.Prelude.{◌≡◌, []};
@@ -82,8 +83,8 @@ impl<T: Transport + Drop, U: Drop, G: GlobalHandler<C> + Drop, C: Drop> Backend<
     /// Creates an object of the server for the client, and returns its id.
     ///
     /// It stands for `wayland_backend::server::Handle::create_object`. The object gets the least number from 0xFF000000
-    /// on that no object of the client has, and the next serial. The client hears of it by an event that has it as a new
-    /// id.
+    /// on that no object of the client has, and the next serial. Its version is not checked. The client hears of it by an
+    /// event that has it as a new id.
     ///
     /// # Errors
     ///

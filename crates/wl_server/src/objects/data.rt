@@ -1,4 +1,5 @@
 //! The user data of objects.
+//!
 //! A client is *stored* from its insertion until `Backend::cleanup` takes it out.
 
 ghost use Rattle.std.specs.Prelude.{◌≡◌, ◌<◌, ◌++◌, false, true, Err, IfSome, IsSome, Ok, OnErr, OnOk, MatchOption, is_some, map, not, option_copied};

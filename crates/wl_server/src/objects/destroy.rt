@@ -1,4 +1,5 @@
 //! Objects that the program destroys.
+//!
 //! A client is *stored* from its insertion until `Backend::cleanup` takes it out. A *note* tells the program what
 //! happened to a client or an object (`Note`).
 

@@ -61,7 +61,7 @@ pub struct Reading {
 /// Why a reading ended without an action.
 #[derive(Drop)]
 pub struct NoAction {
-    /// The fault that the reading answers.
+    /// The fault that the reading returns.
     pub fault: IoFault,
     /// Whether memory was refused.
     pub refused: bool,

@@ -31,7 +31,7 @@ pub struct Progress<'a> {
     pub created: Option<ObjectId>,
 }
 
-/// Converts the number of an object argument into an id, if the table asks for the interface `asked`.
+/// Converts the number of an object argument into an id. `asked` is the interface that the table asks for.
 fn object_argument<U: Drop>(
     client: ClientId,
     objects: &ObjectMap<Kept<U>>,

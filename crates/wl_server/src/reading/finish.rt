@@ -1,4 +1,5 @@
 //! Finishes an action that was handed out.
+//!
 //! A client is *stored* from its insertion until `Backend::cleanup` takes it out. A *note* tells the program what
 //! happened to a client or an object (`Note`).
 

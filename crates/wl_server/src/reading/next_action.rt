@@ -1,4 +1,5 @@
 //! A reading: handles messages, and receives more if no whole message waits.
+//!
 //! A client is *stored* from its insertion until `Backend::cleanup` takes it out.
 
 ghost use Rattle.std.specs.Prelude.{◌≡◌, ◌≤◌, Result, option_map};

@@ -1,4 +1,5 @@
 //! What the server does after a request was handled: it writes to the client, kills it, or hands an action out.
+//!
 //! A client is *live* if it is not killed.
 
 ghost use Rattle.std.specs.Prelude.{◌≡◌, ◌∷◌, map, List, [], false, Err, Some, IfOk, MatchResult};

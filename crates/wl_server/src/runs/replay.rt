@@ -1,4 +1,5 @@
 //! Carries out a list of calls over transports by script (`wl_link::Memory`).
+//!
 //! A *note* tells the program what happened to a client or an object (`Note`).
 
 ghost use Rattle.std.specs.Prelude.{◌≡◌, ◌++◌, List, [], true, false, IfOk, IfErr, IsOk, is_err, length};

@@ -70,53 +70,53 @@ pub enum Step<T, U, G, C> {
 /// The answer of the call of a step.
 #[derive(Drop)]
 pub enum Reply<T, U> {
-    /// To `Step::InsertClient`.
+    /// The reply to `Step::InsertClient`.
     InsertClient(Result<ClientId, InsertClientError>),
-    /// To `Step::SetObjectData`.
+    /// The reply to `Step::SetObjectData`.
     SetObjectData(Result<(), InvalidId>),
-    /// To `Step::CreateObject`.
+    /// The reply to `Step::CreateObject`.
     CreateObject(Result<ObjectId, CreateError>),
-    /// To `Step::DestroyObject`.
+    /// The reply to `Step::DestroyObject`.
     DestroyObject(Result<(), DestroyError>),
-    /// To `Step::SendEvent`.
+    /// The reply to `Step::SendEvent`.
     SendEvent(Result<(), EventError>),
-    /// To `Step::PostError`.
+    /// The reply to `Step::PostError`.
     PostError,
-    /// To `Step::KillClient`.
+    /// The reply to `Step::KillClient`.
     KillClient,
-    /// To `Step::CreateGlobal`.
+    /// The reply to `Step::CreateGlobal`.
     CreateGlobal(Result<GlobalId, GlobalError>),
-    /// To `Step::DisableGlobal`.
+    /// The reply to `Step::DisableGlobal`.
     DisableGlobal,
-    /// To `Step::RemoveGlobal`.
+    /// The reply to `Step::RemoveGlobal`.
     RemoveGlobal,
-    /// To `Step::Flush`.
+    /// The reply to `Step::Flush`.
     Flush(Result<(), IoFault>),
-    /// To `Step::SetDefaultMaxBufferSize`.
+    /// The reply to `Step::SetDefaultMaxBufferSize`.
     SetDefaultMaxBufferSize,
-    /// To `Step::SetClientMaxBufferSize`.
+    /// The reply to `Step::SetClientMaxBufferSize`.
     SetClientMaxBufferSize,
-    /// To `Step::NextAction`.
+    /// The reply to `Step::NextAction`.
     NextAction(Result<Action, ActionError>),
-    /// To `Step::NextActionWithin`, with what is left of the reading.
+    /// The reply to `Step::NextActionWithin`, with what is left of the reading.
     NextActionWithin(Result<Action, ActionError>, Reading),
-    /// To `Step::FinishRequest`.
+    /// The reply to `Step::FinishRequest`.
     FinishRequest(Result<(), FinishRefused<Option<U>>>),
-    /// To `Step::FinishBind`.
+    /// The reply to `Step::FinishBind`.
     FinishBind(Result<(), FinishRefused<U>>),
-    /// To `Step::Cleanup`.
+    /// The reply to `Step::Cleanup`.
     Cleanup(Result<Vec<(ClientId, T)>, OutOfMemory>),
-    /// To `Step::TakeNotes`.
+    /// The reply to `Step::TakeNotes`.
     TakeNotes(Result<Vec<Note<U>>, OutOfMemory>),
-    /// To `Step::Arrive`.
+    /// The reply to `Step::Arrive`.
     Arrive(Result<(), ScriptError>),
-    /// To `Step::ArriveFault`.
+    /// The reply to `Step::ArriveFault`.
     ArriveFault(Result<(), ScriptError>),
-    /// To `Step::Accept`.
+    /// The reply to `Step::Accept`.
     Accept(Result<(), ScriptError>),
-    /// To `Step::AcceptFault`.
+    /// The reply to `Step::AcceptFault`.
     AcceptFault(Result<(), ScriptError>),
-    /// To `Step::TakeSent`.
+    /// The reply to `Step::TakeSent`.
     TakeSent(Result<Vec<(Vec<u8>, Vec<Token>)>, InvalidId>),
 }
 
