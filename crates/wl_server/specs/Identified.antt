@@ -6,7 +6,7 @@
 use Rattle.std.specs.Prelude.{◌≡◌, ◌≢◌, ◌⊎◌, ◌↔◌, ℕ, List, [], ◌∷◌, ◌++◌, All, AllPairs, Bool, false, Option, None, Some, is_some, IsSome, Contains, Result, Ok, Err, MatchOption}
 use Rattle.wl_wire.specs.Table.{InterfaceRow}
 use Rattle.wl_link.specs.declared.object.Object.{Object}
-use Rattle.wl_link.specs.Identity.{Birth, Change, HasIdentity, IsBornInStep, IsMadeIn, IsMadeInStep, Objects, RunEnds, StepEnds, births_of, ended_in, ended_over, Found, HandedId, New}
+use Rattle.wl_link.specs.Identity.{Birth, Change, HasIdentity, IsBornInStep, IsMadeIn, IsMadeInStep, Objects, StepEnds, births_of, ended_in, ended_over, Found, HandedId, New}
 use Rattle.wl_link.specs.Identity as objects
 use Rattle.wl_link.specs.Link.{LinkState, IsFresh}
 use Rattle.wl_link.specs.Runs.{RunEntry}

@@ -5,9 +5,8 @@ use Rattle.wl_server.specs.declared.runs.step.Step.{Step}
 use Rattle.wl_server.specs.Backend.{BackendState, Calls, IsChange}
 use Rattle.wl_server.specs.Ids.{ClientParts}
 use Rattle.wl_server.proofs.OverRuns.Alone.IsolationLaw.{join_runs}
-use Rattle.wl_server.specs.PartStep.{Asked, Changed, World}
+use Rattle.wl_server.specs.PartStep.{Asked, World}
 use Rattle.wl_server.specs.Reached.{AllSpare, Reached, spares}
-use Rattle.wl_server.specs.Runs.{Leads}
 use Rattle.wl_server.specs.Server.{ServerState}
 use Rattle.wl_server.specs.Steps.{Entry}
 

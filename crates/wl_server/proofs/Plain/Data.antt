@@ -1,10 +1,8 @@
 -- An object that gets data.
-use Rattle.std.proofs.Common.{◌≡◌, ℕ, Bool, true, false, List, [], Option, None, Some, Result, Ok, Err, MatchOption, MatchResult, refl, sym, ap, subst, ◌∙◌, true≢false}
+use Rattle.std.proofs.Common.{◌≡◌, Bool, true, false, List, Option, None, Some, Result, Ok, Err, MatchResult, refl, sym, ap, subst, ◌∙◌}
 use mathlib.Core.Logic.{inl, inr}
-use Rattle.std.specs.Prelude.{◌&&◌, is_ok}
 use Rattle.wl_link.proofs.Calls.Branches.{either_option}
 use Rattle.wl_link.specs.declared.object.Object.{Object}
-use Rattle.wl_link.specs.Store.{rewritten}
 use Rattle.wl_server.specs.declared.error.InvalidId.{InvalidId}
 use Rattle.wl_server.specs.declared.objects.Kept.{Kept}
 use Rattle.wl_server.specs.declared.runs.step.Reply.{Reply}
@@ -18,7 +16,7 @@ use Rattle.wl_server.specs.Lookups.{and_then}
 use Rattle.wl_server.specs.Objects.{DataSet}
 use Rattle.wl_server.specs.Part.{Part, id_of, named, same_id, with_user_data}
 use Rattle.wl_server.specs.PartStep.{OfClient, Quietly, World}
-use Rattle.wl_server.specs.Plain.{IsUnchanged, SetsObjectData, same_object}
+use Rattle.wl_server.specs.Plain.{IsUnchanged, SetsObjectData}
 use Rattle.wl_server.specs.Server.{Seen, seen}
 use Rattle.wl_server.proofs.Plain.Base.{calm, ids_differ, keeps, never, notes_stay, nothing_new, of_each, other_stays, own, unchanged}
 use Rattle.wl_server.proofs.Plain.Naming.{names_so, rewritten_named, rewritten_others}

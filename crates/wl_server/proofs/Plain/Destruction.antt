@@ -1,7 +1,7 @@
 -- An object that the program destroys.
-use Rattle.std.proofs.Common.{◌≡◌, ℕ, Bool, true, false, cond, eqb-true, List, [], ◌++◌, Option, None, Some, is_some, Result, Ok, Err, MatchOption, refl, sym, ap, subst, ◌∙◌, true≢false}
+use Rattle.std.proofs.Common.{◌≡◌, ℕ, Bool, true, false, cond, eqb-true, List, ◌++◌, Option, None, Some, is_some, Result, Ok, Err, refl, sym, ap, subst, ◌∙◌}
 use mathlib.Core.Logic.{inl, inr}
-use Rattle.std.specs.Prelude.{◌⊎◌, ◌&&◌, ◌||◌, ◌==◌, MatchBool}
+use Rattle.std.specs.Prelude.{◌⊎◌, ◌==◌}
 use Rattle.wl_wire.specs.declared.error.IoFault.{IoFault}
 use Rattle.wl_link.proofs.Calls.Branches.{either_option}
 use Rattle.wl_link.specs.declared.object.Object.{Object}
@@ -21,7 +21,7 @@ use Rattle.wl_server.specs.Lookups.{and_then}
 use Rattle.wl_server.specs.Objects.{Destroys, destroyable, destroys, unless_refused}
 use Rattle.wl_server.specs.Part.{Part, id_of, named, note_of_end, same_id}
 use Rattle.wl_server.specs.PartStep.{OfClient, World}
-use Rattle.wl_server.specs.Plain.{DestroyedAs, DestroysObject, IsUnchanged}
+use Rattle.wl_server.specs.Plain.{DestroyedAs, DestroysObject}
 use Rattle.wl_server.specs.Server.{Seen, seen}
 use Rattle.wl_server.specs.Telling.{Tells, core_of}
 use Rattle.wl_server.proofs.Plain.Base.{calm, ids_differ, keeps, never, nothing_new, of_each, other_stays, own, refused_to, unchanged}

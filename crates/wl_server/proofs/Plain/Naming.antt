@@ -4,8 +4,8 @@ use Rattle.std.proofs.lemmas.Bool.{eq-eqb}
 use Rattle.std.specs.Prelude.{◌==◌, ◌&&◌}
 use Rattle.wl_link.specs.declared.object.Object.{Object}
 use Rattle.wl_link.specs.Identity.{Id, named_in}
-use Rattle.wl_link.specs.Store.{Store, held, removed, rewritten, stored}
-use Rattle.wl_link.proofs.Ids.StoreLaws.{held_removed, held_rewritten, held_stored, removed_here, rewritten_here, stored_here}
+use Rattle.wl_link.specs.Store.{Store, held, removed, rewritten}
+use Rattle.wl_link.proofs.Ids.StoreLaws.{held_removed, held_rewritten, removed_here, rewritten_here}
 use Rattle.wl_server.specs.declared.objects.Kept.{Kept}
 use Rattle.wl_server.specs.Ids.{IdParts}
 use Rattle.wl_server.specs.Part.{id_of, named, same_id, serial_of}

@@ -12,7 +12,7 @@ use Rattle.wl_server.specs.declared.reading.action.OpenAction.TheVariants as ope
 use Rattle.wl_server.specs.declared.objects.Kept.{Kept}
 use Rattle.wl_server.specs.declared.notes.DisconnectReason.TheVariants.{ConnectionClosed, ProtocolError as BrokeProtocol}
 use Rattle.wl_server.specs.declared.reading.response.RequestFault.TheVariants as wrong
-use Rattle.wl_server.specs.Deeds.{Acted, Remembered, Request}
+use Rattle.wl_server.specs.Deeds.{Remembered, Request}
 use Rattle.wl_server.specs.Deeds as deeds
 use Rattle.wl_server.specs.Errors.{bind_text, error_of, fault_text, new_id_text, since_text}
 use Rattle.wl_server.specs.Globals.{Globals, shown}

@@ -1,6 +1,5 @@
 -- That steps over the transport by script extend each history that led to the value in which they begin.
-use Rattle.std.proofs.Common.{ℕ, Bool, List, ◌++◌, length}
-use Rattle.wl_wire.specs.Table.{InterfaceRow}
+use Rattle.std.proofs.Common.{ℕ, Bool, List, ◌++◌}
 use Rattle.wl_link.proofs.OverRuns.RunLaws.{stopped_leads}
 use Rattle.wl_link.specs.Runs.{RunEntry, entries}
 use Rattle.wl_link.specs.Script.{Script}

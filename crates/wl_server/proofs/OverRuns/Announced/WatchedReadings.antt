@@ -29,7 +29,7 @@ use Rattle.wl_server.specs.declared.objects.Kept.{Kept}
 use Rattle.wl_server.specs.declared.globals.KeptGlobal.{KeptGlobal}
 use Rattle.wl_server.specs.declared.reading.response.RequestFault.TheVariants as wrong
 use Rattle.wl_server.proofs.OverRuns.Announced.AnnouncementLaws.{AreOfOthers}
-use Rattle.wl_server.specs.Deeds.{Acted, Deed, Handed, Remembered, log_of, registries_in}
+use Rattle.wl_server.specs.Deeds.{Deed, Handed, Remembered, log_of, registries_in}
 use Rattle.wl_server.specs.Deeds as deeds
 use Rattle.wl_server.proofs.OverRuns.Moves.DoingsLaws.{deeds_both, told_deeds}
 use Rattle.wl_server.specs.Errors.{fault_text, since_text}

@@ -4,7 +4,7 @@ use mathlib.Core.Logic.{inl, inr}
 use Rattle.std.specs.Prelude.{AllPairs, Contains, MatchOption, ◌↔◌}
 use Rattle.wl_wire.specs.Table.{InterfaceRow}
 use Rattle.wl_link.proofs.Ids.EndsLaw.{ends_once_law, run_leads, run_owns}
-use Rattle.wl_link.specs.Identity.{Birth, Born, Change, Ended, Gone, HasIdentity, Id, IsBornInStep, IsMadeIn, IsMadeInStep, Made, Objects, OwnsExactly, RunEnds, StepEnds, Wrote, births_of, counted_id, ended_in, ended_over, named_in, names}
+use Rattle.wl_link.specs.Identity.{Change, Id, IsMadeIn, Objects, OwnsExactly, RunEnds, ended_in, ended_over, named_in, names}
 use Rattle.wl_link.specs.Identity as objects
 use Rattle.wl_link.proofs.Ids.IdentityLaw.{identity_law}
 use Rattle.wl_link.specs.Link.{LinkState}

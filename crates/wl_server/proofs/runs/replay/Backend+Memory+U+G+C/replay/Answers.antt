@@ -1,4 +1,4 @@
-use Rattle.std.proofs.Common.{ℕ, ◌++◌, ◌∙◌, ap, length, subst, sym}
+use Rattle.std.proofs.Common.{ℕ, ◌∙◌, ap, length, subst, sym}
 use Rattle.std.proofs.lemmas.Bool.{false≢true}
 use Rattle.wl_link.proofs.OverRuns.RunLaws.{joins}
 use Rattle.wl_link.specs.Runs.{entries}
