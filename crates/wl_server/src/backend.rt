@@ -50,7 +50,7 @@ pub struct Backend<T, U, G, C> {
     pub(crate) notes: Vec<Note<U>>,
     /// The numbers that the next notes get.
     pub(crate) numbers: NoteNumbers,
-    /// What `memory_refused` answers.
+    /// What `memory_refused` returns.
     pub(crate) refused: bool,
     /// The message that is being read. It is kept here so that its memory is used again.
     pub(crate) place: MessagePlace,
@@ -126,7 +126,7 @@ impl<T: Drop, U: Drop, G: Drop, C: Drop> Backend<T, U, G, C> {
     /// Whether memory ran out in the last call that took `&mut self`, in the server or in a transport. A call of
     /// `transport_mut` does not count as one.
     ///
-    /// It may be `true` even if that call answered no error: for instance, if a client could not be told something and
+    /// It may be `true` even if that call returned no error: for instance, if a client could not be told something and
     /// was killed.
     pub fn memory_refused(&self) -> bool
         ensures { result ≡ self.now.refused }

@@ -30,8 +30,8 @@ fn total_with(total: usize, answer: Result<usize, IoFault>) -> usize
     }
 }
 
-/// The answer of a dispatch after its cleanup: the given one, or `OutOfMemory` if the cleanup was refused. The transports
-/// that the cleanup handed out are dropped.
+/// What a dispatch returns after its cleanup: the given result, or `OutOfMemory` if the cleanup was refused. The
+/// transports that the cleanup handed out are dropped.
 fn answer_behind<T: Drop>(
     taken_out: Result<Vec<(ClientId, T)>, OutOfMemory>,
     answer: Result<usize, IoFault>,
@@ -104,7 +104,7 @@ impl<T: Transport + Drop, U: Drop, G: GlobalHandler<C> + Drop, C: Drop> Backend<
         self.end_dispatch(Ok(total))
     }
 
-    /// Takes out the clients that were killed, and drops their transports. Returns the given answer, or `OutOfMemory` if
+    /// Takes out the clients that were killed, and drops their transports. Returns the given result, or `OutOfMemory` if
     /// there was no memory for that. Afterwards `memory_refused` tells of this cleanup and of the dispatch's calls before
     /// it.
     fn end_dispatch(&mut self, answer: Result<usize, IoFault>) -> Result<usize, IoFault>

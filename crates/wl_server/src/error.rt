@@ -1,6 +1,6 @@
 //! The errors of a server's calls.
 //!
-//! If several reasons for a refusal hold at once, the first one in the order of the variants is answered, unless the call
+//! If several reasons for a refusal hold at once, the first one in the order of the variants is returned, unless the call
 //! says otherwise.
 //!
 //! A client is *stored* from its insertion until `Backend::cleanup` takes it out. The *slot* of a client is its index in

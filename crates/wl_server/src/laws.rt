@@ -92,10 +92,10 @@ pub fn each_client_has_one_outcome<T: Transport, U, G: GlobalHandler<C>, C>()
 /// limits, and how many clients were inserted. A program does not see where lists lie in memory, nor the order between
 /// the notes of two clients.
 ///
-/// Servers that look the same answer the same in look-ups (clause `answers`): which clients are live, what is known of a
-/// client, an object and a global, and which handler a global has. Answers about what all clients share have one outcome,
-/// too: the id of a new client, the id of a new global, why there is none, and the list that a cleanup answers if each
-/// client's share of it is given.
+/// Servers that look the same return the same in look-ups (clause `answers`): which clients are live, what is known of a
+/// client, an object and a global, and which handler a global has. What calls return about all clients together has one
+/// outcome, too: the id of a new client, the id of a new global or the reason for which there is none, and the list that
+/// a cleanup returns, which follows from each client's share of it.
 pub fn each_run_of_a_server_has_one_outcome<T: Transport, U, G: GlobalHandler<C>, C>()
     ensures run { IsFunction T.sends → IsReceiveFunction T.receives → RunsHaveOneOutcome U (over T.sends T.receives G.views) }
     ensures steps { IsFunction T.sends → IsReceiveFunction T.receives → PerformancesHaveOneOutcome U (over T.sends T.receives G.views) }

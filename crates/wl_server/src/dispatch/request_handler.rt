@@ -23,7 +23,7 @@ use wl_wire::{Argument, INLINE_ARGS, Token};
 /// An *action* is a request, or a bind of a new object to a global (`Action`).
 ///
 /// A call may make any calls of the server, except those that read this client or finish its action: the dispatch does
-/// that itself. Each implementation says in `requests` and `binds` what its calls answer and do. It has to prove that its
+/// that itself. Each implementation says in `requests` and `binds` what its calls return and do. It has to prove that its
 /// calls change the server only by calls of the server. For that it joins the contracts of these calls.
 pub trait Handler<T: Transport, U, G: GlobalHandler<C>, C> {
     ghost requests: { Self → BackendState T U G C → ClientParts → IdParts → ℕ → List (Argument IdParts Token) → Option IdParts → Option U → Self → BackendState T U G C → Type 0 };

@@ -35,7 +35,7 @@ fn fault_of_end(error: FinishError) -> IoFault
     }
 }
 
-/// The answer of a dispatch that ended with this fault, after so many requests were read.
+/// What a dispatch returns that ended with this fault, after so many requests were read.
 fn answer_of(fault: IoFault, read: usize) -> Result<usize, IoFault>
     ensures { result ≡ dispatched fault read }
 {

@@ -106,7 +106,7 @@ impl<T: Transport + Drop, U: Drop, C: Drop> Client<T, U, C> {
         self.kill_unless_written(numbers, answer)
     }
 
-    /// Writes an event that is not refused. The second part of the answer is whether memory was refused.
+    /// Writes an event that is not refused. Also returns whether memory was refused.
     ///
     /// If the event ends its sender, the sender is taken out, also if the event could not be written. If there is no
     /// memory, nothing is done.
@@ -142,8 +142,8 @@ impl<T: Transport + Drop, U: Drop, C: Drop> Client<T, U, C> {
         )
     }
 
-    /// Sends an event of one of the client's objects. To a killed client nothing is sent. The second part of the answer
-    /// is whether memory was refused.
+    /// Sends an event of one of the client's objects. To a killed client nothing is sent. Also returns whether memory was
+    /// refused.
     pub fn send_event(
         &mut self,
         protocol: &Protocol,

@@ -88,8 +88,8 @@ pub fn leave_all<T: Drop, U: Drop, C: Drop>(
     }
 }
 
-/// How many notes are made of the end of objects if the client of a slot is taken out. The answer may be larger than
-/// that, and `usize::MAX` stands for any larger number.
+/// How many notes are made of the end of objects if the client of a slot is taken out. The count may be larger than that,
+/// and `usize::MAX` stands for any larger number.
 fn count_ends_at<T: Drop, U: Drop, C: Drop>(client: &Option<Client<T, U, C>>) -> usize
     ensures { (slot : ℕ) → result < 0xFFFFFFFFFFFFFFFF → length (ends_at slot client.now) ≤ result }
 {
@@ -99,7 +99,7 @@ fn count_ends_at<T: Drop, U: Drop, C: Drop>(client: &Option<Client<T, U, C>>) ->
     }
 }
 
-/// How many notes are made of the end of objects of all clients that are taken out. The answer may be larger than that,
+/// How many notes are made of the end of objects of all clients that are taken out. The count may be larger than that,
 /// and `usize::MAX` stands for any larger number.
 pub fn count_ends<T: Drop, U: Drop, C: Drop>(clients: &[Option<Client<T, U, C>>]) -> usize
     ensures { result < 0xFFFFFFFFFFFFFFFF → length (collected ends_at 0 clients.now) ≤ result }
@@ -144,8 +144,8 @@ pub struct CleanupMemory<T> {
     pub given: Vec<(ClientId, T)>,
 }
 
-/// Allocates the memory for the notes of a cleanup. `gathered` is how many are gathered. The answer has room for the
-/// numbers of the objects whose end is noted.
+/// Allocates the memory for the notes of a cleanup. `gathered` is how many are gathered. The list that it returns has
+/// room for the numbers of the objects whose end is noted.
 fn memory_for_notes<T: Drop, U: Drop, C: Drop>(
     clients: &[Option<Client<T, U, C>>],
     gathered: usize,

@@ -139,8 +139,8 @@ impl<T: Transport + Drop, U: Drop, C: Drop> Client<T, U, C> {
         }
     }
 
-    /// Finds the next action of the client, which is open until it is finished. The second part of the answer is whether
-    /// memory was refused. The action is in `found` then, and its arguments are in `args`.
+    /// Finds the next action of the client, which is open until it is finished. The action is in `found` then, and its
+    /// arguments are in `args`. Also returns whether memory was refused.
     pub fn next_action<G: GlobalHandler<C> + Drop>(
         &mut self,
         numbers: &mut NoteNumbers,

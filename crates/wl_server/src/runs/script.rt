@@ -30,7 +30,7 @@ pub enum ScriptCall {
     AcceptFault(IoFault),
 }
 
-/// The answer of an arrival, as the server's program gets it.
+/// What an arrival returned, as the server's program gets it.
 fn arrived(answer: Result<(), ArriveError>) -> Result<(), ScriptError>
     ensures { result ≡ arrived_as answer }
 {
@@ -41,7 +41,7 @@ fn arrived(answer: Result<(), ArriveError>) -> Result<(), ScriptError>
     }
 }
 
-/// The answer of a call that fails only if memory runs out, as the server's program gets it.
+/// What a call returned that fails only if memory runs out, as the server's program gets it.
 fn scripted(answer: Result<(), OutOfMemory>) -> Result<(), ScriptError>
     ensures { result ≡ scripted_as answer }
 {

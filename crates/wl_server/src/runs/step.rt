@@ -67,7 +67,7 @@ pub enum Step<T, U, G, C> {
     TakeSent(ClientId),
 }
 
-/// The answer of the call of a step.
+/// What the call of a step returned.
 #[derive(Drop)]
 pub enum Reply<T, U> {
     /// The reply to `Step::InsertClient`.
