@@ -1,15 +1,27 @@
 -- What a client hears of a new global, as the functions that tell it say to each other.
-use Rattle.std.specs.Prelude.{ℕ, List, Bool, Result}
+use Rattle.std.specs.Prelude.{◌≡◌, ℕ, List, [], ◌∷◌, Bool, Some, Result}
+use Rattle.wl_wire.specs.declared.argument.Argument.TheVariants as arg
+use Rattle.wl_wire.specs.declared.argument.Token.{Token}
 use Rattle.wl_wire.specs.declared.error.IoFault.{IoFault}
-use Rattle.wl_wire.specs.Table.{InterfaceRow}
+use Rattle.wl_wire.specs.declared.message.Message.{Message}
+use Rattle.wl_wire.specs.Table.{InterfaceRow, name_of}
 use Rattle.wl_link.specs.declared.object.Object.{Object}
 use Rattle.wl_link.specs.Exchange.{Queue}
 use Rattle.wl_server.specs.declared.globals.KeptGlobal.{KeptGlobal}
 use Rattle.wl_server.specs.Deeds.{Deed}
 use Rattle.wl_server.specs.Felt.{Hears, news}
-use Rattle.wl_server.specs.Globals.{shown_as}
+use Rattle.wl_server.specs.Globals.{Shown, shown_as}
 use Rattle.wl_server.specs.Ids.{ClientParts, GlobalParts}
 use Rattle.wl_server.specs.Part.{Part}
+
+-- a global of which registries are told, and the table that has its interface's name
+pub record Announced : Type 0 where
+  pub table : List InterfaceRow
+  pub global : Shown
+
+-- the message of a global, whatever its sender
+abbrev pub IsNews : List InterfaceRow → Shown → Message ℕ Token → Type 0
+IsNews table g m = (m.opcode ≡ 0) × (m.args.items ≡ arg.Uint g.name ∷ arg.Str (Some (name_of table g.interface.0)) ∷ arg.Uint g.version ∷ [])
 
 -- a live client is told of the global if it may see it
 abbrev pub HearsNew : {T U G C : Type 0} → (T → Queue → Result ℕ IoFault → T → Type 0) → (G → ClientParts → C → GlobalParts → Bool) → List InterfaceRow

@@ -2,10 +2,10 @@
 //!
 //! A client is *live* if it is not killed. The *slot* of a client is its index in the server's list of clients.
 
-ghost use Rattle.std.specs.Prelude.{◌≤◌, IfSome, length};
+ghost use Rattle.std.specs.Prelude.{◌≡◌, ◌≤◌, IfSome, length};
 ghost use Rattle.wl_link.specs.Identity.{names};
 ghost use Rattle.wl_server.specs.Backend.{Calls};
-ghost use Rattle.wl_server.specs.Globals.{global_serial};
+ghost use Rattle.wl_server.specs.Globals.{global_serial, shown_as};
 ghost use Rattle.wl_server.specs.Inside.News.{HearsNew};
 ghost use Rattle.wl_server.specs.PartStep.{over};
 ghost use Rattle.wl_server.specs.Inside.Places.{AllFeel, PlaceFeels};
@@ -15,7 +15,7 @@ ghost use Rattle.wl_server.specs.declared.runs.step.Step.TheVariants as step;
 use crate::backend::Backend;
 use crate::client::Client;
 use crate::error::GlobalError;
-use crate::globals::announce::put_global_to_each;
+use crate::globals::announce::Announcement;
 use crate::globals::handler::GlobalHandler;
 use crate::globals::{KeptGlobal, create, global_in};
 use crate::ids::client_id::ClientId;
@@ -28,12 +28,14 @@ use wl_wire::{InterfaceId, Protocol};
 fn tell_new_at<T: Transport + Drop, U: Drop, G: GlobalHandler<C>, C: Drop>(
     client: &mut Option<Client<T, U, C>>,
     numbers: &mut NoteNumbers,
-    protocol: &Protocol,
     slot: u32,
     id: &GlobalId,
     global: &Object<KeptGlobal<G>>,
+    announcement: &mut Announcement<'_>,
 ) -> bool
-    ensures { PlaceFeels (HearsNew T.sends G.views protocol.now id.now global.now) slot client.old result client.new }
+    requires { announcement.old.global ≡ shown_as (id.now.name, global.now) }
+    ensures felt { PlaceFeels (HearsNew T.sends G.views announcement.old.table id.now global.now) slot client.old result client.new }
+    ensures same { announcement.new ≡ announcement.old }
 {
     match client {
         Some(client) if !client.is_killed => {
@@ -42,15 +44,7 @@ fn tell_new_at<T: Transport + Drop, U: Drop, G: GlobalHandler<C>, C: Drop>(
                 return false;
             }
             let alloc = *client.registries.allocator();
-            let answer = put_global_to_each(
-                alloc,
-                &mut client.socket,
-                protocol,
-                &client.registries,
-                id.name(),
-                global.interface,
-                global.version,
-            );
+            let answer = announcement.tell(alloc, &mut client.socket, &client.registries);
             client.kill_unless_written(numbers, answer)
         }
         _ => false,
@@ -68,15 +62,16 @@ fn tell_new<T: Transport + Drop, U: Drop, G: GlobalHandler<C>, C: Drop>(
     requires { length clients.old ≤ 0x100000000 }
     ensures { AllFeel (HearsNew T.sends G.views protocol.now id.now global.now) result (length clients.old) clients.old clients.new }
 {
+    let mut announcement = Announcement::new(protocol, id.name(), global);
     let mut refused = false;
     for slot in 0..clients.len() {
         refused |= tell_new_at(
             &mut clients[slot],
             numbers,
-            protocol,
             slot as u32,
             id,
             global,
+            &mut announcement,
         );
     }
     refused

@@ -9,7 +9,7 @@ ghost use Rattle.wl_server.specs.Inside.Turns.{around_of};
 
 use crate::client::Registry;
 use crate::globals::KeptGlobal;
-use crate::globals::announce::put_global_to_each;
+use crate::globals::announce::Announcement;
 use crate::globals::handler::GlobalHandler;
 use crate::ids::global_id::GlobalId;
 use crate::ids::object_id::ObjectId;
@@ -52,14 +52,10 @@ pub fn put_globals<T: Transport, G: GlobalHandler<C> + Drop, C>(
     let mut globals = around.globals.all_objects();
     while let Some((name, global)) = globals.next() {
         if is_shown(around, info, name, global) {
-            let wrote = put_global_to_each(
+            let wrote = Announcement::new(around.protocol, name, global).tell(
                 alloc,
                 socket,
-                around.protocol,
                 &registries,
-                name,
-                global.interface,
-                global.version,
             );
             if let Err(fault) = wrote {
                 return Err(fault);

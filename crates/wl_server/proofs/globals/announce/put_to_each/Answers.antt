@@ -11,8 +11,8 @@ loop-registry-init g c = record {
   args = refl;
 }
 
-pub returns-in-Err : goal.returns-in-Err
-returns-in-Err g c =
+pub returns-in-Err-clause-puts : goal.returns-in-Err-clause-puts
+returns-in-Err-clause-puts g c =
     let say = λ (r : Id). by_object r c.args.message.now.opcode c.args.message.now.args.items in
     let wrote = wrote_by g.T.Transport.sends c.loop-registry.socket c.write_message.new.self c.registry-item.result _ _ _ _ _ _ _ (ap (λ (r : Id). r.number) c.registry.view_is)
     c.loop-registry.invariant.opcode c.loop-registry.invariant.args c.in-Err.is c.write_message.ensures.wrote in
@@ -32,7 +32,7 @@ loop-registry-preserved g c =
       args = c.loop-registry.invariant.args;
     }
 
-pub returns : goal.returns
-returns g c =
+pub returns-clause-puts : goal.returns-clause-puts
+returns-clause-puts g c =
     first_all g.T.Transport.sends (λ r. by_object r c.args.message.now.opcode c.args.message.now.args.items) c.args.socket.now c.loop-registry.socket c.args.registries.now
     c.loop-registry.registry-index (omega (arith, c.loop-registry-test.false)) c.loop-registry.invariant.puts

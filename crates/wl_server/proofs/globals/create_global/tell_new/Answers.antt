@@ -1,19 +1,27 @@
-use Rattle.std.proofs.Common.{◌≡◌, ℕ, arith, length, refl, subst}
+use Rattle.std.proofs.Common.{◌≡◌, ◌∙◌, ℕ, ap, arith, length, refl, subst}
 use Rattle.std.proofs.lemmas.Option.{slice_get-get_or}
-use Rattle.wl_server.specs.Inside.News.{HearsNew}
+use Rattle.wl_server.specs.Globals.{shown_as}
+use Rattle.wl_server.specs.Inside.News.{Announced, HearsNew}
 use Rattle.wl_server.specs.Inside.Places.{AllFeel}
 use Rattle.wl_server.proofs.CallSteps.Feeling.{none_felt, one_more_felt}
 use Rattle.wl_server.proofs.globals.create_global.tell_new.Goals as goal
 
 pub loop-slot-init : goal.loop-slot-init
-loop-slot-init g c = record { felt = none_felt _ _; ends = refl }
+loop-slot-init g c = record {
+  felt = none_felt _ _;
+  table = ap (λ (a : Announced). a.table) c.new-announcement.ensures;
+  global = ap (λ (a : Announced). a.global) c.new-announcement.ensures ∙ ap (λ (n : ℕ). shown_as (n, c.args.global.now)) c.name.ensures;
+  ends = refl;
+}
 
 pub loop-slot-preserved : goal.loop-slot-preserved
 loop-slot-preserved g c =
     let len = c.loop-slot.invariant.felt.len in
     let here = slice_get-get_or c.loop-slot.clients c.loop-slot.slot c.index-clients-slot.result (omega (arith, c.loop-slot-test.true, len)) in
     record {
-      felt = one_more_felt _ _ _ _ _ _ _ _ c.loop-slot.invariant.felt here c.tell_new_at-refused.ensures;
+      felt = one_more_felt _ _ _ _ _ _ _ _ c.loop-slot.invariant.felt here (rw (← c.loop-slot.invariant.table) c.tell_new_at-refused.ensures.felt);
+      table = ap (λ (a : Announced). a.table) c.tell_new_at-refused.ensures.same ∙ c.loop-slot.invariant.table;
+      global = ap (λ (a : Announced). a.global) c.tell_new_at-refused.ensures.same ∙ c.loop-slot.invariant.global;
       ends = refl;
     }
 

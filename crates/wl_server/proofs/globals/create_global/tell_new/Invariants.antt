@@ -1,4 +1,5 @@
 use Rattle.std.proofs.Common.{◌≡◌, length}
+use Rattle.wl_server.specs.Globals.{shown_as}
 use Rattle.wl_server.specs.Inside.News.{HearsNew}
 use Rattle.wl_server.specs.Inside.Places.{AllFeel}
 use Rattle.wl_server.proofs.globals.create_global.tell_new.Given as goal
@@ -6,5 +7,7 @@ use Rattle.wl_server.proofs.globals.create_global.tell_new.Given as goal
 abbrev pub invariant-loop-slot : goal.invariant-loop-slot
 invariant-loop-slot g l = record {
   felt : AllFeel (HearsNew g.T.Transport.sends g.G.GlobalHandler.views l.protocol l.id l.global) l.refused l.slot l.fn.clients l.clients;
+  table : l.announcement.table ≡ l.protocol;
+  global : l.announcement.global ≡ shown_as (l.id.name, l.global);
   ends : l.slot-end ≡ length l.fn.clients;
 }

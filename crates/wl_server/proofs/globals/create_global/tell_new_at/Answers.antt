@@ -1,25 +1,30 @@
-use Rattle.std.proofs.Common.{◌∙◌, ap, refl, sym}
+use Rattle.std.proofs.Common.{◌∙◌, ap, map, refl, subst, sym}
 use Rattle.wl_server.specs.Globals.{Shown}
 use Rattle.wl_server.specs.Inside.News.{HearsNew}
+use Rattle.wl_server.specs.Inside.Puts.{Puts}
 use Rattle.wl_server.specs.Server.{Stored}
+use Rattle.wl_server.specs.Telling.{global_message}
 use Rattle.wl_server.proofs.CallSteps.Feeling.{place_felt}
 use Rattle.wl_server.proofs.Readings.Hearing.{killed_hears, seen_hears, unseen_hears}
 use Rattle.wl_server.proofs.globals.create_global.tell_new_at.Goals as goal
 
-pub returns-then-not-can_view : goal.returns-then-not-can_view
-returns-then-not-can_view g c =
+pub returns-then-not-can_view-clause-felt : goal.returns-then-not-can_view-clause-felt
+returns-then-not-can_view-clause-felt g c =
+    let table = c.args.announcement.now.table in
     let told : Shown = record { name = c.args.id.now.name; interface = c.args.global.now.interface; version = c.args.global.now.version } in
-    place_felt (HearsNew g.T.Transport.sends g.G.GlobalHandler.views c.args.protocol.now c.args.id.now c.args.global.now) c.args.slot _ c.from_parts-client_id.result c.in-Some.client
+    place_felt (HearsNew g.T.Transport.sends g.G.GlobalHandler.views table c.args.id.now c.args.global.now) c.args.slot _ c.from_parts-client_id.result c.in-Some.client
     c.in-Some.client c.args.client.now _ c.in-Some.is c.from_parts-client_id.ensures (ap (λ (s : Stored _ _ _). s.serial) c.client.view_is)
-    (rw (← c.client.view_is) (unseen_hears g.T.Transport.sends c.args.protocol.now _ told _ c.if-not-client.true (sym c.can_view.ensures ∙ c.if-not-can_view.true)))
+    (rw (← c.client.view_is) (unseen_hears g.T.Transport.sends table _ told _ c.if-not-client.true (sym c.can_view.ensures ∙ c.if-not-can_view.true)))
 
-pub returns-else-not-can_view : goal.returns-else-not-can_view
-returns-else-not-can_view g c =
+pub returns-else-not-can_view-clause-felt : goal.returns-else-not-can_view-clause-felt
+returns-else-not-can_view-clause-felt g c =
+    let table = c.args.announcement.now.table in
     let told : Shown = record { name = c.args.id.now.name; interface = c.args.global.now.interface; version = c.args.global.now.version } in
-    place_felt (HearsNew g.T.Transport.sends g.G.GlobalHandler.views c.args.protocol.now c.args.id.now c.args.global.now) c.args.slot _ c.from_parts-client_id.result c.in-Some.client
+    place_felt (HearsNew g.T.Transport.sends g.G.GlobalHandler.views table c.args.id.now c.args.global.now) c.args.slot _ c.from_parts-client_id.result c.in-Some.client
     c.kill_unless_written.new.self c.args.client.now c.kill_unless_written.result c.in-Some.is c.from_parts-client_id.ensures (ap (λ (s : Stored _ _ _). s.serial) c.client.view_is)
-    (rw (← c.client.view_is) (seen_hears g.T.Transport.sends c.args.protocol.now _ told _ _ _ _ _ c.if-not-client.true (sym c.can_view.ensures ∙ c.if-not-can_view.false)
-    (rw (← c.deref.ensures.value, ← c.name.ensures) c.put_global_to_each-answer.ensures) c.kill_unless_written.ensures.refused c.kill_unless_written.ensures.closed))
+    (rw (← c.client.view_is) (seen_hears g.T.Transport.sends table _ told _ _ _ _ _ c.if-not-client.true (sym c.can_view.ensures ∙ c.if-not-can_view.false)
+    (subst (λ (s : Shown). Puts g.T.Transport.sends c.client.inside.socket (map (λ r. global_message table r s) c.client.inside.registries.items) c.tell-answer.result c.tell-answer.new.socket) c.requires
+    (rw (← c.deref.ensures.value) c.tell-answer.ensures.puts)) c.kill_unless_written.ensures.refused c.kill_unless_written.ensures.closed))
 
-pub returns-in_default : goal.returns-in_default
-returns-in_default g c = rw c.in-Some.is (c.in-Some.client, rw (← c.client.view_is) (killed_hears _ _ _ c.if-not-client.false), refl)
+pub returns-in_default-clause-felt : goal.returns-in_default-clause-felt
+returns-in_default-clause-felt g c = rw c.in-Some.is (c.in-Some.client, rw (← c.client.view_is) (killed_hears _ _ _ c.if-not-client.false), refl)
