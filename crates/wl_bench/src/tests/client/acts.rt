@@ -93,7 +93,7 @@ pub enum Cue {
     TakeSent,
 }
 
-/// Fails if the line was not written, or if the client's last call met a want of memory.
+/// Fails if the line was not written, or if the client's last call was refused memory.
 fn told(client: &Client, written: Result<(), AllocError>) -> Result<(), Fail> {
     if client.memory_refused() {
         return Err(Fail::new("memory was refused"));

@@ -1,4 +1,4 @@
-//! Each want of memory in turn: runs of a client that judge themselves whatever is refused.
+//! Each allocation is refused in turn: runs of a client that judge themselves, whichever it is.
 //!
 //! With ample memory a run answers what it has to. If one allocation is refused (`./refusal-drill` refuses each in turn),
 //! the replies before that step are the same, and the same call again, and all after it, answers as with ample memory.

@@ -101,7 +101,7 @@ fn write_run(
     }
 }
 
-/// Writes whether the client's last call met a want of memory.
+/// Writes whether the client's last call was refused memory.
 fn write_refused(log: &mut String, client: &Backend<Memory, u32>) -> Result<(), AllocError> {
     writeln!(log, "refused: {}", client.memory_refused())
 }

@@ -1,4 +1,4 @@
-//! Each want of memory in turn: runs of lines that judge themselves whatever is refused.
+//! Each allocation is refused in turn: runs of lines that judge themselves, whichever it is.
 
 use crate::commands::run_commands;
 use crate::stop::Stop;

@@ -88,7 +88,7 @@ fn tell_value(log: &mut String, call: &str, number: u32, value: Option<u32>) -> 
     Ok(written?)
 }
 
-/// Inserts without a want of memory once there is room: what `reserve` promises.
+/// Inserts without asking for memory once there is room: what `reserve` promises.
 fn insert_reserved(map: &mut ObjectMap<u32>, value: u32) -> Result<Option<u32>, OutOfMemory> {
     map.reserve()?;
     match map.client_insert_new(object(value)) {

@@ -1,4 +1,4 @@
-//! The runs for which each want of memory comes in turn.
+//! The runs for which each allocation is refused in turn.
 
 use super::arrivals::{
     BIND, BIND_NULL, BIND_VERSION_1, DESTROY, GET_REGISTRY, GIVE, MAKE, SYNC, SYNC_AT_5,

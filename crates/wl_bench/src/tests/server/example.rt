@@ -138,7 +138,7 @@ fn changed(
 #[derive(Drop)]
 struct Counters {
     alloc: Global,
-    /// Whether a client could not be told what its counter is, for want of memory.
+    /// Whether a client could not be told what its counter is, because memory was refused.
     is_behind: bool,
 }
 
@@ -164,7 +164,7 @@ impl<'a> Handler<Playback<'a>, i32, ShownToAll, ()> for Counters {
             self.is_behind = true;
             return None;
         };
-        // Both calls are refused only if the counter is gone, the second also for want of memory.
+        // Both calls are refused only if the counter is gone, the second also if memory is.
         let is_set = server.set_object_data(&counter, count).is_ok();
         let is_told = server.send_event(event).is_ok();
         self.is_behind = self.is_behind || !(is_set && is_told);

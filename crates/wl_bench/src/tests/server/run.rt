@@ -120,7 +120,7 @@ fn quietly(alloc: Global, server: &mut Server, calls: &[Call]) -> Result<(), Fai
     Ok(())
 }
 
-/// Makes the call, which has to meet a want of memory.
+/// Makes the call, which has to be refused memory.
 fn in_want(alloc: Global, server: &mut Server, log: &mut String, call: Call) -> Result<(), Fail> {
     let steps = alone(alloc, call)?;
     match server.replay(steps) {
