@@ -136,7 +136,6 @@ fn put_word(payload: &mut [u8], at: usize, n: u32) -> usize
 ///
 /// `ending` zeros (none or one) follow the bytes, and count with them. First a word of zeros is written over the last four
 /// bytes, and then the count and the bytes. The rest of that word is the ending and the padding.
-#[inline(never)]
 fn put_counted(payload: &mut [u8], at: usize, bytes: &[u8], ending: usize) -> usize
     requires room { at + counted_len (length bytes.now + ending) ≤ length payload.old }
     requires small { length bytes.now + ending ≤ 65535 }
@@ -389,9 +388,6 @@ fn write_words<Id, N: Numbering<Id>>(
 }
 
 /// Writes any message at the front of `payload`, and appends its tokens to `fds`. Returns how many bytes it wrote.
-///
-/// It is not inlined, so that it costs nothing for a message whose arguments are one word each.
-#[inline(never)]
 fn write_mixed<Id, N: Numbering<Id>>(
     message: &Message<Id, Token>,
     numbers: &N,
