@@ -1,10 +1,10 @@
 -- Runs of steps that a command makes.
-use Rattle.std.proofs.Common.{◌≡◌, ℕ, zero, suc, ◌+◌, List, [], ◌∷◌, ◌++◌, length, map, take, refl, sym, ap, subst, ◌∙◌, arith, append_assoc, append-nil, length-append, false, Result, Ok, Err, Vec, Global}
+use Rattle.std.proofs.Common.{◌≡◌, ◌+◌, List, [], ◌∷◌, ◌++◌, length, map, refl, sym, ap, subst, arith, append_assoc, append-nil, length-append, false, Result, Ok, Err, Vec, Global}
 use Rattle.std.specs.Prelude.{IfOk}
 use Rattle.wl_link.specs.Runs.{RunEntry, entries}
 use Rattle.wl_server.specs.Ids.{ClientParts}
 use Rattle.wl_server.specs.Runs.{Performs}
-use Rattle.wl_bench.specs.Bench.{BenchReply, BenchServer, BenchStep, Makes, Replies, accept_step, bench_world, take_step}
+use Rattle.wl_bench.specs.Bench.{BenchReply, BenchServer, BenchStep, Replies, bench_world, take_step}
 
 -- runs behind one another
 joins : (start mid after : BenchServer) (run others : List (RunEntry BenchStep BenchReply)) → Performs bench_world start run mid

@@ -1,11 +1,11 @@
 -- What a command about one client makes of the others.
-use Rattle.std.proofs.Common.{◌≡◌, ◌≢◌, ℕ, zero, suc, ◌+◌, ◌<◌, ◌==◌, List, [], ◌∷◌, ◌++◌, length, map, get_or, append-nil, Bool, true, false, Option, None, Some, Result, Ok, Err, Vec, Global, refl, sym, ap, subst, ◌∙◌, arith, codes}
+use Rattle.std.proofs.Common.{◌≡◌, ◌≢◌, ℕ, ◌+◌, ◌==◌, List, [], ◌∷◌, ◌++◌, length, map, get_or, append-nil, Bool, true, false, Option, None, Some, Ok, Err, Vec, Global, refl, sym, ap, subst, ◌∙◌, arith, codes}
 use Rattle.std.specs.Prelude.{MatchBool}
 use Rattle.std.proofs.lemmas.Bool.{eq-eqb, true≢false}
 use Rattle.wl_wire.specs.declared.argument.Token.{Token}
 use Rattle.wl_wire.specs.declared.error.IoFault.{IoFault}
 use Rattle.wl_link.specs.Exchange.{Queue}
-use Rattle.wl_link.specs.Runs.{RunEntry, entries}
+use Rattle.wl_link.specs.Runs.{entries}
 use Rattle.wl_link.specs.Script.{Script, parcel}
 use Rattle.wl_server.specs.declared.notes.DisconnectReason.{DisconnectReason}
 use Rattle.wl_server.specs.declared.notes.DisconnectReason.TheVariants as ended
@@ -25,8 +25,8 @@ use Rattle.wl_bench.specs.declared.bench.Seat.{Seat}
 use Rattle.wl_bench.specs.declared.command.ClientCommand.{ClientCommand}
 use Rattle.wl_bench.specs.declared.command.ClientCommand.TheVariants.{Arrive, Read, Finish, Kill, Accept, FailIn, FailOut}
 use Rattle.wl_bench.specs.Answers.{Line, action_text, answer_lines, answer_text, record_lines, records_lines, sent_lines, taken_out_lines}
-use Rattle.wl_bench.specs.Apart.{LeavesOthers, PrintsOfOne, SaysWhatWasSent, StaysWith}
-use Rattle.wl_bench.specs.Bench.{BenchReply, BenchServer, BenchState, BenchStep, DoesFor, Makes, accept_step, bench_world, client_calls, finish_step, finishing, latest, printed, take_step}
+use Rattle.wl_bench.specs.Apart.{SaysWhatWasSent, StaysWith}
+use Rattle.wl_bench.specs.Bench.{BenchReply, BenchServer, BenchState, BenchStep, DoesFor, accept_step, bench_world, client_calls, finishing, printed, take_step}
 
 -- ---- a step about a client
 

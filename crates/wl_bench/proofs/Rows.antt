@@ -21,7 +21,7 @@ use Rattle.wl_wire.specs.declared.argument.Argument.TheVariants as arg
 use Rattle.wl_wire.specs.declared.error.IoFault.TheVariants.{WouldBlock, Other}
 use Rattle.wl_wire.specs.Table.{anonymous_id}
 use Rattle.wl_server.specs.Deeds.{Request}
-use Rattle.wl_server.specs.Ids.{ClientParts, IdParts}
+use Rattle.wl_server.specs.Ids.{IdParts}
 
 -- ---- lines that are commands
 

@@ -1,5 +1,5 @@
 -- What a bench holds, and what a command does: the steps of the server that it is, or a dispatch, and what it prints.
-use Rattle.std.specs.Prelude.{⊤, ◌≡◌, ℕ, zero, suc, ◌+◌, List, [], ◌∷◌, ◌++◌, length, map, option_map, if◌then◌else◌, Option, None, Some, is_some, true, false, Ok, Err, slice_get}
+use Rattle.std.specs.Prelude.{⊤, ◌≡◌, ℕ, zero, suc, ◌+◌, List, [], ◌∷◌, ◌++◌, length, map, option_map, if◌then◌else◌, Option, None, Some, is_some, true, false, Ok, slice_get}
 use Rattle.std.specs.List.{Contains, flat_map}
 use Rattle.std.specs.Option.{option_map_or, option_to_list}
 use Rattle.std.specs.Str.{bytes_eq}

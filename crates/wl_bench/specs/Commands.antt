@@ -1,5 +1,5 @@
 -- The language of lines that drive a server: which lines are commands.
-use Rattle.std.specs.Prelude.{◌≡◌, ◌≢◌, ℕ, ◌+◌, ◌<◌, ◌≤◌, ◌==◌, List, [], ◌∷◌, ◌++◌, length, map, codes, pos, ◌⊎◌, ⊤, Option, MatchOption, Result, Ok, Err, Vec}
+use Rattle.std.specs.Prelude.{◌≡◌, ℕ, ◌<◌, ◌≤◌, ◌==◌, List, [], ◌∷◌, length, map, codes, pos, ⊤, Option, MatchOption, Vec}
 use Rattle.std.specs.Fmt.{decimal}
 use Rattle.std.specs.List.{All, AllZip, flat_map, slice_split}
 use Rattle.std.specs.Str.{IsUtf8}

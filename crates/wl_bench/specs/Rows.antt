@@ -1,5 +1,5 @@
 -- The messages of the table as plain data.
-use Rattle.std.specs.Prelude.{List, [], Bool, true, false, Option, None, Some}
+use Rattle.std.specs.Prelude.{Bool, true, false, Option, None, Some}
 use Rattle.wl_wire.specs.declared.interface.InterfaceId.{InterfaceId}
 use Rattle.wl_wire.specs.Table.{MessageRow}
 use Rattle.wl_bench.specs.declared.table.Kind.{Kind}

@@ -1,6 +1,6 @@
 //! Runs of commands: lines are read, carried out and answered, one after another.
 
-ghost use Rattle.std.specs.Prelude.{◌≡◌, ◌++◌, IfErr, IfOk, IfSome, OnErr, OnOk, ◌≢◌, map};
+ghost use Rattle.std.specs.Prelude.{◌≡◌, ◌++◌, IfErr, IfOk, IfSome, OnOk, ◌≢◌, map};
 ghost use Rattle.std.specs.Io.BufRead.{strip_last};
 ghost use Rattle.std.specs.String.{string_bytes};
 ghost use Rattle.wl_bench.specs.Bench.{new_bench};

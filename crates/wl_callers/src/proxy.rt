@@ -1,6 +1,5 @@
 //! The loop of a proxy, which reads events and hands them on.
 
-ghost use Rattle.std.specs.Prelude.{◌≡◌};
 ghost use Rattle.wl_callers.specs.Proxy.{HandsOn};
 
 use wl_client::{Backend, EventError, ObjectId};

@@ -6,7 +6,6 @@
 
 ghost use Rattle.std.specs.Prelude.{None, ℕ, List, MatchOption, MatchResult, ◌≡◌, ◌≢◌, ◌↔◌, ◌<◌, ◌≤◌, ◌++◌, length, drop, IsOk, IsSome, IsTrue, IfSome, is_some, All, IfOk, IfErr, OnOk, OnErr, option_map, slice_index_or};
 ghost use Rattle.std.specs.VecDeque.{deque_len};
-ghost use Rattle.wl_wire.specs.declared.error.MessageParseError.TheVariants as errors;
 ghost use Rattle.wl_wire.specs.declared.error.MessageParseError.TheVariants.{OutOfMemory};
 ghost use Rattle.smallvec.specs.SmallVec.{HasRoomFor};
 ghost use Rattle.wl_wire.specs.declared.argument.Token.{Token as WireToken};

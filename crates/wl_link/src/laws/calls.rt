@@ -1,11 +1,10 @@
 //! What follows from the definitions of a link alone, for single calls. Each function does nothing; its contract states a
 //! law.
 
-ghost use Rattle.std.specs.Prelude.{◌≡◌, ◌≢◌, ℕ, List, Option, Result, Ok, Err};
+ghost use Rattle.std.specs.Prelude.{◌≡◌, ◌≢◌, ℕ, List, Option, Result, Err};
 ghost use Rattle.wl_wire.specs.declared.argument.ArgumentType.{ArgumentType};
 ghost use Rattle.wl_wire.specs.declared.error.IoFault.{IoFault};
 ghost use Rattle.wl_wire.specs.declared.error.IoFault.TheVariants as fault;
-ghost use Rattle.wl_wire.specs.declared.error.MessageParseError.{MessageParseError};
 ghost use Rattle.wl_wire.specs.declared.error.MessageParseError.TheVariants as errors;
 ghost use Rattle.wl_wire.specs.Message.{WireMessage};
 ghost use Rattle.wl_link.specs.Exchange.{Queue, Sending, IsFunction, IsReceiveFunction};

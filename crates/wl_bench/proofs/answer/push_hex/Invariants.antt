@@ -1,9 +1,7 @@
-use Rattle.std.proofs.Common.{◌≡◌, ◌++◌, take, drop, map}
+use Rattle.std.proofs.Common.{◌≡◌, ◌++◌, take}
 use Rattle.std.specs.List.{flat_map}
 use Rattle.std.specs.String.{string_bytes}
-use Rattle.wl_bench.specs.Answers.{argument_text, behind, bytes_of, hex, note_text, record_lines, records_lines, share_lines, token_text, tokens_of}
 use Rattle.wl_bench.specs.Hex.{hex_digits}
-use Rattle.wl_link.specs.Script.{parcel}
 use Rattle.wl_bench.proofs.answer.push_hex.Given as goal
 
 abbrev pub invariant-loop-byte : goal.invariant-loop-byte

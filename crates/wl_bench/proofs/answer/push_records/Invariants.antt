@@ -1,9 +1,6 @@
-use Rattle.std.proofs.Common.{◌≡◌, ◌++◌, take, drop, map}
-use Rattle.std.specs.List.{flat_map}
+use Rattle.std.proofs.Common.{◌≡◌, ◌++◌, drop, map}
 use Rattle.std.specs.String.{string_bytes}
-use Rattle.wl_bench.specs.Answers.{argument_text, behind, bytes_of, hex, note_text, record_lines, records_lines, share_lines, token_text, tokens_of}
-use Rattle.wl_bench.specs.Hex.{hex_digits}
-use Rattle.wl_link.specs.Script.{parcel}
+use Rattle.wl_bench.specs.Answers.{records_lines}
 use Rattle.wl_bench.proofs.answer.push_records.Given as goal
 
 abbrev pub invariant-loop-client : goal.invariant-loop-client

@@ -1,7 +1,6 @@
-use Rattle.std.proofs.Common.{◌≡◌, ◌++◌, take, drop, map}
-use Rattle.std.specs.List.{flat_map}
+use Rattle.std.proofs.Common.{◌≡◌, ◌++◌, take, map}
 use Rattle.std.specs.String.{string_bytes}
-use Rattle.wl_bench.specs.Record.{quoted, text_of}
+use Rattle.wl_bench.specs.Record.{text_of}
 use Rattle.wl_bench.proofs.commands.push_lines.Given as goal
 
 abbrev pub invariant-loop-line : goal.invariant-loop-line

@@ -1,4 +1,4 @@
-use Rattle.std.proofs.Common.{◌<◌, ◌∙◌, Err, ap, arith, length}
+use Rattle.std.proofs.Common.{◌<◌, ◌∙◌, ap, arith, length}
 use Rattle.std.proofs.lemmas.Result.{err_from_is_err_and}
 use Rattle.std.specs.Io.BufRead.{strip_last}
 use Rattle.wl_bench.proofs.RunLines.{at_end, at_first, at_next, at_stop}

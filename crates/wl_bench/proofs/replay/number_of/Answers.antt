@@ -1,5 +1,3 @@
-use Rattle.std.proofs.Common.{◌≡◌, ◌∙◌, sym, ap, subst, Option, ℕ, List}
-use Rattle.wl_bench.specs.Commands.{Finds, IsNumber}
 use Rattle.wl_bench.proofs.Recordings.{number_text}
 use Rattle.wl_bench.proofs.replay.number_of.Goals as goal
 

@@ -1,4 +1,4 @@
-use Rattle.std.proofs.Common.{◌≡◌, ◌∙◌, sym, ap, subst, ℕ, List, Option}
+use Rattle.std.proofs.Common.{subst, Option}
 use Rattle.wl_bench.specs.Commands.{Finds, IsLine}
 use Rattle.wl_bench.specs.declared.command.Command.{Command}
 use Rattle.wl_bench.proofs.Recordings.{not_command, not_cut, not_numbered}

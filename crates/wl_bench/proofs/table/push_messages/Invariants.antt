@@ -1,6 +1,4 @@
-use Rattle.std.proofs.Common.{◌≡◌, ◌++◌, take, drop, map}
-use Rattle.std.specs.List.{flat_map}
-use Rattle.std.specs.String.{string_bytes}
+use Rattle.std.proofs.Common.{◌≡◌, ◌++◌, take, map}
 use Rattle.wl_wire.specs.Table.{message_row}
 use Rattle.wl_bench.specs.Rows.{message_of}
 use Rattle.wl_bench.proofs.table.push_messages.Given as goal

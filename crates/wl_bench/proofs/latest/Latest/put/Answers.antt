@@ -1,4 +1,4 @@
-use Rattle.std.proofs.Common.{◌≡◌, ◌∙◌, ◌+◌, length, length-append, arith, ap, None, Some, ◌∷◌, [], ◌++◌, List, Option}
+use Rattle.std.proofs.Common.{◌∙◌, length, length-append, arith, ap, None, ◌∷◌, [], List, Option}
 use Rattle.wl_bench.specs.Bench.{with_latest}
 use Rattle.wl_bench.proofs.Places.{ends, pads}
 use Rattle.wl_bench.proofs.latest.Latest.put.Goals as goal

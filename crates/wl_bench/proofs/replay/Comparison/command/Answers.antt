@@ -1,4 +1,4 @@
-use Rattle.std.proofs.Common.{◌≡◌, ◌<◌, ◌∙◌, sym, ap, subst, ℕ, List, arith, rules, refl, Option, map}
+use Rattle.std.proofs.Common.{◌≡◌, subst, ℕ, rules, refl, Option, map}
 use Rattle.std.specs.String.{string_bytes}
 use Rattle.wl_bench.specs.Bench.{Does, NamesNone}
 use Rattle.wl_bench.specs.Commands.{Finds}

@@ -1,5 +1,5 @@
-use Rattle.std.proofs.Common.{◌≡◌, ◌<◌, ◌∙◌, sym, ap, subst, ℕ, List, arith, refl, length}
-use Rattle.wl_bench.proofs.Recordings.{none_missing, some_missing}
+use Rattle.std.proofs.Common.{◌<◌, arith, refl, length}
+use Rattle.wl_bench.proofs.Recordings.{some_missing}
 use Rattle.wl_bench.proofs.replay.Comparison.end.Goals as goal
 
 pub returns-then-self-len : goal.returns-then-self-len

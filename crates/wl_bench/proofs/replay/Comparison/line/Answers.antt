@@ -1,4 +1,4 @@
-use Rattle.std.proofs.Common.{◌≡◌, ◌<◌, ◌∙◌, ◌+◌, sym, ap, subst, ℕ, List, arith, refl, length, get_or, String, Global}
+use Rattle.std.proofs.Common.{◌≡◌, ◌<◌, ◌∙◌, ◌+◌, ap, subst, List, refl, length, get_or, String, Global}
 use Rattle.std.specs.Prelude.{◌↔◌, IsTrue}
 use Rattle.std.specs.String.{string_bytes}
 use Rattle.wl_bench.specs.Answers.{Line}
