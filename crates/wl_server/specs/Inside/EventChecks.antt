@@ -1,9 +1,8 @@
 -- What the functions that look at an event say to their callers.
-use Rattle.std.specs.Prelude.{◌≡◌, List, ◌∷◌, Bool, not, Option, Some, Result, Ok, Err}
+use Rattle.std.specs.Prelude.{List, ◌∷◌, Bool, not, Option, Some, Result, Ok, Err}
 use Rattle.wl_wire.specs.declared.interface.InterfaceId.{InterfaceId}
 use Rattle.wl_wire.specs.Asked.{matches}
 use Rattle.wl_wire.specs.Table.{MessageRow}
-use Rattle.wl_link.specs.declared.object.Object.{Object}
 use Rattle.wl_link.specs.Refusals.{when}
 use Rattle.wl_link.specs.Store.{Store}
 use Rattle.wl_server.specs.declared.error.EventError.{EventError}
@@ -22,8 +21,3 @@ abbrev pub refusals : {U : Type 0} → ClientParts → Store (Kept U) → Messag
 refusals client store row m =
     when (not (matches row.signature m.args)) refused.BadSignature
     ∷ argument_faults client store row row.signature row.arg_interfaces m.args
-
--- whether an event ends its sender, or why it is refused, where that is what it is granted
-abbrev pub Decides : {U : Type 0} → Result (Object (Kept U) × Bool) EventError → Option (Object (Kept U)) → Result Bool EventError → Type 0
-Decides checked sender (Ok ends) = (x : _) × (sender ≡ Some x) × (checked ≡ Ok (x, ends))
-Decides checked sender (Err e) = checked ≡ Err e

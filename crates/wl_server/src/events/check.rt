@@ -1,12 +1,12 @@
 //! Which events are refused, and which numbers stand for the ids of those that are sent.
 
-ghost use Rattle.std.specs.Prelude.{◌≡◌, Bool};
+ghost use Rattle.std.specs.Prelude.{◌≡◌, Bool, Err, IfOk, MatchResult, Ok, Some};
 ghost use Rattle.wl_wire.specs.declared.argument.Argument.TheVariants as arg;
 ghost use Rattle.wl_wire.specs.declared.argument.ArgumentType.TheVariants as kind;
 ghost use Rattle.wl_wire.specs.declared.interface.InterfaceId.{InterfaceId};
 ghost use Rattle.wl_wire.specs.Table.{message_row};
 ghost use Rattle.wl_link.specs.Refusals.{first_refusal};
-ghost use Rattle.wl_server.specs.Inside.EventChecks.{Decides, fault_of};
+ghost use Rattle.wl_server.specs.Inside.EventChecks.{fault_of};
 ghost use Rattle.wl_server.specs.Events.{argument_fault, argument_faults, event_check, id_fault, session_content};
 ghost use Rattle.wl_server.specs.Part.{named};
 
@@ -14,7 +14,7 @@ use crate::error::EventError;
 use crate::ids::client_id::ClientId;
 use crate::ids::object_id::ObjectId;
 use crate::objects::{Kept, named_in};
-use wl_link::ObjectMap;
+use wl_link::{Object, ObjectMap};
 use wl_wire::{
     ANONYMOUS_INTERFACE, AllowNull, Argument, ArgumentType, InterfaceId, Message, MessageDesc,
     Numbering, OwnNumbers, Protocol, Token, check_for_signature, same_interface_or_anonymous,
@@ -129,15 +129,18 @@ fn first_fault<U: Drop>(
     None
 }
 
-/// Whether the event is a destructor, which ends its sender; or the first error for which it is refused.
-pub fn check_event<U: Drop>(
+/// The sender of the event, and whether the event is a destructor, which ends it; or the first error for which the event is
+/// refused.
+pub fn check_event<'a, U: Drop>(
     protocol: &Protocol,
     client: &ClientId,
-    objects: &ObjectMap<Kept<U>>,
+    objects: &'a ObjectMap<Kept<U>>,
     message: &Message<ObjectId, Token>,
-) -> Result<bool, EventError>
-    ensures { Decides (event_check client.now objects.now.store protocol.now (session_content message.now))
-        (named objects.now.store message.now.sender_id) result }
+) -> Result<(&'a Object<Kept<U>>, bool), EventError>
+    ensures decided { MatchResult result
+        (λ granted. event_check client.now objects.now.store protocol.now (session_content message.now) ≡ Ok (granted.0.now, granted.1))
+        (λ error. event_check client.now objects.now.store protocol.now (session_content message.now) ≡ Err error) }
+    ensures sender { IfOk result (λ granted. named objects.now.store message.now.sender_id ≡ Some granted.0.now) }
 {
     let Some(sender) = named_in(objects, &message.sender_id) else {
         return Err(EventError::InvalidId);
@@ -154,7 +157,7 @@ pub fn check_event<U: Drop>(
     }
     match first_fault(client, objects, desc, args) {
         Some(error) => Err(error),
-        None => Ok(desc.is_destructor),
+        None => Ok((sender, desc.is_destructor)),
     }
 }
 

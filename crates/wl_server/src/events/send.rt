@@ -2,18 +2,15 @@
 //!
 //! A *note* tells the program what happened to a client or an object (`Note`).
 
-ghost use Rattle.std.specs.Prelude.{◌≡◌, ◌<◌, ◌++◌, IfSome, OnErr, OnOk, Some, map};
+ghost use Rattle.std.specs.Prelude.{◌≡◌, ◌<◌, ◌++◌, IfSome, OnErr, OnOk, map};
 ghost use Rattle.std.specs.VecDeque.{deque_capacity, deque_len};
-ghost use Rattle.wl_link.specs.declared.object.Object.{Object};
 ghost use Rattle.wl_link.specs.Store.{held};
-ghost use Rattle.wl_server.specs.declared.objects.Kept.{Kept};
 ghost use Rattle.wl_server.specs.declared.runs.step.Reply.TheVariants as reply;
 ghost use Rattle.wl_server.specs.declared.runs.step.Step.TheVariants as step;
 ghost use Rattle.wl_server.specs.Backend.{Calls};
 ghost use Rattle.wl_server.specs.Inside.Client.{Does};
 ghost use Rattle.wl_server.specs.Inside.Ending.{notes_ending, registries_ending, store_ending, PutsEnd, TellsEnd};
-ghost use Rattle.wl_server.specs.Events.{AsksForMemory, SendsEvent, SendsGranted, session_content};
-ghost use Rattle.wl_server.specs.Part.{named};
+ghost use Rattle.wl_server.specs.Events.{AsksForMemory, SendsEvent, session_content};
 ghost use Rattle.wl_server.specs.PartStep.{over};
 
 use crate::backend::Backend;
@@ -26,27 +23,23 @@ use crate::ids::object_id::ObjectId;
 use crate::notes::queues::{NoteNumbers, WaitingNotes};
 use crate::objects::{Kept, reserve_note, take_out_noted};
 use std::alloc::Global;
-use wl_link::{BufferedSocket, ObjectMap, Transport};
+use wl_link::{BufferedSocket, Object, ObjectMap, Transport};
 use wl_wire::{IoFault, Message, OutOfMemory, OwnNumbers, Protocol, Token};
 
 /// Makes room for the note of the sender's end, if the event ends it and it has user data.
 fn make_room<U: Drop>(
-    objects: &ObjectMap<Kept<U>>,
     waiting: &mut WaitingNotes<U>,
-    sender: &ObjectId,
+    sender: &Object<Kept<U>>,
     ends: bool,
 ) -> Result<(), OutOfMemory>
     ensures items { waiting.new.queue.items ≡ waiting.old.queue.items }
-    ensures asked { OnErr result (IfSome (held objects.now.store sender.now.number) (λ x. AsksForMemory x ends)) }
-    ensures room { OnOk result (IfSome (held objects.now.store sender.now.number) (λ x. AsksForMemory x ends → deque_len waiting.new.queue < deque_capacity waiting.new.queue)) }
+    ensures asked { OnErr result (AsksForMemory sender.now ends) }
+    ensures room { OnOk result (AsksForMemory sender.now ends → deque_len waiting.new.queue < deque_capacity waiting.new.queue) }
 {
     if !ends {
         return Ok(());
     }
-    match objects.find(sender.protocol_id()) {
-        Some(object) => reserve_note(waiting, object),
-        None => Ok(()),
-    }
+    reserve_note(waiting, sender)
 }
 
 /// Takes the sender out, if the event ends it. If it had user data, a note of its end waits for the next cleanup.
@@ -106,44 +99,12 @@ impl<T: Transport + Drop, U: Drop, C: Drop> Client<T, U, C> {
         self.kill_unless_written(numbers, answer)
     }
 
-    /// Writes an event that is not refused. Also returns whether memory was refused.
-    ///
-    /// If the event ends its sender, the sender is taken out, also if the event could not be written. If there is no
-    /// memory, nothing is done.
-    fn send_granted(
-        &mut self,
-        numbers: &mut NoteNumbers,
-        message: &Message<ObjectId, Token>,
-        ends: bool,
-    ) -> (Result<(), EventError>, bool)
-        ensures { (sender : Object (Kept U)) → named self.old.part.store message.now.sender_id ≡ Some sender
-            → Does self.old (λ p did q. SendsGranted T.sends message.now.sender_id.client p (session_content message.now) sender ends result.0 result.1 did q) self.new }
-    {
-        let sender = &message.sender_id;
-        let room = make_room(&self.objects, &mut self.waiting, sender, ends);
-        if room.is_err() {
-            return (Err(EventError::OutOfMemory), true);
-        }
-        let written = self.socket.write_numbered(message, &OwnNumbers);
-        if is_out_of_memory(written) {
-            return (Err(EventError::OutOfMemory), true);
-        }
-        end_sender(
-            &mut self.objects,
-            &mut self.registries,
-            &mut self.waiting,
-            numbers,
-            sender,
-            ends,
-        );
-        (
-            Ok(()),
-            self.tell_end(numbers, sender.protocol_id(), ends, written),
-        )
-    }
-
     /// Sends an event of one of the client's objects. To a killed client nothing is sent. Also returns whether memory was
     /// refused.
+    ///
+    /// If the event ends its sender, the sender is taken out, also if the event could not be written. If there is no
+    /// memory, nothing is done. The sender is looked up by its id only once; only a destructor goes to its number again, to
+    /// take it out after the write.
     pub fn send_event(
         &mut self,
         protocol: &Protocol,
@@ -155,11 +116,30 @@ impl<T: Transport + Drop, U: Drop, C: Drop> Client<T, U, C> {
         if self.is_killed {
             return (Ok(()), false);
         }
-        let client = message.sender_id.client();
-        match check_event(protocol, &client, &self.objects, message) {
-            Ok(ends) => self.send_granted(numbers, message, ends),
-            Err(error) => (Err(error), false),
+        let id = &message.sender_id;
+        let (sender, ends) = match check_event(protocol, &id.client(), &self.objects, message) {
+            Ok(granted) => granted,
+            Err(error) => return (Err(error), false),
+        };
+        if make_room(&mut self.waiting, sender, ends).is_err() {
+            return (Err(EventError::OutOfMemory), true);
         }
+        let written = self.socket.write_numbered(message, &OwnNumbers);
+        if is_out_of_memory(written) {
+            return (Err(EventError::OutOfMemory), true);
+        }
+        end_sender(
+            &mut self.objects,
+            &mut self.registries,
+            &mut self.waiting,
+            numbers,
+            id,
+            ends,
+        );
+        (
+            Ok(()),
+            self.tell_end(numbers, id.protocol_id(), ends, written),
+        )
     }
 }
 

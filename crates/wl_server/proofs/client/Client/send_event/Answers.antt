@@ -1,24 +1,72 @@
-use Rattle.std.proofs.Common.{◌≡◌, Ok, Err, subst}
+use Rattle.std.proofs.Common.{◌≡◌, ◌∙◌, true, Result, Ok, Err, map, refl, sym, subst}
+use Rattle.std.proofs.lemmas.Bool.{false≢true}
+use Rattle.std.specs.Prelude.{is_err, OnErr, ◌++◌}
+use Rattle.wl_link.specs.Link.{Wrote}
+use Rattle.wl_wire.specs.Message.{WireMessage}
+use Rattle.wl_server.specs.Inside.Ending.{notes_ending, registries_ending}
 use Rattle.wl_server.specs.Events.{event_check, session_content}
 use Rattle.wl_server.specs.Ids.{ClientParts}
-use Rattle.wl_server.proofs.ObjectCalls.SendingEvents.{to_killed, was_granted, was_refused}
+use Rattle.wl_server.proofs.ObjectCalls.SendingEvents.{event_numbered, no_room, not_written, of_sender, sent, to_killed, was_granted, was_refused}
 use Rattle.wl_server.proofs.client.Client.send_event.Goals as goal
+
+on_err : {A E P : Type 0} (r : Result A E) → is_err r ≡ true → OnErr r P → P
+on_err (Ok a) failed p = absurd (false≢true failed)
+on_err (Err e) failed p = p
 
 pub returns-then-self : goal.returns-then-self
 returns-then-self g c =
     to_killed g.T.Transport.sends c.args.message.now.sender_id.client c.args.protocol.now c.args.self.now (session_content c.args.message.now)
     (rw (← c.self.view_is) c.if-self.true)
 
-pub returns-in-Ok : goal.returns-in-Ok
-returns-in-Ok g c =
-    let granted = c.in-Ok.ensures in
-    was_granted g.T.Transport.sends c.args.message.now.sender_id.client c.args.protocol.now c.args.self.now (session_content c.args.message.now) granted.0 c.in-Ok.ends
-    c.send_granted.result.0 c.send_granted.result.1 c.send_granted.new.self (rw (← c.self.view_is) c.if-self.false) (rw (← c.self.view_is)
-    (subst (λ (i : ClientParts). event_check i c.self.inside.objects.store c.args.protocol.now (session_content c.args.message.now) ≡ Ok (granted.0, c.in-Ok.ends)) c.client-client.ensures granted.2))
-    (c.send_granted.ensures granted.0 (rw (← c.self.view_is) granted.1))
-
 pub returns-in-Err : goal.returns-in-Err
 returns-in-Err g c =
     was_refused g.T.Transport.sends c.args.message.now.sender_id.client c.args.protocol.now c.args.self.now (session_content c.args.message.now) c.in-Err.error
     (rw (← c.self.view_is) c.if-self.false) (rw (← c.self.view_is)
-    (subst (λ (i : ClientParts). event_check i c.self.inside.objects.store c.args.protocol.now (session_content c.args.message.now) ≡ Err c.in-Err.error) c.client-client.ensures c.in-Err.ensures))
+    (subst (λ (i : ClientParts). event_check i c.self.inside.objects.store c.args.protocol.now (session_content c.args.message.now) ≡ Err c.in-Err.error) c.client.ensures c.in-Err.ensures.decided))
+
+pub returns-then-is_err : goal.returns-then-is_err
+returns-then-is_err g c =
+    let sender = c.in-Ok.granted.0.now in
+    let ends = c.in-Ok.granted.1 in
+    was_granted g.T.Transport.sends c.args.message.now.sender_id.client c.args.protocol.now c.args.self.now (session_content c.args.message.now) sender ends _ true _
+    (rw (← c.self.view_is) c.if-self.false) (rw (← c.self.view_is)
+    (subst (λ (i : ClientParts). event_check i c.self.inside.objects.store c.args.protocol.now (session_content c.args.message.now) ≡ Ok (sender, ends)) c.client.ensures c.in-Ok.ensures.decided))
+    (no_room c.args.message.now.sender_id.client (session_content c.args.message.now) sender g.T.Transport.sends c.args.self.now _ ends
+    (on_err c.make_room.result (sym c.is_err.ensures.value ∙ c.if-is_err.true) c.make_room.ensures.asked)
+    (rw (← c.self.view_is, c.make_room.ensures.items) refl))
+
+pub returns-then-is_out_of_memory : goal.returns-then-is_out_of_memory
+returns-then-is_out_of_memory g c =
+    let sender = c.in-Ok.granted.0.now in
+    let ends = c.in-Ok.granted.1 in
+    was_granted g.T.Transport.sends c.args.message.now.sender_id.client c.args.protocol.now c.args.self.now (session_content c.args.message.now) sender ends _ true _
+    (rw (← c.self.view_is) c.if-self.false) (rw (← c.self.view_is)
+    (subst (λ (i : ClientParts). event_check i c.self.inside.objects.store c.args.protocol.now (session_content c.args.message.now) ≡ Ok (sender, ends)) c.client.ensures c.in-Ok.ensures.decided))
+    (not_written c.args.message.now.sender_id.client (session_content c.args.message.now) sender g.T.Transport.sends c.args.self.now _ ends
+    c.write_numbered-written.new.self c.write_numbered-written.result
+    (rw (← c.self.view_is)
+    (subst (λ (m : WireMessage). Wrote g.T.Transport.sends c.self.inside.socket m c.write_numbered-written.result c.write_numbered-written.new.self) (event_numbered c.args.message.now)
+    c.write_numbered-written.ensures.wrote))
+    (sym c.is_out_of_memory.ensures ∙ c.if-is_out_of_memory.true)
+    (rw (← c.self.view_is, c.make_room.ensures.items) refl))
+
+pub returns : goal.returns
+returns g c =
+    let sender = c.in-Ok.granted.0.now in
+    let ends = c.in-Ok.granted.1 in
+    let registries = of_sender c.self.inside.objects.store c.args.message.now.sender_id sender
+    (λ x. c.end_sender.new.registries.items ≡ registries_ending ends c.self.inside.registries.items c.args.message.now.sender_id.number x) c.in-Ok.ensures.sender c.end_sender.ensures.registries in
+    let waiting = of_sender c.self.inside.objects.store c.args.message.now.sender_id sender
+    (λ x. map (λ w. w.1) c.end_sender.new.waiting.queue.items
+    ≡ map (λ w. w.1) c.make_room.new.waiting.queue.items ++ notes_ending ends c.args.message.now.sender_id.client c.args.message.now.sender_id.number x) c.in-Ok.ensures.sender c.end_sender.ensures.waiting in
+    was_granted g.T.Transport.sends c.args.message.now.sender_id.client c.args.protocol.now c.args.self.now (session_content c.args.message.now) sender ends _ c.tell_end.result _
+    (rw (← c.self.view_is) c.if-self.false) (rw (← c.self.view_is)
+    (subst (λ (i : ClientParts). event_check i c.self.inside.objects.store c.args.protocol.now (session_content c.args.message.now) ≡ Ok (sender, ends)) c.client.ensures c.in-Ok.ensures.decided))
+    (sent c.args.message.now.sender_id.client (session_content c.args.message.now) sender g.T.Transport.sends c.args.self.now _ c.tell_end.new.self ends c.protocol_id.result
+    c.write_numbered-written.new.self c.write_numbered-written.result c.tell_end.result
+    (rw (← c.self.view_is)
+    (subst (λ (m : WireMessage). Wrote g.T.Transport.sends c.self.inside.socket m c.write_numbered-written.result c.write_numbered-written.new.self) (event_numbered c.args.message.now)
+    c.write_numbered-written.ensures.wrote))
+    (sym c.is_out_of_memory.ensures ∙ c.if-is_out_of_memory.false)
+    (rw (← c.self.view_is, waiting, c.end_sender.ensures.store, registries, c.make_room.ensures.items) refl)
+    c.protocol_id.ensures c.tell_end.ensures)
