@@ -6,6 +6,7 @@ pub mod Data
 pub mod Creation
 pub mod Destruction
 pub mod Finishing
+pub mod Requests
 pub mod Ends
 pub mod Sending
 pub mod Cleanup

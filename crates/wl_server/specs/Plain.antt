@@ -2,7 +2,7 @@
 --
 -- A call whose contract cites one of these has the clause `call` beside it, which says all that the call does, as a step. What
 -- stands here follows from that, and can be used without it.
-use Rattle.std.specs.Prelude.{◌≡◌, ◌⊎◌, ℕ, List, [], ◌∷◌, ◌++◌, Bool, true, false, ◌&&◌, if◌then◌else◌, Option, None, Some, is_some, Result, Ok, Err, MatchOption, MatchResult, Vec, option_map}
+use Rattle.std.specs.Prelude.{◌≡◌, ◌⊎◌, ℕ, List, [], ◌∷◌, ◌++◌, Bool, true, false, ◌&&◌, if◌then◌else◌, Option, None, Some, IsSome, is_some, Result, Ok, Err, MatchOption, MatchResult, Vec, option_map}
 use Rattle.std.specs.Global.{Global}
 use Rattle.wl_wire.specs.declared.error.IoFault.{IoFault}
 use Rattle.wl_wire.specs.declared.error.OutOfMemory.{OutOfMemory}
@@ -13,6 +13,8 @@ use Rattle.wl_link.specs.Link.{Flushed, LinkState}
 use Rattle.wl_server.specs.declared.error.CreateError.{CreateError}
 use Rattle.wl_server.specs.declared.error.DestroyError.{DestroyError}
 use Rattle.wl_server.specs.declared.error.DestroyError.TheVariants as destroy
+use Rattle.wl_server.specs.declared.error.FinishError.{FinishError}
+use Rattle.wl_server.specs.declared.error.FinishError.TheVariants as finish
 use Rattle.wl_server.specs.declared.error.FinishRefused.{FinishRefused}
 use Rattle.wl_server.specs.declared.error.InvalidId.{InvalidId}
 use Rattle.wl_server.specs.declared.notes.DisconnectReason.{DisconnectReason}
@@ -36,6 +38,19 @@ use Rattle.wl_server.specs.WholeOutcome.{SameServer}
 -- both ids name in one client, by the same number and serial
 abbrev pub same_object : IdParts → IdParts → Bool
 same_object a b = same_client a.client b.client && same_id (id_of a) (id_of b)
+
+-- of a client's request: the id is that of the sender that it ends; the id is that of the object that it made
+abbrev pub is_ended : Bool → IdParts → IdParts → Bool
+is_ended is_destructor sender id = is_destructor && same_id (id_of sender) (id_of id)
+
+abbrev pub is_made : Option IdParts → IdParts → Bool
+is_made None id = false
+is_made (Some made) id = same_id (id_of made) (id_of id)
+
+-- the object with the data, if any are given
+abbrev pub with_given : {U : Type 0} → Option U → Object (Kept U) → Object (Kept U)
+with_given None x = x
+with_given (Some u) x = with_user_data u x
 
 module _ {T U C : Type 0} where
   abbrev pub as_killed : Part T U C → Part T U C
@@ -153,6 +168,64 @@ module _ {T U G C : Type 0} where
     pub clients : OtherClientsStay before client after
     pub notes : (other : ClientParts) → notes_made_in after other ≡ notes_made_in before other
     pub memory : after.refused ≡ false
+
+  -- whether the client is killed, while it is stored
+  abbrev pub killed_in : BackendState T U G C → ClientParts → Option Bool
+  killed_in b client = option_map (λ p. p.is_killed) (client_in b client)
+
+  -- data are given exactly where the request made an object, but that those of a killed client may lack
+  abbrev pub DataFit : BackendState T U G C → ClientParts → Option IdParts → Option U → Type 0
+  DataFit before client None u = u ≡ None
+  DataFit before client (Some made) u = IsSome u ⊎ (killed_in before client ≡ Some true)
+
+  -- No action is open any more. The sender of a request that ends it is gone, the object that the request made has the data, if
+  -- it is still kept, and each other id of the client names what it named.
+  pub record RequestIsEnded (before : BackendState T U G C) (client : ClientParts) (sender : IdParts) (is_destructor : Bool) (created : Option IdParts) (u : Option U)
+      (after : BackendState T U G C) : Type 0 where
+    pub was_open : action_in before client ≡ Some (opened.Request sender is_destructor created)
+    pub is_closed : action_in after client ≡ None
+    pub fits : DataFit before client created u
+    pub gone : is_destructor ≡ true → object_of_client after client sender ≡ None
+    pub made : (id : IdParts) → created ≡ Some id → is_ended is_destructor sender id ≡ false
+        → object_of_client after client id ≡ option_map (with_given u) (object_of_client before client id)
+    pub others : (id : IdParts) → is_ended is_destructor sender id ≡ false → is_made created id ≡ false
+        → object_of_client after client id ≡ object_of_client before client id
+
+  -- nothing has changed, and memory was not refused
+  abbrev pub IsRefusedWhole : BackendState T U G C → BackendState T U G C → Type 0
+  IsRefusedWhole before after = IsUnchanged before after × (after.refused ≡ false)
+
+  -- Why the end of a request is refused. It changes nothing; but where there is no memory to end the sender, what was sent of
+  -- that which waited is gone from the client's link.
+  abbrev pub RequestRefusedAs : BackendState T U G C → ClientParts → Option U → FinishError → BackendState T U G C → Type 0
+  RequestRefusedAs before client u finish.InvalidId after = (client_in before client ≡ None) × IsRefusedWhole before after
+  RequestRefusedAs before client u finish.NoOpenAction after =
+      IsSome (client_in before client) × (action_in before client ≡ None) × IsRefusedWhole before after
+  RequestRefusedAs before client u finish.WrongKind after =
+      (object : IdParts) × (action_in before client ≡ Some (opened.Bind object)) × IsRefusedWhole before after
+  RequestRefusedAs before client u finish.MissingObjectData after =
+      (sender : IdParts) × (is_destructor : Bool) × (made : IdParts) × (action_in before client ≡ Some (opened.Request sender is_destructor (Some made)))
+      × (u ≡ None) × (killed_in before client ≡ Some false) × IsRefusedWhole before after
+  RequestRefusedAs before client u finish.UnexpectedData after =
+      (sender : IdParts) × (is_destructor : Bool) × (action_in before client ≡ Some (opened.Request sender is_destructor None))
+      × IsSome u × IsRefusedWhole before after
+  RequestRefusedAs before client u finish.OutOfMemory after =
+      (sender : IdParts) × (created : Option IdParts) × (action_in before client ≡ Some (opened.Request sender true created))
+      × IsSome (object_of_client before client sender)
+      × (option_map core_of (client_in after client) ≡ option_map core_of (client_in before client))
+      × (notes_made_in after client ≡ notes_made_in before client) × (after.refused ≡ true)
+
+  abbrev pub RequestEndedAs : BackendState T U G C → ClientParts → Option U → Result (Unit {0}) (FinishRefused (Option U)) → BackendState T U G C → Type 0
+  RequestEndedAs before client u (Ok _) after =
+      (sender : IdParts) × (is_destructor : Bool) × (created : Option IdParts) × RequestIsEnded before client sender is_destructor created u after
+      × (after.refused ≡ false)
+  RequestEndedAs before client u (Err refused) after = (refused.user_data ≡ u) × RequestRefusedAs before client u refused.error after
+
+  pub record EndsOpenRequest (before : BackendState T U G C) (client : ClientParts) (u : Option U) (answer : Result (Unit {0}) (FinishRefused (Option U)))
+      (after : BackendState T U G C) : Type 0 where
+    pub request : RequestEndedAs before client u answer after
+    pub clients : OtherClientsStay before client after
+    pub stored : (other : ClientParts) → is_some (client_in after other) ≡ is_some (client_in before other)
 
   -- ---- the calls on clients
 

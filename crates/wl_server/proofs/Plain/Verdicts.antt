@@ -1,16 +1,18 @@
 -- What a verdict over the link leaves of a client beside it.
-use Rattle.std.proofs.Common.{◌≡◌, ℕ, Bool, true, false, cond, List, Result, Ok, Err, refl, sym, ap, subst, ◌∙◌, true≢false}
+use Rattle.std.proofs.Common.{◌≡◌, ℕ, Bool, true, false, cond, List, [], ◌∷◌, ◌++◌, map, Result, Ok, Err, refl, sym, ap, ◌∙◌, true≢false}
 use mathlib.Core.Logic.{inl, inr}
 use Rattle.std.specs.Prelude.{◌||◌}
 use Rattle.wl_wire.specs.declared.error.IoFault.{IoFault}
 use Rattle.wl_wire.specs.declared.error.IoFault.TheVariants as fault
 use Rattle.wl_link.specs.Exchange.{Queue, Sending}
 use Rattle.wl_link.specs.Link.{LinkState}
-use Rattle.wl_link.specs.Puts.{FlushesOut, lacked_memory}
-use Rattle.wl_link.specs.Reader.{CarriesOut, Given, Verdict, came_to, ReaderState}
-use Rattle.wl_server.specs.Deeds.{Deed}
+use Rattle.wl_link.specs.Puts.{FlushesOut, PutsOut, Said, lacked_memory}
+use Rattle.wl_link.specs.Reader.{CarriesOut, Given, Verdict, came_to, put_and_gave, ReaderState}
+use Rattle.wl_server.specs.Deeds.{Deed, Sent, notes_in}
+use Rattle.wl_server.specs.Inside.Carried.{told_notes}
 use Rattle.wl_server.specs.Part.{Part}
-use Rattle.wl_server.specs.Telling.{Core, Tells, Told, closed_down, part_of, speaker}
+use Rattle.wl_server.specs.Telling.{Core, Tells, Told, closed_down, deeds_of, end_deeds, part_of, speaker}
+use Rattle.wl_server.proofs.Readings.Notes.{notes_told}
 
 no_flush : {T : Type 0} (sends : T → Queue → Result ℕ IoFault → T → Type 0) (flushes : Bool) (mid : LinkState T) (es : List Sending) (lacked : Bool) (after : LinkState T)
     → flushes ≡ false → FlushesOut sends flushes mid es lacked after → lacked ≡ false
@@ -40,3 +42,62 @@ told {T} {U} {C} {A} sends g f agree v none last closed link lacked did q (es, g
         ap g is ∙ came wrote lacks (no_flush sends v.flushes mid others lacks end.link none flushes) ∙ ap (λ (b : Bool). cond b (g v.starved) (g v.core)) (sym memory)
     carried (inr (asks, refused, nothing, given, starves)) =
         ap (λ (x : ReaderState T (Core U C)). g x.core) starves ∙ ap (λ (b : Bool). cond b (g v.starved) (g v.core)) (sym refused)
+
+-- no memory is refused where a verdict puts nothing and asks for none
+pub told_nothing : {T U C : Type 0} (sends : T → Queue → Result ℕ IoFault → T → Type 0) (v : Verdict (Core U C) (Told U)) → v.puts ≡ [] → v.flushes ≡ false → v.asks ≡ false
+    → (link : LinkState T) (lacked : Bool) (did : List (Deed U)) (q : Part T U C) → Tells sends v link lacked did q → lacked ≡ false
+told_nothing {T} {U} {C} sends v nothing none unasked link lacked did q (es, gave, end, carries, did_so, same) = carried carries
+  where
+    all_put : (ms : List Said) → ms ≡ [] → (es : List Sending) (put : List Said) (wrote : Result (Unit {0}) IoFault) (mid : LinkState T) → PutsOut sends link ms es put wrote mid
+        → wrote ≡ Ok tt
+    all_put [] is es put wrote mid (sent, done, ok, stays) = ok
+    all_put (m ∷ ms) is es put wrote mid h = absurd cc
+
+    carried : CarriesOut sends speaker v link es gave lacked end → lacked ≡ false
+    carried (inl (first, others, put, wrote, mid, lacks, puts, flushes, sent, is, given, memory)) =
+        memory ∙ ap (λ (r : Result (Unit {0}) IoFault). lacked_memory r || lacks) (all_put v.puts nothing first put wrote mid puts)
+        ∙ no_flush sends v.flushes mid others lacks end.link none flushes
+    carried (inr (asks, refused, silent, given, starves)) = absurd (true≢false (sym asks ∙ unasked))
+
+-- what a verdict leaves where memory is refused, and what was noted in that
+pub record IsStarved {T U C : Type 0} (v : Verdict (Core U C) (Told U)) (did : List (Deed U)) (q : Part T U C) : Type 0 where
+  pub link : LinkState T
+  pub part_is : q ≡ part_of (record { core = v.starved; link = link })
+  pub notes_are : notes_in did ≡ told_notes (v.events v.starved) ++ notes_in (end_deeds v.starved.ended)
+
+pub told_starved : {T U C : Type 0} (sends : T → Queue → Result ℕ IoFault → T → Type 0) (v : Verdict (Core U C) (Told U)) → v.flushes ≡ false → (link : LinkState T) (lacked : Bool)
+    (did : List (Deed U)) (q : Part T U C) → lacked ≡ true → Tells sends v link lacked did q → IsStarved v did q
+told_starved {T} {U} {C} sends v none link lacked did q starved (es, gave, end, carries, did_so, same) = carried carries
+  where
+    deeds : List Sending → List Said → Core U C → List (Deed U)
+    deeds es put c = deeds_of (map Sent es) (put_and_gave put (v.events c)) c
+
+    came : (wrote : Result (Unit {0}) IoFault) (b : Bool) → b ≡ false → (lacked_memory wrote || b) ≡ true → came_to speaker v wrote ≡ v.starved
+    came (Err fault.OutOfMemory) b calm lacks = refl
+    came (Ok u) b calm lacks = absurd (true≢false (sym lacks ∙ calm))
+    came (Err fault.WouldBlock) b calm lacks = absurd (true≢false (sym lacks ∙ calm))
+    came (Err fault.Pipe) b calm lacks = absurd (true≢false (sym lacks ∙ calm))
+    came (Err fault.TooBig) b calm lacks = absurd (true≢false (sym lacks ∙ calm))
+    came (Err fault.Proto) b calm lacks = absurd (true≢false (sym lacks ∙ calm))
+    came (Err fault.InvalidInput) b calm lacks = absurd (true≢false (sym lacks ∙ calm))
+    came (Err (fault.Other n)) b calm lacks = absurd (true≢false (sym lacks ∙ calm))
+
+    of_core : (es : List Sending) (put : List Said) → end.core ≡ v.starved → did ≡ deeds es put v.starved → IsStarved v did q
+    of_core es put is all = record {
+      link = end.link;
+      part_is = same ∙ ap (λ (c : Core U C). part_of (record { core = c; link = end.link })) is;
+      notes_are = ap notes_in all ∙ notes_told es put (v.events v.starved) v.starved;
+    }
+
+    carried : CarriesOut sends speaker v link es gave lacked end → IsStarved v did q
+    carried (inl (first, others, put, wrote, mid, lacks, puts, flushes, sent, is, given, memory)) =
+        let comes : came_to speaker v wrote ≡ v.starved = came wrote lacks (no_flush sends v.flushes mid others lacks end.link none flushes) (sym memory ∙ starved) in
+        of_core es put (is ∙ comes)
+        (did_so ∙ ap (λ (g : List (Given (Told U))). deeds_of (map Sent es) g end.core) given
+        ∙ ap (λ (c : Core U C). deeds_of (map Sent es) (put_and_gave put (v.events c)) end.core) comes
+        ∙ ap (λ (c : Core U C). deeds_of (map Sent es) (put_and_gave put (v.events v.starved)) c) (is ∙ comes))
+    carried (inr (asks, refused, silent, given, starves)) =
+        let is : end.core ≡ v.starved = ap (λ (x : ReaderState T (Core U C)). x.core) starves in
+        of_core es [] is
+        (did_so ∙ ap (λ (g : List (Given (Told U))). deeds_of (map Sent es) g end.core) given
+        ∙ ap (λ (c : Core U C). deeds_of (map Sent es) (put_and_gave [] (v.events v.starved)) c) is)

@@ -15,7 +15,7 @@ ghost use Rattle.wl_server.specs.Finish.{ended_by, FinishesBind, FinishesOpen, F
 ghost use Rattle.wl_server.specs.Inside.Finishing.{EndsSender, lacks_finish, part_closed};
 ghost use Rattle.wl_server.specs.Part.{note_of_end, registries_without};
 ghost use Rattle.wl_server.specs.PartStep.{Asked, over};
-ghost use Rattle.wl_server.specs.Plain.{EndsBind};
+ghost use Rattle.wl_server.specs.Plain.{EndsBind, EndsOpenRequest};
 ghost use Rattle.wl_server.specs.declared.reading.action.OpenAction.TheVariants as opened;
 ghost use Rattle.wl_server.specs.declared.runs.step.Reply.TheVariants as reply;
 ghost use Rattle.wl_server.specs.declared.runs.step.Step.TheVariants as step;
@@ -267,6 +267,7 @@ impl<T: Transport + Drop, U: Drop, G: GlobalHandler<C> + Drop, C: Drop> Backend<
     ) -> Result<(), FinishRefused<Option<U>>>
         ensures cutting { CallIsCut (over T.sends T.receives G.views) self.old.server (Asked (step.FinishRequest client.now user_data) (reply.FinishRequest result)) self.new.refused self.new.server }
         ensures finished { Calls (over T.sends T.receives G.views) self.old (step.FinishRequest client.now user_data) (reply.FinishRequest result) self.new }
+        ensures plain { EndsOpenRequest self.old client.now user_data result self.new }
     {
         self.refused = false;
         if !self.is_stored(client) {

@@ -13,6 +13,7 @@ use Rattle.wl_server.specs.declared.runs.step.Step.TheVariants as step
 use Rattle.wl_server.proofs.CallSteps.OneClient.{IsOwn, done_at, not_stored}
 use Rattle.wl_server.proofs.CallSteps.Slots.{Kind, slot_in, slot_not_empty}
 use Rattle.wl_server.proofs.CleanupSteps.Taken.{slots_set}
+use Rattle.wl_server.proofs.Plain.Requests.{ends_open_request}
 use Rattle.wl_server.proofs.backend.Backend.finish_request.Goals as goal
 
 abbrev finishes : {T U C : Type 0} → (T → Queue → Result ℕ IoFault → T → Type 0) → Option U → Result (Unit {0}) (FinishRefused (Option U)) → Kind T U C
@@ -53,3 +54,9 @@ returns-clause-cutting g c = ((returns-clause-finished g c).step, histories_cut 
 
 pub invariant_of-self-in-Some : goal.invariant_of-self-in-Some
 invariant_of-self-in-Some g c = slots_set _ _ _ _ _ c.self.invariant
+
+pub returns-then-not-is_stored-clause-plain : goal.returns-then-not-is_stored-clause-plain
+returns-then-not-is_stored-clause-plain g c = ends_open_request _ _ _ _ _ _ (returns-then-not-is_stored-clause-finished g c)
+
+pub returns-clause-plain : goal.returns-clause-plain
+returns-clause-plain g c = ends_open_request _ _ _ _ _ _ (returns-clause-finished g c)

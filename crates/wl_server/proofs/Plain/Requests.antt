@@ -1,0 +1,458 @@
+-- The end of a request.
+use Rattle.std.proofs.Common.{◌≡◌, ℕ, Bool, true, false, cond, eqb-true, List, [], ◌++◌, append-nil, Option, None, Some, is_some, Result, Ok, Err, refl, sym, ap, subst, ◌∙◌, true≢false}
+use mathlib.Core.Logic.{inl, inr}
+use Rattle.std.specs.Prelude.{◌⊎◌, ◌&&◌, ◌==◌, IsSome, option_map}
+use Rattle.wl_wire.specs.declared.error.IoFault.{IoFault}
+use Rattle.wl_link.proofs.Calls.Branches.{either_option}
+use Rattle.wl_link.specs.declared.object.Object.{Object}
+use Rattle.wl_link.specs.Exchange.{Queue}
+use Rattle.wl_link.specs.Identity.{Id, names}
+use Rattle.wl_link.specs.Store.{Store, removed}
+use Rattle.wl_server.specs.declared.error.FinishError.{FinishError}
+use Rattle.wl_server.specs.declared.error.FinishError.TheVariants as finish
+use Rattle.wl_server.specs.declared.error.FinishRefused.{FinishRefused}
+use Rattle.wl_server.specs.declared.notes.Happening.{Happening}
+use Rattle.wl_server.specs.declared.objects.Kept.{Kept}
+use Rattle.wl_server.specs.declared.reading.action.OpenAction.TheVariants as opened
+use Rattle.wl_server.specs.declared.runs.step.Reply.{Reply}
+use Rattle.wl_server.specs.declared.runs.step.Reply.TheVariants as reply
+use Rattle.wl_server.specs.declared.runs.step.Step.TheVariants as step
+use Rattle.wl_server.specs.Backend.{BackendState, Calls}
+use Rattle.wl_server.specs.Deeds.{Deed, notes_in}
+use Rattle.wl_server.specs.Finish.{FinishesRequest, ended_by, ends, ends_request, refusal, store_with_data}
+use Rattle.wl_server.specs.Ids.{ClientParts, IdParts, same_client}
+use Rattle.wl_server.specs.Inside.Carried.{told_notes}
+use Rattle.wl_server.specs.Inside.Finishing.{is_memory, lacks_finish}
+use Rattle.wl_server.specs.Lookups.{and_then}
+use Rattle.wl_server.specs.Objects.{unless_refused}
+use Rattle.wl_server.specs.Part.{Part, id_of, named, same_id, serial_of}
+use Rattle.wl_server.specs.PartStep.{OfClient, World}
+use Rattle.wl_server.specs.Plain.{DataFit, EndsOpenRequest, IsRefusedWhole, RequestEndedAs, RequestIsEnded, RequestRefusedAs, is_ended, is_made, with_given}
+use Rattle.wl_server.specs.Server.{Seen, seen}
+use Rattle.wl_server.specs.Telling.{Tells, Told, core_of}
+use Rattle.wl_server.proofs.Plain.Base.{calm, keeps, never, nothing_new, of_each, other_stays, own, refused_to, unchanged}
+use Rattle.wl_server.proofs.Plain.Finishing.{given_named, given_others}
+use Rattle.wl_server.proofs.Plain.Naming.{names_so, removed_named, removed_others}
+use Rattle.wl_server.proofs.Plain.Verdicts.{told, told_nothing, told_starved}
+
+-- ---- two ids of a client that are the same name the same
+
+both_true : (a b : Bool) → (a && b) ≡ true → (a ≡ true) × (b ≡ true)
+both_true true b both = (refl, both)
+both_true false b both = absurd (true≢false (sym both))
+
+not_both : (a b : Bool) → (a && b) ≡ false → a ≡ true → b ≡ false
+not_both true b both is = both
+not_both false b both is = absurd (true≢false (sym is))
+
+abbrev mk : ℕ → ℕ → Id
+mk number serial = record { number = number; serial = serial }
+
+module _ {U : Type 0} where
+  same_named : (store : Store (Kept U)) (a b : IdParts) → same_id (id_of a) (id_of b) ≡ true → named store a ≡ named store b
+  same_named store a b same =
+      let (number, serial) = both_true (a.number == b.number) (a.serial == b.serial) same in
+      ap (λ (n : ℕ). names serial_of (mk n a.serial) store) (eqb-true a.number b.number number)
+      ∙ ap (λ (n : ℕ). names serial_of (mk b.number n) store) (eqb-true a.serial b.serial serial)
+
+  -- ---- the object that was made gets its data
+
+  made_named : (store : Store (Kept U)) (id : IdParts) (u : Option U) → named (store_with_data store (Some id) u) id ≡ option_map (with_given u) (named store id)
+  made_named store id (Some u) = given_named store id u
+  made_named store id None = at (named store id)
+    where
+      at : (o : Option (Object (Kept U))) → o ≡ option_map (with_given None) o
+      at None = refl
+      at (Some x) = refl
+
+  made_others : (store : Store (Kept U)) (created : Option IdParts) (u : Option U) (other : IdParts) → is_made created other ≡ false
+      → named (store_with_data store created u) other ≡ named store other
+  made_others store None u other differ = refl
+  made_others store (Some id) None other differ = refl
+  made_others store (Some id) (Some u) other differ = given_others store id u other differ
+
+  -- what names none goes on to
+  made_none : (store : Store (Kept U)) (created : Option IdParts) (u : Option U) (o : IdParts) → named store o ≡ None → named (store_with_data store created u) o ≡ None
+  made_none store None u o none = none
+  made_none store (Some id) u o none = at (same_id (id_of id) (id_of o)) refl
+    where
+      at : (b : Bool) → same_id (id_of id) (id_of o) ≡ b → named (store_with_data store (Some id) u) o ≡ None
+      at false differ = made_others store (Some id) u o differ ∙ none
+      at true same =
+          sym (same_named (store_with_data store (Some id) u) id o same) ∙ made_named store id u
+          ∙ ap (λ (x : Option (Object (Kept U))). option_map (with_given u) x) (same_named store id o same ∙ none)
+
+  -- ---- the sender that is ended
+
+  abbrev left_by : Store (Kept U) → ℕ → Option (Object (Kept U)) → Store (Kept U)
+  left_by store n None = store
+  left_by store n (Some x) = removed store n
+
+  ended_named : (store : Store (Kept U)) (sender : IdParts) (is_destructor : Bool) (x : Object (Kept U)) → ended_by store sender is_destructor ≡ Some x
+      → (is_destructor ≡ true) × (named store sender ≡ Some x)
+  ended_named store sender true x is = (refl, is)
+  ended_named store sender false x is = absurd cc
+
+  sender_gone : (store : Store (Kept U)) (sender : IdParts) (is_destructor : Bool) (o : Option (Object (Kept U))) → ended_by store sender is_destructor ≡ o → is_destructor ≡ true
+      → named (left_by store sender.number o) sender ≡ None
+  sender_gone store sender true None is destroys = is
+  sender_gone store sender true (Some x) is destroys = removed_named store sender
+  sender_gone store sender false o is destroys = absurd (true≢false (sym destroys))
+
+  sender_others : (store : Store (Kept U)) (sender : IdParts) (is_destructor : Bool) (o : Option (Object (Kept U))) → ended_by store sender is_destructor ≡ o → (other : IdParts)
+      → is_ended is_destructor sender other ≡ false → named (left_by store sender.number o) other ≡ named store other
+  sender_others store sender is_destructor None is other differ = refl
+  sender_others store sender is_destructor (Some x) is other differ =
+      let (ends, there) = ended_named store sender is_destructor x is in
+      removed_others store sender x (names_so store sender x there) other (not_both is_destructor (same_id (id_of sender) (id_of other)) differ ends)
+
+-- ---- what a finish comes to
+
+abbrev Answer : Type 0 → Type 0
+Answer U = Result (Unit {0}) (FinishRefused (Option U))
+
+abbrev RefusedFor : {U : Type 0} → Option U → FinishError → Answer U
+RefusedFor u e = Err (record { error = e; user_data = u })
+
+abbrev Unknown : {U : Type 0} → Option U → Answer U → Type 0
+Unknown u answer = answer ≡ RefusedFor u finish.InvalidId
+
+module _ {T U C : Type 0} where
+  -- why it is refused, whatever memory there is
+  abbrev Why : Part T U C → Option U → FinishError → Type 0
+  Why p u finish.InvalidId = ⊥
+  Why p u finish.NoOpenAction = p.action ≡ None
+  Why p u finish.WrongKind = (object : IdParts) × (p.action ≡ Some (opened.Bind object))
+  Why p u finish.MissingObjectData =
+      (sender : IdParts) × (is_destructor : Bool) × (made : IdParts) × (p.action ≡ Some (opened.Request sender is_destructor (Some made))) × (u ≡ None) × (p.is_killed ≡ false)
+  Why p u finish.UnexpectedData =
+      (sender : IdParts) × (is_destructor : Bool) × (p.action ≡ Some (opened.Request sender is_destructor None)) × IsSome u
+  Why p u finish.OutOfMemory = ⊥
+
+  record IsRefused (p : Part T U C) (u : Option U) (answer : Answer U) (lacked : Bool) (did : List (Deed U)) (q : Part T U C) : Type 0 where
+    error : FinishError
+    why : Why p u error
+    answer_is : answer ≡ RefusedFor u error
+    calm : lacked ≡ false
+    did_is : did ≡ []
+    part_is : q ≡ p
+
+  record IsTaken (sends : T → Queue → Result ℕ IoFault → T → Type 0) (client : ClientParts) (p : Part T U C) (u : Option U) (answer : Answer U) (lacked : Bool) (did : List (Deed U))
+      (q : Part T U C) : Type 0 where
+    sender : IdParts
+    is_destructor : Bool
+    created : Option IdParts
+    was_open : p.action ≡ Some (opened.Request sender is_destructor created)
+    fits : refusal p.is_killed created u ≡ None
+    answer_is : answer ≡ unless_refused (record { error = finish.OutOfMemory; user_data = u }) lacked
+    tells : Tells sends (ends_request client (core_of p) sender is_destructor created u) p.link lacked did q
+
+  reason : (p : Part T U C) (sender : IdParts) (is_destructor : Bool) (created : Option IdParts) (u : Option U) (e : FinishError)
+      → p.action ≡ Some (opened.Request sender is_destructor created) → refusal p.is_killed created u ≡ Some e → Why p u e
+  reason p sender is_destructor created u e is_open refused = at created u p.is_killed is_open refl refused
+    where
+      inside : (a b : FinishError) → Some a ≡ Some b → a ≡ b
+      inside a b is = cc
+
+      at : (created : Option IdParts) (u : Option U) (killed : Bool) → p.action ≡ Some (opened.Request sender is_destructor created) → p.is_killed ≡ killed
+          → refusal killed created u ≡ Some e → Why p u e
+      at None None true is_open killed is = absurd cc
+      at None None false is_open killed is = absurd cc
+      at None (Some u) true is_open killed is =
+          subst (λ (e : FinishError). Why p (Some u) e) (inside finish.UnexpectedData e is) (sender, is_destructor, is_open, refl)
+      at None (Some u) false is_open killed is =
+          subst (λ (e : FinishError). Why p (Some u) e) (inside finish.UnexpectedData e is) (sender, is_destructor, is_open, refl)
+      at (Some made) None true is_open killed is = absurd cc
+      at (Some made) None false is_open killed is =
+          subst (λ (e : FinishError). Why p None e) (inside finish.MissingObjectData e is) (sender, is_destructor, made, is_open, refl, killed)
+      at (Some made) (Some u) true is_open killed is = absurd cc
+      at (Some made) (Some u) false is_open killed is = absurd cc
+
+  why_calm : (p : Part T U C) (u : Option U) (e : FinishError) → Why p u e → is_memory e ≡ false
+  why_calm p u finish.InvalidId why = absurd why
+  why_calm p u finish.NoOpenAction why = refl
+  why_calm p u finish.WrongKind why = refl
+  why_calm p u finish.MissingObjectData why = refl
+  why_calm p u finish.UnexpectedData why = refl
+  why_calm p u finish.OutOfMemory why = absurd why
+
+module _ {T U C : Type 0} (sends : T → Queue → Result ℕ IoFault → T → Type 0) (client : ClientParts) (u : Option U) where
+  abbrev Does : Answer U → Bool → List (Deed U) → Part T U C → Part T U C → Type 0
+  Does answer lacked did p q = FinishesRequest sends client p u answer lacked did q
+
+  comes_to : (answer : Answer U) (lacked : Bool) (did : List (Deed U)) (p q : Part T U C) → Does answer lacked did p q
+      → IsRefused p u answer lacked did q ⊎ IsTaken sends client p u answer lacked did q
+  comes_to answer lacked did p q h =
+      elim (either_option p.action h) [
+        | inl (none, (is, calm, nothing, same)) ↦
+            inl (record { error = finish.NoOpenAction; why = none; answer_is = is; calm = calm; did_is = nothing; part_is = same })
+        | inr (opened.Bind object, is_open, (is, calm, nothing, same)) ↦
+            inl (record { error = finish.WrongKind; why = (object, is_open); answer_is = is; calm = calm; did_is = nothing; part_is = same })
+        | inr (opened.Request sender is_destructor created, is_open, does) ↦
+            elim (either_option (refusal p.is_killed created u) does) [
+              | inl (fits, (answered, tells)) ↦
+                  inr (record { sender = sender; is_destructor = is_destructor; created = created; was_open = is_open; fits = fits; answer_is = answered; tells = tells })
+              | inr (e, refused, (is, calm, nothing, same)) ↦
+                  inl (record { error = e; why = reason p sender is_destructor created u e is_open refused; answer_is = is; calm = calm; did_is = nothing; part_is = same })
+            ]
+      ]
+
+  -- whether memory was refused is told by the answer
+  lacks_by : (answer : Answer U) (lacked : Bool) (did : List (Deed U)) (p q : Part T U C) → Does answer lacked did p q → lacked ≡ lacks_finish answer
+  lacks_by answer lacked did p q h =
+      elim (comes_to answer lacked did p q h) [
+        | inl r ↦ r.calm ∙ sym (why_calm p u r.error r.why) ∙ sym (ap (λ (a : Answer U). lacks_finish a) r.answer_is)
+        | inr e ↦ at lacked ∙ sym (ap (λ (a : Answer U). lacks_finish a) e.answer_is)
+      ]
+    where
+      at : (b : Bool) → b ≡ lacks_finish (unless_refused (record { error = finish.OutOfMemory; user_data = u }) b)
+      at true = refl
+      at false = refl
+
+  -- ---- the client behind a finish
+
+  ended_part : (p q : Part T U C) (sender : IdParts) (created : Option IdParts) (o : Option (Object (Kept U))) (lacked : Bool) (did : List (Deed U)) → lacked ≡ false
+      → Tells sends (ends client (core_of p) sender o created u) p.link lacked did q
+      → (q.store ≡ store_with_data (left_by p.store sender.number o) created u) × (q.action ≡ None)
+  ended_part p q sender created None lacked did calm h = (
+    told sends (λ c. c.store) (λ q. q.store) (λ e. refl) (ends client (core_of p) sender None created u) refl (λ c. refl) (λ c. refl) p.link lacked did q h ∙ at_calm _ _ _ calm,
+    told sends (λ c. c.action) (λ q. q.action) (λ e. refl) (ends client (core_of p) sender None created u) refl (λ c. refl) (λ c. refl) p.link lacked did q h ∙ at_calm _ _ _ calm,
+  )
+    where
+      at_calm : {A : Type 0} (a b : A) (lacked : Bool) → lacked ≡ false → cond lacked a b ≡ b
+      at_calm a b lacked calm = ap (λ (l : Bool). cond l a b) calm
+  ended_part p q sender created (Some x) lacked did calm h = (
+    told sends (λ c. c.store) (λ q. q.store) (λ e. refl) (ends client (core_of p) sender (Some x) created u) refl (λ c. refl) (λ c. refl) p.link lacked did q h ∙ at_calm _ _ _ calm,
+    told sends (λ c. c.action) (λ q. q.action) (λ e. refl) (ends client (core_of p) sender (Some x) created u) refl (λ c. refl) (λ c. refl) p.link lacked did q h ∙ at_calm _ _ _ calm,
+  )
+    where
+      at_calm : {A : Type 0} (a b : A) (lacked : Bool) → lacked ≡ false → cond lacked a b ≡ b
+      at_calm a b lacked calm = ap (λ (l : Bool). cond l a b) calm
+
+  record IsStarvedPart (p q : Part T U C) (sender : IdParts) (is_destructor : Bool) (did : List (Deed U)) : Type 0 where
+    destroys : is_destructor ≡ true
+    there : IsSome (named p.store sender)
+    core_is : core_of q ≡ core_of p
+    notes_are : notes_in did ≡ []
+
+  starved_part : (p q : Part T U C) (sender : IdParts) (is_destructor : Bool) (created : Option IdParts) (o : Option (Object (Kept U))) → ended_by p.store sender is_destructor ≡ o
+      → (lacked : Bool) (did : List (Deed U)) → lacked ≡ true → Tells sends (ends client (core_of p) sender o created u) p.link lacked did q
+      → IsStarvedPart p q sender is_destructor did
+  starved_part p q sender is_destructor created None is lacked did lacks h =
+      absurd (true≢false (sym lacks ∙ told_nothing sends (ends client (core_of p) sender None created u) refl refl refl p.link lacked did q h))
+  starved_part p q sender is_destructor created (Some x) is lacked did lacks h =
+      let (destroys, there) = ended_named p.store sender is_destructor x is in
+      let starved = told_starved sends (ends client (core_of p) sender (Some x) created u) refl p.link lacked did q lacks h in
+      record {
+        destroys = destroys;
+        there = ap is_some there;
+        core_is = ap (λ (y : Part T U C). core_of y) starved.part_is;
+        notes_are = starved.notes_are ∙ silent (is_some (named p.store sender)) _ (ap is_some there);
+      }
+    where
+      silent : (b : Bool) (events : List (Told U)) → b ≡ true → told_notes (cond b [] events) ++ [] ≡ []
+      silent true events is = refl
+      silent false events is = absurd (true≢false (sym is))
+
+-- ---- of one client
+
+module _ {T U C : Type 0} (sends : T → Queue → Result ℕ IoFault → T → Type 0) (client : ClientParts) (u : Option U) (answer : Answer U) where
+  abbrev Of : Bool → Seen T U C → Bool → List (Deed U) → Seen T U C → Type 0
+  Of b s lacked did t = OfClient b s (Does sends client u answer lacked did) (Unknown u answer) lacked did t
+
+  -- a refusal that is for no want of memory changes nothing
+  refused_same : (b : Bool) (s t : Seen T U C) (lacked : Bool) (did : List (Deed U)) → (answer ≡ Ok tt → ⊥) → lacks_finish answer ≡ false → Of b s lacked did t → t ≡ s
+  refused_same false s t lacked did err calm (quiet, none, same) = same
+  refused_same true s t lacked did err calm h =
+      elim (either_option s.part h) [
+        | inl (none, (is, (quiet, nothing, same))) ↦ same
+        | inr (p, there, (q, does, same)) ↦
+            elim (comes_to sends client u answer lacked did p q does) [
+              | inl r ↦ nothing_new s t p q did there r.part_is (ap notes_in r.did_is) same
+              | inr e ↦
+                  absurd (err (e.answer_is ∙ ap (λ (l : Bool). unless_refused (record { error = finish.OutOfMemory; user_data = u }) l) (lacks_by sends client u answer lacked did p q does ∙ calm)))
+            ]
+      ]
+
+  -- whether memory is refused is told by the answer
+  own_lacks : (s t : Seen T U C) (lacked : Bool) (did : List (Deed U)) → lacks_finish answer ≡ true → Of (same_client client client) s lacked did t → lacked ≡ true
+  own_lacks s t lacked did lacks h =
+      elim (either_option s.part (own client s (Does sends client u answer lacked did) (Unknown u answer) lacked did t h)) [
+        | inl (none, (is, rest)) ↦ absurd (true≢false (sym lacks ∙ ap (λ (a : Answer U). lacks_finish a) is))
+        | inr (p, there, (q, does, same)) ↦ lacks_by sends client u answer lacked did p q does ∙ lacks
+      ]
+
+module _ {U : Type 0} (u : Option U) where
+  not_ok : (r : FinishRefused (Option U)) → ◌≡◌ {A = Answer U} (Err r) (Ok tt) → ⊥
+  not_ok r is = absurd cc
+
+  no_refusal : (e : FinishError) → ◌≡◌ {A = Answer U} (Ok tt) (RefusedFor u e) → ⊥
+  no_refusal e is = absurd cc
+
+  was_refused_for : (r : FinishRefused (Option U)) (e : FinishError) → ◌≡◌ {A = Answer U} (Err r) (RefusedFor u e) → (r.error ≡ e) × (r.user_data ≡ u)
+  was_refused_for r e is = let same = inside is in (ap (λ (x : FinishRefused (Option U)). x.error) same, ap (λ (x : FinishRefused (Option U)). x.user_data) same)
+    where
+      inside : ◌≡◌ {A = Answer U} (Err r) (RefusedFor u e) → r ≡ record { error = e; user_data = u }
+      inside is = cc
+
+  was_starved : (r : FinishRefused (Option U)) (lacked : Bool) → ◌≡◌ {A = Answer U} (Err r) (unless_refused (record { error = finish.OutOfMemory; user_data = u }) lacked)
+      → (lacked ≡ true) × (r.error ≡ finish.OutOfMemory) × (r.user_data ≡ u)
+  was_starved r true is = let (error, back) = was_refused_for r finish.OutOfMemory is in (refl, error, back)
+  was_starved r false is = absurd (not_ok r is)
+
+  was_taken : (lacked : Bool) → ◌≡◌ {A = Answer U} (Ok tt) (unless_refused (record { error = finish.OutOfMemory; user_data = u }) lacked) → lacked ≡ false
+  was_taken true is = absurd (no_refusal finish.OutOfMemory is)
+  was_taken false is = refl
+
+-- ---- of a call
+
+inside : {T U : Type 0} (answer r : Answer U) → ◌≡◌ {A = Reply T U} (reply.FinishRequest answer) (reply.FinishRequest r) → answer ≡ r
+inside answer r is = cc
+
+module _ {T U G C : Type 0} (w : World T G C) (before after : BackendState T U G C) (target : ClientParts) (u : Option U) where
+  abbrev IsAnswered : Answer U → Type 0
+  IsAnswered answer = Calls w before (step.FinishRequest target u) (reply.FinishRequest answer) after
+
+  request_each : (answer : Answer U) → IsAnswered answer → (id : ClientParts)
+      → (lacked : Bool) × (did : List (Deed U)) × OfClient (same_client target id) (seen id before.server) (Does w.sends id u answer lacked did) (Unknown u answer) lacked did (seen id after.server)
+  request_each answer call id =
+      let (lacked, did, (r, is, h)) = of_each call id in (
+        lacked,
+        did,
+        subst
+            (λ (a : Answer U). OfClient (same_client target id) (seen id before.server) (Does w.sends id u a lacked did) (Unknown u a) lacked did (seen id after.server))
+            (sym (inside answer r is)) h,
+      )
+
+  request_memory : (answer : Answer U) → lacks_finish answer ≡ false → IsAnswered answer → after.refused ≡ false
+  request_memory answer quiet call =
+      calm call refl (λ id lacked did (r, is, h).
+      never (same_client target id) _ _ _ lacked did _
+      (λ p q does. lacks_by w.sends id u r lacked did p q does ∙ ap (λ (a : Answer U). lacks_finish a) (sym (inside answer r is)) ∙ quiet) h)
+
+  request_starved : (answer : Answer U) → lacks_finish answer ≡ true → IsAnswered answer → after.refused ≡ true
+  request_starved answer lacks call =
+      refused_to call target (λ lacked did (r, is, h).
+      own_lacks w.sends target u r _ _ lacked did (ap (λ (a : Answer U). lacks_finish a) (sym (inside answer r is)) ∙ lacks) h)
+
+  request_same : (r : FinishRefused (Option U)) → is_memory r.error ≡ false → IsAnswered (Err r) → IsRefusedWhole before after
+  request_same r quiet call = (
+    unchanged call refl refl (λ id.
+        let (lacked, did, h) = request_each (Err r) call id in
+        refused_same w.sends id u (Err r) (same_client target id) _ _ lacked did (not_ok u r) quiet h),
+    request_memory (Err r) quiet call,
+  )
+
+  -- ---- by the answer
+
+  refused_as : (p : Part T U C) → (seen target before.server).part ≡ Some p → (e : FinishError) → Why p u e → IsRefusedWhole before after → RequestRefusedAs before target u e after
+  refused_as p there finish.InvalidId why whole = absurd why
+  refused_as p there finish.NoOpenAction why whole = (ap is_some there, ap (λ (x : Option (Part T U C)). and_then x (λ p. p.action)) there ∙ why, whole)
+  refused_as p there finish.WrongKind (object, is_open) whole = (object, ap (λ (x : Option (Part T U C)). and_then x (λ p. p.action)) there ∙ is_open, whole)
+  refused_as p there finish.MissingObjectData (sender, is_destructor, made, is_open, none, live) whole = (
+    sender,
+    is_destructor,
+    made,
+    ap (λ (x : Option (Part T U C)). and_then x (λ p. p.action)) there ∙ is_open,
+    none,
+    ap (λ (x : Option (Part T U C)). option_map (λ p. p.is_killed) x) there ∙ ap Some live,
+    whole,
+  )
+  refused_as p there finish.UnexpectedData (sender, is_destructor, is_open, given) whole = (
+    sender,
+    is_destructor,
+    ap (λ (x : Option (Part T U C)). and_then x (λ p. p.action)) there ∙ is_open,
+    given,
+    whole,
+  )
+  refused_as p there finish.OutOfMemory why whole = absurd why
+
+  starved_as : (p q : Part T U C) (lacked : Bool) (did : List (Deed U)) (r : FinishRefused (Option U)) → IsTaken w.sends target p u (Err r) lacked did q → lacked ≡ true
+      → (seen target before.server).part ≡ Some p → seen target after.server ≡ record { part = Some q; made = (seen target before.server).made ++ notes_in did }
+      → after.refused ≡ true → RequestRefusedAs before target u finish.OutOfMemory after
+  starved_as p q lacked did r e lacks there same refused =
+      let starved = starved_part w.sends target u p q e.sender e.is_destructor e.created (ended_by p.store e.sender e.is_destructor) refl lacked did lacks e.tells in (
+        e.sender,
+        e.created,
+        ap (λ (x : Option (Part T U C)). and_then x (λ p. p.action)) there ∙ e.was_open
+            ∙ ap (λ (b : Bool). Some (opened.Request e.sender b e.created)) starved.destroys,
+        ap (λ (x : Option (Part T U C)). is_some (and_then x (λ p. named p.store e.sender))) there ∙ starved.there,
+        ap (λ (x : Seen T U C). option_map core_of x.part) same ∙ ap Some starved.core_is ∙ sym (ap (λ (x : Option (Part T U C)). option_map core_of x) there),
+        ap (λ (x : Seen T U C). x.made) same ∙ ap (λ (n : List (Happening U)). (seen target before.server).made ++ n) starved.notes_are ∙ append-nil (seen target before.server).made,
+        refused,
+      )
+
+  data_fit : (p : Part T U C) → (seen target before.server).part ≡ Some p → (created : Option IdParts) → refusal p.is_killed created u ≡ None → DataFit before target created u
+  data_fit p there created none = at created u p.is_killed refl none
+    where
+      at : (created : Option IdParts) (u : Option U) (killed : Bool) → p.is_killed ≡ killed → refusal killed created u ≡ None → DataFit before target created u
+      at None None killed is none = refl
+      at None (Some u) true is none = absurd cc
+      at None (Some u) false is none = absurd cc
+      at (Some made) (Some u) killed is none = inl refl
+      at (Some made) None true is none = inr (ap (λ (x : Option (Part T U C)). option_map (λ p. p.is_killed) x) there ∙ ap Some is)
+      at (Some made) None false is none = absurd cc
+
+  ended_as : (p q : Part T U C) (lacked : Bool) (did : List (Deed U)) → (e : IsTaken w.sends target p u (Ok tt) lacked did q)
+      → (seen target before.server).part ≡ Some p → (seen target after.server).part ≡ Some q
+      → RequestIsEnded before target e.sender e.is_destructor e.created u after
+  ended_as p q lacked did e there now =
+      let o : Option (Object (Kept U)) = ended_by p.store e.sender e.is_destructor in
+      let (store, closed) = ended_part w.sends target u p q e.sender e.created o lacked did (was_taken u lacked e.answer_is) e.tells in
+      let left : Store (Kept U) = left_by p.store e.sender.number o in
+      let found : (id : IdParts) → and_then (seen target after.server).part (λ p. named p.store id) ≡ named (store_with_data left e.created u) id =
+      λ id. ap (λ (x : Option (Part T U C)). and_then x (λ p. named p.store id)) now ∙ ap (λ (s : Store (Kept U)). named s id) store in
+      let had : (id : IdParts) → and_then (seen target before.server).part (λ p. named p.store id) ≡ named p.store id =
+      λ id. ap (λ (x : Option (Part T U C)). and_then x (λ p. named p.store id)) there in
+      record {
+        was_open = ap (λ (x : Option (Part T U C)). and_then x (λ p. p.action)) there ∙ e.was_open;
+        is_closed = ap (λ (x : Option (Part T U C)). and_then x (λ p. p.action)) now ∙ closed;
+        fits = data_fit p there e.created e.fits;
+        gone = λ ends. found e.sender ∙ made_none left e.created u e.sender (sender_gone p.store e.sender e.is_destructor o refl ends);
+        made = λ id is differ.
+            found id ∙ ap (λ (c : Option IdParts). named (store_with_data left c u) id) is ∙ made_named left id u
+            ∙ ap (λ (x : Option (Object (Kept U))). option_map (with_given u) x)
+            (sender_others p.store e.sender e.is_destructor o refl id differ ∙ sym (had id));
+        others = λ id differ other.
+            found id ∙ made_others left e.created u id other ∙ sender_others p.store e.sender e.is_destructor o refl id differ ∙ sym (had id);
+      }
+
+  request_ended_as : (answer : Answer U) → IsAnswered answer → RequestEndedAs before target u answer after
+  request_ended_as (Ok ok) call =
+      let (lacked, did, h) = request_each (Ok tt) call target in
+      elim (either_option (seen target before.server).part (own target _ _ _ lacked did _ h)) [
+        | inl (none, (is, rest)) ↦ absurd (no_refusal u finish.InvalidId is)
+        | inr (p, there, (q, does, same)) ↦
+            elim (comes_to w.sends target u (Ok tt) lacked did p q does) [
+              | inl r ↦ absurd (no_refusal u r.error r.answer_is)
+              | inr e ↦
+                  (e.sender, e.is_destructor, e.created, ended_as p q lacked did e there (ap (λ (x : Seen T U C). x.part) same), request_memory (Ok tt) refl call)
+            ]
+      ]
+  request_ended_as (Err r) call =
+      let (lacked, did, h) = request_each (Err r) call target in
+      elim (either_option (seen target before.server).part (own target _ _ _ lacked did _ h)) [
+        | inl (none, (is, rest)) ↦
+            let (error, back) = was_refused_for u r finish.InvalidId is in
+            (back, because error (none, request_same r (ap is_memory error) call))
+        | inr (p, there, (q, does, same)) ↦
+            elim (comes_to w.sends target u (Err r) lacked did p q does) [
+              | inl x ↦
+                  let (error, back) = was_refused_for u r x.error x.answer_is in
+                  (back, because error (refused_as p there x.error x.why (request_same r (ap is_memory error ∙ why_calm p u x.error x.why) call)))
+              | inr e ↦
+                  let (lacks, error, back) = was_starved u r lacked e.answer_is in
+                  (back, because error (starved_as p q lacked did r e lacks there same (request_starved (Err r) (ap is_memory error) call)))
+            ]
+      ]
+    where
+      because : {e : FinishError} → r.error ≡ e → RequestRefusedAs before target u e after → RequestRefusedAs before target u r.error after
+      because error h = subst (λ (e : FinishError). RequestRefusedAs before target u e after) (sym error) h
+
+  pub ends_open_request : (answer : Answer U) → IsAnswered answer → EndsOpenRequest before target u answer after
+  ends_open_request answer call = record {
+    request = request_ended_as answer call;
+    clients = λ other differ. let (lacked, did, h) = request_each answer call other in other_stays (same_client target other) _ _ _ lacked did _ differ h;
+    stored = λ other.
+        let (lacked, did, h) = request_each answer call other in keeps (same_client target other) _ _ _ lacked did _ (λ x. is_some x) (λ about p q r. refl) h;
+  }
