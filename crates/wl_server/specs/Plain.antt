@@ -18,6 +18,7 @@ use Rattle.wl_server.specs.declared.error.FinishError.TheVariants as finish
 use Rattle.wl_server.specs.declared.error.FinishRefused.{FinishRefused}
 use Rattle.wl_server.specs.declared.error.InvalidId.{InvalidId}
 use Rattle.wl_server.specs.declared.notes.DisconnectReason.{DisconnectReason}
+use Rattle.wl_server.specs.declared.notes.DisconnectReason.TheVariants.{ConnectionClosed}
 use Rattle.wl_server.specs.declared.notes.Happening.{Happening}
 use Rattle.wl_server.specs.declared.notes.Happening.TheVariants.{Disconnected}
 use Rattle.wl_server.specs.declared.notes.Note.{Note}
@@ -51,6 +52,11 @@ is_made (Some made) id = same_id (id_of made) (id_of id)
 abbrev pub with_given : {U : Type 0} → Option U → Object (Kept U) → Object (Kept U)
 with_given None x = x
 with_given (Some u) x = with_user_data u x
+
+-- the note that an object left, where it was kept and had data
+abbrev pub notes_if_kept : {U : Type 0} → ClientParts → ℕ → Option (Object (Kept U)) → List (Happening U)
+notes_if_kept client n None = []
+notes_if_kept client n (Some x) = note_of_end client n x
 
 module _ {T U C : Type 0} where
   abbrev pub as_killed : Part T U C → Part T U C
@@ -178,6 +184,20 @@ module _ {T U G C : Type 0} where
   DataFit before client None u = u ≡ None
   DataFit before client (Some made) u = IsSome u ⊎ (killed_in before client ≡ Some true)
 
+  -- what is noted of the sender that a request ends
+  abbrev pub sender_notes : BackendState T U G C → ClientParts → IdParts → Bool → List (Happening U)
+  sender_notes before client sender is_destructor =
+      notes_if_kept client sender.number (if is_destructor then object_of_client before client sender else None)
+
+  -- The sender that leaves is noted. Where the client could not be told that its number is free, it is killed, which is noted, too.
+  abbrev pub EndIsTold : BackendState T U G C → ClientParts → IdParts → Bool → BackendState T U G C → Type 0
+  EndIsTold before client sender is_destructor after =
+      ((killed_in after client ≡ killed_in before client)
+      × (notes_made_in after client ≡ notes_made_in before client ++ sender_notes before client sender is_destructor))
+      ⊎ ((is_destructor ≡ true) × (killed_in after client ≡ Some true)
+      × (notes_made_in after client
+      ≡ notes_made_in before client ++ (sender_notes before client sender is_destructor ++ end_note_of (client_in before client) ConnectionClosed)))
+
   -- No action is open any more. The sender of a request that ends it is gone, the object that the request made has the data, if
   -- it is still kept, and each other id of the client names what it named.
   pub record RequestIsEnded (before : BackendState T U G C) (client : ClientParts) (sender : IdParts) (is_destructor : Bool) (created : Option IdParts) (u : Option U)
@@ -190,6 +210,7 @@ module _ {T U G C : Type 0} where
         → object_of_client after client id ≡ option_map (with_given u) (object_of_client before client id)
     pub others : (id : IdParts) → is_ended is_destructor sender id ≡ false → is_made created id ≡ false
         → object_of_client after client id ≡ object_of_client before client id
+    pub told : EndIsTold before client sender is_destructor after
 
   -- nothing has changed, and memory was not refused
   abbrev pub IsRefusedWhole : BackendState T U G C → BackendState T U G C → Type 0

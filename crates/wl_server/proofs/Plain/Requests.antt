@@ -1,5 +1,5 @@
 -- The end of a request.
-use Rattle.std.proofs.Common.{◌≡◌, ℕ, Bool, true, false, cond, eqb-true, List, [], ◌++◌, append-nil, Option, None, Some, is_some, Result, Ok, Err, refl, sym, ap, subst, ◌∙◌, true≢false}
+use Rattle.std.proofs.Common.{◌≡◌, ℕ, Bool, true, false, cond, eqb-true, List, [], ◌++◌, append-nil, Option, None, Some, is_some, Result, Ok, Err, refl, sym, ap, subst, ◌∙◌, true≢false, ◌∷◌, map}
 use mathlib.Core.Logic.{inl, inr}
 use Rattle.std.specs.Prelude.{◌⊎◌, ◌&&◌, ◌==◌, IsSome, option_map}
 use Rattle.wl_wire.specs.declared.error.IoFault.{IoFault}
@@ -7,33 +7,36 @@ use Rattle.wl_link.proofs.Calls.Branches.{either_option}
 use Rattle.wl_link.specs.declared.object.Object.{Object}
 use Rattle.wl_link.specs.Exchange.{Queue}
 use Rattle.wl_link.specs.Identity.{Id, names}
+use Rattle.wl_link.specs.Reader.{Verdict}
 use Rattle.wl_link.specs.Store.{Store, removed}
 use Rattle.wl_server.specs.declared.error.FinishError.{FinishError}
 use Rattle.wl_server.specs.declared.error.FinishError.TheVariants as finish
 use Rattle.wl_server.specs.declared.error.FinishRefused.{FinishRefused}
+use Rattle.wl_server.specs.declared.notes.DisconnectReason.TheVariants.{ConnectionClosed}
 use Rattle.wl_server.specs.declared.notes.Happening.{Happening}
+use Rattle.wl_server.specs.declared.notes.Happening.TheVariants.{Disconnected}
 use Rattle.wl_server.specs.declared.objects.Kept.{Kept}
 use Rattle.wl_server.specs.declared.reading.action.OpenAction.TheVariants as opened
 use Rattle.wl_server.specs.declared.runs.step.Reply.{Reply}
 use Rattle.wl_server.specs.declared.runs.step.Reply.TheVariants as reply
 use Rattle.wl_server.specs.declared.runs.step.Step.TheVariants as step
 use Rattle.wl_server.specs.Backend.{BackendState, Calls}
-use Rattle.wl_server.specs.Deeds.{Deed, notes_in}
-use Rattle.wl_server.specs.Finish.{FinishesRequest, ended_by, ends, ends_request, refusal, store_with_data}
+use Rattle.wl_server.specs.Deeds.{Deed, notes_in, Noted, left_if}
+use Rattle.wl_server.specs.Finish.{FinishesRequest, ended_by, ends, ends_request, refusal, store_with_data, ending}
 use Rattle.wl_server.specs.Ids.{ClientParts, IdParts, same_client}
 use Rattle.wl_server.specs.Inside.Carried.{told_notes}
 use Rattle.wl_server.specs.Inside.Finishing.{is_memory, lacks_finish}
 use Rattle.wl_server.specs.Lookups.{and_then}
 use Rattle.wl_server.specs.Objects.{unless_refused}
-use Rattle.wl_server.specs.Part.{Part, id_of, named, same_id, serial_of}
+use Rattle.wl_server.specs.Part.{Part, id_of, named, same_id, serial_of, end_note, id_at, note_of_end}
 use Rattle.wl_server.specs.PartStep.{OfClient, World}
-use Rattle.wl_server.specs.Plain.{DataFit, EndsOpenRequest, IsRefusedWhole, RequestEndedAs, RequestIsEnded, RequestRefusedAs, is_ended, is_made, with_given}
+use Rattle.wl_server.specs.Plain.{DataFit, EndsOpenRequest, IsRefusedWhole, RequestEndedAs, RequestIsEnded, RequestRefusedAs, is_ended, is_made, with_given, EndIsTold, end_note_of, notes_if_kept, sender_notes}
 use Rattle.wl_server.specs.Server.{Seen, seen}
-use Rattle.wl_server.specs.Telling.{Tells, Told, core_of}
+use Rattle.wl_server.specs.Telling.{Tells, Told, core_of, Core, Did, closed_down, end_deeds}
 use Rattle.wl_server.proofs.Plain.Base.{calm, keeps, never, nothing_new, of_each, other_stays, own, refused_to, unchanged}
 use Rattle.wl_server.proofs.Plain.Finishing.{given_named, given_others}
 use Rattle.wl_server.proofs.Plain.Naming.{names_so, removed_named, removed_others}
-use Rattle.wl_server.proofs.Plain.Verdicts.{told, told_nothing, told_starved}
+use Rattle.wl_server.proofs.Plain.Verdicts.{told, told_nothing, told_starved, IsTold, told_ended}
 
 -- ---- two ids of a client that are the same name the same
 
@@ -229,6 +232,60 @@ module _ {T U C : Type 0} (sends : T → Queue → Result ℕ IoFault → T → 
       at_calm : {A : Type 0} (a b : A) (lacked : Bool) → lacked ≡ false → cond lacked a b ≡ b
       at_calm a b lacked calm = ap (λ (l : Bool). cond l a b) calm
 
+  abbrev IsNoted : Part T U C → Part T U C → IdParts → Bool → Option (Object (Kept U)) → List (Deed U) → Type 0
+  IsNoted p q sender is_destructor o did =
+      ((q.is_killed ≡ p.is_killed) × (notes_in did ≡ notes_if_kept client sender.number o))
+      ⊎ ((is_destructor ≡ true) × (q.is_killed ≡ true)
+      × (notes_in did ≡ notes_if_kept client sender.number o ++ cond p.is_killed [] (Disconnected ConnectionClosed ∷ [])))
+
+  ending_noted : (sender : IdParts) (x : Object (Kept U)) (c : Core U C) → named c.store sender ≡ None → told_notes (ending client sender x c) ≡ note_of_end client sender.number x
+  ending_noted sender x c gone =
+      ap (λ (o : Option (Object (Kept U))). told_notes (cond (is_some o) [] (map Did (map Noted (note_of_end client sender.number x) ++ left_if (id_of sender) x.value.user_data)))) gone
+      ∙ at (id_at client sender.number x) x.value.user_data
+    where
+      at : (id : IdParts) (given : Option U) → told_notes (map Did (map Noted (end_note id given) ++ left_if (id_of sender) given)) ≡ end_note id given
+      at id None = refl
+      at id (Some u) = refl
+
+  part_noted : (p q : Part T U C) (sender : IdParts) (is_destructor : Bool) (created : Option IdParts) (o : Option (Object (Kept U))) → ended_by p.store sender is_destructor ≡ o
+      → (lacked : Bool) (did : List (Deed U)) → lacked ≡ false → Tells sends (ends client (core_of p) sender o created u) p.link lacked did q
+      → IsNoted p q sender is_destructor o did
+  part_noted p q sender is_destructor created None is lacked did calm h =
+      let v : Verdict (Core U C) (Told U) = ends client (core_of p) sender None created u in
+      let t : IsTold v did q = told_ended sends v (λ c. refl) p.link lacked did q calm h in
+      elim t.core_is [
+        | inl all ↦
+            inl (
+              ap (λ (y : Part T U C). y.is_killed) t.part_is ∙ ap (λ (c : Core U C). c.is_killed) all,
+              t.notes_are ∙ ap (λ (c : Core U C). told_notes (v.events c) ++ notes_in (end_deeds c.ended)) all,
+            )
+        | inr (some, closes) ↦ absurd (some refl)
+      ]
+  part_noted p q sender is_destructor created (Some x) is lacked did calm h =
+      let v : Verdict (Core U C) (Told U) = ends client (core_of p) sender (Some x) created u in
+      let t : IsTold v did q = told_ended sends v (λ c. refl) p.link lacked did q calm h in
+      let gone : named v.core.store sender ≡ None = made_none (removed p.store sender.number) created u sender (removed_named p.store sender) in
+      elim t.core_is [
+        | inl all ↦
+            inl (
+              ap (λ (y : Part T U C). y.is_killed) t.part_is ∙ ap (λ (c : Core U C). c.is_killed) all,
+              t.notes_are ∙ ap (λ (c : Core U C). told_notes (v.events c) ++ notes_in (end_deeds c.ended)) all
+                  ∙ append-nil (told_notes (v.events v.core)) ∙ ending_noted sender x v.core gone,
+            )
+        | inr (some, closes) ↦
+            inr (
+              (ended_named p.store sender is_destructor x is).0,
+              ap (λ (y : Part T U C). y.is_killed) t.part_is ∙ ap (λ (c : Core U C). c.is_killed) closes,
+              t.notes_are ∙ ap (λ (c : Core U C). told_notes (v.events c) ++ notes_in (end_deeds c.ended)) closes
+                  ∙ ap (λ (l : List (Happening U)). l ++ notes_in (end_deeds (closed_down v.core).ended)) (ending_noted sender x (closed_down v.core) gone)
+                  ∙ ap (λ (l : List (Happening U)). note_of_end client sender.number x ++ l) (closing p.is_killed),
+            )
+      ]
+    where
+      closing : (killed : Bool) → notes_in {U = U} (end_deeds (cond killed None (Some ConnectionClosed))) ≡ cond killed [] (Disconnected ConnectionClosed ∷ [])
+      closing true = refl
+      closing false = refl
+
   record IsStarvedPart (p q : Part T U C) (sender : IdParts) (is_destructor : Bool) (did : List (Deed U)) : Type 0 where
     destroys : is_destructor ≡ true
     there : IsSome (named p.store sender)
@@ -393,10 +450,37 @@ module _ {T U G C : Type 0} (w : World T G C) (before after : BackendState T U G
       at (Some made) None true is none = inr (ap (λ (x : Option (Part T U C)). option_map (λ p. p.is_killed) x) there ∙ ap Some is)
       at (Some made) None false is none = absurd cc
 
+  end_told : (p q : Part T U C) (did : List (Deed U)) (sender : IdParts) (is_destructor : Bool) → (seen target before.server).part ≡ Some p
+      → seen target after.server ≡ record { part = Some q; made = (seen target before.server).made ++ notes_in did }
+      → IsNoted w.sends target u p q sender is_destructor (ended_by p.store sender is_destructor) did → EndIsTold before target sender is_destructor after
+  end_told p q did sender is_destructor there same noted =
+      let made : List (Happening U) = (seen target before.server).made in
+      let now : (k : Bool) → q.is_killed ≡ k → option_map (λ (p : Part T U C). p.is_killed) (seen target after.server).part ≡ Some k =
+      λ k is. ap (λ (x : Seen T U C). option_map (λ (p : Part T U C). p.is_killed) x.part) same ∙ ap Some is in
+      let left : notes_if_kept target sender.number (ended_by p.store sender is_destructor) ≡ sender_notes before target sender is_destructor =
+      sym (ap (λ (x : Option (Part T U C)). notes_if_kept target sender.number (cond is_destructor (and_then x (λ p. named p.store sender)) None)) there) in
+      let noted_now : (seen target after.server).made ≡ made ++ notes_in did = ap (λ (x : Seen T U C). x.made) same in
+      elim noted [
+        | inl (stays, notes) ↦
+            inl (
+              now p.is_killed stays ∙ sym (ap (λ (x : Option (Part T U C)). option_map (λ (p : Part T U C). p.is_killed) x) there),
+              noted_now ∙ ap (λ (n : List (Happening U)). made ++ n) (notes ∙ left),
+            )
+        | inr (destroys, killed, notes) ↦
+            inr (
+              destroys,
+              now true killed,
+              noted_now ∙ ap (λ (n : List (Happening U)). made ++ n)
+                  (notes ∙ ap (λ (n : List (Happening U)). n ++ cond p.is_killed [] (Disconnected ConnectionClosed ∷ [])) left
+                  ∙ ap (λ (x : Option (Part T U C)). sender_notes before target sender is_destructor ++ end_note_of x ConnectionClosed) (sym there)),
+            )
+      ]
+
   ended_as : (p q : Part T U C) (lacked : Bool) (did : List (Deed U)) → (e : IsTaken w.sends target p u (Ok tt) lacked did q)
-      → (seen target before.server).part ≡ Some p → (seen target after.server).part ≡ Some q
+      → (seen target before.server).part ≡ Some p → seen target after.server ≡ record { part = Some q; made = (seen target before.server).made ++ notes_in did }
       → RequestIsEnded before target e.sender e.is_destructor e.created u after
-  ended_as p q lacked did e there now =
+  ended_as p q lacked did e there same =
+      let now : (seen target after.server).part ≡ Some q = ap (λ (x : Seen T U C). x.part) same in
       let o : Option (Object (Kept U)) = ended_by p.store e.sender e.is_destructor in
       let (store, closed) = ended_part w.sends target u p q e.sender e.created o lacked did (was_taken u lacked e.answer_is) e.tells in
       let left : Store (Kept U) = left_by p.store e.sender.number o in
@@ -415,6 +499,8 @@ module _ {T U G C : Type 0} (w : World T G C) (before after : BackendState T U G
             (sender_others p.store e.sender e.is_destructor o refl id differ ∙ sym (had id));
         others = λ id differ other.
             found id ∙ made_others left e.created u id other ∙ sender_others p.store e.sender e.is_destructor o refl id differ ∙ sym (had id);
+        told = end_told p q did e.sender e.is_destructor there same
+            (part_noted w.sends target u p q e.sender e.is_destructor e.created o refl lacked did (was_taken u lacked e.answer_is) e.tells);
       }
 
   request_ended_as : (answer : Answer U) → IsAnswered answer → RequestEndedAs before target u answer after
@@ -426,7 +512,7 @@ module _ {T U G C : Type 0} (w : World T G C) (before after : BackendState T U G
             elim (comes_to w.sends target u (Ok tt) lacked did p q does) [
               | inl r ↦ absurd (no_refusal u r.error r.answer_is)
               | inr e ↦
-                  (e.sender, e.is_destructor, e.created, ended_as p q lacked did e there (ap (λ (x : Seen T U C). x.part) same), request_memory (Ok tt) refl call)
+                  (e.sender, e.is_destructor, e.created, ended_as p q lacked did e there same, request_memory (Ok tt) refl call)
             ]
       ]
   request_ended_as (Err r) call =

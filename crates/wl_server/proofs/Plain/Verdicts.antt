@@ -1,7 +1,7 @@
 -- What a verdict over the link leaves of a client beside it.
 use Rattle.std.proofs.Common.{◌≡◌, ℕ, Bool, true, false, cond, List, [], ◌∷◌, ◌++◌, map, Result, Ok, Err, refl, sym, ap, ◌∙◌, true≢false}
 use mathlib.Core.Logic.{inl, inr}
-use Rattle.std.specs.Prelude.{◌||◌}
+use Rattle.std.specs.Prelude.{◌⊎◌, ◌||◌}
 use Rattle.wl_wire.specs.declared.error.IoFault.{IoFault}
 use Rattle.wl_wire.specs.declared.error.IoFault.TheVariants as fault
 use Rattle.wl_link.specs.Exchange.{Queue, Sending}
@@ -43,19 +43,19 @@ told {T} {U} {C} {A} sends g f agree v none last closed link lacked did q (es, g
     carried (inr (asks, refused, nothing, given, starves)) =
         ap (λ (x : ReaderState T (Core U C)). g x.core) starves ∙ ap (λ (b : Bool). cond b (g v.starved) (g v.core)) (sym refused)
 
+nothing_put : {T : Type 0} (sends : T → Queue → Result ℕ IoFault → T → Type 0) (link : LinkState T) (ms : List Said) → ms ≡ [] → (es : List Sending) (put : List Said)
+    (wrote : Result (Unit {0}) IoFault) (mid : LinkState T) → PutsOut sends link ms es put wrote mid → wrote ≡ Ok tt
+nothing_put sends link [] is es put wrote mid (sent, done, ok, stays) = ok
+nothing_put sends link (m ∷ ms) is es put wrote mid h = absurd cc
+
 -- no memory is refused where a verdict puts nothing and asks for none
 pub told_nothing : {T U C : Type 0} (sends : T → Queue → Result ℕ IoFault → T → Type 0) (v : Verdict (Core U C) (Told U)) → v.puts ≡ [] → v.flushes ≡ false → v.asks ≡ false
     → (link : LinkState T) (lacked : Bool) (did : List (Deed U)) (q : Part T U C) → Tells sends v link lacked did q → lacked ≡ false
 told_nothing {T} {U} {C} sends v nothing none unasked link lacked did q (es, gave, end, carries, did_so, same) = carried carries
   where
-    all_put : (ms : List Said) → ms ≡ [] → (es : List Sending) (put : List Said) (wrote : Result (Unit {0}) IoFault) (mid : LinkState T) → PutsOut sends link ms es put wrote mid
-        → wrote ≡ Ok tt
-    all_put [] is es put wrote mid (sent, done, ok, stays) = ok
-    all_put (m ∷ ms) is es put wrote mid h = absurd cc
-
     carried : CarriesOut sends speaker v link es gave lacked end → lacked ≡ false
     carried (inl (first, others, put, wrote, mid, lacks, puts, flushes, sent, is, given, memory)) =
-        memory ∙ ap (λ (r : Result (Unit {0}) IoFault). lacked_memory r || lacks) (all_put v.puts nothing first put wrote mid puts)
+        memory ∙ ap (λ (r : Result (Unit {0}) IoFault). lacked_memory r || lacks) (nothing_put sends link v.puts nothing first put wrote mid puts)
         ∙ no_flush sends v.flushes mid others lacks end.link none flushes
     carried (inr (asks, refused, silent, given, starves)) = absurd (true≢false (sym asks ∙ unasked))
 
@@ -101,3 +101,48 @@ told_starved {T} {U} {C} sends v none link lacked did q starved (es, gave, end, 
         of_core es [] is
         (did_so ∙ ap (λ (g : List (Given (Told U))). deeds_of (map Sent es) g end.core) given
         ∙ ap (λ (c : Core U C). deeds_of (map Sent es) (put_and_gave [] (v.events v.starved)) c) is)
+
+-- what a verdict leaves where no memory is refused, and what was noted in that: the client is closed down where a message could
+-- not be put
+pub record IsTold {T U C : Type 0} (v : Verdict (Core U C) (Told U)) (did : List (Deed U)) (q : Part T U C) : Type 0 where
+  pub link : LinkState T
+  pub core : Core U C
+  pub core_is : (core ≡ v.core) ⊎ ((v.puts ≡ [] → ⊥) × (core ≡ closed_down v.core))
+  pub part_is : q ≡ part_of (record { core = core; link = link })
+  pub notes_are : notes_in did ≡ told_notes (v.events core) ++ notes_in (end_deeds core.ended)
+
+failed : (f : IoFault) → ◌≡◌ {A = Result (Unit {0}) IoFault} (Err f) (Ok tt) → ⊥
+failed f is = absurd cc
+
+pub told_ended : {T U C : Type 0} (sends : T → Queue → Result ℕ IoFault → T → Type 0) (v : Verdict (Core U C) (Told U)) → ((c : Core U C) → v.last c ≡ c) → (link : LinkState T)
+    (lacked : Bool) (did : List (Deed U)) (q : Part T U C) → lacked ≡ false → Tells sends v link lacked did q → IsTold v did q
+told_ended {T} {U} {C} sends v last link lacked did q calm (es, gave, end, carries, did_so, same) = carried carries
+  where
+    came : (wrote : Result (Unit {0}) IoFault) (b : Bool) → (lacked_memory wrote || b) ≡ false
+        → (came_to speaker v wrote ≡ v.core) ⊎ ((wrote ≡ Ok tt → ⊥) × (came_to speaker v wrote ≡ closed_down v.core))
+    came (Ok u) b calm = inl (last v.core)
+    came (Err fault.OutOfMemory) b calm = absurd (true≢false calm)
+    came (Err fault.WouldBlock) b calm = inr (failed _, last (closed_down v.core))
+    came (Err fault.Pipe) b calm = inr (failed _, last (closed_down v.core))
+    came (Err fault.TooBig) b calm = inr (failed _, last (closed_down v.core))
+    came (Err fault.Proto) b calm = inr (failed _, last (closed_down v.core))
+    came (Err fault.InvalidInput) b calm = inr (failed _, last (closed_down v.core))
+    came (Err (fault.Other n)) b calm = inr (failed _, last (closed_down v.core))
+
+    of_core : (put : List Said) → gave ≡ put_and_gave put (v.events end.core) → (end.core ≡ v.core) ⊎ ((v.puts ≡ [] → ⊥) × (end.core ≡ closed_down v.core)) → IsTold v did q
+    of_core put given is = record {
+      link = end.link;
+      core = end.core;
+      core_is = is;
+      part_is = same;
+      notes_are = ap notes_in (did_so ∙ ap (λ (g : List (Given (Told U))). deeds_of (map Sent es) g end.core) given) ∙ notes_told es put (v.events end.core) end.core;
+    }
+
+    carried : CarriesOut sends speaker v link es gave lacked end → IsTold v did q
+    carried (inl (first, others, put, wrote, mid, lacks, puts, flushes, sent, is, given, memory)) =
+        let gives : gave ≡ put_and_gave put (v.events end.core) = given ∙ ap (λ (c : Core U C). put_and_gave put (v.events c)) (sym is) in
+        elim (came wrote lacks (sym memory ∙ calm)) [
+          | inl all ↦ of_core put gives (inl (is ∙ all))
+          | inr (unput, closes) ↦ of_core put gives (inr (λ nothing. unput (nothing_put sends link v.puts nothing first put wrote mid puts), is ∙ closes))
+        ]
+    carried (inr (asks, refused, silent, given, starves)) = absurd (true≢false (sym refused ∙ calm))
