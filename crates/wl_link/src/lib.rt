@@ -9,7 +9,7 @@
 //! |---|---|---|
 //! | of a `BufferedSocket` | `buffered_socket` | `Link` |
 //! | of a `Transport`, and of `Memory`, the transport by script | `transport`, `memory` | `Exchange`, `Script` |
-//! | of an `ObjectMap`, and of `AllObjects`, the walk over it | `object_map`, `all_objects` | `Store`, `ObjectMap` |
+//! | of an `ObjectMap`, and of `AllObjects` and `IntoObjects`, the walks over it | `object_map`, `all_objects`, `into_objects` | `Store`, `ObjectMap` |
 //!
 //! The `requires` and `ensures` lines of a function are its *contract*: what the caller has to see to, and what is proved
 //! of each call. The functions of [`laws`] do nothing. Their contracts state what follows from the definitions alone. The
@@ -22,6 +22,7 @@ mod all_objects;
 mod buffer;
 mod buffered_socket;
 mod free_tree;
+mod into_objects;
 pub mod laws;
 mod limit;
 mod memory;
@@ -34,6 +35,7 @@ mod transport;
 
 pub use all_objects::AllObjects;
 pub use buffered_socket::BufferedSocket;
+pub use into_objects::IntoObjects;
 pub use limit::{DEFAULT_MAX_BUFFER_SIZE, INCOMING_LIMIT};
 pub use memory::{ArriveError, Memory};
 pub use object::Object;

@@ -10,6 +10,7 @@ ghost use Rattle.wl_link.specs.declared.object_map.InsertError.TheVariants as in
 ghost use Rattle.wl_link.specs.declared.object_map.NewError.TheVariants as new;
 
 use crate::all_objects::AllObjects;
+use crate::into_objects::IntoObjects;
 use crate::object::Object;
 use crate::places::Places;
 use std::alloc::Global;
@@ -270,6 +271,18 @@ impl<Data: Drop> ObjectMap<Data> {
         AllObjects {
             clients: self.clients.objects(1),
             servers: self.servers.objects(SERVER_ID_LIMIT),
+        }
+    }
+
+    /// Gives the map up, and moves its objects out of it: the same objects with their numbers, by ascending number. Neither
+    /// this nor the walk takes memory. It costs less than taking each out by its number, since no number has to become free.
+    pub fn into_objects(self) -> IntoObjects<Data>
+        ensures objects { result ≡ map.entries self.store.objects }
+        ensures walk { IsWalk self.store result }
+    {
+        IntoObjects {
+            clients: self.clients.into_objects(1),
+            servers: self.servers.into_objects(SERVER_ID_LIMIT),
         }
     }
 }

@@ -10,6 +10,7 @@ ghost use Rattle.wl_link.specs.declared.object_map.NewError.TheVariants as new;
 
 use crate::all_objects::RangeObjects;
 use crate::free_tree::FreeTree;
+use crate::into_objects::RangeIntoObjects;
 use crate::object::Object;
 use crate::object_map::{InsertError, NewError};
 use std::alloc::Global;
@@ -214,6 +215,17 @@ impl<Data: Drop> Places<Data> {
     {
         RangeObjects {
             slots: self.slots.as_slice(),
+            number: first as u64,
+        }
+    }
+
+    /// The same, moved out of their places. It takes no memory.
+    pub(crate) fn into_objects(self, first: u32) -> RangeIntoObjects<Data>
+        requires { first + length self.slots.items ≤ 4294967296 }
+        ensures { result ≡ entries_from first self.slots.items }
+    {
+        RangeIntoObjects {
+            slots: self.slots.into_iter(),
             number: first as u64,
         }
     }

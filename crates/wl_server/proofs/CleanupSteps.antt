@@ -9,5 +9,6 @@ pub mod Cleaning
 pub mod Rooms
 pub mod CleaningUp
 pub mod Asking
+pub mod Idle
 pub mod TakingNotes
 pub mod GatheredSlots

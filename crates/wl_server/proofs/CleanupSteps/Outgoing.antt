@@ -126,7 +126,7 @@ module _ {T U C : Type 0} where
       let next : suc k ≡ k + 1 = omega arith in
       subst (λ (m : ℕ). collected give n (drop k clients) ≡ give n x ++ collected give (n + 1) (drop m clients)) next (collected_rest give n k clients x here)
 
-  part_length : {A : Type 0} (give : ℕ → Option (Stored T U C) → List A) (n slot k : ℕ) (clients : List (Option (Stored T U C))) (x : Option (Stored T U C)) → slot ≡ n + k
+  pub part_length : {A : Type 0} (give : ℕ → Option (Stored T U C) → List A) (n slot k : ℕ) (clients : List (Option (Stored T U C))) (x : Option (Stored T U C)) → slot ≡ n + k
       → slice_get clients k ≡ Some x → length (give slot x) ≤ length (collected give n clients)
   part_length give n slot k [] x at here = absurd (none-some x here)
   part_length give n slot zero (z ∷ clients) x at here =
@@ -187,10 +187,6 @@ module _ {T U C : Type 0} where
       ap length (collected_drop give slot slot start x here) ∙ length-append (give slot x) (collected give (slot + 1) (drop (slot + 1) start))
       in
       omega (arith, whole, part, is, is', fits, same)
-
-  pub number_room : (slot : ℕ) (start : List (Option (Stored T U C))) (x : Option (Stored T U C)) (room room' : ℕ) → slice_get start slot ≡ Some x
-      → length (collected ends_at 0 start) ≤ room → room' ≡ room → length (ends_at slot x) ≤ room'
-  number_room slot start x room room' here fits same = let one = part_length ends_at 0 slot slot start x (omega arith) here in omega (arith, one, fits, same)
 
   pub leave_ends : (slot : ℕ) (start now : List (Option (Stored T U C))) (notes notes' : List (Note U)) (given given' : List (ClientParts × T)) → Leave slot start now notes notes' given given'
       → length start ≤ slot → length now ≡ length start

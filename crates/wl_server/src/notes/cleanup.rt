@@ -7,7 +7,7 @@ ghost use Rattle.std.specs.Prelude.{◌≡◌, ℕ, ◌+◌, ◌++◌, ◌<◌, 
 ghost use Rattle.std.specs.Vec.{vec_capacity, vec_len};
 ghost use Rattle.wl_server.specs.Backend.{Calls};
 ghost use Rattle.wl_server.specs.Inside.Cleanup.{CleansUp};
-ghost use Rattle.wl_server.specs.Inside.Gathering.{count_leaving};
+ghost use Rattle.wl_server.specs.Inside.Gathering.{AllLeft, Gathers, count_leaving};
 ghost use Rattle.wl_server.specs.Inside.NoteOrder.{IsOrderOf};
 ghost use Rattle.wl_server.specs.Inside.Leaving.{all_staying, collected, ends_at, given_at, staying};
 ghost use Rattle.wl_server.specs.PartStep.{over};
@@ -21,37 +21,25 @@ use crate::client::flush::flush_each;
 use crate::globals::handler::GlobalHandler;
 use crate::ids::client_id::ClientId;
 use crate::notes::Note;
-use crate::notes::gather::{count_notes, gather, order_of};
+use crate::notes::gather::{count_of, gather, order_of};
 use crate::notes::leaving::{count_ending, end_objects};
 use crate::notes::queues::{NoteNumbers, NotePlace};
 use wl_link::Transport;
 use wl_wire::OutOfMemory;
 
-impl<T: Drop, U: Drop, C: Drop> Client<T, U, C> {
-    /// Drops all of the client but its transport, and returns that.
-    fn into_transport(self) -> T
-        ensures { result ≡ self.part.link.transport }
-    {
-        self.socket.into_transport()
-    }
-}
-
 /// Takes the client of a slot out, if it was killed. Notes are made of the end of its objects that have user data, and
-/// its transport is put into `given`.
+/// its transport is put into `given`. All else of it is dropped.
 fn leave_at<T: Drop, U: Drop, C: Drop>(
     slot: u32,
     place: &mut Option<Client<T, U, C>>,
-    numbers: &mut Vec<u32>,
     notes: &mut Vec<Note<U>>,
     given: &mut Vec<(ClientId, T)>,
 )
-    requires numbers { length (ends_at slot place.old) ≤ vec_capacity numbers.old }
     requires notes { vec_len notes.old + length (ends_at slot place.old) ≤ vec_capacity notes.old }
     requires given { vec_len given.old + length (given_at slot place.old) ≤ vec_capacity given.old }
     ensures stays { place.new ≡ staying place.old }
     ensures noted { notes.new.items ≡ notes.old.items ++ ends_at slot place.old }
     ensures given { given.new.items ≡ given.old.items ++ given_at slot place.old }
-    ensures numbers_room { vec_capacity numbers.new ≡ vec_capacity numbers.old }
     ensures notes_room { vec_capacity notes.new ≡ vec_capacity notes.old }
     ensures given_room { vec_capacity given.new ≡ vec_capacity given.old }
 {
@@ -62,21 +50,19 @@ fn leave_at<T: Drop, U: Drop, C: Drop>(
         return;
     }
     let id = ClientId::from_parts(slot, client.serial);
-    end_objects(&mut client.objects, &id, numbers, notes);
     if let Some(client) = place.take() {
-        given.push_reserved((id, client.into_transport()));
+        end_objects(client.objects, &id, notes);
+        given.push_reserved((id, client.socket.into_transport()));
     }
 }
 
 /// Takes all killed clients out, by ascending slot.
 pub fn leave_all<T: Drop, U: Drop, C: Drop>(
     clients: &mut Vec<Option<Client<T, U, C>>>,
-    numbers: &mut Vec<u32>,
     notes: &mut Vec<Note<U>>,
     given: &mut Vec<(ClientId, T)>,
 )
     requires slots { length clients.old.items ≤ 0x100000000 }
-    requires numbers { length (collected ends_at 0 clients.old.items) ≤ vec_capacity numbers.old }
     requires notes { vec_len notes.old + length (collected ends_at 0 clients.old.items) ≤ vec_capacity notes.old }
     requires given { vec_len given.old + length (collected given_at 0 clients.old.items) ≤ vec_capacity given.old }
     ensures stay { clients.new.items ≡ all_staying clients.old.items }
@@ -84,7 +70,7 @@ pub fn leave_all<T: Drop, U: Drop, C: Drop>(
     ensures given { given.new.items ≡ given.old.items ++ collected given_at 0 clients.old.items }
 {
     for slot in 0..clients.len() {
-        leave_at(slot as u32, &mut clients[slot], numbers, notes, given);
+        leave_at(slot as u32, &mut clients[slot], notes, given);
     }
 }
 
@@ -99,18 +85,6 @@ fn count_ends_at<T: Drop, U: Drop, C: Drop>(client: &Option<Client<T, U, C>>) ->
     }
 }
 
-/// How many notes are made of the end of objects of all clients that are taken out. The count may be larger than that,
-/// and `usize::MAX` stands for any larger number.
-pub fn count_ends<T: Drop, U: Drop, C: Drop>(clients: &[Option<Client<T, U, C>>]) -> usize
-    ensures { result < 0xFFFFFFFFFFFFFFFF → length (collected ends_at 0 clients.now) ≤ result }
-{
-    let mut count: usize = 0;
-    for slot in 0..clients.len() {
-        count = count.saturating_add(count_ends_at(&clients[slot]));
-    }
-    count
-}
-
 /// 1 if the client of a slot is to be taken out, and else 0.
 fn count_given_at<T, U, C>(client: &Option<Client<T, U, C>>) -> usize
     ensures { (slot : ℕ) → length (given_at slot client.now) ≡ result }
@@ -121,16 +95,39 @@ fn count_given_at<T, U, C>(client: &Option<Client<T, U, C>>) -> usize
     }
 }
 
-/// How many clients are to be taken out. `usize::MAX` stands for any larger number.
-pub fn count_given<T, U, C>(clients: &[Option<Client<T, U, C>>]) -> usize
-    ensures all { result < 0xFFFFFFFFFFFFFFFF → length (collected given_at 0 clients.now) ≤ result }
-    ensures no_more { result ≤ length (collected given_at 0 clients.now) }
+/// What a cleanup has to do. `usize::MAX` stands for any larger number.
+#[derive(Drop)]
+pub struct Work {
+    /// How many notes of all clients are gathered.
+    pub gathered: usize,
+    /// How many clients are to be taken out.
+    pub leaving: usize,
+    /// How many notes are made of the end of their objects. It may be larger than that.
+    pub ends: usize,
+}
+
+/// Counts what a cleanup has to do. It goes over the clients once.
+pub fn count_work<T: Drop, U: Drop, C: Drop>(clients: &[Option<Client<T, U, C>>]) -> Work
+    ensures gathered { result.gathered < 0xFFFFFFFFFFFFFFFF → count_leaving true clients.now ≤ result.gathered }
+    ensures few_gathered { result.gathered ≤ count_leaving true clients.now }
+    ensures leaving { result.leaving < 0xFFFFFFFFFFFFFFFF → length (collected given_at 0 clients.now) ≤ result.leaving }
+    ensures few_leaving { result.leaving ≤ length (collected given_at 0 clients.now) }
+    ensures ends { result.ends < 0xFFFFFFFFFFFFFFFF → length (collected ends_at 0 clients.now) ≤ result.ends }
 {
-    let mut count: usize = 0;
+    let mut gathered: usize = 0;
+    let mut leaving: usize = 0;
+    let mut ends: usize = 0;
     for slot in 0..clients.len() {
-        count = count.saturating_add(count_given_at(&clients[slot]));
+        let place = &clients[slot];
+        gathered = gathered.saturating_add(count_of(place, true));
+        leaving = leaving.saturating_add(count_given_at(place));
+        ends = ends.saturating_add(count_ends_at(place));
     }
-    count
+    Work {
+        gathered,
+        leaving,
+        ends,
+    }
 }
 
 /// The memory that a cleanup needs.
@@ -138,28 +135,23 @@ pub fn count_given<T, U, C>(clients: &[Option<Client<T, U, C>>]) -> usize
 pub struct CleanupMemory<T> {
     /// The places of the notes that it gathers, in order of time.
     pub order: Vec<NotePlace>,
-    /// Room for the numbers of one client's objects.
-    pub numbers: Vec<u32>,
     /// Room for the clients that are taken out, with their transports.
     pub given: Vec<(ClientId, T)>,
 }
 
-/// Allocates the memory for the notes of a cleanup. `gathered` is how many are gathered. The list that it returns has
-/// room for the numbers of the objects whose end is noted.
+/// Allocates the memory for the notes of a cleanup that does this work.
 fn memory_for_notes<T: Drop, U: Drop, C: Drop>(
     clients: &[Option<Client<T, U, C>>],
-    gathered: usize,
+    work: &Work,
     notes: &mut Vec<Note<U>>,
-) -> Result<Vec<u32>, OutOfMemory>
-    requires { gathered < 0xFFFFFFFFFFFFFFFF → count_leaving true clients.now ≤ gathered }
+) -> Result<(), OutOfMemory>
+    requires gathered { work.now.gathered < 0xFFFFFFFFFFFFFFFF → count_leaving true clients.now ≤ work.now.gathered }
+    requires ends { work.now.ends < 0xFFFFFFFFFFFFFFFF → length (collected ends_at 0 clients.now) ≤ work.now.ends }
     ensures room { OnOk result (vec_len notes.new + count_leaving true clients.now + length (collected ends_at 0 clients.now) ≤ vec_capacity notes.new) }
-    ensures numbers { IfOk result (λ numbers. length (collected ends_at 0 clients.now) ≤ vec_capacity numbers) }
     ensures items { notes.new.items ≡ notes.old.items }
 {
-    let ends = count_ends(clients);
-    let numbers = Vec::with_capacity(*notes.allocator(), ends)?;
-    notes.reserve(gathered.saturating_add(ends))?;
-    Ok(numbers)
+    notes.reserve(work.gathered.saturating_add(work.ends))?;
+    Ok(())
 }
 
 /// Allocates all memory that a cleanup needs. If no notes are to be gathered and no client is to be taken out, it
@@ -170,7 +162,6 @@ pub fn memory_for<T: Drop, U: Drop, C: Drop>(
 ) -> Result<CleanupMemory<T>, OutOfMemory>
     requires slots { length clients.now ≤ 0x100000000 }
     ensures notes { OnOk result (vec_len notes.new + count_leaving true clients.now + length (collected ends_at 0 clients.now) ≤ vec_capacity notes.new) }
-    ensures numbers { IfOk result (λ memory. length (collected ends_at 0 clients.now) ≤ vec_capacity memory.numbers) }
     ensures given { IfOk result (λ memory. length (collected given_at 0 clients.now) ≤ vec_capacity memory.given) }
     ensures none { IfOk result (λ memory. memory.given.items ≡ []) }
     ensures order { IfOk result (λ memory. IsOrderOf true clients.now memory.order.items) }
@@ -178,28 +169,40 @@ pub fn memory_for<T: Drop, U: Drop, C: Drop>(
     ensures some { OnErr result (0 < count_leaving true clients.now + length (collected given_at 0 clients.now)) }
 {
     let alloc = *notes.allocator();
-    let gathered = count_notes(clients, true);
-    let leaving = count_given(clients);
-    let count = gathered.saturating_add(leaving);
+    let work = count_work(clients);
+    let count = work.gathered.saturating_add(work.leaving);
     if count == 0 {
         return Ok(CleanupMemory {
             order: Vec::new(alloc),
-            numbers: Vec::new(alloc),
             given: Vec::new(alloc),
         });
     }
-    let numbers = memory_for_notes(clients, gathered, notes)?;
-    let order = order_of(alloc, clients, true, gathered)?;
-    let given = Vec::with_capacity(alloc, leaving)?;
-    Ok(CleanupMemory {
-        order,
-        numbers,
-        given,
-    })
+    memory_for_notes(clients, &work, notes)?;
+    let order = order_of(alloc, clients, true, work.gathered)?;
+    let given = Vec::with_capacity(alloc, work.leaving)?;
+    Ok(CleanupMemory { order, given })
 }
 
-/// Flushes the killed clients, gathers all notes, and takes the killed clients out. No note waits any more, so the
-/// numbers of the notes that wait begin at 0 again. Returns whether a flush ran out of memory.
+/// Gathers all notes, those that wait too. No note waits any more, so the numbers of the notes that wait begin at 0 again.
+fn gather_all<T, U, C>(
+    clients: &mut Vec<Option<Client<T, U, C>>>,
+    order: &[NotePlace],
+    notes: &mut Vec<Note<U>>,
+    numbers: &mut NoteNumbers,
+)
+    requires order { IsOrderOf true clients.old.items order.now }
+    requires room { vec_len notes.old + count_leaving true clients.old.items ≤ vec_capacity notes.old }
+    ensures gathered { Gathers true clients.old.items notes.old.items clients.new.items notes.new.items }
+    ensures ended { AllLeft true clients.new.items }
+    ensures capacity { vec_capacity notes.new ≡ vec_capacity notes.old }
+    ensures numbers { numbers.new ≡ record numbers.old { waiting = 0 } }
+{
+    gather(clients, true, order, notes);
+    numbers.begin_waiting_anew();
+}
+
+/// Flushes the killed clients, gathers all notes, and takes the killed clients out. If no client was killed, it only
+/// gathers. Returns whether a flush ran out of memory.
 fn clean_up<T: Transport + Drop, U: Drop, C: Drop>(
     clients: &mut Vec<Option<Client<T, U, C>>>,
     notes: &mut Vec<Note<U>>,
@@ -209,16 +212,19 @@ fn clean_up<T: Transport + Drop, U: Drop, C: Drop>(
     requires slots { length clients.old.items ≤ 0x100000000 }
     requires notes { vec_len notes.old + count_leaving true clients.old.items + length (collected ends_at 0 clients.old.items) ≤ vec_capacity notes.old }
     requires order { IsOrderOf true clients.old.items memory.old.order.items }
-    requires numbers { length (collected ends_at 0 clients.old.items) ≤ vec_capacity memory.old.numbers }
     requires given { length (collected given_at 0 clients.old.items) ≤ vec_capacity memory.old.given }
     requires none { memory.old.given.items ≡ [] }
     ensures cleaned { CleansUp T.sends clients.old.items notes.old.items result clients.new.items notes.new.items memory.new.given.items }
     ensures numbers { numbers.new ≡ record numbers.old { waiting = 0 } }
 {
+    if memory.given.capacity() == 0 {
+        // No client was killed: none is flushed or taken out.
+        gather_all(clients, &memory.order, notes, numbers);
+        return false;
+    }
     let refused = flush_each(clients, true);
-    gather(clients, true, &memory.order, notes);
-    numbers.begin_waiting_anew();
-    leave_all(clients, &mut memory.numbers, notes, &mut memory.given);
+    gather_all(clients, &memory.order, notes, numbers);
+    leave_all(clients, notes, &mut memory.given);
     refused
 }
 

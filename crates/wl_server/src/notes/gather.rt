@@ -88,7 +88,7 @@ pub fn gather<T, U, C>(
 }
 
 /// How many notes of the client of a slot are gathered.
-fn count_of<T, U, C>(client: &Option<Client<T, U, C>>, waits: bool) -> usize
+pub fn count_of<T, U, C>(client: &Option<Client<T, U, C>>, waits: bool) -> usize
     ensures { result ≡ length (leaving waits client.now) }
 {
     match client {

@@ -2,17 +2,11 @@ use Rattle.std.proofs.Common.{◌∙◌, ◌≤◌, length, arith, refl, sym}
 use Rattle.std.proofs.lemmas.List.{length-set}
 use Rattle.std.proofs.lemmas.Option.{slice_get_read}
 use Rattle.wl_server.specs.Inside.Leaving.{ends_at, given_at}
-use Rattle.wl_server.proofs.CleanupSteps.Outgoing.{leave_begins, leave_ends, leave_one, leave_room, number_room}
+use Rattle.wl_server.proofs.CleanupSteps.Outgoing.{leave_begins, leave_ends, leave_one, leave_room}
 use Rattle.wl_server.proofs.notes.cleanup.leave_all.Goals as goal
 
 pub loop-slot-init : goal.loop-slot-init
-loop-slot-init g c = record { leave = leave_begins _ _ _; numbers = refl; notes = refl; given = refl; ends = c.len-slot-end.ensures ∙ c.args.clients.now.ok.0; len = refl }
-
-pub leave_at-requires-clause-numbers : goal.leave_at-requires-clause-numbers
-leave_at-requires-clause-numbers g c =
-    let here = slice_get_read c.loop-slot.clients.items _ c.loop-slot.slot c.index_mut.result.now c.loop-slot.invariant.ends c.loop-slot-test.true c.index_mut.ensures.value in
-    let there = sym (c.loop-slot.invariant.leave.rest c.loop-slot.slot (omega arith)) ∙ here in
-    number_room c.loop-slot.slot c.args.clients.now.items c.index_mut.result.now _ _ there c.requires.numbers c.loop-slot.invariant.numbers
+loop-slot-init g c = record { leave = leave_begins _ _ _; notes = refl; given = refl; ends = c.len-slot-end.ensures ∙ c.args.clients.now.ok.0; len = refl }
 
 pub leave_at-requires-clause-notes : goal.leave_at-requires-clause-notes
 leave_at-requires-clause-notes g c =
@@ -35,7 +29,6 @@ loop-slot-preserved g c =
     record {
       leave = leave_one c.loop-slot.slot c.args.clients.now.items c.loop-slot.clients.items _ _ _ _ _ _ c.index_mut.result.now c.leave_at.new.place c.loop-slot.invariant.leave here
           c.leave_at.ensures.stays c.leave_at.ensures.noted c.leave_at.ensures.given;
-      numbers = c.leave_at.ensures.numbers_room ∙ c.loop-slot.invariant.numbers;
       notes = c.leave_at.ensures.notes_room ∙ c.loop-slot.invariant.notes;
       given = c.leave_at.ensures.given_room ∙ c.loop-slot.invariant.given;
       ends = c.loop-slot.invariant.ends ∙ sym long;

@@ -6,7 +6,6 @@ use Rattle.wl_server.proofs.notes.cleanup.leave_all.Given as goal
 abbrev pub invariant-loop-slot : goal.invariant-loop-slot
 invariant-loop-slot g l = record {
   leave : Leave l.slot l.fn.clients.items l.clients.items l.fn.notes.items l.notes.items l.fn.given.items l.given.items;
-  numbers : vec_capacity l.numbers ≡ vec_capacity l.fn.numbers;
   notes : vec_capacity l.notes ≡ vec_capacity l.fn.notes;
   given : vec_capacity l.given ≡ vec_capacity l.fn.given;
   ends : l.slot-end ≡ length l.clients.items;

@@ -8,44 +8,38 @@ use Rattle.wl_server.proofs.notes.cleanup.memory_for.Goals as goal
 
 pub returns-then-count-eq0-clause-notes : goal.returns-then-count-eq0-clause-notes
 returns-then-count-eq0-clause-notes g c =
-    let none = none_both c.count_notes-gathered.result c.count_given-leaving.result c.saturating_add-count.result c.saturating_add-count.ensures c.if-count-eq0.true in
-    let given = none_of c.count_given-leaving.result (length (collected given_at 0 c.args.clients.now)) none.1 c.count_given-leaving.ensures.all in
-    let notes = none_of c.count_notes-gathered.result (count_leaving true c.args.clients.now) none.0 c.count_notes-gathered.ensures.all in
+    let none = none_both c.count_work-work.result.gathered c.count_work-work.result.leaving c.saturating_add-count.result c.saturating_add-count.ensures c.if-count-eq0.true in
+    let given = none_of c.count_work-work.result.leaving (length (collected given_at 0 c.args.clients.now)) none.1 c.count_work-work.ensures.leaving in
+    let notes = none_of c.count_work-work.result.gathered (count_leaving true c.args.clients.now) none.0 c.count_work-work.ensures.gathered in
     room_of_none (vec_len c.args.notes.now) (vec_capacity c.args.notes.now) (count_leaving true c.args.clients.now) (length (collected ends_at 0 c.args.clients.now))
     notes (none_ends 0 c.args.clients.now given) c.args.notes.now.ok.1
 
-pub returns-then-count-eq0-clause-numbers : goal.returns-then-count-eq0-clause-numbers
-returns-then-count-eq0-clause-numbers g c =
-    let none = none_both c.count_notes-gathered.result c.count_given-leaving.result c.saturating_add-count.result c.saturating_add-count.ensures c.if-count-eq0.true in
-    let given = none_of c.count_given-leaving.result (length (collected given_at 0 c.args.clients.now)) none.1 c.count_given-leaving.ensures.all in
-    at_most (length (collected ends_at 0 c.args.clients.now)) (vec_capacity c.new-then-count-eq0.result) (none_ends 0 c.args.clients.now given)
-
 pub returns-then-count-eq0-clause-given : goal.returns-then-count-eq0-clause-given
 returns-then-count-eq0-clause-given g c =
-    let none = none_both c.count_notes-gathered.result c.count_given-leaving.result c.saturating_add-count.result c.saturating_add-count.ensures c.if-count-eq0.true in
-    let given = none_of c.count_given-leaving.result (length (collected given_at 0 c.args.clients.now)) none.1 c.count_given-leaving.ensures.all in
-    at_most (length (collected given_at 0 c.args.clients.now)) (vec_capacity c.new-then-count-eq0-2.result) given
+    let none = none_both c.count_work-work.result.gathered c.count_work-work.result.leaving c.saturating_add-count.result c.saturating_add-count.ensures c.if-count-eq0.true in
+    let given = none_of c.count_work-work.result.leaving (length (collected given_at 0 c.args.clients.now)) none.1 c.count_work-work.ensures.leaving in
+    at_most (length (collected given_at 0 c.args.clients.now)) (vec_capacity c.new-then-count-eq0.result) given
 
-pub returns-in_err-numbers-clause-some : goal.returns-in_err-numbers-clause-some
-returns-in_err-numbers-clause-some g c =
+pub returns-in_err-memory_for_notes-clause-some : goal.returns-in_err-memory_for_notes-clause-some
+returns-in_err-memory_for_notes-clause-some g c =
     on_err c.from_residual.result
-    (some_of c.count_notes-gathered.result c.count_given-leaving.result c.saturating_add-count.result (count_leaving true c.args.clients.now)
-    (length (collected given_at 0 c.args.clients.now)) c.saturating_add-count.ensures c.if-count-eq0.false c.count_notes-gathered.ensures.no_more c.count_given-leaving.ensures.no_more)
+    (some_of c.count_work-work.result.gathered c.count_work-work.result.leaving c.saturating_add-count.result (count_leaving true c.args.clients.now)
+    (length (collected given_at 0 c.args.clients.now)) c.saturating_add-count.ensures c.if-count-eq0.false c.count_work-work.ensures.few_gathered c.count_work-work.ensures.few_leaving)
 
 pub returns-in_err-order-clause-some : goal.returns-in_err-order-clause-some
 returns-in_err-order-clause-some g c =
     on_err c.from_residual-in_err-order.result
-    (some_of c.count_notes-gathered.result c.count_given-leaving.result c.saturating_add-count.result (count_leaving true c.args.clients.now)
-    (length (collected given_at 0 c.args.clients.now)) c.saturating_add-count.ensures c.if-count-eq0.false c.count_notes-gathered.ensures.no_more c.count_given-leaving.ensures.no_more)
+    (some_of c.count_work-work.result.gathered c.count_work-work.result.leaving c.saturating_add-count.result (count_leaving true c.args.clients.now)
+    (length (collected given_at 0 c.args.clients.now)) c.saturating_add-count.ensures c.if-count-eq0.false c.count_work-work.ensures.few_gathered c.count_work-work.ensures.few_leaving)
 
 pub returns-in_err-given-clause-some : goal.returns-in_err-given-clause-some
 returns-in_err-given-clause-some g c =
     on_err c.from_residual-in_err-given.result
-    (some_of c.count_notes-gathered.result c.count_given-leaving.result c.saturating_add-count.result (count_leaving true c.args.clients.now)
-    (length (collected given_at 0 c.args.clients.now)) c.saturating_add-count.ensures c.if-count-eq0.false c.count_notes-gathered.ensures.no_more c.count_given-leaving.ensures.no_more)
+    (some_of c.count_work-work.result.gathered c.count_work-work.result.leaving c.saturating_add-count.result (count_leaving true c.args.clients.now)
+    (length (collected given_at 0 c.args.clients.now)) c.saturating_add-count.ensures c.if-count-eq0.false c.count_work-work.ensures.few_gathered c.count_work-work.ensures.few_leaving)
 
 pub returns-then-count-eq0-clause-order : goal.returns-then-count-eq0-clause-order
 returns-then-count-eq0-clause-order g c =
-    let none = none_both c.count_notes-gathered.result c.count_given-leaving.result c.saturating_add-count.result c.saturating_add-count.ensures c.if-count-eq0.true in
-    let notes = none_of c.count_notes-gathered.result (count_leaving true c.args.clients.now) none.0 c.count_notes-gathered.ensures.all in
+    let none = none_both c.count_work-work.result.gathered c.count_work-work.result.leaving c.saturating_add-count.result c.saturating_add-count.ensures c.if-count-eq0.true in
+    let notes = none_of c.count_work-work.result.gathered (count_leaving true c.args.clients.now) none.0 c.count_work-work.ensures.gathered in
     none_order true c.args.clients.now c.new.result.items c.new.ensures.items (none_leaving true c.args.clients.now notes)

@@ -1,14 +1,16 @@
-use Rattle.std.proofs.Common.{◌≡◌, ◌++◌, drop, map}
+use Rattle.std.proofs.Common.{◌≡◌, ◌++◌, length, map}
 use Rattle.std.specs.FinMap.{entries}
 use Rattle.std.specs.Vec.{vec_capacity}
-use Rattle.wl_server.specs.Inside.Leaving.{ending, ends_of}
+use Rattle.wl_server.specs.Inside.Leaving.{ends_of}
 use Rattle.wl_server.specs.Server.{note_of}
 use Rattle.wl_server.proofs.CleanupSteps.Ending.{Ending}
 use Rattle.wl_server.proofs.notes.leaving.end_objects.Given as goal
 
 abbrev pub invariant-loop-number : goal.invariant-loop-number
 invariant-loop-number g l = record {
-  ending : Ending l.client l.objects.store l.notes.items (drop l.number-index (ending (entries l.fn.objects.store.objects)))
-      (l.fn.notes.items ++ map (note_of l.client) (ends_of l.client (entries l.fn.objects.store.objects))) (vec_capacity l.fn.notes);
+  ending : Ending l.client l.notes.items l.all (l.fn.notes.items ++ map (note_of l.client) (ends_of l.client (entries l.fn.objects.store.objects))) (vec_capacity l.fn.notes);
   capacity : vec_capacity l.notes ≡ vec_capacity l.fn.notes;
 }
+
+abbrev pub decreases-loop-number : goal.decreases-loop-number
+decreases-loop-number g l = length l.all
