@@ -1,7 +1,7 @@
 -- What a call answers of one object, one client or the notes, and that the others are as before: in the words of the look-ups.
 --
--- A call whose contract cites one of these has the clause `call` beside it, which says all that the call does, as a step. What
--- stands here follows from that, and can be used without it.
+-- A call whose contract cites one of these has beside it the clause `call`, or `finished` of an end of an action, which says all
+-- that the call does, as a step. What stands here follows from that, and can be used without it.
 use Rattle.std.specs.Prelude.{◌≡◌, ◌⊎◌, ℕ, List, [], ◌∷◌, ◌++◌, Bool, true, false, ◌&&◌, if◌then◌else◌, Option, None, Some, IsSome, is_some, Result, Ok, Err, MatchOption, MatchResult, Vec, option_map}
 use Rattle.std.specs.Global.{Global}
 use Rattle.wl_wire.specs.declared.error.IoFault.{IoFault}

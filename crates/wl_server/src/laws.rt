@@ -59,7 +59,7 @@ use wl_link::Transport;
 /// After each run of a new server, a client that was inserted is as if only its own calls and the shared ones had been
 /// made since then. That concerns what is held of it, its notes, the replies to it, its share of the shared replies, and
 /// the deeds with it. Nothing is held of a client that was not inserted. What all clients share depends on the shared
-/// calls alone. So do the ids of globals and the serials of clients.
+/// calls alone, and so do the ids of globals. The serials of clients depend on these and on how many were inserted.
 pub fn each_client_is_alone<T: Transport, U, G: GlobalHandler<C>, C>()
     ensures run { (table : List InterfaceRow) (run : List (Entry T U G C)) (after : ServerState T U G C) →
         Leads (over T.sends T.receives G.views) (new_server table) run after → IsIsolated (over T.sends T.receives G.views) table run after }
@@ -69,11 +69,12 @@ pub fn each_client_is_alone<T: Transport, U, G: GlobalHandler<C>, C>()
 
 /// What a server does with a client has one outcome, over every transport whose answers follow from its value.
 ///
-/// If memory is not refused, a step determines its deeds with each client, and what is held of the client afterwards. If
-/// the step is the client's own or a shared one, it also determines the reply to this client, up to where lists lie in
-/// memory. The same holds of a list of a client's own calls and the shared ones, and of two runs of a server, whatever
-/// other clients do in them. So the definitions of the calls leave no choice except whether memory is refused. The
-/// globals and limits that a client finds at its insertion are determined by the shared calls before it.
+/// If memory is not refused, a step determines its deeds with each client, and what is held of the client afterwards. (For
+/// `insert_client` and `create_global` that is said of the same new id; each run has one outcome of that, too.) If the step
+/// is the client's own or a shared one, it also determines the reply to this client, up to where lists lie in memory. The
+/// same holds of a list of a client's own calls and the shared ones, and of two runs of a server, whatever other clients do
+/// in them. So the definitions of the calls leave no choice except whether memory is refused. The globals and limits that a
+/// client finds at its insertion are determined by the shared calls before it.
 pub fn each_client_has_one_outcome<T: Transport, U, G: GlobalHandler<C>, C>()
     ensures step { IsFunction T.sends → IsReceiveFunction T.receives → StepsHaveOneOutcome U (over T.sends T.receives G.views) }
     ensures alone { IsFunction T.sends → IsReceiveFunction T.receives → OwnRunsHaveOneOutcome U (over T.sends T.receives G.views) }

@@ -28,8 +28,8 @@ pub fn flush_loses_nothing<T: Transport>()
         Flushed T.sends before answer after → FlushDrains T.sends before answer after }
 {}
 
-/// A write that returns `Ok` adds the message's bytes and tokens, once, to what was sent and what waits. A write that fails
-/// adds nothing.
+/// A write that returns `Ok` adds the message's bytes, once, to what was sent and what waits, and its tokens to these and
+/// to those that a send which answered 0 dropped. A write that fails adds nothing.
 pub fn write_loses_nothing<T: Transport>()
     ensures { (before after : LinkState T) (m : WireMessage) (answer : _) →
         Wrote T.sends before m answer after → WriteKeeps T.sends before m answer after }
