@@ -64,8 +64,8 @@ impl<T: Transport + Drop, U: Drop, C: Drop> Client<T, U, C> {
         ensures place { INLINE_ARGS ≤ message.new.args.capacity }
         ensures inline { INLINE_ARGS ≤ args.new.capacity }
     {
-        // The proof learns from this that the count is a number of 64 bits.
-        let _read = reading.read;
+        // The count of requests starts within its type.
+        prove!(reading.read <= usize::MAX);
         loop {
             match self.turn(numbers, around, reading, message, found, args) {
                 TurnEnd::GoesOn => {}
@@ -120,8 +120,8 @@ impl<T: Transport + Drop, U: Drop, C: Drop> Client<T, U, C> {
         ensures ends { EndsAs T.sends T.receives (around_of G.views around.now) self.old reading.old (action_of result found.new args.new.items) self.new reading.new }
         ensures place { INLINE_ARGS ≤ message.new.args.capacity }
     {
-        // The proof learns from this that the count is a number of 64 bits.
-        let _read = reading.read;
+        // The count of requests starts within its type.
+        prove!(reading.read <= usize::MAX);
         loop {
             if let Some(end) = self.handle_waiting(numbers, around, reading, message, found, args) {
                 return end;
