@@ -105,6 +105,11 @@ impl<T: Drop, U: Drop, G: Drop, C: Drop> Backend<T, U, G, C> {
         }
     }
 
+    /// The allocator of all that the server keeps.
+    pub(crate) fn alloc(&self) -> Global {
+        *self.notes.allocator()
+    }
+
     /// Whether the client is stored: it was inserted, and no cleanup has taken it out.
     pub(crate) fn is_stored(&self, id: &ClientId) -> bool
         ensures stored { result ≡ is_some (client_at id.now self.now.server.clients) }

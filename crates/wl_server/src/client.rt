@@ -14,6 +14,7 @@ pub mod transport;
 use crate::notes::queues::{MadeNotes, WaitingNotes};
 use crate::objects::Kept;
 use crate::reading::action::OpenAction;
+use std::alloc::Global;
 use std::marker::Model;
 use wl_link::{BufferedSocket, ObjectMap};
 
@@ -90,4 +91,11 @@ impl<T, U, C> Model for Client<T, U, C> {
     } };
 
     ghost invariant = { λ c. c.is_killed ≡ false → deque_len c.made.queue < deque_capacity c.made.queue };
+}
+
+impl<T, U, C> Client<T, U, C> {
+    /// The allocator of all that is kept of the client.
+    pub fn alloc(&self) -> Global {
+        *self.registries.allocator()
+    }
 }

@@ -159,6 +159,7 @@ fn put_at<T: Drop, U: Drop, C: Drop>(
 /// Puts a new client at a slot that has no client. The slot is in the list, or is the first one after it. If there is no
 /// memory, nothing changes.
 fn put_new<T: Drop, U: Drop, C: Drop>(
+    alloc: Global,
     clients: &mut Vec<Option<Client<T, U, C>>>,
     numbers: &mut NoteNumbers,
     id: &ClientId,
@@ -173,7 +174,6 @@ fn put_new<T: Drop, U: Drop, C: Drop>(
     ensures slots { vec_len clients.old ≤ 0x100000000 → vec_len clients.new ≤ 0x100000000 }
 {
     let slot = id.slot() as usize;
-    let alloc = *clients.allocator();
     reserve_slot(clients, slot)?;
     let serial = id.serial();
     let client = Client::new(alloc, serial, transport, max_buffer_size, info, numbers)?;
@@ -197,6 +197,7 @@ impl<T: Transport + Drop, U: Drop, G: GlobalHandler<C> + Drop, C: Drop> Backend<
     pub fn insert_client(&mut self, transport: T, info: C) -> Result<ClientId, InsertClientError>
         ensures { Calls (over T.sends T.receives G.views) self.old (step.InsertClient transport info) (reply.InsertClient result) self.new }
     {
+        let alloc = self.alloc();
         self.refused = false;
         let Some(slot) = free_slot(&self.clients, self.free_from) else {
             return Err(InsertClientError::Full);
@@ -206,6 +207,7 @@ impl<T: Transport + Drop, U: Drop, G: GlobalHandler<C> + Drop, C: Drop> Backend<
         }
         let id = ClientId::from_parts(slot, self.last_client + 1);
         match put_new(
+            alloc,
             &mut self.clients,
             &mut self.numbers,
             &id,

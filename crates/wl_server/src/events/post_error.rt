@@ -48,10 +48,10 @@ impl<T: Transport + Drop, U: Drop, C: Drop> Client<T, U, C> {
         ensures carried { IsCarried T.sends (posts protocol.now (core_of self.old.part) id.now code text) self.old result self.new }
         ensures exactly { PostsOn T.sends self.old.part id.now code text result self.new.part }
     {
+        let alloc = self.alloc();
         if self.is_killed {
             return self.flush_dropped();
         }
-        let alloc = *self.registries.allocator();
         match posted_error(alloc, protocol, id, code, &text) {
             Ok(error) => {
                 let wrote = self.put_posted(id, code, text);
@@ -90,10 +90,10 @@ impl<T: Transport + Drop, U: Drop, C: Drop> Client<T, U, C> {
         ensures wrote { IsSome (named self.old.part.store id.now) → Wrote T.sends self.old.part.link (error_message id.now.number code text).message result self.new.part.link }
         ensures rest { self.new ≡ record self.old { part = with_link self.old.part self.new.part.link } }
     {
+        let alloc = self.alloc();
         if named_in(&self.objects, id).is_none() {
             return Ok(());
         }
-        let alloc = *self.registries.allocator();
         put_error(alloc, &mut self.socket, id.protocol_id(), code, text)
     }
 

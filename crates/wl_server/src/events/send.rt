@@ -94,7 +94,7 @@ impl<T: Transport + Drop, U: Drop, C: Drop> Client<T, U, C> {
     ) -> bool
         ensures { TellsEnd T.sends self.old number ends written result self.new }
     {
-        let alloc = *self.registries.allocator();
+        let alloc = self.alloc();
         let answer = put_end(alloc, &mut self.socket, number, ends, written);
         self.kill_unless_written(numbers, answer)
     }

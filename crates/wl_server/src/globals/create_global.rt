@@ -43,7 +43,7 @@ fn tell_new_at<T: Transport + Drop, U: Drop, G: GlobalHandler<C>, C: Drop>(
             if !global.value.handler.can_view(&client_id, &client.info, id) {
                 return false;
             }
-            let alloc = *client.registries.allocator();
+            let alloc = client.alloc();
             let answer = announcement.tell(alloc, &mut client.socket, &client.registries);
             client.kill_unless_written(numbers, answer)
         }

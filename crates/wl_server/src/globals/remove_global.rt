@@ -46,7 +46,7 @@ fn tell_loss_at<T: Transport + Drop, U: Drop, C: Drop>(
 {
     match client {
         Some(client) if !client.is_killed => {
-            let alloc = *client.registries.allocator();
+            let alloc = client.alloc();
             let mut message = message_of_number(alloc, 0, GLOBAL_REMOVE, name);
             let answer = put_to_each(&mut client.socket, &client.registries, &mut message);
             client.kill_unless_written(numbers, answer)

@@ -158,6 +158,7 @@ pub fn order_of<T, U, C>(
 /// Moves the notes of all clients that were made to the end of the list, in order of time. If there is no memory, nothing
 /// is changed. If there are no such notes, it allocates nothing.
 pub fn gather_made<T, U, C>(
+    alloc: Global,
     clients: &mut Vec<Option<Client<T, U, C>>>,
     notes: &mut Vec<Note<U>>,
 ) -> Result<(), OutOfMemory>
@@ -171,7 +172,7 @@ pub fn gather_made<T, U, C>(
     if count == 0 {
         return Ok(());
     }
-    let order = order_of(*notes.allocator(), clients, false, count)?;
+    let order = order_of(alloc, clients, false, count)?;
     notes.reserve(count)?;
     gather(clients, false, &order, notes);
     Ok(())

@@ -25,10 +25,11 @@ impl<T: Transport + Drop, U: Drop, G: GlobalHandler<C> + Drop, C: Drop> Backend<
         ensures call { Calls (over T.sends T.receives G.views) self.old step.TakeNotes (reply.TakeNotes result) self.new }
         ensures plain { TakesNotes self.old result self.new }
     {
+        let alloc = self.alloc();
         self.refused = false;
-        match gather_made(&mut self.clients, &mut self.notes) {
+        match gather_made(alloc, &mut self.clients, &mut self.notes) {
             Ok(()) => {
-                let none = Vec::new(*self.notes.allocator());
+                let none = Vec::new(alloc);
                 Ok(mem::replace(&mut self.notes, none))
             }
             Err(error) => {

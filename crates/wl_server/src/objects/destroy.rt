@@ -47,13 +47,13 @@ impl<T: Transport + Drop, U: Drop, C: Drop> Client<T, U, C> {
     ) -> Result<(), DestroyError>
         ensures { Does self.old (λ p did q. Destroys T.sends id.now.client p id.now result (lacks_destroy result) did q) self.new }
     {
+        let alloc = self.alloc();
         let Some(object) = destroyable(&self.objects, id) else {
             return Err(DestroyError::InvalidId);
         };
         if let Err(OutOfMemory) = reserve_note(&mut self.waiting, object) {
             return Err(DestroyError::OutOfMemory);
         }
-        let alloc = *self.registries.allocator();
         let wrote = put_delete_id(alloc, &mut self.socket, id.protocol_id());
         if is_out_of_memory(wrote) {
             return Err(DestroyError::OutOfMemory);

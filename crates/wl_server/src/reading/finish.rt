@@ -167,7 +167,7 @@ impl<T: Transport + Drop, U: Drop, C: Drop> Client<T, U, C> {
         if let Some(error) = refusal_of(self.is_killed, &created, &user_data) {
             return Err(FinishRefused { error, user_data });
         }
-        let alloc = *self.registries.allocator();
+        let alloc = self.alloc();
         let Ok(wrote) = self.end_sender(alloc, id, numbers, sender, is_destructor) else {
             let error = FinishError::OutOfMemory;
             return Err(FinishRefused { error, user_data });

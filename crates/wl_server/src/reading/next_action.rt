@@ -207,7 +207,7 @@ impl<T: Transport + Drop, U: Drop, G: GlobalHandler<C> + Drop, C: Drop> Backend<
     {
         let mut reading = Reading::new();
         let mut found = Found::none();
-        let mut args = SmallVec::new(*self.clients.allocator());
+        let mut args = SmallVec::new(self.alloc());
         self.read_client(id, &mut reading, &mut found, &mut args)?;
         match found {
             Found::Request(sender, opcode, is_destructor, created) => {
@@ -237,7 +237,7 @@ impl<T: Transport + Drop, U: Drop, G: GlobalHandler<C> + Drop, C: Drop> Backend<
         ensures cutting { CallIsCut (over T.sends T.receives G.views) self.old.server (Asked (step.NextActionWithin id.now reading.old) (reply.NextActionWithin result reading.new)) self.new.refused self.new.server }
     {
         let mut found = Found::none();
-        let mut args = SmallVec::new(*self.clients.allocator());
+        let mut args = SmallVec::new(self.alloc());
         self.read_client(id, reading, &mut found, &mut args)?;
         match found {
             Found::Request(sender, opcode, is_destructor, created) => {

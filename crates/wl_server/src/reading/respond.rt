@@ -108,7 +108,7 @@ impl<T: Transport + Drop, U: Drop, C: Drop> Client<T, U, C> {
         requires name { HasName breach.now }
         ensures { IsHandled T.sends (breaks (around_of G.views around.now) (core_of self.old.part) (code_of breach.now) (text_of around.now.protocol.now breach.now)) self.old (Ended result) self.new }
     {
-        let alloc = *self.registries.allocator();
+        let alloc = self.alloc();
         let Ok((code, text)) = breach_error(alloc, around.protocol, breach) else {
             let refused = self.kill_unless_written(numbers, Err(IoFault::OutOfMemory));
             return NoAction {
@@ -155,7 +155,7 @@ impl<T: Transport + Drop, U: Drop, C: Drop> Client<T, U, C> {
             (replies (core_of self.old.part) (map (global_message around.now.protocol.now (id_of registry.now)) (shown G.views (around_of G.views around.now).globals around.now.client self.old.part.info))
             (Remembered (id_of registry.now) ∷ [])) self.old (turned result f args) self.new }
     {
-        let alloc = *self.registries.allocator();
+        let alloc = self.alloc();
         let wrote = put_globals(alloc, &mut self.socket, around, &self.info, registry);
         self.replied(numbers, wrote)
     }
@@ -176,7 +176,7 @@ impl<T: Transport + Drop, U: Drop, C: Drop> Client<T, U, C> {
             Response::Garbled => TurnEnd::Ends(self.garbled(numbers)),
             Response::Breaks(breach) => TurnEnd::Ends(self.ends_by(numbers, around, breach)),
             Response::Syncs(callback) => {
-                let alloc = *self.registries.allocator();
+                let alloc = self.alloc();
                 let wrote = put_done(alloc, &mut self.socket, callback.protocol_id());
                 self.replied(numbers, wrote)
             }
