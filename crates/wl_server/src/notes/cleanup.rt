@@ -24,6 +24,7 @@ use crate::notes::Note;
 use crate::notes::gather::{count_of, gather, order_of};
 use crate::notes::leaving::{count_ending, end_objects};
 use crate::notes::queues::{NoteNumbers, NotePlace};
+use std::alloc::Global;
 use wl_link::Transport;
 use wl_wire::OutOfMemory;
 
@@ -157,6 +158,7 @@ fn memory_for_notes<T: Drop, U: Drop, C: Drop>(
 /// Allocates all memory that a cleanup needs. If no notes are to be gathered and no client is to be taken out, it
 /// allocates nothing.
 pub fn memory_for<T: Drop, U: Drop, C: Drop>(
+    alloc: Global,
     clients: &[Option<Client<T, U, C>>],
     notes: &mut Vec<Note<U>>,
 ) -> Result<CleanupMemory<T>, OutOfMemory>
@@ -168,7 +170,6 @@ pub fn memory_for<T: Drop, U: Drop, C: Drop>(
     ensures items { notes.new.items ≡ notes.old.items }
     ensures some { OnErr result (0 < count_leaving true clients.now + length (collected given_at 0 clients.now)) }
 {
-    let alloc = *notes.allocator();
     let work = count_work(clients);
     let count = work.gathered.saturating_add(work.leaving);
     if count == 0 {
@@ -245,7 +246,8 @@ impl<T: Transport + Drop, U: Drop, G: GlobalHandler<C> + Drop, C: Drop> Backend<
         ensures call { Calls (over T.sends T.receives G.views) self.old step.Cleanup (reply.Cleanup result) self.new }
         ensures plain { CleansUpClients T.sends self.old result self.new }
     {
-        match memory_for(&self.clients, &mut self.notes) {
+        let alloc = self.alloc();
+        match memory_for(alloc, &self.clients, &mut self.notes) {
             Ok(mut memory) => {
                 self.refused = clean_up(
                     &mut self.clients,
