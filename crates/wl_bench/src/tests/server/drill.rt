@@ -2,7 +2,7 @@
 //!
 //! With ample memory a run answers what it has to. If one allocation is refused (`./refusal-drill` refuses each in turn),
 //! the replies before that step are the same. Then either no client was killed, and the same call again, and all after
-//! it, answers as with ample memory; or those clients whose message found no memory were killed, and nothing of the others
+//! it, answers as with ample memory; or the one client whose message found no memory was killed, and nothing of the others
 //! changes. If the test itself asked for that memory, it ends with the want, and nothing is judged.
 
 use super::steps::{Call, Made, arrive, step};
@@ -329,9 +329,23 @@ fn are_noted_once(
     Ok(())
 }
 
+/// Fails if the step killed more than one client that it does not kill with ample memory. If it killed one, it is told,
+/// for `./refusal-drill` to see.
+fn at_most_one(rt: &(impl Abort + Print), run: &Run, at: usize, killed: &[Who]) {
+    let is_first_to_die = matches!(run.dies, Some(step) if step == at);
+    let mut count = 0usize;
+    for who in killed {
+        if !(is_first_to_die && who.0 == 0) {
+            count = count.saturating_add(1);
+            let _ = println!(rt; "{}: client {} killed for want of memory", run.name, who.0);
+        }
+    }
+    assert!(rt; count <= 1, "{}: {count} clients were killed", run.name);
+}
+
 /// Fails if anything is not as it has to be after the step for which memory was refused.
 fn judge_rest(
-    rt: &(impl Abort + AllocGlobal),
+    rt: &(impl Abort + Print + AllocGlobal),
     server: &mut Server,
     run: &Run,
     at: usize,
@@ -340,13 +354,18 @@ fn judge_rest(
     if killed.is_empty() {
         return go_on(rt, server, run, run.entries.get(at..).unwrap_or(&[]));
     }
+    at_most_one(rt, run, at, killed.as_slice());
     let others = of_others(rt.alloc(), run, at, killed.as_slice())?;
     go_on(rt, server, run, others.as_slice())?;
     are_noted_once(rt, server, run, killed.as_slice())
 }
 
 /// Makes the run, and fails if it is not as it has to be.
-fn play(rt: &(impl Abort + AllocGlobal), server: &mut Server, run: &Run) -> Result<(), Fail> {
+fn play(
+    rt: &(impl Abort + Print + AllocGlobal),
+    server: &mut Server,
+    run: &Run,
+) -> Result<(), Fail> {
     match server.replay(steps_of(rt.alloc(), run.entries)?) {
         Ok(replies) => {
             assert!(rt; !server.memory_refused(), "{}", run.name);
@@ -361,7 +380,7 @@ fn play(rt: &(impl Abort + AllocGlobal), server: &mut Server, run: &Run) -> Resu
 }
 
 /// Makes the run of a new server, and fails if it is not as it has to be.
-pub fn drill(rt: &(impl Abort + AllocGlobal), run: &Run) -> Result<(), Fail> {
+pub fn drill(rt: &(impl Abort + Print + AllocGlobal), run: &Run) -> Result<(), Fail> {
     let mut server = Backend::new(rt.alloc(), quad_table(rt.alloc())?);
     play(rt, &mut server, run)
 }

@@ -2,16 +2,17 @@
 
 use super::arrivals::{
     BIND, BIND_NULL, BIND_VERSION_1, DESTROY, GET_REGISTRY, GIVE, MAKE, SYNC, SYNC_AT_5,
+    SYNC_AT_SERVER,
 };
 use super::drill::{Entry, Run, drill};
 use super::steps::Call;
 use super::values::{BOUND, Event, FIRST, Named, SECOND, Thing, Who};
 use crate::tests::cuts::Stream;
-use crate::tests::quad::QUAD;
+use crate::tests::quad::{QUAD, quad_table};
 use std::alloc::Global;
 use std::process::Abort;
 use std::test::Fail;
-use wl_wire::IoFault;
+use wl_wire::{IoFault, Protocol};
 
 /// The first object that the server makes for the first client.
 const MADE: Thing = Thing(FIRST, 0xFF00_0000, 1, QUAD);
@@ -30,7 +31,7 @@ const LONG_BIND: Stream = Stream {
 };
 
 /// A registry is told.
-fn registry(rt: &(impl Abort + AllocGlobal)) -> Result<(), Fail> {
+fn registry(rt: &(impl Abort + Print + AllocGlobal)) -> Result<(), Fail> {
     let entries = [
         Entry::Do(Call::Insert(true), "client 0, 1\n"),
         Entry::Do(Call::Global(QUAD, 3), "global 1, 1\n"),
@@ -69,7 +70,7 @@ fn registry(rt: &(impl Abort + AllocGlobal)) -> Result<(), Fail> {
 }
 
 /// An object is bound.
-fn bound_object(rt: &(impl Abort + AllocGlobal)) -> Result<(), Fail> {
+fn bound_object(rt: &(impl Abort + Print + AllocGlobal)) -> Result<(), Fail> {
     let entries = [
         Entry::Do(Call::Insert(true), "client 0, 1\n"),
         Entry::Do(Call::Global(QUAD, 3), "global 1, 1\n"),
@@ -115,7 +116,7 @@ fn bound_object(rt: &(impl Abort + AllocGlobal)) -> Result<(), Fail> {
 }
 
 /// A sync is answered.
-fn sync(rt: &(impl Abort + AllocGlobal)) -> Result<(), Fail> {
+fn sync(rt: &(impl Abort + Print + AllocGlobal)) -> Result<(), Fail> {
     let entries = [
         Entry::Do(Call::Insert(true), "client 0, 1\n"),
         Entry::Do(Call::Arrive(FIRST, &SYNC), ""),
@@ -137,7 +138,7 @@ fn sync(rt: &(impl Abort + AllocGlobal)) -> Result<(), Fail> {
 }
 
 /// A new id that is not the next.
-fn wrong_new_id(rt: &(impl Abort + AllocGlobal)) -> Result<(), Fail> {
+fn wrong_new_id(rt: &(impl Abort + Print + AllocGlobal)) -> Result<(), Fail> {
     let entries = [
         Entry::Do(Call::Insert(true), "client 0, 1\n"),
         Entry::Do(Call::Arrive(FIRST, &SYNC_AT_5), ""),
@@ -161,8 +162,32 @@ fn wrong_new_id(rt: &(impl Abort + AllocGlobal)) -> Result<(), Fail> {
     drill(rt, &run)
 }
 
+/// A new id of the server's range.
+fn new_id_of_the_server(rt: &(impl Abort + Print + AllocGlobal)) -> Result<(), Fail> {
+    let entries = [
+        Entry::Do(Call::Insert(true), "client 0, 1\n"),
+        Entry::Do(Call::Arrive(FIRST, &SYNC_AT_SERVER), ""),
+        Entry::Do(Call::Next(FIRST), "Io error: broken pipe\n"),
+        Entry::Do(
+            Call::TakeSent(FIRST),
+            "01 00 00 00 00 00 30 00 01 00 00 00 00 00 00 00 1c 00 00 00 49 6e 76 61 6c 69 64 20 6e 65 77 5f 69 64 3a 20 34 32 37 38 31 39 30 30 38 30 2e 00\n",
+        ),
+        Entry::Do(
+            Call::Notes,
+            "initialized 0, 1\ndisconnected 0, 1: error 0 on wl_display 1: Invalid new_id: 4278190080.\n",
+        ),
+    ];
+    let run = Run {
+        name: "a new id of the server's range",
+        entries: &entries,
+        dies: Some(2),
+        error_bytes: 48,
+    };
+    drill(rt, &run)
+}
+
 /// A bind without a name.
-fn bind_without_a_name(rt: &(impl Abort + AllocGlobal)) -> Result<(), Fail> {
+fn bind_without_a_name(rt: &(impl Abort + Print + AllocGlobal)) -> Result<(), Fail> {
     let entries = [
         Entry::Do(Call::Insert(true), "client 0, 1\n"),
         Entry::Do(Call::Global(QUAD, 3), "global 1, 1\n"),
@@ -194,7 +219,7 @@ fn bind_without_a_name(rt: &(impl Abort + AllocGlobal)) -> Result<(), Fail> {
 }
 
 /// A bind with a long name.
-fn bind_with_a_long_name(rt: &(impl Abort + AllocGlobal)) -> Result<(), Fail> {
+fn bind_with_a_long_name(rt: &(impl Abort + Print + AllocGlobal)) -> Result<(), Fail> {
     let entries = [
         Entry::Do(Call::Insert(true), "client 0, 1\n"),
         Entry::Do(Call::Global(QUAD, 3), "global 1, 1\n"),
@@ -215,7 +240,7 @@ fn bind_with_a_long_name(rt: &(impl Abort + AllocGlobal)) -> Result<(), Fail> {
 }
 
 /// A request of a later version.
-fn later_version(rt: &(impl Abort + AllocGlobal)) -> Result<(), Fail> {
+fn later_version(rt: &(impl Abort + Print + AllocGlobal)) -> Result<(), Fail> {
     let entries = [
         Entry::Do(Call::Insert(true), "client 0, 1\n"),
         Entry::Do(Call::Global(QUAD, 3), "global 1, 1\n"),
@@ -249,7 +274,7 @@ fn later_version(rt: &(impl Abort + AllocGlobal)) -> Result<(), Fail> {
 }
 
 /// An error is posted.
-fn posted_error(rt: &(impl Abort + AllocGlobal)) -> Result<(), Fail> {
+fn posted_error(rt: &(impl Abort + Print + AllocGlobal)) -> Result<(), Fail> {
     let entries = [
         Entry::Do(Call::Insert(true), "client 0, 1\n"),
         Entry::Do(
@@ -276,7 +301,7 @@ fn posted_error(rt: &(impl Abort + AllocGlobal)) -> Result<(), Fail> {
 }
 
 /// Objects are created.
-fn created_objects(rt: &(impl Abort + AllocGlobal)) -> Result<(), Fail> {
+fn created_objects(rt: &(impl Abort + Print + AllocGlobal)) -> Result<(), Fail> {
     let entries = [
         Entry::Do(Call::Insert(true), "client 0, 1\n"),
         Entry::Do(
@@ -314,7 +339,7 @@ fn created_objects(rt: &(impl Abort + AllocGlobal)) -> Result<(), Fail> {
 }
 
 /// The program destroys a sender.
-fn destroyed_sender(rt: &(impl Abort + AllocGlobal)) -> Result<(), Fail> {
+fn destroyed_sender(rt: &(impl Abort + Print + AllocGlobal)) -> Result<(), Fail> {
     let entries = [
         Entry::Do(Call::Insert(true), "client 0, 1\n"),
         Entry::Do(Call::Global(QUAD, 3), "global 1, 1\n"),
@@ -353,7 +378,7 @@ fn destroyed_sender(rt: &(impl Abort + AllocGlobal)) -> Result<(), Fail> {
 }
 
 /// A slot is used again.
-fn slots(rt: &(impl Abort + AllocGlobal)) -> Result<(), Fail> {
+fn slots(rt: &(impl Abort + Print + AllocGlobal)) -> Result<(), Fail> {
     let entries = [
         Entry::Do(Call::Insert(true), "client 0, 1\n"),
         Entry::Do(Call::Insert(true), "client 1, 2\n"),
@@ -388,10 +413,40 @@ fn drill_of_registries_and_binds(rt: HostRuntime) -> Result<(), Fail> {
 #[test]
 fn drill_of_errors(rt: HostRuntime) -> Result<(), Fail> {
     wrong_new_id(&rt)?;
+    new_id_of_the_server(&rt)?;
     bind_without_a_name(&rt)?;
     bind_with_a_long_name(&rt)?;
     later_version(&rt)?;
     posted_error(&rt)
+}
+
+/// Fails if the text of the object's id is not this; if memory is refused, it is the next time.
+fn is_displayed(
+    rt: &(impl Abort + AllocGlobal),
+    protocol: &Protocol,
+    of: Thing,
+    text: &str,
+) -> Result<(), Fail> {
+    let told = match of.id().display(rt.alloc(), protocol) {
+        Ok(told) => told,
+        Err(_) => again(rt.alloc(), protocol, of)?,
+    };
+    assert_eq!(rt; told.as_str(), text);
+    Ok(())
+}
+
+/// The text of the object's id, for which there is memory now.
+fn again(alloc: Global, protocol: &Protocol, of: Thing) -> Result<String, Fail> {
+    match of.id().display(alloc, protocol) {
+        Ok(told) => Ok(told),
+        Err(_) => Err(Fail::new("memory was refused again")),
+    }
+}
+
+#[test]
+fn drill_of_the_text_of_an_id(rt: HostRuntime) -> Result<(), Fail> {
+    let protocol = quad_table(rt.alloc())?;
+    is_displayed(&rt, &protocol, MADE, "quad@4278190080[0]")
 }
 
 #[test]

@@ -4,7 +4,7 @@ use super::arrivals::{
     GIVE, GIVE_TOO_LONG, LINK_OF_2, LINK_OF_9, LINK_OF_NONE, SYNC, SYNC_AT_4, UNKNOWN_OPCODE,
     UNKNOWN_SENDER,
 };
-use super::run::{Act, log_of};
+use super::run::{Act, Look, log_of};
 use super::steps::Call;
 use super::values::FIRST;
 use crate::tests::quad::QUAD;
@@ -81,14 +81,16 @@ fn message_without_its_descriptor(rt: HostRuntime) -> Result<(), Fail> {
         Act::Quietly(&BOUND),
         Act::Do(Call::Arrive(FIRST, &GIVE_TOO_LONG)),
         Act::Do(Call::Next(FIRST)),
+        Act::Look(Look::Clients),
         Act::Do(Call::ArriveWith(FIRST, &[], 5)),
         Act::Do(Call::Next(FIRST)),
+        Act::Look(Look::Clients),
         Act::Do(Call::Notes),
     ];
     tells(
         &rt,
         log_of(alloc, &ended),
-        "Io error: would block\nIo error: broken pipe\ninitialized 0, 1\ndisconnected 0, 1: closed\n",
+        "Io error: would block\nlive: 1\nIo error: broken pipe\nlive: 0\ninitialized 0, 1\ndisconnected 0, 1: closed\n",
     )?;
     let malformed = [
         Act::Quietly(&BOUND),
