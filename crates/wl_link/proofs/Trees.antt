@@ -8,7 +8,7 @@ use Rattle.std.specs.Int.{bit_at, trailing_zeros, w64}
 use Rattle.std.proofs.Math.Seq.{take-append_seam}
 use Rattle.std.proofs.Math.Nat.{pow-succ'}
 use Rattle.wl_link.specs.Inside.PlaceList.{place, IsFirstFree, free_flag, ShowsFree, WordsReadIn}
-use Rattle.wl_link.specs.Inside.FreeTree.{word, is_set, as_bit, flags_above, IsLevel, IsTree, changed, IsLeast, FindsLeast, lowest_bit, with_first, height, reads_of, IsHeight, words_of, is_ready, has_room}
+use Rattle.wl_link.specs.Inside.FreeTree.{word, is_set, as_bit, flags_above, IsLevel, IsTree, changed, IsLeast, FindsLeast, lowest_bit, with_first, height, reads_of, IsHeight, words_of, is_ready, has_room, is_one_word, ClearsBelow, TakesLeast, ChangesFlag}
 
 -- ---- bits and flags
 
@@ -173,6 +173,28 @@ mark_top words up at new one t =
     let none' : flags_above (length (set words at new)) ≡ 0 = above_one (length (set words at new)) (subst (λ (n : ℕ). n ≤ 1) (sym (length-set words at new)) one) in
     subst (λ (n : ℕ). IsTree (λ w. is_set (word (set words at new) w)) n up) (sym none')
     (no_flags up _ _ (subst (λ (n : ℕ). IsTree (λ w. is_set (word words w)) n up) none t))
+
+pub one_long : (words : List ℕ) (up : List (List ℕ)) → is_one_word (words ∷ up) ≡ true → length words ≡ 1
+one_long words up e = grind arith
+
+-- the only word, of which a bit is cleared
+pub takes_top : (end : ℕ) (words after : List ℕ) (up : List (List ℕ)) (answer : Option ℕ) → length words ≡ 1
+    → ClearsBelow end words answer after → TakesLeast end (words ∷ up) answer (after ∷ up)
+takes_top end words after up None one e = ap (λ ws. ws ∷ up) e
+takes_top end words after up (Some at) one (small, less, more) =
+    (λ l. let (new, fits, is, here, others) = less l in subst (λ ws. ChangesFlag at false (words ∷ up) (ws ∷ up)) (sym is) (clears new fits here others), λ l. ap (λ ws. ws ∷ up) (more l))
+  where
+    clears : (new : ℕ) → new < 2 ^ 64 → bit_at new at ≡ 0 → ((i : ℕ) → i < 64 → i ≢ at → bit_at new i ≡ bit_at (word words 0) i)
+        → ChangesFlag at false (words ∷ up) (set words 0 new ∷ up)
+    clears new fits here others flag count inside (level, over) =
+        let first : 0 ≡ at / 64 = omega arith in
+        let rest : at ≡ at % 64 = omega arith in
+        let was : word words 0 ≡ get_or words (at / 64) (word words 0) =
+        sym (get_or_default_zero words 0 (word words 0) (omega arith)) ∙ ap (λ (k : ℕ). get_or words k (word words 0)) first in (
+          subst (λ (k : ℕ). IsLevel (changed flag at false) count (set words k new)) (sym first)
+              (marked flag count words at (word words 0) new false inside fits was (ap (bit_at new) (sym rest) ∙ here) (λ i l n. others i l (λ e. n (e ∙ rest))) level),
+          mark_top words up 0 new (omega arith) over,
+        )
 
 -- ---- a flag more, which is not set
 

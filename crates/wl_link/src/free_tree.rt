@@ -5,7 +5,7 @@
 
 ghost use Rattle.std.specs.Prelude.{◌≡◌, ◌≢◌, ◌+◌, ◌<◌, ◌≤◌, ℕ, Bool, true, false, [], ◌∷◌, ◌++◌, length, Vec, vec_len, OnErr, OnOk, IfOk};
 ghost use Rattle.std.specs.Int.{bit_at};
-ghost use Rattle.wl_link.specs.Inside.FreeTree.{word, as_bit, has_room, is_ready, lowest_bit, with_first, words_of, height, reads_of, IsTree, IsSomeTree, HasFlag, HasHeight, IsLeastOf, KeepsFlags, ChangesFlag, AddsFlag, RoomMade};
+ghost use Rattle.wl_link.specs.Inside.FreeTree.{word, as_bit, has_room, is_ready, lowest_bit, with_first, words_of, height, reads_of, IsTree, IsSomeTree, IsWholeTree, ClearsBelow, TakesLeast, HasFlag, HasHeight, IsLeastOf, is_one_word, KeepsFlags, ChangesFlag, AddsFlag, RoomMade};
 
 use std::alloc::{AllocError, Global};
 
@@ -43,6 +43,20 @@ impl FreeTree {
             Some((words, _)) if words.len() == 1 => lowest(words, 0, reads),
             _ => least(self.levels.as_slice(), reads),
         }
+    }
+
+    /// The least free place; `None` if none is free. If it is below `end`, it is not free from then on. The words that the
+    /// search reads are added to `reads`.
+    pub(crate) fn take_least(&mut self, end: usize, reads: &mut u32) -> Option<usize>
+        requires few { reads.old + height (words_of self.old.levels.items) < 4294967296 }
+        requires tree { IsWholeTree (words_of self.old.levels.items) }
+        ensures least { IsLeastOf (words_of self.old.levels.items) result }
+        ensures reads { reads.new ≡ reads.old + reads_of result (words_of self.old.levels.items) }
+        ensures height { HasHeight (words_of self.old.levels.items) }
+        ensures taken { TakesLeast end (words_of self.old.levels.items) result (words_of self.new.levels.items) }
+        ensures ready { is_ready self.new.levels.items ≡ is_ready self.old.levels.items }
+    {
+        take_least(&mut self.levels, end, reads)
     }
 
     /// Sets whether the place is free.
@@ -155,6 +169,87 @@ fn mark(levels: &mut [Vec<u64>], at: usize, is_set: bool)
             mark(above, at / 64, word != 0);
         }
     }
+}
+
+/// The number of the lowest bit that is set in the only word of a level; `None` if none is set. If it is below `end`, it is
+/// cleared.
+fn take_lowest(words: &mut Vec<u64>, end: usize, reads: &mut u32) -> Option<usize>
+    requires one { length words.old.items ≡ 1 }
+    requires few { reads.old + 1 < 4294967296 }
+    ensures value { result ≡ lowest_bit 0 (word words.old.items 0) }
+    ensures count { reads.new ≡ reads.old + 1 }
+    ensures cleared { ClearsBelow end words.old.items result words.new.items }
+    ensures len { vec_len words.new ≡ vec_len words.old }
+    ensures room { has_room words.new ≡ has_room words.old }
+{
+    let at = lowest(words, 0, reads)?;
+    if at < end {
+        words[0] = with_bit(words[0], at, false);
+    }
+    Some(at)
+}
+
+/// Whether the lowest level is one word, which is then the highest level too.
+fn has_one_word(levels: &[Vec<u64>]) -> bool
+    ensures { result ≡ is_one_word (words_of levels.now) }
+{
+    match levels.split_first() {
+        Some((words, _above)) => words.len() == 1,
+        None => false,
+    }
+}
+
+/// The number of the lowest bit that is set on the lowest level; `None` if none is set. If it is below `end`, it is cleared.
+fn take_least(levels: &mut [Vec<u64>], end: usize, reads: &mut u32) -> Option<usize>
+    requires few { reads.old + height (words_of levels.old) < 4294967296 }
+    requires tree { IsWholeTree (words_of levels.old) }
+    ensures least { IsLeastOf (words_of levels.old) result }
+    ensures reads { reads.new ≡ reads.old + reads_of result (words_of levels.old) }
+    ensures taken { TakesLeast end (words_of levels.old) result (words_of levels.new) }
+    ensures ready { is_ready levels.new ≡ is_ready levels.old }
+    ensures len { length levels.new ≡ length levels.old }
+{
+    // Up to 64 places have one word, which is read and written once.
+    if has_one_word(levels) {
+        take_from_one(levels, end, reads)
+    } else {
+        take_least_of_many(levels, end, reads)
+    }
+}
+
+/// The same of a tree of one word.
+fn take_from_one(levels: &mut [Vec<u64>], end: usize, reads: &mut u32) -> Option<usize>
+    requires one { is_one_word (words_of levels.old) ≡ true }
+    requires few { reads.old + height (words_of levels.old) < 4294967296 }
+    requires tree { IsWholeTree (words_of levels.old) }
+    ensures least { IsLeastOf (words_of levels.old) result }
+    ensures reads { reads.new ≡ reads.old + reads_of result (words_of levels.old) }
+    ensures taken { TakesLeast end (words_of levels.old) result (words_of levels.new) }
+    ensures ready { is_ready levels.new ≡ is_ready levels.old }
+    ensures len { length levels.new ≡ length levels.old }
+{
+    if let Some((words, _above)) = levels.split_first_mut() {
+        take_lowest(words, end, reads)
+    } else {
+        None
+    }
+}
+
+/// The same of a tree of any number of levels.
+fn take_least_of_many(levels: &mut [Vec<u64>], end: usize, reads: &mut u32) -> Option<usize>
+    requires few { reads.old + height (words_of levels.old) < 4294967296 }
+    requires tree { IsWholeTree (words_of levels.old) }
+    ensures least { IsLeastOf (words_of levels.old) result }
+    ensures reads { reads.new ≡ reads.old + reads_of result (words_of levels.old) }
+    ensures taken { TakesLeast end (words_of levels.old) result (words_of levels.new) }
+    ensures ready { is_ready levels.new ≡ is_ready levels.old }
+    ensures len { length levels.new ≡ length levels.old }
+{
+    let at = least(levels, reads)?;
+    if at < end {
+        mark(levels, at, false);
+    }
+    Some(at)
 }
 
 /// Appends a word. There is capacity for it.

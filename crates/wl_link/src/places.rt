@@ -161,11 +161,19 @@ impl<Data: Drop> Places<Data> {
         ensures words_read { WordsReadIn self.old.slots.items words_read.new }
         ensures few_words { ReadsFew self.old.slots.items words_read.new }
     {
-        let at = self.first_free(words_read);
+        *words_read = 0;
+        if let Some(at) = self.free.take_least(end, words_read) {
+            if at >= end {
+                return Err(NewError::IdsExhausted);
+            }
+            self.slots[at] = Some(object);
+            return Ok(at as u32 + first);
+        }
+        let at = self.slots.len();
         if at >= end {
             return Err(NewError::IdsExhausted);
         }
-        match self.put(at, object) {
+        match self.append(at, object) {
             Ok(()) => Ok(at as u32 + first),
             Err(OutOfMemory) => Err(NewError::OutOfMemory),
         }

@@ -2,7 +2,7 @@
 --
 -- Flag 64w + b is bit b of word w of the lowest level. The words of each level are the flags of the level above: flag w
 -- says that word w is not 0. There are as many levels as it takes to come to one word.
-use Rattle.std.specs.Prelude.{Vec, vec_len, vec_capacity, nat_lt, ◌≡◌, ◌==◌, ◌+◌, ◌-◌, ◌*◌, ◌/◌, ◌<◌, ◌≤◌, ◌^◌, ◌&&◌, ◌||◌, ℕ, List, [], ◌∷◌, ◌++◌, Bool, true, false, not, Option, None, Some, length, if◌then◌else◌, slice_index_or}
+use Rattle.std.specs.Prelude.{Vec, vec_len, slice_set, ◌≢◌, vec_capacity, nat_lt, ◌≡◌, ◌==◌, ◌+◌, ◌-◌, ◌*◌, ◌/◌, ◌<◌, ◌≤◌, ◌^◌, ◌&&◌, ◌||◌, ℕ, List, [], ◌∷◌, ◌++◌, Bool, true, false, not, Option, None, Some, length, if◌then◌else◌, slice_index_or}
 use Rattle.std.specs.Int.{bit_at, trailing_zeros, w64}
 
 -- ---- the tree
@@ -46,6 +46,11 @@ pub record IsHeight (count levels : ℕ) : Type 0 where
   pub enough : 0 < count → count ≤ 64 ^ levels
   pub wanted : 1 < levels → 64 ^ (levels - 1) < count
 
+-- the lowest level is one word
+abbrev pub is_one_word : List (List ℕ) → Bool
+is_one_word [] = false
+is_one_word (words ∷ up) = length words == 1
+
 -- ---- a search
 
 -- the least number whose flag is set
@@ -84,6 +89,11 @@ with_first on (words ∷ up) = (words ++ as_bit on ∷ []) ∷ up
 abbrev pub IsSomeTree : List (List ℕ) → Type 0
 IsSomeTree levels = (flag : ℕ → Bool) × (count : ℕ) × (count < 4294967296) × IsTree flag count levels
 
+-- none is set past the last
+abbrev pub IsWholeTree : List (List ℕ) → Type 0
+IsWholeTree levels =
+    (flag : ℕ → Bool) × (count : ℕ) × (count < 4294967296) × ((j : ℕ) → count ≤ j → flag j ≡ false) × IsTree flag count levels
+
 -- and this is the number of one of them
 abbrev pub HasFlag : ℕ → List (List ℕ) → Type 0
 HasFlag at levels = (flag : ℕ → Bool) × (count : ℕ) × (at < count) × IsTree flag count levels
@@ -104,6 +114,19 @@ KeepsFlags before after = (flag : ℕ → Bool) (count : ℕ) → IsTree flag co
 abbrev pub ChangesFlag : ℕ → Bool → List (List ℕ) → List (List ℕ) → Type 0
 ChangesFlag at on before after =
     (flag : ℕ → Bool) (count : ℕ) → at < count → IsTree flag count before → IsTree (changed flag at on) count after
+
+-- the one that was found is cleared, if its number is below the end
+abbrev pub TakesLeast : ℕ → List (List ℕ) → Option ℕ → List (List ℕ) → Type 0
+TakesLeast end before None after = after ≡ before
+TakesLeast end before (Some at) after = (at < end → ChangesFlag at false before after) × (end ≤ at → after ≡ before)
+
+-- a bit of the only word is cleared, if its number is below the end
+abbrev pub ClearsBelow : ℕ → List ℕ → Option ℕ → List ℕ → Type 0
+ClearsBelow end before None after = after ≡ before
+ClearsBelow end before (Some at) after =
+    (at < 64) × (at < end → (new : ℕ) × (new < 2 ^ 64) × (after ≡ slice_set before 0 new) × (bit_at new at ≡ 0)
+    × ((i : ℕ) → i < 64 → i ≢ at → bit_at new i ≡ bit_at (word before 0) i))
+    × (end ≤ at → after ≡ before)
 
 -- there is one more, which is not set
 abbrev pub AddsFlag : ℕ → List (List ℕ) → List (List ℕ) → Type 0

@@ -1,0 +1,22 @@
+use Rattle.std.proofs.Common.{arith, length, Some}
+use Rattle.wl_link.specs.Inside.FreeTree.{words_of}
+use Rattle.wl_link.specs.Inside.PlaceList.{free_flag}
+use Rattle.wl_link.proofs.Trees.{height_within, few_reads}
+use Rattle.wl_link.proofs.places.Places.insert_new.Goals as goal
+
+pub take_least-requires-clause-few : goal.take_least-requires-clause-few
+take_least-requires-clause-few g c =
+    let small = c.requires.free.small in
+    omega (arith, height_within (words_of c.args.self.now.free.levels.items) (free_flag c.args.self.now.slots.items) (length c.args.self.now.slots.items) c.requires.free.tree)
+
+pub returns-then-at-end-clause-few_words : goal.returns-then-at-end-clause-few_words
+returns-then-at-end-clause-few_words g c = λ most some fits.
+    let places = c.args.self.now.slots.items in
+    few_reads (length places) (words_of c.args.self.now.free.levels.items) (Some c.in-Some.at) most _
+    (c.take_least.ensures.height (free_flag places) (length places) c.requires.free.tree) some fits c.in-Some.ensures.reads
+
+pub returns-in-Some-clause-few_words : goal.returns-in-Some-clause-few_words
+returns-in-Some-clause-few_words g c = λ most some fits.
+    let places = c.args.self.now.slots.items in
+    few_reads (length places) (words_of c.args.self.now.free.levels.items) (Some c.in-Some.at) most _
+    (c.take_least.ensures.height (free_flag places) (length places) c.requires.free.tree) some fits c.in-Some.ensures.reads
