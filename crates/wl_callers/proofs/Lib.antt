@@ -1,4 +1,5 @@
 mod Destroyed
 mod Ended
+mod Finished
 mod Handing
 mod Offered

@@ -8,4 +8,5 @@ pub mod announcement;
 pub mod data;
 pub mod destruction;
 pub mod ending;
+pub mod finishing;
 pub mod proxy;
