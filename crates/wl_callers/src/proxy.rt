@@ -1,10 +1,21 @@
 //! The loop of a proxy, which reads events and hands them on.
 
-ghost use Rattle.wl_callers.specs.Proxy.{HandsOn};
+ghost use Rattle.std.specs.Prelude.{◌≡◌};
+ghost use Rattle.wl_callers.specs.Proxy.{HandsOn, ended};
 
 use wl_client::{Backend, EventError, ObjectId};
 use wl_link::Transport;
 use wl_wire::{Message, Token};
+
+/// What a reading without an event makes of the loop: that it would block is no error.
+fn ended(error: EventError) -> Result<(), EventError>
+    ensures { result ≡ ended error }
+{
+    match error {
+        EventError::WouldBlock => Ok(()),
+        _ => Err(error),
+    }
+}
 
 /// Reads at most `most` events of those that are there, appends each to `out`, and finishes it. So `out` gets all events
 /// that were read, in order.
@@ -23,18 +34,17 @@ pub fn hand_on<T: Transport + Drop, U: Drop>(
     most: u32,
     out: &mut Vec<Message<ObjectId, Token>>,
 ) -> Result<(), EventError>
-    ensures { HandsOn T.sends T.receives client.old.session out.old.items out.new.items client.new.session }
+    ensures { HandsOn T.sends T.receives client.old.session most out.old.items result out.new.items client.new.session }
 {
-    for _ in 0..most {
+    for _count in 0..most {
         if out.reserve(1).is_err() {
             return Err(EventError::OutOfMemory);
         }
         match client.next_event() {
             Ok(event) => out.push_reserved(event),
-            Err(EventError::WouldBlock) => return Ok(()),
-            Err(error) => return Err(error),
+            Err(error) => return ended(error),
         }
-        if client.finish_event(None).is_err() {
+        if let Err(_refused) = client.finish_event(None) {
             return Err(EventError::EventOpen);
         }
     }
