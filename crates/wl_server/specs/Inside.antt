@@ -3,6 +3,7 @@ pub mod Conversion
 pub mod Turns
 pub mod Responses
 pub mod Client
+pub mod Lookup
 pub mod Puts
 pub mod Scripting
 pub mod Creation

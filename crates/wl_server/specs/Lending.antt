@@ -1,7 +1,6 @@
 -- A client that lends its transport.
-use Rattle.std.specs.Prelude.{Option, Result, option_map, slice_set}
-use Rattle.std.specs.Borrow.{Lends, LendsIf, LendsIfOk, MutBor, Fml}
-use Rattle.std.specs.contracts.option.Option as option
+use Rattle.std.specs.Prelude.{Result, option_map, slice_set}
+use Rattle.std.specs.Borrow.{Lends, LendsIfOk, MutBor, Fml}
 use denote.RattleType.{RattleType}
 use Rattle.wl_link.specs.Link.{with_transport}
 use Rattle.wl_server.specs.Part.{with_link}
@@ -19,11 +18,6 @@ over_transport s transport = record s { part = with_link s.part (with_transport 
 -- the client ends with what was left in the transport, and with all else as it was
 abbrev pub LendsTransportOf : (T U C : RattleType) → MutBor (Stored T.Denot U.Denot C.Denot) → MutBor T.Denot → Fml
 LendsTransportOf T U C c transport = Lends (client.the_row T U C) T c transport (λ t. over_transport c.now t)
-
--- the same of the client at a place, if one is there
-abbrev pub LendsTransportAt : (T U C : RattleType) → MutBor (Option (Stored T.Denot U.Denot C.Denot)) → Option (MutBor T.Denot) → Fml
-LendsTransportAt T U C place transport =
-    LendsIf (option.the_row (client.the_row T U C)) T place transport (λ t. option_map (λ c. over_transport c t) place.now) place.now
 
 module _ {T U G C : Type 0} where
   -- the server with another value of the transport of the client at a slot

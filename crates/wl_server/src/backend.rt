@@ -3,12 +3,11 @@
 //! The *slot* of a client is its index in the server's list of clients. A *note* tells the program what happened to a
 //! client or an object (`Note`).
 
-ghost use Rattle.std.specs.Prelude.{◌≡◌, ◌<◌, IsTrue, false, is_some, length};
-ghost use Rattle.wl_server.specs.Server.{client_at, new_server};
+ghost use Rattle.std.specs.Prelude.{◌≡◌, false};
+ghost use Rattle.wl_server.specs.Server.{new_server};
 
 use crate::client::Client;
 use crate::globals::KeptGlobal;
-use crate::ids::client_id::ClientId;
 use crate::notes::Note;
 use crate::notes::queues::NoteNumbers;
 use crate::reading::place::MessagePlace;
@@ -108,17 +107,6 @@ impl<T: Drop, U: Drop, G: Drop, C: Drop> Backend<T, U, G, C> {
     /// The allocator of all that the server keeps.
     pub(crate) fn alloc(&self) -> Global {
         *self.notes.allocator()
-    }
-
-    /// Whether the client is stored: it was inserted, and no cleanup has taken it out.
-    pub(crate) fn is_stored(&self, id: &ClientId) -> bool
-        ensures stored { result ≡ is_some (client_at id.now self.now.server.clients) }
-        ensures within { IsTrue result → id.now.slot < length self.now.server.clients }
-    {
-        match self.clients.get(id.slot() as usize) {
-            Some(Some(client)) => client.serial == id.serial(),
-            _ => false,
-        }
     }
 
     /// The table of interfaces that the server was made with.

@@ -9,6 +9,7 @@ pub mod flush;
 pub mod insert;
 pub mod kill;
 pub mod limits;
+pub mod stored;
 pub mod transport;
 
 use crate::notes::queues::{MadeNotes, WaitingNotes};

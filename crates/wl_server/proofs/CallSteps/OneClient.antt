@@ -1,7 +1,7 @@
 -- A call that is about one client, as a step of the server.
-use Rattle.std.proofs.Common.{◌≡◌, ℕ, ◌+◌, Bool, true, false, List, [], Option, None, Some, is_some, refl, sym, subst, ◌∙◌, arith, true≢false}
+use Rattle.std.proofs.Common.{◌≡◌, ℕ, ◌+◌, Bool, true, false, List, [], Option, None, Some, refl, sym, ap, subst, ◌∙◌, arith}
 use mathlib.Core.Logic.{inl, inr}
-use Rattle.std.specs.Prelude.{◌⊎◌, slice_get, slice_index_or, slice_set}
+use Rattle.std.specs.Prelude.{◌⊎◌, slice_get, slice_set}
 use Rattle.std.proofs.lemmas.Bool.{false≢true}
 use Rattle.wl_wire.specs.Table.{InterfaceRow}
 use Rattle.wl_link.specs.Store.{Store}
@@ -18,7 +18,7 @@ use Rattle.wl_server.specs.Ids.{ClientParts, same_client}
 use Rattle.wl_server.specs.PartStep.{Asked, Call, OfClient, PartStep, World}
 use Rattle.wl_server.specs.Server.{Seen, ServerState, Stored, client_at}
 use Rattle.wl_server.specs.Steps.{AsksForRoom, NumbersClient, NumbersGlobal, RisesBySlot, StepOf, inserted_by, lacks_growth, offer_after}
-use Rattle.wl_server.proofs.CallSteps.Slots.{Kind, did_at, each_missing, each_set, lacks_at, same_self, slot_has}
+use Rattle.wl_server.proofs.CallSteps.Slots.{Kind, did_at, each_missing, each_set, lacks_at, same_self, slot_of_client}
 
 -- a call that is about one client: nothing changes that all share, and no memory is wanted but for that client
 pub record IsOwn {T U G C : Type 0} (call : Call T U G C) : Type 0 where
@@ -80,14 +80,14 @@ module _ {T U G C : Type 0} (w : World T G C) (before : ServerState T U G C) (s 
           at true is = is
           at false is = absurd (false≢true is)
 
-  -- the same of a slot that was looked up
-  pub done_at : {was : Bool} (n : ℕ) (x : Option (Stored T U C)) (c c' : Stored T U C) (lacked : Bool) → is_some (client_at target before.clients) ≡ true → n ≡ target.slot
-      → x ≡ slice_index_or before.clients n x → x ≡ Some c → Does c (λ p did q. R target p lacked did q) c'
-      → Calls w (record { server = before; refused = was }) s answer (record { server = with_clients (slice_set before.clients n (Some c')); refused = lacked })
-  done_at n x c c' lacked some at value is does =
-      let has = slot_has before.clients target n x c some at value is in
+  -- the same of the client that was looked up by the id, as this was read
+  pub done_to : {was : Bool} (read : ClientParts) (c c' : Stored T U C) (lacked : Bool) → read ≡ target → Some c ≡ client_at read before.clients
+      → Does c (λ p did q. R target p lacked did q) c'
+      → Calls w (record { server = before; refused = was }) s answer (record { server = with_clients (slice_set before.clients read.slot (Some c')); refused = lacked })
+  done_to read c c' lacked same is does =
+      let has = slot_of_client before.clients target c (is ∙ ap (λ (id : ClientParts). client_at id before.clients) same) in
       calls _ _ _ _ _
-      (subst (λ (i : ℕ). StepOf w before s answer lacked (with_clients (slice_set before.clients i (Some c')))) (sym at)
+      (subst (λ (id : ClientParts). StepOf w before s answer lacked (with_clients (slice_set before.clients id.slot (Some c')))) (sym same)
       (own_call c c' lacked has.0 has.1 does))
 
   -- there is no such client
@@ -115,10 +115,6 @@ module _ {T U G C : Type 0} (w : World T G C) (before : ServerState T U G C) (s 
       was_refused (inl growth) = absurd (false≢true (sym own.growth ∙ growth))
       was_refused (inr (id, lacks)) = lacks
 
-  pub not_stored : {was : Bool} → is_some (client_at target before.clients) ≡ false → missing
+  pub none_stored : {was : Bool} (read : ClientParts) → read ≡ target → None ≡ client_at read before.clients → missing
       → Calls w (record { server = before; refused = was }) s answer (record { server = before; refused = false })
-  not_stored none is = calls _ _ _ _ _ (no_such_client (nothing (client_at target before.clients) none) is)
-    where
-      nothing : (o : Option (Stored T U C)) → is_some o ≡ false → o ≡ None
-      nothing None h = refl
-      nothing (Some x) h = absurd (true≢false h)
+  none_stored read same none is = calls _ _ _ _ _ (no_such_client (sym (none ∙ ap (λ (id : ClientParts). client_at id before.clients) same)) is)

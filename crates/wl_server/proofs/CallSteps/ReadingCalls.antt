@@ -1,6 +1,6 @@
 -- A reading of one client, as a step of the server.
-use Rattle.std.proofs.Common.{◌≡◌, ◌∙◌, ℕ, Bool, true, false, Option, Some, is_some, Result, Err, refl, subst}
-use Rattle.std.specs.Prelude.{slice_index_or, slice_set}
+use Rattle.std.proofs.Common.{◌≡◌, ◌∙◌, ℕ, Bool, false, None, Some, Result, Err, refl, subst}
+use Rattle.std.specs.Prelude.{slice_set}
 use Rattle.wl_wire.specs.declared.error.IoFault.{IoFault}
 use Rattle.wl_wire.specs.declared.error.IoFault.TheVariants as fault
 use Rattle.wl_link.specs.Exchange.{Queue}
@@ -18,7 +18,7 @@ use Rattle.wl_server.specs.Ids.{ClientParts, GlobalParts}
 use Rattle.wl_server.specs.PartStep.{Asked, World, around, over}
 use Rattle.wl_server.specs.Reading.{NextAction, action_content, new_reading}
 use Rattle.wl_server.specs.Server.{ServerState, Stored, client_at}
-use Rattle.wl_server.proofs.CallSteps.OneClient.{IsOwn, done_at, not_stored}
+use Rattle.wl_server.proofs.CallSteps.OneClient.{IsOwn, done_to, none_stored}
 use Rattle.wl_server.proofs.CallSteps.Slots.{Kind}
 
 module _ {T U G C : Type 0} where
@@ -41,34 +41,33 @@ module _ {T U G C : Type 0} (sends : T → Queue → Result ℕ IoFault → T �
   reads from = reads_kind there before.offer from (action_content answer) r'
 
   -- there is no such client
-  pub next_missing : {was : Bool} → is_some (client_at id before.clients) ≡ false → action_content answer ≡ Err (Io fault.InvalidInput) → r' ≡ r → r ≡ new_reading
+  pub next_missing : {was : Bool} → None ≡ client_at id before.clients → action_content answer ≡ Err (Io fault.InvalidInput) → r' ≡ r → r ≡ new_reading
       → Calls there (record { server = before; refused = was }) (step.NextAction id) (reply.NextAction answer) (record { server = before; refused = false })
   next_missing none is same fresh =
-      not_stored there before (step.NextAction id) (reply.NextAction answer) (own_next id answer) id (reads new_reading) _
-      (λ i l d b a h. (answer, r', refl, h)) none (is, same ∙ fresh)
+      none_stored there before (step.NextAction id) (reply.NextAction answer) (own_next id answer) id (reads new_reading) _
+      (λ i l d b a h. (answer, r', refl, h)) id refl none (is, same ∙ fresh)
 
-  pub within_missing : {was : Bool} → is_some (client_at id before.clients) ≡ false → action_content answer ≡ Err (Io fault.InvalidInput) → r' ≡ r
+  pub within_missing : {was : Bool} → None ≡ client_at id before.clients → action_content answer ≡ Err (Io fault.InvalidInput) → r' ≡ r
       → Calls there (record { server = before; refused = was }) (step.NextActionWithin id r) (reply.NextActionWithin answer r') (record { server = before; refused = false })
   within_missing none is same =
-      not_stored there before (step.NextActionWithin id r) (reply.NextActionWithin answer r') (own_within id r answer r') id (reads r) _
-      (λ i l d b a h. (answer, r', refl, h)) none (is, same)
+      none_stored there before (step.NextActionWithin id r) (reply.NextActionWithin answer r') (own_within id r answer r') id (reads r) _
+      (λ i l d b a h. (answer, r', refl, h)) id refl none (is, same)
 
   -- it was done to the client that was looked up
-  module _ (n : ℕ) (x : Option (Stored T U C)) (c c' : Stored T U C) (lacked : Bool) (some : is_some (client_at id before.clients) ≡ true) (at : n ≡ id.slot)
-      (value : x ≡ slice_index_or before.clients n x) (is : x ≡ Some c)
+  module _ (c c' : Stored T U C) (lacked : Bool) (is : Some c ≡ client_at id before.clients)
       (does : Does c (λ p did q. NextAction sends receives (around there id before.offer) r p (action_content answer) r' lacked did q) c') where
     abbrev after : ServerState T U G C
-    after = record before { clients = slice_set before.clients n (Some c') }
+    after = record before { clients = slice_set before.clients id.slot (Some c') }
 
     pub next_done : {was : Bool} → r ≡ new_reading
         → Calls there (record { server = before; refused = was }) (step.NextAction id) (reply.NextAction answer) (record { server = after; refused = lacked })
     next_done fresh =
-        done_at there before (step.NextAction id) (reply.NextAction answer) (own_next id answer) id (reads new_reading) _
-        (λ i l d b a h. (answer, r', refl, h)) n x c c' lacked some at value is
+        done_to there before (step.NextAction id) (reply.NextAction answer) (own_next id answer) id (reads new_reading) _
+        (λ i l d b a h. (answer, r', refl, h)) id c c' lacked refl is
         (subst (λ (from : Reading). Does c (λ p did q. NextAction sends receives (around there id before.offer) from p (action_content answer) r' lacked did q) c') fresh does)
 
     pub within_done : {was : Bool}
         → Calls there (record { server = before; refused = was }) (step.NextActionWithin id r) (reply.NextActionWithin answer r') (record { server = after; refused = lacked })
     within_done =
-        done_at there before (step.NextActionWithin id r) (reply.NextActionWithin answer r') (own_within id r answer r') id (reads r) _
-        (λ i l d b a h. (answer, r', refl, h)) n x c c' lacked some at value is does
+        done_to there before (step.NextActionWithin id r) (reply.NextActionWithin answer r') (own_within id r answer r') id (reads r) _
+        (λ i l d b a h. (answer, r', refl, h)) id c c' lacked refl is does

@@ -1,7 +1,7 @@
 -- What is held of each client id after one slot was written.
-use Rattle.std.proofs.Common.{◌≡◌, ◌≢◌, ℕ, suc, zero, Bool, true, false, ◌<◌, List, [], ◌∷◌, ◌++◌, length, Option, None, Some, is_some, refl, sym, ap, subst, ◌∙◌, append_assoc, arith, true≢false}
+use Rattle.std.proofs.Common.{◌≡◌, ◌≢◌, ℕ, suc, zero, Bool, true, false, ◌<◌, List, [], ◌∷◌, ◌++◌, length, Option, None, Some, is_some, refl, sym, ap, subst, ◌∙◌, append_assoc, true≢false}
 use Rattle.std.specs.Option.{option_map_or}
-use Rattle.std.specs.Prelude.{if◌then◌else◌, ◌==◌, slice_get, slice_index_or, slice_set, Vec, vec_len}
+use Rattle.std.specs.Prelude.{if◌then◌else◌, ◌==◌, slice_get, slice_index_or, slice_set}
 use Rattle.std.proofs.lemmas.Bool.{eqb-true, eq-eqb, false≢true}
 use Rattle.std.proofs.lemmas.Option.{slice_get_read, slice_get_within}
 use Rattle.wl_server.specs.declared.notes.Happening.{Happening}
@@ -25,10 +25,6 @@ get_set_other (z ∷ xs) zero zero y differ = absurd (differ refl)
 get_set_other (z ∷ xs) zero (suc j) y differ = refl
 get_set_other (z ∷ xs) (suc i) zero y differ = refl
 get_set_other (z ∷ xs) (suc i) (suc j) y differ = get_set_other xs i j y (λ e. differ (ap suc e))
-
--- the slot of a stored client is an index
-pub slot_in : {A Z : Type 0} (clients : Vec A Z) (n slot : ℕ) → n ≡ slot → slot < length clients.items → n < vec_len clients
-slot_in clients n slot is below = let len : clients.len ≡ length clients.items = clients.ok.0 in omega (arith, is, below, len)
 
 -- ---- ids
 
@@ -110,26 +106,40 @@ module _ {T U C : Type 0} where
       → x ≡ slice_index_or clients id.slot x → slice_get clients id.slot ≡ Some x
   slot_holds clients id x some value = slice_get_read clients (length clients) id.slot x refl (slot_within clients id some) value
 
-  serial_is : (clients : List (Option (Stored T U C))) (id : ClientParts) (s : Stored T U C) → is_some (client_at id clients) ≡ true
-      → slice_get clients id.slot ≡ Some (Some s) → s.serial ≡ id.serial
-  serial_is clients id s some here = at (s.serial == id.serial) refl
+  -- what was read at the slot of a stored client is the client
+  pub slot_reads : (clients : List (Option (Stored T U C))) (id : ClientParts) (n : ℕ) (x : Option (Stored T U C)) → is_some (client_at id clients) ≡ true
+      → n ≡ id.slot → x ≡ slice_index_or clients n x → x ≡ client_at id clients
+  slot_reads clients id n x some at value =
+      let reads : client_at id clients ≡ if_serial id.serial x =
+      ap (λ (o : Option (Option (Stored T U C))). if_serial id.serial (option_map_or (λ s. s) o None))
+      (slot_holds clients id x some (subst (λ (i : ℕ). x ≡ slice_index_or clients i x) at value)) in
+      sym (reads ∙ same x (sym (ap is_some reads) ∙ some))
     where
-      at : (b : Bool) → (s.serial == id.serial) ≡ b → s.serial ≡ id.serial
-      at true is = eqb-true s.serial id.serial is
-      at false is = absurd (false≢true (sym (ap is_some (client_absent id clients s here is)) ∙ some))
+      same : (o : Option (Stored T U C)) → is_some (if_serial id.serial o) ≡ true → if_serial id.serial o ≡ o
+      same None is = refl
+      same (Some s) is = of (s.serial == id.serial) is
+        where
+          of : (b : Bool) → is_some (if b then Some s else None) ≡ true → (if b then Some s else None) ≡ Some s
+          of true is = refl
+          of false is = absurd (false≢true is)
 
-  -- a stored client is at its slot
-  pub slot_not_empty : (clients : List (Option (Stored T U C))) (id : ClientParts) (n : ℕ) (x : Option (Stored T U C)) → is_some (client_at id clients) ≡ true
-      → n ≡ id.slot → x ≡ slice_index_or clients n x → x ≢ None
-  slot_not_empty clients id n x some at value none =
-      let here = slot_holds clients id x some (subst (λ (i : ℕ). x ≡ slice_index_or clients i x) at value) in
-      false≢true (sym (ap is_some (client_empty id clients (here ∙ ap Some none))) ∙ some)
+  -- the client of an id is at its slot, under its serial
+  pub slot_of_client : (clients : List (Option (Stored T U C))) (id : ClientParts) (s : Stored T U C) → Some s ≡ client_at id clients
+      → (slice_get clients id.slot ≡ Some (Some s)) × (s.serial ≡ id.serial)
+  slot_of_client clients id s is = at (slice_get clients id.slot) refl
+    where
+      of : (x : Stored T U C) (b : Bool) → slice_get clients id.slot ≡ Some (Some x) → (x.serial == id.serial) ≡ b
+          → (slice_get clients id.slot ≡ Some (Some s)) × (s.serial ≡ id.serial)
+      of x true here known =
+          let serial = eqb-true x.serial id.serial known in
+          subst (λ (o : Option (Stored T U C)). (slice_get clients id.slot ≡ Some o) × (option_map_or (λ y. y.serial) o id.serial ≡ id.serial))
+          (sym (is ∙ client_present id clients x here serial)) (here, serial)
+      of x false here differ = absurd (false≢true (sym (ap is_some (is ∙ client_absent id clients x here differ))))
 
-  pub slot_has : (clients : List (Option (Stored T U C))) (id : ClientParts) (n : ℕ) (x : Option (Stored T U C)) (s : Stored T U C) → is_some (client_at id clients) ≡ true
-      → n ≡ id.slot → x ≡ slice_index_or clients n x → x ≡ Some s → (slice_get clients id.slot ≡ Some (Some s)) × (s.serial ≡ id.serial)
-  slot_has clients id n x s some at value is =
-      let here = slot_holds clients id x some (subst (λ (i : ℕ). x ≡ slice_index_or clients i x) at value) ∙ ap Some is in
-      (here, serial_is clients id s some here)
+      at : (o : Option (Option (Stored T U C))) → slice_get clients id.slot ≡ o → (slice_get clients id.slot ≡ Some (Some s)) × (s.serial ≡ id.serial)
+      at None past = absurd (false≢true (sym (ap is_some (is ∙ client_past id clients past))))
+      at (Some None) empty = absurd (false≢true (sym (ap is_some (is ∙ client_empty id clients empty))))
+      at (Some (Some x)) here = of x (x.serial == id.serial) here refl
 
   -- ---- a step of one client
 

@@ -1,7 +1,7 @@
 -- The slots that have clients keep them.
-use Rattle.std.proofs.Common.{◌≡◌, ◌∙◌, ℕ, zero, suc, ◌+◌, ◌≤◌, Bool, true, false, List, [], ◌∷◌, length, Option, None, Some, Result, Ok, Err, IfOk, OnErr, is_some, IsSome, option_map, refl, sym, ap, subst, arith, below_more}
+use Rattle.std.proofs.Common.{◌≡◌, ◌∙◌, ℕ, zero, suc, ◌+◌, ◌≤◌, Bool, true, false, List, [], ◌∷◌, length, Option, None, Some, Result, Ok, Err, IfOk, OnErr, is_some, IsSome, refl, sym, ap, subst, arith, below_more}
 use Rattle.std.specs.Option.{option_map_or}
-use Rattle.std.specs.Prelude.{slice_get, slice_index_or, slice_set}
+use Rattle.std.specs.Prelude.{slice_get, slice_set}
 use Rattle.std.proofs.lemmas.Bool.{false≢true}
 use Rattle.std.proofs.lemmas.Option.{slice_get_within}
 use Rattle.wl_wire.specs.declared.error.OutOfMemory.{OutOfMemory}
@@ -44,28 +44,6 @@ module _ {T U C : Type 0} where
 
   pub slots_set : (count n i : ℕ) (clients : List (Option (Stored T U C))) (s : Stored T U C) → HasSlots count n clients → HasSlots count n (slice_set clients i (Some s))
   slots_set count n i clients s has = record { within = has.within; taken = taken_set n i clients s has.taken }
-
-  some_mapped : (x : Option (Stored T U C)) (f : Stored T U C → Stored T U C) → IsSome x → IsSome (option_map f x)
-  some_mapped None f some = some
-  some_mapped (Some s) f some = refl
-
-  mapped_at : (clients : List (Option (Stored T U C))) (i k : ℕ) (x : Option (Stored T U C)) (f : Stored T U C → Stored T U C) → x ≡ slice_index_or clients i x
-      → IsSome (stored_at k clients) → IsSome (stored_at k (slice_set clients i (option_map f x)))
-  mapped_at [] i k x f is some = some
-  mapped_at (y ∷ clients) zero zero x f is some = some_mapped x f (ap is_some is ∙ some)
-  mapped_at (y ∷ clients) zero (suc k) x f is some = some
-  mapped_at (y ∷ clients) (suc i) zero x f is some = some
-  mapped_at (y ∷ clients) (suc i) (suc k) x f is some = mapped_at clients i k x f is some
-
-  taken_mapped : (n i : ℕ) (clients : List (Option (Stored T U C))) (x : Option (Stored T U C)) (f : Stored T U C → Stored T U C) → x ≡ slice_index_or clients i x
-      → AreTaken n clients → AreTaken n (slice_set clients i (option_map f x))
-  unfolding AreTaken
-  taken_mapped n i clients x f is taken k below = mapped_at clients i k x f is (taken k below)
-
-  -- what stands at a place is changed
-  pub slots_mapped : (count n i : ℕ) (clients : List (Option (Stored T U C))) (x : Option (Stored T U C)) (f : Stored T U C → Stored T U C) → x ≡ slice_index_or clients i x
-      → HasSlots count n clients → HasSlots count n (slice_set clients i (option_map f x))
-  slots_mapped count n i clients x f is has = record { within = has.within; taken = taken_mapped n i clients x f is has.taken }
 
   -- a new client is put at the least free slot
   pub taken_put : (slot : ℕ) (clients clients' : List (Option (Stored T U C))) (s : Stored T U C) → IsLeastFree clients slot → IsPut clients slot s clients'

@@ -1,7 +1,7 @@
 -- What the post of an error makes of the link of a live client whose object is kept.
-use Rattle.std.proofs.Common.{◌≡◌, ◌∙◌, ℕ, Bool, true, false, ◌||◌, List, Option, Some, is_some, Result, Ok, Err, MatchResult, refl, sym, ap, subst, inl, inr, true≢false}
+use Rattle.std.proofs.Common.{◌≡◌, ◌∙◌, ℕ, Bool, true, false, ◌||◌, List, Option, Some, Result, Ok, Err, MatchResult, refl, sym, ap, subst, inl, inr, true≢false}
 use Rattle.std.specs.Option.{option_map}
-use Rattle.std.specs.Prelude.{slice_get, slice_index_or, slice_set}
+use Rattle.std.specs.Prelude.{slice_get, slice_set}
 use Rattle.std.proofs.lemmas.Option.{same_Some}
 use Rattle.wl_wire.specs.declared.error.IoFault.{IoFault}
 use Rattle.wl_link.specs.Exchange.{Queue, Sending}
@@ -15,7 +15,7 @@ use Rattle.wl_server.specs.Part.{Part}
 use Rattle.wl_server.specs.Posted.{TellsOrLacks}
 use Rattle.wl_server.specs.Server.{Stored, client_at}
 use Rattle.wl_server.specs.Telling.{Kills, error_message}
-use Rattle.wl_server.proofs.CallSteps.Slots.{client_present, get_set_same, slot_has}
+use Rattle.wl_server.proofs.CallSteps.Slots.{client_present, get_set_same, slot_of_client}
 use Rattle.wl_server.proofs.ObjectCalls.Posting.{kills_is}
 
 module _ {T U C : Type 0} where
@@ -54,15 +54,15 @@ module _ {T U C : Type 0} where
   does_serial c c' R (did, q, does, is) = ap (λ (s : Stored T U C). s.serial) is
 
   -- what is so of the client before the call and after it is so of what is held of its id
-  pub at_slot : (Q : Part T U C → Part T U C → Type 0) (clients : List (Option (Stored T U C))) (target : ClientParts) (n : ℕ) (x : Option (Stored T U C)) (c c' : Stored T U C)
-      (R : Part T U C → List _ → Part T U C → Type 0) → is_some (client_at target clients) ≡ true → n ≡ target.slot → x ≡ slice_index_or clients n x → x ≡ Some c
+  pub at_slot : (Q : Part T U C → Part T U C → Type 0) (clients : List (Option (Stored T U C))) (target read : ClientParts) (c c' : Stored T U C)
+      (R : Part T U C → List _ → Part T U C → Type 0) → read ≡ target → Some c ≡ client_at read clients
       → Does c R c' → Q c.part c'.part → (p q : Part T U C) → option_map (λ s. s.part) (client_at target clients) ≡ Some p
-      → option_map (λ s. s.part) (client_at target (slice_set clients n (Some c'))) ≡ Some q → Q p q
-  at_slot Q clients target n x c c' R some at value is does holds p q before after =
-      let has = slot_has clients target n x c some at value is in
+      → option_map (λ s. s.part) (client_at target (slice_set clients read.slot (Some c'))) ≡ Some q → Q p q
+  at_slot Q clients target read c c' R same is does holds p q before after =
+      let has = slot_of_client clients target c (is ∙ ap (λ (id : ClientParts). client_at id clients) same) in
       let first : Some c.part ≡ Some p = sym (ap (option_map (λ (s : Stored T U C). s.part)) (client_present target clients c has.0 has.1)) ∙ before in
-      let there : slice_get (slice_set clients n (Some c')) target.slot ≡ Some (Some c') =
-      subst (λ (i : ℕ). slice_get (slice_set clients i (Some c')) target.slot ≡ Some (Some c')) (sym at) (get_set_same clients target.slot (Some c) (Some c') has.0) in
+      let there : slice_get (slice_set clients read.slot (Some c')) target.slot ≡ Some (Some c') =
+      subst (λ (i : ℕ). slice_get (slice_set clients i (Some c')) target.slot ≡ Some (Some c')) (sym (ap (λ (id : ClientParts). id.slot) same)) (get_set_same clients target.slot (Some c) (Some c') has.0) in
       let second : Some c'.part ≡ Some q =
-      sym (ap (option_map (λ (s : Stored T U C). s.part)) (client_present target (slice_set clients n (Some c')) c' there (does_serial c c' R does ∙ has.1))) ∙ after in
+      sym (ap (option_map (λ (s : Stored T U C). s.part)) (client_present target (slice_set clients read.slot (Some c')) c' there (does_serial c c' R does ∙ has.1))) ∙ after in
       subst (λ (y : Part T U C). Q p y) (same_Some c'.part q second) (subst (λ (y : Part T U C). Q y c'.part) (same_Some c.part p first) holds)

@@ -17,6 +17,7 @@ ghost use Rattle.wl_server.specs.declared.runs.step.Step.TheVariants as step;
 
 use crate::backend::Backend;
 use crate::client::Client;
+use crate::client::stored::stored_mut;
 use crate::events::display::is_out_of_memory;
 use crate::globals::handler::GlobalHandler;
 use crate::ids::client_id::ClientId;
@@ -88,16 +89,11 @@ impl<T: Transport + Drop, U: Drop, G: GlobalHandler<C> + Drop, C: Drop> Backend<
             return Ok(());
         };
         self.refused = false;
-        if !self.is_stored(&id) {
+        let Some(client) = stored_mut(&mut self.clients, &id) else {
             return Ok(());
-        }
-        match &mut self.clients[id.slot() as usize] {
-            Some(client) => {
-                let answer = client.flush();
-                self.refused = is_out_of_memory(answer);
-                answer
-            }
-            None => unreachable!(),
-        }
+        };
+        let answer = client.flush();
+        self.refused = is_out_of_memory(answer);
+        answer
     }
 }

@@ -16,6 +16,7 @@ ghost use Rattle.wl_server.specs.declared.runs.step.Step.TheVariants as step;
 
 use crate::backend::Backend;
 use crate::client::Client;
+use crate::client::stored::stored_mut;
 use crate::globals::handler::GlobalHandler;
 use crate::ids::client_id::ClientId;
 use crate::notes::queues::NoteNumbers;
@@ -64,12 +65,9 @@ impl<T: Transport + Drop, U: Drop, G: GlobalHandler<C> + Drop, C: Drop> Backend<
         ensures plain { KillsClient self.old id.now reason self.new }
     {
         self.refused = false;
-        if !self.is_stored(id) {
+        let Some(client) = stored_mut(&mut self.clients, id) else {
             return;
-        }
-        match &mut self.clients[id.slot() as usize] {
-            Some(client) => client.kill(&mut self.numbers, reason),
-            None => unreachable!(),
-        }
+        };
+        client.kill(&mut self.numbers, reason);
     }
 }

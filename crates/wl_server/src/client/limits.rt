@@ -9,6 +9,7 @@ ghost use Rattle.wl_server.specs.declared.runs.step.Reply.TheVariants as reply;
 ghost use Rattle.wl_server.specs.declared.runs.step.Step.TheVariants as step;
 
 use crate::backend::Backend;
+use crate::client::stored::stored_mut;
 use crate::globals::handler::GlobalHandler;
 use crate::ids::client_id::ClientId;
 use wl_link::Transport;
@@ -32,12 +33,9 @@ impl<T: Transport + Drop, U: Drop, G: GlobalHandler<C> + Drop, C: Drop> Backend<
         ensures { Calls (over T.sends T.receives G.views) self.old (step.SetClientMaxBufferSize client.now max_buffer_size) reply.SetClientMaxBufferSize self.new }
     {
         self.refused = false;
-        if !self.is_stored(client) {
+        let Some(stored) = stored_mut(&mut self.clients, client) else {
             return;
-        }
-        match &mut self.clients[client.slot() as usize] {
-            Some(stored) => stored.socket.set_max_buffer_size(Some(max_buffer_size)),
-            None => unreachable!(),
-        }
+        };
+        stored.socket.set_max_buffer_size(Some(max_buffer_size));
     }
 }

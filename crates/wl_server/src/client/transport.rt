@@ -3,15 +3,16 @@
 //! A client is *stored* from its insertion until `Backend::cleanup` takes it out. The *slot* of a client is its index in
 //! the server's list of clients.
 
-ghost use Rattle.std.specs.Prelude.{◌≡◌, MatchResult, None, OnOk, Some, false, option_map};
+ghost use Rattle.std.specs.Prelude.{◌≡◌, MatchResult, None, OnOk, Some};
 ghost use Rattle.std.specs.Borrow.{sem};
-ghost use Rattle.wl_server.specs.Lending.{LendsTransportAt, server_over};
+ghost use Rattle.wl_server.specs.Lending.{server_over};
 ghost use Rattle.wl_server.specs.Lookups.{transport_of};
 ghost use Rattle.wl_server.specs.PartStep.{over};
 ghost use Rattle.wl_server.specs.Backend.{IsChange};
 
 use crate::backend::Backend;
 use crate::client::Client;
+use crate::client::stored::stored_mut;
 use crate::error::InvalidId;
 use crate::globals::handler::GlobalHandler;
 use crate::ids::client_id::ClientId;
@@ -29,17 +30,6 @@ impl<T: Drop, U: Drop, C: Drop> Client<T, U, C> {
     }
 }
 
-/// The transport of the client of a slot, if it has one.
-fn lent_at<T: Drop, U: Drop, C: Drop>(place: &mut Option<Client<T, U, C>>) -> Option<&mut T>
-    ensures* lends { sem 𝓛 (LendsTransportAt T.row U.row C.row place.entry result) }
-    ensures value { option_map (λ t. t.now) result ≡ option_map (λ c. c.part.link.transport) place.old }
-{
-    match place {
-        Some(client) => Some(client.transport_mut()),
-        None => None,
-    }
-}
-
 impl<T: Transport + Drop, U: Drop, G: GlobalHandler<C> + Drop, C: Drop> Backend<T, U, G, C> {
     ghost use Rattle.wl_server.specs.Lending.{LendsServerTransport};
 
@@ -53,12 +43,9 @@ impl<T: Transport + Drop, U: Drop, G: GlobalHandler<C> + Drop, C: Drop> Backend<
             (λ _. transport_of self.old.server id.now ≡ None) }
         ensures step { OnOk result ((t : _) → IsChange (over T.sends T.receives G.views) self.old.server id.now t (server_over self.old.server id.now t)) }
     {
-        if !self.is_stored(id) {
+        let Some(client) = stored_mut(&mut self.clients, id) else {
             return Err(InvalidId);
-        }
-        match lent_at(&mut self.clients[id.slot() as usize]) {
-            Some(transport) => Ok(transport),
-            None => unreachable!(),
-        }
+        };
+        Ok(client.transport_mut())
     }
 }

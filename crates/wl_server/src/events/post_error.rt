@@ -20,6 +20,7 @@ ghost use Rattle.wl_server.specs.declared.runs.step.Step.TheVariants as step;
 
 use crate::backend::Backend;
 use crate::client::Client;
+use crate::client::stored::stored_mut;
 use crate::events::display::{is_out_of_memory, put_error};
 use crate::globals::handler::GlobalHandler;
 use crate::ids::object_id::ObjectId;
@@ -126,14 +127,9 @@ impl<T: Transport + Drop, U: Drop, G: GlobalHandler<C> + Drop, C: Drop> Backend<
     {
         self.refused = false;
         let client = id.client();
-        if !self.is_stored(&client) {
+        let Some(client) = stored_mut(&mut self.clients, &client) else {
             return;
-        }
-        match &mut self.clients[client.slot() as usize] {
-            Some(client) => {
-                self.refused = client.post_error(&self.protocol, &mut self.numbers, id, code, text);
-            }
-            None => unreachable!(),
-        }
+        };
+        self.refused = client.post_error(&self.protocol, &mut self.numbers, id, code, text);
     }
 }

@@ -14,6 +14,7 @@ ghost use Rattle.wl_server.specs.Events.{AsksForMemory, SendsEvent, session_cont
 ghost use Rattle.wl_server.specs.PartStep.{over};
 
 use crate::backend::Backend;
+use crate::client::stored::stored_mut;
 use crate::client::{Client, Registry};
 use crate::error::EventError;
 use crate::events::check::check_event;
@@ -150,21 +151,12 @@ impl<T: Transport + Drop, U: Drop, G: GlobalHandler<C> + Drop, C: Drop> Backend<
     {
         self.refused = false;
         let id = message.sender_id.client();
-        if !self.is_stored(&id) {
+        let Some(client) = stored_mut(&mut self.clients, &id) else {
             return Err(EventError::InvalidId);
-        }
-        match &mut self.clients[id.slot() as usize] {
-            Some(client) => {
-                let (answer, lacked) = client.send_event(
-                    &self.protocol,
-                    &mut self.numbers,
-                    message,
-                );
-                self.refused = lacked;
-                answer
-            }
-            None => unreachable!(),
-        }
+        };
+        let (answer, lacked) = client.send_event(&self.protocol, &mut self.numbers, message);
+        self.refused = lacked;
+        answer
     }
 
     /// Puts the event after what waits to be sent to the client of its sender.

@@ -58,13 +58,7 @@ impl<T: Drop, U: Drop, G: GlobalHandler<C> + Drop, C: Drop> Backend<T, U, G, C> 
     pub fn global_name(&self, id: &GlobalId, client: &ClientId) -> Option<u32>
         ensures { result ≡ name_for self.now.server G.views id.now client.now }
     {
-        if !self.is_stored(client) {
-            return None;
-        }
-        let info = match &self.clients[client.slot() as usize] {
-            Some(stored) => &stored.info,
-            None => return None,
-        };
+        let info = &self.client(client)?.info;
         let global = global_in(&self.globals, id)?;
         global
             .value

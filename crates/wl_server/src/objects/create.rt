@@ -14,6 +14,7 @@ ghost use Rattle.wl_server.specs.declared.runs.step.Step.TheVariants as step;
 
 use crate::backend::Backend;
 use crate::client::Client;
+use crate::client::stored::stored_mut;
 use crate::error::CreateError;
 use crate::globals::handler::GlobalHandler;
 use crate::ids::client_id::ClientId;
@@ -106,22 +107,11 @@ impl<T: Transport + Drop, U: Drop, G: GlobalHandler<C> + Drop, C: Drop> Backend<
         ensures plain { CreatesObject self.old client.now interface version user_data result self.new }
     {
         self.refused = false;
-        if !self.is_stored(client) {
+        let Some(stored) = stored_mut(&mut self.clients, client) else {
             return Err(CreateError::InvalidId);
-        }
-        match &mut self.clients[client.slot() as usize] {
-            Some(stored) => {
-                let answer = stored.create_object(
-                    client,
-                    &self.protocol,
-                    interface,
-                    version,
-                    user_data,
-                );
-                self.refused = lacks_memory(&answer);
-                answer
-            }
-            None => unreachable!(),
-        }
+        };
+        let answer = stored.create_object(client, &self.protocol, interface, version, user_data);
+        self.refused = lacks_memory(&answer);
+        answer
     }
 }

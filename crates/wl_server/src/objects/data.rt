@@ -15,6 +15,7 @@ ghost use Rattle.wl_server.specs.declared.runs.step.Reply.TheVariants as reply;
 ghost use Rattle.wl_server.specs.declared.runs.step.Step.TheVariants as step;
 
 use crate::backend::Backend;
+use crate::client::stored::stored_mut;
 use crate::error::InvalidId;
 use crate::globals::handler::GlobalHandler;
 use crate::ids::object_id::ObjectId;
@@ -50,12 +51,9 @@ impl<T: Transport + Drop, U: Drop, G: GlobalHandler<C> + Drop, C: Drop> Backend<
     {
         self.refused = false;
         let client = id.client();
-        if !self.is_stored(&client) {
+        let Some(stored) = stored_mut(&mut self.clients, &client) else {
             return Err(InvalidId);
-        }
-        match &mut self.clients[client.slot() as usize] {
-            Some(stored) => give_data(&mut stored.objects, id, user_data),
-            None => unreachable!(),
-        }
+        };
+        give_data(&mut stored.objects, id, user_data)
     }
 }

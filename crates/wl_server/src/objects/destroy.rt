@@ -16,6 +16,7 @@ ghost use Rattle.wl_server.specs.declared.runs.step.Step.TheVariants as step;
 
 use crate::backend::Backend;
 use crate::client::Client;
+use crate::client::stored::stored_mut;
 use crate::error::DestroyError;
 use crate::events::display::{DISPLAY, is_out_of_memory, put_delete_id};
 use crate::globals::handler::GlobalHandler;
@@ -98,16 +99,11 @@ impl<T: Transport + Drop, U: Drop, G: GlobalHandler<C> + Drop, C: Drop> Backend<
     {
         self.refused = false;
         let client = id.client();
-        if !self.is_stored(&client) {
+        let Some(client) = stored_mut(&mut self.clients, &client) else {
             return Err(DestroyError::InvalidId);
-        }
-        match &mut self.clients[client.slot() as usize] {
-            Some(client) => {
-                let answer = client.destroy_object(&mut self.numbers, id);
-                self.refused = lacks_memory(&answer);
-                answer
-            }
-            None => unreachable!(),
-        }
+        };
+        let answer = client.destroy_object(&mut self.numbers, id);
+        self.refused = lacks_memory(&answer);
+        answer
     }
 }

@@ -21,6 +21,7 @@ ghost use Rattle.wl_server.specs.declared.runs.step.Reply.TheVariants as reply;
 ghost use Rattle.wl_server.specs.declared.runs.step.Step.TheVariants as step;
 
 use crate::backend::Backend;
+use crate::client::stored::stored_mut;
 use crate::client::{Client, Registry};
 use crate::error::{FinishError, FinishRefused};
 use crate::events::display::{is_out_of_memory, put_delete_id};
@@ -270,18 +271,13 @@ impl<T: Transport + Drop, U: Drop, G: GlobalHandler<C> + Drop, C: Drop> Backend<
         ensures plain { EndsOpenRequest self.old client.now user_data result self.new }
     {
         self.refused = false;
-        if !self.is_stored(client) {
+        let Some(stored) = stored_mut(&mut self.clients, client) else {
             let error = FinishError::InvalidId;
             return Err(FinishRefused { error, user_data });
-        }
-        match &mut self.clients[client.slot() as usize] {
-            Some(stored) => {
-                let answer = stored.finish_request(client, &mut self.numbers, user_data);
-                self.refused = lacks_memory(&answer);
-                answer
-            }
-            None => unreachable!(),
-        }
+        };
+        let answer = stored.finish_request(client, &mut self.numbers, user_data);
+        self.refused = lacks_memory(&answer);
+        answer
     }
 
     /// Finishes the bind that `next_action` handed out. The object that was bound gets this user data, if it is still
@@ -302,13 +298,10 @@ impl<T: Transport + Drop, U: Drop, G: GlobalHandler<C> + Drop, C: Drop> Backend<
         ensures plain { EndsBind self.old client.now user_data result self.new }
     {
         self.refused = false;
-        if !self.is_stored(client) {
+        let Some(stored) = stored_mut(&mut self.clients, client) else {
             let error = FinishError::InvalidId;
             return Err(FinishRefused { error, user_data });
-        }
-        match &mut self.clients[client.slot() as usize] {
-            Some(stored) => stored.finish_bind(user_data),
-            None => unreachable!(),
-        }
+        };
+        stored.finish_bind(user_data)
     }
 }

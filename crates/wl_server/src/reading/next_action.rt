@@ -17,6 +17,7 @@ ghost use Rattle.wl_server.specs.Inside.Turns.{EndsAs, Fills, Live, Waited, acti
 
 use crate::backend::Backend;
 use crate::client::Client;
+use crate::client::stored::stored_mut;
 use crate::error::ActionError;
 use crate::globals::handler::GlobalHandler;
 use crate::ids::client_id::ClientId;
@@ -268,28 +269,23 @@ impl<T: Transport + Drop, U: Drop, G: GlobalHandler<C> + Drop, C: Drop> Backend<
             → Calls (over T.sends T.receives G.views) self.old (step.NextActionWithin id.now reading.old) (reply.NextActionWithin answer reading.new) self.new }
     {
         self.refused = false;
-        if !self.is_stored(id) {
+        let Some(client) = stored_mut(&mut self.clients, id) else {
             return Err(ActionError::Io(IoFault::InvalidInput));
-        }
+        };
         let around = Surroundings {
             protocol: &self.protocol,
             globals: &self.globals,
             client: *id,
         };
-        match &mut self.clients[id.slot() as usize] {
-            Some(client) => {
-                let (answer, refused) = client.next_action(
-                    &mut self.numbers,
-                    &around,
-                    reading,
-                    &mut self.place,
-                    found,
-                    args,
-                );
-                self.refused = refused;
-                answer
-            }
-            None => unreachable!(),
-        }
+        let (answer, refused) = client.next_action(
+            &mut self.numbers,
+            &around,
+            reading,
+            &mut self.place,
+            found,
+            args,
+        );
+        self.refused = refused;
+        answer
     }
 }

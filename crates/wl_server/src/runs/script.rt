@@ -11,6 +11,7 @@ ghost use Rattle.wl_server.specs.declared.runs.step.Reply.TheVariants as reply;
 ghost use Rattle.wl_server.specs.declared.runs.step.Step.TheVariants as step;
 
 use crate::backend::Backend;
+use crate::client::stored::stored_mut;
 use crate::error::{InvalidId, ScriptError};
 use crate::globals::handler::GlobalHandler;
 use crate::ids::client_id::ClientId;
@@ -79,13 +80,10 @@ impl<U: Drop, G: GlobalHandler<C> + Drop, C: Drop> Backend<Memory, U, G, C> {
         ensures { Calls (over_scripts G.views) self.old (step_of id.now call) (reply_to call result) self.new }
     {
         self.refused = false;
-        if !self.is_stored(id) {
+        let Some(client) = stored_mut(&mut self.clients, id) else {
             return Err(ScriptError::InvalidId);
-        }
-        let answer = match &mut self.clients[id.slot() as usize] {
-            Some(client) => make_move(client.socket.transport_mut(), call),
-            None => unreachable!(),
         };
+        let answer = make_move(client.socket.transport_mut(), call);
         self.refused = lacks_memory(&answer);
         answer
     }
@@ -100,12 +98,9 @@ impl<U: Drop, G: GlobalHandler<C> + Drop, C: Drop> Backend<Memory, U, G, C> {
         ensures { Calls (over_scripts G.views) self.old (step.TakeSent id.now) (reply.TakeSent result) self.new }
     {
         self.refused = false;
-        if !self.is_stored(id) {
+        let Some(client) = stored_mut(&mut self.clients, id) else {
             return Err(InvalidId);
-        }
-        match &mut self.clients[id.slot() as usize] {
-            Some(client) => Ok(client.socket.transport_mut().take_sent()),
-            None => unreachable!(),
-        }
+        };
+        Ok(client.socket.transport_mut().take_sent())
     }
 }

@@ -1,4 +1,4 @@
-use Rattle.std.proofs.Common.{◌≡◌, ◌∙◌, ℕ, Bool, Result, Err, refl, ap, sym, subst}
+use Rattle.std.proofs.Common.{◌≡◌, ℕ, Bool, Result, Err, refl, sym, subst}
 use Rattle.wl_wire.specs.declared.error.IoFault.{IoFault}
 use Rattle.wl_link.specs.Exchange.{Queue}
 use Rattle.wl_server.specs.declared.error.DestroyError.{DestroyError}
@@ -11,8 +11,8 @@ use Rattle.wl_server.specs.PartStep.{Asked}
 use Rattle.wl_server.specs.Server.{Stored}
 use Rattle.wl_server.specs.declared.runs.step.Reply.TheVariants as reply
 use Rattle.wl_server.specs.declared.runs.step.Step.TheVariants as step
-use Rattle.wl_server.proofs.CallSteps.OneClient.{IsOwn, done_at, not_stored}
-use Rattle.wl_server.proofs.CallSteps.Slots.{Kind, slot_in, slot_not_empty, stored_by}
+use Rattle.wl_server.proofs.CallSteps.OneClient.{IsOwn, done_to, none_stored}
+use Rattle.wl_server.proofs.CallSteps.Slots.{Kind}
 use Rattle.wl_server.proofs.CleanupSteps.Taken.{slots_set}
 use Rattle.wl_server.proofs.Plain.Destruction.{destroys_object}
 use Rattle.wl_server.proofs.backend.Backend.destroy_object.Goals as goal
@@ -30,32 +30,22 @@ does : {T U C : Type 0} (sends : T → Queue → Result ℕ IoFault → T → Ty
     → Does before (λ p did q. destroys sends o answer o.client p lacked did q) after
 does sends o before after answer lacked is done = subst (λ (b : Bool). Does before (λ p did q. Destroys sends o.client p o answer b did q) after) (sym is) done
 
-pub returns-then-not-is_stored-clause-call : goal.returns-then-not-is_stored-clause-call
-returns-then-not-is_stored-clause-call g c = rw (← c.self.view_is)
-    (not_stored _ _ _ _ (own _ _) c.args.id.now.client (destroys _ c.args.id.now (Err destroy.InvalidId)) (◌≡◌ {A = Result (Unit {0}) DestroyError} (Err destroy.InvalidId) (Err destroy.InvalidId))
-    (λ i l d b a h. (_, refl, h)) (stored_by _ _ _ _ c.client-client.ensures c.is_stored.ensures.stored ∙ c.if-not-is_stored.true) refl)
-
-pub index_mut-requires : goal.index_mut-requires
-index_mut-requires g c = slot_in c.self.inside.clients _ _ c.slot.ensures (c.is_stored.ensures.within c.if-not-is_stored.false)
-
-pub unreachable-requires : goal.unreachable-requires
-unreachable-requires g c =
-    slot_not_empty c.self.inside.clients.items c.args.id.now.client c.slot.result _
-    (stored_by _ _ _ _ c.client-client.ensures c.is_stored.ensures.stored ∙ c.if-not-is_stored.false) (c.slot.ensures ∙ ap (λ t. t.slot) c.client-client.ensures)
-    c.index_mut.ensures.value c.in-None.is
+pub returns-in_default-clause-call : goal.returns-in_default-clause-call
+returns-in_default-clause-call g c = rw (← c.self.view_is)
+    (none_stored _ _ _ _ (own _ _) c.args.id.now.client (destroys _ c.args.id.now (Err destroy.InvalidId)) (◌≡◌ {A = Result (Unit {0}) DestroyError} (Err destroy.InvalidId) (Err destroy.InvalidId))
+    (λ i l d b a h. (_, refl, h)) _ c.client-client.ensures c.in_default.ensures.value refl)
 
 pub returns-clause-call : goal.returns-clause-call
 returns-clause-call g c = rw (← c.self.view_is)
-    (done_at _ _ _ _ (own _ _) c.args.id.now.client (destroys g.T.Transport.sends c.args.id.now c.destroy_object-answer.result) (c.destroy_object-answer.result ≡ Err destroy.InvalidId)
-    (λ i l d b a h. (_, refl, h)) c.slot.result c.index_mut.result.now c.in-Some.client c.destroy_object-answer.new.self c.lacks_memory-self-inside.result
-    (stored_by _ _ _ _ c.client-client.ensures c.is_stored.ensures.stored ∙ c.if-not-is_stored.false) (c.slot.ensures ∙ ap (λ t. t.slot) c.client-client.ensures)
-    c.index_mut.ensures.value c.in-Some.is (does g.T.Transport.sends c.args.id.now _ _ c.destroy_object-answer.result _ c.lacks_memory-self-inside.ensures c.destroy_object-answer.ensures))
+    (done_to _ _ _ _ (own _ _) c.args.id.now.client (destroys g.T.Transport.sends c.args.id.now c.destroy_object-answer.result) (c.destroy_object-answer.result ≡ Err destroy.InvalidId)
+    (λ i l d b a h. (_, refl, h)) _ c.in-Some.client.now c.destroy_object-answer.new.self c.lacks_memory-self-inside.result
+    c.client-client.ensures c.in-Some.ensures.value (does g.T.Transport.sends c.args.id.now _ _ c.destroy_object-answer.result _ c.lacks_memory-self-inside.ensures c.destroy_object-answer.ensures))
 
-pub invariant_of-self-in-Some : goal.invariant_of-self-in-Some
-invariant_of-self-in-Some g c = slots_set _ _ _ _ _ c.self.invariant
+pub invariant_of-self-2 : goal.invariant_of-self-2
+invariant_of-self-2 g c = slots_set _ _ _ _ _ c.self.invariant
 
-pub returns-then-not-is_stored-clause-plain : goal.returns-then-not-is_stored-clause-plain
-returns-then-not-is_stored-clause-plain g c = destroys_object _ _ (returns-then-not-is_stored-clause-call g c)
+pub returns-in_default-clause-plain : goal.returns-in_default-clause-plain
+returns-in_default-clause-plain g c = destroys_object _ _ (returns-in_default-clause-call g c)
 
 pub returns-clause-plain : goal.returns-clause-plain
 returns-clause-plain g c = destroys_object _ _ (returns-clause-call g c)

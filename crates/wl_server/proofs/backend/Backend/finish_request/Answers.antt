@@ -1,4 +1,4 @@
-use Rattle.std.proofs.Common.{◌≡◌, ◌∙◌, ℕ, Option, Result, Err, refl, sym}
+use Rattle.std.proofs.Common.{◌≡◌, ℕ, Option, Result, Err, refl}
 use Rattle.wl_wire.specs.declared.error.IoFault.{IoFault}
 use Rattle.wl_link.specs.Exchange.{Queue}
 use Rattle.wl_server.proofs.OverRuns.Cut.CuttingLaws.{histories_cut}
@@ -10,8 +10,8 @@ use Rattle.wl_server.specs.Ids.{ClientParts}
 use Rattle.wl_server.specs.PartStep.{Asked}
 use Rattle.wl_server.specs.declared.runs.step.Reply.TheVariants as reply
 use Rattle.wl_server.specs.declared.runs.step.Step.TheVariants as step
-use Rattle.wl_server.proofs.CallSteps.OneClient.{IsOwn, done_at, not_stored}
-use Rattle.wl_server.proofs.CallSteps.Slots.{Kind, slot_in, slot_not_empty}
+use Rattle.wl_server.proofs.CallSteps.OneClient.{IsOwn, done_to, none_stored}
+use Rattle.wl_server.proofs.CallSteps.Slots.{Kind}
 use Rattle.wl_server.proofs.CleanupSteps.Taken.{slots_set}
 use Rattle.wl_server.proofs.Plain.Requests.{ends_open_request}
 use Rattle.wl_server.proofs.backend.Backend.finish_request.Goals as goal
@@ -26,37 +26,29 @@ own id u answer = record { offer = λ o. refl; last = refl; client = λ b. tt; g
 abbrev Unknown : {U : Type 0} → Option U → Result (Unit {0}) (FinishRefused (Option U)) → Type 0
 Unknown u answer = answer ≡ Err (record { error = finish.InvalidId; user_data = u })
 
-pub returns-then-not-is_stored-clause-finished : goal.returns-then-not-is_stored-clause-finished
-returns-then-not-is_stored-clause-finished g c = rw (← c.self.view_is)
-    (not_stored _ _ _ _ (own _ _ _) c.args.client.now (finishes g.T.Transport.sends c.args.user_data (Err (record { error = finish.InvalidId; user_data = c.args.user_data })))
+pub returns-in_default-clause-finished : goal.returns-in_default-clause-finished
+returns-in_default-clause-finished g c = rw (← c.self.view_is)
+    (none_stored _ _ _ _ (own _ _ _) c.args.client.now (finishes g.T.Transport.sends c.args.user_data (Err (record { error = finish.InvalidId; user_data = c.args.user_data })))
     (Unknown c.args.user_data (Err (record { error = finish.InvalidId; user_data = c.args.user_data }))) (λ i l d b a h. (_, refl, h))
-    (sym c.is_stored.ensures.stored ∙ c.if-not-is_stored.true) refl)
-
-pub index_mut-requires : goal.index_mut-requires
-index_mut-requires g c = slot_in c.self.inside.clients _ _ c.slot.ensures (c.is_stored.ensures.within c.if-not-is_stored.false)
-
-pub unreachable-requires : goal.unreachable-requires
-unreachable-requires g c =
-    slot_not_empty c.self.inside.clients.items c.args.client.now c.slot.result _ (sym c.is_stored.ensures.stored ∙ c.if-not-is_stored.false) c.slot.ensures c.index_mut.ensures.value c.in-None.is
+    _ refl c.in_default.ensures.value refl)
 
 pub returns-clause-finished : goal.returns-clause-finished
 returns-clause-finished g c = rw (← c.self.view_is, c.lacks_memory-self-inside.ensures)
-    (done_at _ _ _ _ (own _ _ _) c.args.client.now (finishes g.T.Transport.sends c.args.user_data c.finish_request-answer.result)
-    (Unknown c.args.user_data c.finish_request-answer.result) (λ i l d b a h. (_, refl, h)) c.slot.result c.index_mut.result.now c.in-Some.stored
-    c.finish_request-answer.new.self (lacks_finish c.finish_request-answer.result) (sym c.is_stored.ensures.stored ∙ c.if-not-is_stored.false) c.slot.ensures
-    c.index_mut.ensures.value c.in-Some.is c.finish_request-answer.ensures)
+    (done_to _ _ _ _ (own _ _ _) c.args.client.now (finishes g.T.Transport.sends c.args.user_data c.finish_request-answer.result)
+    (Unknown c.args.user_data c.finish_request-answer.result) (λ i l d b a h. (_, refl, h)) _ c.in-Some.stored.now
+    c.finish_request-answer.new.self (lacks_finish c.finish_request-answer.result) refl c.in-Some.ensures.value c.finish_request-answer.ensures)
 
-pub returns-then-not-is_stored-clause-cutting : goal.returns-then-not-is_stored-clause-cutting
-returns-then-not-is_stored-clause-cutting g c = ((returns-then-not-is_stored-clause-finished g c).step, histories_cut _ _ _ _)
+pub returns-in_default-clause-cutting : goal.returns-in_default-clause-cutting
+returns-in_default-clause-cutting g c = ((returns-in_default-clause-finished g c).step, histories_cut _ _ _ _)
 
 pub returns-clause-cutting : goal.returns-clause-cutting
 returns-clause-cutting g c = ((returns-clause-finished g c).step, histories_cut _ _ _ _)
 
-pub invariant_of-self-in-Some : goal.invariant_of-self-in-Some
-invariant_of-self-in-Some g c = slots_set _ _ _ _ _ c.self.invariant
+pub invariant_of-self-2 : goal.invariant_of-self-2
+invariant_of-self-2 g c = slots_set _ _ _ _ _ c.self.invariant
 
-pub returns-then-not-is_stored-clause-plain : goal.returns-then-not-is_stored-clause-plain
-returns-then-not-is_stored-clause-plain g c = ends_open_request _ _ _ _ _ _ (returns-then-not-is_stored-clause-finished g c)
+pub returns-in_default-clause-plain : goal.returns-in_default-clause-plain
+returns-in_default-clause-plain g c = ends_open_request _ _ _ _ _ _ (returns-in_default-clause-finished g c)
 
 pub returns-clause-plain : goal.returns-clause-plain
 returns-clause-plain g c = ends_open_request _ _ _ _ _ _ (returns-clause-finished g c)

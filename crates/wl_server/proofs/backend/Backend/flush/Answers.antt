@@ -1,13 +1,12 @@
-use Rattle.std.proofs.Common.{◌≡◌, ◌∙◌, Bool, Option, Ok, arith, refl, subst, sym}
+use Rattle.std.proofs.Common.{◌≡◌, Bool, Option, Ok, arith, refl, subst, sym}
 use Rattle.wl_server.specs.Inside.Client.{Does}
 use Rattle.wl_server.specs.Felt.{FlushedTo, FlushesLive}
 use Rattle.wl_server.specs.Ids.{ClientParts}
 use Rattle.wl_server.specs.PartStep.{Asked}
 use Rattle.wl_server.specs.declared.runs.step.Reply.TheVariants as reply
 use Rattle.wl_server.specs.declared.runs.step.Step.TheVariants as step
-use Rattle.wl_server.proofs.CallSteps.OneClient.{IsOwn, done_at, not_stored}
+use Rattle.wl_server.proofs.CallSteps.OneClient.{IsOwn, done_to, none_stored}
 use Rattle.wl_server.proofs.CallSteps.Feeling.{IsFelt, felt_call}
-use Rattle.wl_server.proofs.CallSteps.Slots.{slot_in, slot_not_empty}
 use Rattle.wl_server.proofs.CleanupSteps.Taken.{slots_set, taken_felt}
 use Rattle.wl_server.proofs.Plain.Sending.{flushes_clients}
 use Rattle.wl_server.proofs.backend.Backend.flush.Goals as goal
@@ -33,36 +32,28 @@ invariant_of-self g c =
     let within = c.self.invariant.within in
     record { within = omega (arith, same, before, after, within); taken = taken_felt _ _ _ _ _ all c.self.invariant.taken }
 
-pub returns-then-not-is_stored-clause-call : goal.returns-then-not-is_stored-clause-call
-returns-then-not-is_stored-clause-call g c = rw (← c.self.view_is, c.in-Some.is)
-    (not_stored _ _ _ _ (own _ _) c.in-Some.id (λ i p lacked did q. FlushedTo g.T.Transport.sends p (Ok tt) lacked did q) (Ok tt ≡ Ok tt) (λ i l d b a h. (_, refl, h))
-    (sym c.is_stored.ensures.stored ∙ c.if-not-is_stored.true) refl)
-
-pub index_mut-requires : goal.index_mut-requires
-index_mut-requires g c = slot_in c.self.inside.clients _ _ c.slot.ensures (c.is_stored.ensures.within c.if-not-is_stored.false)
-
-pub unreachable-requires : goal.unreachable-requires
-unreachable-requires g c =
-    slot_not_empty c.self.inside.clients.items c.in-Some.id c.slot.result _ (sym c.is_stored.ensures.stored ∙ c.if-not-is_stored.false) c.slot.ensures c.index_mut.ensures.value c.in-None.is
+pub returns-in_default-stored_mut-clause-call : goal.returns-in_default-stored_mut-clause-call
+returns-in_default-stored_mut-clause-call g c = rw (← c.self.view_is, c.in-Some.is)
+    (none_stored _ _ _ _ (own _ _) c.in-Some.id (λ i p lacked did q. FlushedTo g.T.Transport.sends p (Ok tt) lacked did q) (Ok tt ≡ Ok tt) (λ i l d b a h. (_, refl, h))
+    _ refl c.in_default-stored_mut.ensures.value refl)
 
 pub returns-clause-call : goal.returns-clause-call
 returns-clause-call g c =
-    let does : Does c.in-Some-index_mut.client (λ p did q. FlushedTo g.T.Transport.sends p c.flush-answer.result c.is_out_of_memory-self-inside.result did q) c.flush-answer.new.self =
-    subst (λ (l : Bool). Does c.in-Some-index_mut.client (λ p did q. FlushedTo g.T.Transport.sends p c.flush-answer.result l did q) c.flush-answer.new.self)
+    let does : Does c.in-Some-stored_mut.client.now (λ p did q. FlushedTo g.T.Transport.sends p c.flush-answer.result c.is_out_of_memory-self-inside.result did q) c.flush-answer.new.self =
+    subst (λ (l : Bool). Does c.in-Some-stored_mut.client.now (λ p did q. FlushedTo g.T.Transport.sends p c.flush-answer.result l did q) c.flush-answer.new.self)
     (sym c.is_out_of_memory-self-inside.ensures) c.flush-answer.ensures in
     rw (← c.self.view_is, c.in-Some.is)
-    (done_at _ _ _ _ (own _ _) c.in-Some.id (λ i p lacked did q. FlushedTo g.T.Transport.sends p c.flush-answer.result lacked did q) (c.flush-answer.result ≡ Ok tt) (λ i l d b a h. (_, refl, h))
-    c.slot.result c.index_mut.result.now c.in-Some-index_mut.client c.flush-answer.new.self c.is_out_of_memory-self-inside.result (sym c.is_stored.ensures.stored ∙ c.if-not-is_stored.false) c.slot.ensures c.index_mut.ensures.value
-    c.in-Some-index_mut.is does)
+    (done_to _ _ _ _ (own _ _) c.in-Some.id (λ i p lacked did q. FlushedTo g.T.Transport.sends p c.flush-answer.result lacked did q) (c.flush-answer.result ≡ Ok tt) (λ i l d b a h. (_, refl, h))
+    _ c.in-Some-stored_mut.client.now c.flush-answer.new.self c.is_out_of_memory-self-inside.result refl c.in-Some-stored_mut.ensures.value does)
 
-pub invariant_of-self-in-Some-index_mut : goal.invariant_of-self-in-Some-index_mut
-invariant_of-self-in-Some-index_mut g c = slots_set _ _ _ _ _ c.self.invariant
+pub invariant_of-self-2 : goal.invariant_of-self-2
+invariant_of-self-2 g c = slots_set _ _ _ _ _ c.self.invariant
 
 pub returns-in_default-clause-plain : goal.returns-in_default-clause-plain
 returns-in_default-clause-plain g c = flushes_clients _ _ (returns-in_default-clause-call g c)
 
-pub returns-then-not-is_stored-clause-plain : goal.returns-then-not-is_stored-clause-plain
-returns-then-not-is_stored-clause-plain g c = flushes_clients _ _ (returns-then-not-is_stored-clause-call g c)
+pub returns-in_default-stored_mut-clause-plain : goal.returns-in_default-stored_mut-clause-plain
+returns-in_default-stored_mut-clause-plain g c = flushes_clients _ _ (returns-in_default-stored_mut-clause-call g c)
 
 pub returns-clause-plain : goal.returns-clause-plain
 returns-clause-plain g c = flushes_clients _ _ (returns-clause-call g c)

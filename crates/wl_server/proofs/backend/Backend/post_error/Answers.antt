@@ -11,8 +11,8 @@ use Rattle.wl_server.specs.Ids.{IdParts}
 use Rattle.wl_server.specs.PartStep.{Asked}
 use Rattle.wl_server.specs.declared.runs.step.Reply.TheVariants as reply
 use Rattle.wl_server.specs.declared.runs.step.Step.TheVariants as step
-use Rattle.wl_server.proofs.CallSteps.OneClient.{IsOwn, done_at, not_stored}
-use Rattle.wl_server.proofs.CallSteps.Slots.{Kind, slot_in, slot_not_empty, stored_by}
+use Rattle.wl_server.proofs.CallSteps.OneClient.{IsOwn, done_to, none_stored}
+use Rattle.wl_server.proofs.CallSteps.Slots.{Kind, stored_by}
 use Rattle.wl_server.proofs.CleanupSteps.Taken.{slots_set}
 use Rattle.wl_server.proofs.backend.Backend.post_error.Goals as goal
 
@@ -26,40 +26,29 @@ posts sends table o code text id p lacked did q = PostsError sends table p o cod
 own : {T U G C : Type 0} (o : IdParts) (code : ℕ) (text : List ℕ) → IsOwn {T = T} {U = U} {G = G} {C = C} (Asked (step.PostError o code text) reply.PostError)
 own o code text = record { offer = λ o. refl; last = refl; client = λ b. tt; global = λ o. tt; order = tt; room = λ b. tt; growth = refl }
 
-pub returns-then-not-is_stored-clause-call : goal.returns-then-not-is_stored-clause-call
-returns-then-not-is_stored-clause-call g c = rw (← c.self.view_is)
-    (not_stored _ _ _ _ (own _ _ _) c.args.id.now.client (posts g.T.Transport.sends c.self.inside.protocol c.args.id.now c.args.code c.args.text) (Unit {0})
-    (λ i l d b a h. (refl, h)) (stored_by _ _ _ _ c.client-client.ensures c.is_stored.ensures.stored ∙ c.if-not-is_stored.true) tt)
-
-pub index_mut-requires : goal.index_mut-requires
-index_mut-requires g c = slot_in c.self.inside.clients _ _ c.slot.ensures (c.is_stored.ensures.within c.if-not-is_stored.false)
-
-pub unreachable-requires : goal.unreachable-requires
-unreachable-requires g c =
-    slot_not_empty c.self.inside.clients.items c.args.id.now.client c.slot.result _
-    (stored_by _ _ _ _ c.client-client.ensures c.is_stored.ensures.stored ∙ c.if-not-is_stored.false) (c.slot.ensures ∙ ap (λ t. t.slot) c.client-client.ensures)
-    c.index_mut.ensures.value c.in-None.is
+pub returns-in_default-clause-call : goal.returns-in_default-clause-call
+returns-in_default-clause-call g c = rw (← c.self.view_is)
+    (none_stored _ _ _ _ (own _ _ _) c.args.id.now.client (posts g.T.Transport.sends c.self.inside.protocol c.args.id.now c.args.code c.args.text) (Unit {0})
+    (λ i l d b a h. (refl, h)) _ c.client-client.ensures c.in_default.ensures.value tt)
 
 pub returns-clause-call : goal.returns-clause-call
 returns-clause-call g c = rw (← c.self.view_is)
-    (done_at _ _ _ _ (own _ _ _) c.args.id.now.client (posts g.T.Transport.sends c.self.inside.protocol c.args.id.now c.args.code c.args.text) (Unit {0})
-    (λ i l d b a h. (refl, h)) c.slot.result c.index_mut.result.now c.in-Some.client c.post_error-self-inside.new.self c.post_error-self-inside.result
-    (stored_by _ _ _ _ c.client-client.ensures c.is_stored.ensures.stored ∙ c.if-not-is_stored.false) (c.slot.ensures ∙ ap (λ t. t.slot) c.client-client.ensures)
-    c.index_mut.ensures.value c.in-Some.is c.post_error-self-inside.ensures.does)
+    (done_to _ _ _ _ (own _ _ _) c.args.id.now.client (posts g.T.Transport.sends c.self.inside.protocol c.args.id.now c.args.code c.args.text) (Unit {0})
+    (λ i l d b a h. (refl, h)) _ c.in-Some.client.now c.post_error-self-inside.new.self c.post_error-self-inside.result
+    c.client-client.ensures c.in-Some.ensures.value c.post_error-self-inside.ensures.does)
 
-pub invariant_of-self-in-Some : goal.invariant_of-self-in-Some
-invariant_of-self-in-Some g c = slots_set _ _ _ _ _ c.self.invariant
+pub invariant_of-self-2 : goal.invariant_of-self-2
+invariant_of-self-2 g c = slots_set _ _ _ _ _ c.self.invariant
 
-pub returns-then-not-is_stored-clause-exactly : goal.returns-then-not-is_stored-clause-exactly
-returns-then-not-is_stored-clause-exactly g c = λ p q before after.
+pub returns-in_default-clause-exactly : goal.returns-in_default-clause-exactly
+returns-in_default-clause-exactly g c = λ p q before after.
     let none : is_some (client_at c.args.id.now.client c.args.self.now.server.clients) ≡ false =
-    rw (← c.self.view_is) (stored_by _ _ _ _ c.client-client.ensures c.is_stored.ensures.stored ∙ c.if-not-is_stored.true) in
+    rw (← c.self.view_is) (stored_by _ _ _ false c.client-client.ensures (ap is_some c.in_default.ensures.value)) in
     absurd (true≢false (sym (ap is_some before) ∙ (mapped_some _ _ ∙ none)))
 
 pub returns-clause-exactly : goal.returns-clause-exactly
 returns-clause-exactly g c = rw (← c.self.view_is)
     (at_slot (λ p q. PostsOn g.T.Transport.sends p c.args.id.now c.args.code c.args.text c.post_error-self-inside.result q) c.self.inside.clients.items c.args.id.now.client
-    c.slot.result c.index_mut.result.now c.in-Some.client c.post_error-self-inside.new.self
+    _ c.in-Some.client.now c.post_error-self-inside.new.self
     (λ p did q. PostsError g.T.Transport.sends c.self.inside.protocol p c.args.id.now c.args.code c.args.text c.post_error-self-inside.result did q)
-    (stored_by _ _ _ _ c.client-client.ensures c.is_stored.ensures.stored ∙ c.if-not-is_stored.false) (c.slot.ensures ∙ ap (λ t. t.slot) c.client-client.ensures)
-    c.index_mut.ensures.value c.in-Some.is c.post_error-self-inside.ensures.does c.post_error-self-inside.ensures.exactly)
+    c.client-client.ensures c.in-Some.ensures.value c.post_error-self-inside.ensures.does c.post_error-self-inside.ensures.exactly)

@@ -1,4 +1,4 @@
-use Rattle.std.proofs.Common.{◌≡◌, ◌∙◌, ℕ, Err, List, Result, refl, sym, ap}
+use Rattle.std.proofs.Common.{◌≡◌, ℕ, Err, List, Result, refl}
 use Rattle.wl_wire.specs.declared.argument.Token.{Token}
 use Rattle.wl_wire.specs.declared.error.IoFault.{IoFault}
 use Rattle.wl_wire.specs.declared.message.Message.{Message}
@@ -11,8 +11,8 @@ use Rattle.wl_server.specs.declared.runs.step.Step.TheVariants as step
 use Rattle.wl_server.specs.Events.{SendsEvent, session_content}
 use Rattle.wl_server.specs.Ids.{IdParts}
 use Rattle.wl_server.specs.PartStep.{Asked}
-use Rattle.wl_server.proofs.CallSteps.OneClient.{IsOwn, done_at, not_stored}
-use Rattle.wl_server.proofs.CallSteps.Slots.{Kind, slot_in, slot_not_empty}
+use Rattle.wl_server.proofs.CallSteps.OneClient.{IsOwn, done_to, none_stored}
+use Rattle.wl_server.proofs.CallSteps.Slots.{Kind}
 use Rattle.wl_server.proofs.CleanupSteps.Taken.{slots_set}
 use Rattle.wl_server.proofs.backend.Backend.send_lent.Goals as goal
 
@@ -25,25 +25,18 @@ own m answer = record { offer = λ o. refl; last = refl; client = λ b. tt; glob
 abbrev unknown : Result (Unit {0}) EventError
 unknown = Err refused.InvalidId
 
-pub returns-then-not-is_stored : goal.returns-then-not-is_stored
-returns-then-not-is_stored g c = rw (← c.self.view_is)
-    (not_stored _ _ _ _ (own _ _) c.args.message.now.sender_id.client (sends_event g.T.Transport.sends c.self.inside.protocol c.args.message.now unknown) (unknown ≡ unknown)
-    (λ i l d b a h. (unknown, refl, h)) (rw (← c.client-id.ensures) (sym c.is_stored.ensures.stored ∙ c.if-not-is_stored.true)) refl)
-
-pub index_mut-requires : goal.index_mut-requires
-index_mut-requires g c = slot_in c.self.inside.clients _ _ c.slot.ensures (c.is_stored.ensures.within c.if-not-is_stored.false)
-
-pub unreachable-requires : goal.unreachable-requires
-unreachable-requires g c =
-    slot_not_empty c.self.inside.clients.items c.client-id.result c.slot.result _ (sym c.is_stored.ensures.stored ∙ c.if-not-is_stored.false) c.slot.ensures c.index_mut.ensures.value c.in-None.is
+pub returns-in_default : goal.returns-in_default
+returns-in_default g c = rw (← c.self.view_is)
+    (none_stored _ _ _ _ (own _ _) c.args.message.now.sender_id.client (sends_event g.T.Transport.sends c.self.inside.protocol c.args.message.now unknown) (unknown ≡ unknown)
+    (λ i l d b a h. (unknown, refl, h)) _ c.client-id.ensures c.in_default.ensures.value refl)
 
 pub returns : goal.returns
 returns g c = rw (← c.self.view_is)
-    (done_at _ _ _ _ (own _ _) c.args.message.now.sender_id.client (sends_event g.T.Transport.sends c.self.inside.protocol c.args.message.now c.send_event-answer.result.0)
+    (done_to _ _ _ _ (own _ _) c.args.message.now.sender_id.client (sends_event g.T.Transport.sends c.self.inside.protocol c.args.message.now c.send_event-answer.result.0)
     (c.send_event-answer.result.0 ≡ unknown) (λ i l d b a h. (c.send_event-answer.result.0, refl, h))
-    c.slot.result c.index_mut.result.now c.in-Some.client c.send_event-answer.new.self c.send_event-answer.result.1
-    (rw (← c.client-id.ensures) (sym c.is_stored.ensures.stored ∙ c.if-not-is_stored.false)) (c.slot.ensures ∙ ap (λ i. i.slot) c.client-id.ensures) c.index_mut.ensures.value c.in-Some.is
+    _ c.in-Some.client.now c.send_event-answer.new.self c.send_event-answer.result.1
+    c.client-id.ensures c.in-Some.ensures.value
     c.send_event-answer.ensures)
 
-pub invariant_of-self-in-Some : goal.invariant_of-self-in-Some
-invariant_of-self-in-Some g c = slots_set _ _ _ _ _ c.self.invariant
+pub invariant_of-self-2 : goal.invariant_of-self-2
+invariant_of-self-2 g c = slots_set _ _ _ _ _ c.self.invariant

@@ -1,4 +1,4 @@
-use Rattle.std.proofs.Common.{◌≡◌, ◌∙◌, ℕ, List, Some, false, refl, sym, subst}
+use Rattle.std.proofs.Common.{◌≡◌, ℕ, List, Some, false, refl, sym, subst}
 use Rattle.wl_link.specs.Link.{LinkState, LimitSet}
 use Rattle.wl_server.specs.Inside.Client.{Does}
 use Rattle.wl_server.specs.Deeds.{Deed}
@@ -8,9 +8,9 @@ use Rattle.wl_server.specs.PartStep.{Asked, Quietly}
 use Rattle.wl_server.specs.Server.{Stored}
 use Rattle.wl_server.specs.declared.runs.step.Reply.TheVariants as reply
 use Rattle.wl_server.specs.declared.runs.step.Step.TheVariants as step
-use Rattle.wl_server.proofs.CallSteps.OneClient.{IsOwn, done_at, not_stored}
+use Rattle.wl_server.proofs.CallSteps.OneClient.{IsOwn, done_to, none_stored}
 use Rattle.wl_server.proofs.CallSteps.Doing.{does_quietly}
-use Rattle.wl_server.proofs.CallSteps.Slots.{Kind, slot_in, slot_not_empty}
+use Rattle.wl_server.proofs.CallSteps.Slots.{Kind}
 use Rattle.wl_server.proofs.CleanupSteps.Taken.{slots_set}
 use Rattle.wl_server.proofs.backend.Backend.set_client_max_buffer_size.Goals as goal
 
@@ -30,23 +30,15 @@ limit_set {T} {U} {C} s limit before link is set =
     sets : Part T U C → List (Deed U) → Part T U C → Type 0
     sets p did q = Quietly false did ((link : LinkState T) × LimitSet p.link (Some limit) link × (q ≡ with_link p link))
 
-pub returns-then-not-is_stored : goal.returns-then-not-is_stored
-returns-then-not-is_stored g c = rw (← c.self.view_is)
-    (not_stored _ _ _ _ (own _ _) c.args.client.now (limits c.args.max_buffer_size) (Unit {0}) (λ i l d b a h. (refl, h))
-    (sym c.is_stored.ensures.stored ∙ c.if-not-is_stored.true) tt)
-
-pub index_mut-requires : goal.index_mut-requires
-index_mut-requires g c = slot_in c.self.inside.clients _ _ c.slot.ensures (c.is_stored.ensures.within c.if-not-is_stored.false)
-
-pub unreachable-requires : goal.unreachable-requires
-unreachable-requires g c =
-    slot_not_empty c.self.inside.clients.items c.args.client.now c.slot.result _ (sym c.is_stored.ensures.stored ∙ c.if-not-is_stored.false) c.slot.ensures c.index_mut.ensures.value c.in-None.is
+pub returns-in_default : goal.returns-in_default
+returns-in_default g c = rw (← c.self.view_is)
+    (none_stored _ _ _ _ (own _ _) c.args.client.now (limits c.args.max_buffer_size) (Unit {0}) (λ i l d b a h. (refl, h))
+    _ refl c.in_default.ensures.value tt)
 
 pub returns : goal.returns
 returns g c = rw (← c.self.view_is)
-    (done_at _ _ _ _ (own _ _) c.args.client.now (limits c.args.max_buffer_size) (Unit {0}) (λ i l d b a h. (refl, h))
-    c.slot.result c.index_mut.result.now c.in-Some.stored _ false (sym c.is_stored.ensures.stored ∙ c.if-not-is_stored.false)
-    c.slot.ensures c.index_mut.ensures.value c.in-Some.is
+    (done_to _ _ _ _ (own _ _) c.args.client.now (limits c.args.max_buffer_size) (Unit {0}) (λ i l d b a h. (refl, h))
+    _ c.in-Some.stored.now _ false refl c.in-Some.ensures.value
     (rw (← c.stored.view_is) (limit_set _ c.args.max_buffer_size c.stored.inside.socket c.set_max_buffer_size.new.self refl c.set_max_buffer_size.ensures)))
 
 pub invariant_of-self-2 : goal.invariant_of-self-2

@@ -1,4 +1,4 @@
-use Rattle.std.proofs.Common.{◌≡◌, ◌∙◌, false, Option, None, Some, Result, Ok, Err, MatchOption, refl, ap}
+use Rattle.std.proofs.Common.{◌≡◌, false, Option, None, Some, Result, Ok, Err, MatchOption, refl, ap}
 use Rattle.wl_link.specs.declared.object.Object.{Object}
 use Rattle.wl_link.specs.Store.{Store}
 use Rattle.wl_server.specs.declared.error.InvalidId.{InvalidId}
@@ -12,9 +12,9 @@ use Rattle.wl_server.specs.PartStep.{Asked, Quietly}
 use Rattle.wl_server.specs.Server.{Stored}
 use Rattle.wl_server.specs.declared.runs.step.Reply.TheVariants as reply
 use Rattle.wl_server.specs.declared.runs.step.Step.TheVariants as step
-use Rattle.wl_server.proofs.CallSteps.OneClient.{IsOwn, done_at, not_stored}
+use Rattle.wl_server.proofs.CallSteps.OneClient.{IsOwn, done_to, none_stored}
 use Rattle.wl_server.proofs.CallSteps.Doing.{does_quietly}
-use Rattle.wl_server.proofs.CallSteps.Slots.{Kind, slot_in, slot_not_empty, stored_by}
+use Rattle.wl_server.proofs.CallSteps.Slots.{Kind}
 use Rattle.wl_server.proofs.CleanupSteps.Taken.{slots_set}
 use Rattle.wl_server.proofs.Plain.Data.{sets_object_data}
 use Rattle.wl_server.proofs.backend.Backend.set_object_data.Goals as goal
@@ -46,33 +46,23 @@ set_does : {T U C : Type 0} (s : Stored T U C) (id : IdParts) (u : U) (answer : 
 set_does s id u answer store answered given =
     does_quietly s (λ p did q. Quietly false did (DataSet p id u answer q)) _ (refl, refl, data_set s.part id u answer store answered given)
 
-pub returns-then-not-is_stored-clause-call : goal.returns-then-not-is_stored-clause-call
-returns-then-not-is_stored-clause-call g c = rw (← c.self.view_is)
-    (not_stored _ _ _ _ (own _ _ _) c.args.id.now.client (sets c.args.id.now c.args.user_data (Err _)) (◌≡◌ {A = Result (Unit {0}) InvalidId} (Err _) (Err _))
-    (λ i l d b a h. (_, refl, h)) (stored_by _ _ _ _ c.client-client.ensures c.is_stored.ensures.stored ∙ c.if-not-is_stored.true) refl)
-
-pub index_mut-requires : goal.index_mut-requires
-index_mut-requires g c = slot_in c.self.inside.clients _ _ c.slot.ensures (c.is_stored.ensures.within c.if-not-is_stored.false)
-
-pub unreachable-requires : goal.unreachable-requires
-unreachable-requires g c =
-    slot_not_empty c.self.inside.clients.items c.args.id.now.client c.slot.result _
-    (stored_by _ _ _ _ c.client-client.ensures c.is_stored.ensures.stored ∙ c.if-not-is_stored.false) (c.slot.ensures ∙ ap (λ t. t.slot) c.client-client.ensures)
-    c.index_mut.ensures.value c.in-None.is
+pub returns-in_default-clause-call : goal.returns-in_default-clause-call
+returns-in_default-clause-call g c = rw (← c.self.view_is)
+    (none_stored _ _ _ _ (own _ _ _) c.args.id.now.client (sets c.args.id.now c.args.user_data (Err _)) (◌≡◌ {A = Result (Unit {0}) InvalidId} (Err _) (Err _))
+    (λ i l d b a h. (_, refl, h)) _ c.client-client.ensures c.in_default.ensures.value refl)
 
 pub returns-clause-call : goal.returns-clause-call
 returns-clause-call g c = rw (← c.self.view_is)
-    (done_at _ _ _ _ (own _ _ _) c.args.id.now.client (sets c.args.id.now c.args.user_data c.give_data.result) (c.give_data.result ≡ Err _)
-    (λ i l d b a h. (_, refl, h)) c.slot.result c.index_mut.result.now c.in-Some.stored _ false
-    (stored_by _ _ _ _ c.client-client.ensures c.is_stored.ensures.stored ∙ c.if-not-is_stored.false) (c.slot.ensures ∙ ap (λ t. t.slot) c.client-client.ensures)
-    c.index_mut.ensures.value c.in-Some.is
+    (done_to _ _ _ _ (own _ _ _) c.args.id.now.client (sets c.args.id.now c.args.user_data c.give_data.result) (c.give_data.result ≡ Err _)
+    (λ i l d b a h. (_, refl, h)) _ c.in-Some.stored.now _ false
+    c.client-client.ensures c.in-Some.ensures.value
     (rw (← c.stored.view_is) (set_does _ c.args.id.now c.args.user_data c.give_data.result _ c.give_data.ensures.answer c.give_data.ensures.given)))
 
 pub invariant_of-self-2 : goal.invariant_of-self-2
 invariant_of-self-2 g c = slots_set _ _ _ _ _ c.self.invariant
 
-pub returns-then-not-is_stored-clause-plain : goal.returns-then-not-is_stored-clause-plain
-returns-then-not-is_stored-clause-plain g c = sets_object_data _ _ _ (returns-then-not-is_stored-clause-call g c)
+pub returns-in_default-clause-plain : goal.returns-in_default-clause-plain
+returns-in_default-clause-plain g c = sets_object_data _ _ _ (returns-in_default-clause-call g c)
 
 pub returns-clause-plain : goal.returns-clause-plain
 returns-clause-plain g c = sets_object_data _ _ _ (returns-clause-call g c)

@@ -1,4 +1,4 @@
-use Rattle.std.proofs.Common.{◌≡◌, ◌∙◌, Bool, Err, Result, List, [], refl, subst, sym}
+use Rattle.std.proofs.Common.{◌≡◌, Bool, Err, Result, List, [], refl, subst}
 use Rattle.wl_link.specs.Script.{Script}
 use Rattle.wl_server.specs.declared.error.ScriptError.{ScriptError}
 use Rattle.wl_server.specs.declared.error.ScriptError.TheVariants as refused
@@ -11,9 +11,9 @@ use Rattle.wl_server.specs.Moves.{ScriptMoves, done}
 use Rattle.wl_server.specs.PartStep.{Asked, OfClient, PartStep, WithTransport, lacks_move, over_scripts}
 use Rattle.wl_server.specs.Inside.Scripting.{Scripts, move_of, reply_to, step_of}
 use Rattle.wl_server.specs.Server.{Seen, ServerState, Stored}
-use Rattle.wl_server.proofs.CallSteps.OneClient.{IsOwn, done_at, held_by, not_stored}
+use Rattle.wl_server.proofs.CallSteps.OneClient.{IsOwn, done_to, held_by, none_stored}
 use Rattle.wl_server.proofs.CallSteps.Moved.{moved}
-use Rattle.wl_server.proofs.CallSteps.Slots.{Kind, slot_not_empty}
+use Rattle.wl_server.proofs.CallSteps.Slots.{Kind}
 use Rattle.wl_server.proofs.CleanupSteps.Taken.{slots_set}
 use Rattle.wl_server.proofs.runs.script.Backend+Memory+U+G+C.script.Goals as goal
 
@@ -41,19 +41,14 @@ does : {U C : Type 0} (id : ClientParts) (x : ScriptCall) (before after : Stored
     → Does before (λ p did q. (did ≡ []) × Scripts p (move_of x) (done answer) q) after → Does before (λ p did q. scripts x answer id p (lacks_move (done answer)) did q) after
 does id x before after answer (did, q, (none, moves), is) = (did, q, (refl, none, moves), is)
 
-pub returns-then-not-is_stored : goal.returns-then-not-is_stored
-returns-then-not-is_stored g c =
+pub returns-in_default : goal.returns-in_default
+returns-in_default g c =
     let i = c.self.inside in
     let before = held_by i.protocol i.globals.store i.last_global i.default_limit i.last_client i.clients.items i.notes.items in
     rw (← c.self.view_is)
-    (not_stored (over_scripts g.G.GlobalHandler.views) before (step_of c.args.id.now c.args.call) (reply_to c.args.call (Err refused.InvalidId)) (own _ _ _) c.args.id.now
+    (none_stored (over_scripts g.G.GlobalHandler.views) before (step_of c.args.id.now c.args.call) (reply_to c.args.call (Err refused.InvalidId)) (own _ _ _) c.args.id.now
     (scripts c.args.call (Err refused.InvalidId)) (done (Err refused.InvalidId) ≡ Err refused.InvalidId) (to g.G.GlobalHandler.views before c.args.id.now c.args.call (Err refused.InvalidId))
-    (sym c.is_stored.ensures.stored ∙ c.if-not-is_stored.true) refl)
-
-pub unreachable-requires : goal.unreachable-requires
-unreachable-requires g c =
-    slot_not_empty c.self.inside.clients.items c.args.id.now c.slot.result _ (sym c.is_stored.ensures.stored ∙ c.if-not-is_stored.false) c.slot.ensures
-    c.index_mut.ensures.value c.in-None.is
+    _ refl c.in_default.ensures.value refl)
 
 pub returns : goal.returns
 returns g c =
@@ -61,10 +56,9 @@ returns g c =
     let before = held_by i.protocol i.globals.store i.last_global i.default_limit i.last_client i.clients.items i.notes.items in
     let answer = c.make_move-answer.result in
     rw (← c.self.view_is, c.lacks_memory-self-inside.ensures)
-    (done_at (over_scripts g.G.GlobalHandler.views) before (step_of c.args.id.now c.args.call) (reply_to c.args.call answer) (own _ _ _) c.args.id.now (scripts c.args.call answer)
+    (done_to (over_scripts g.G.GlobalHandler.views) before (step_of c.args.id.now c.args.call) (reply_to c.args.call answer) (own _ _ _) c.args.id.now (scripts c.args.call answer)
     (done answer ≡ Err refused.InvalidId) (to g.G.GlobalHandler.views before c.args.id.now c.args.call answer)
-    c.slot.result c.index_mut.result.now c.in-Some.client _ (lacks_move (done answer)) (sym c.is_stored.ensures.stored ∙ c.if-not-is_stored.false) c.slot.ensures
-    c.index_mut.ensures.value c.in-Some.is (does c.args.id.now c.args.call _ _ answer
+    _ c.in-Some.client.now _ (lacks_move (done answer)) refl c.in-Some.ensures.value (does c.args.id.now c.args.call _ _ answer
     (rw (← c.client.view_is)
     (moved _ (λ t t'. ScriptMoves t (move_of c.args.call) (done answer) t') c.make_move-answer.new.script
     (subst (λ (t : Script). ScriptMoves t (move_of c.args.call) (done answer) c.make_move-answer.new.script) c.transport_mut.ensures.value c.make_move-answer.ensures)))))

@@ -10,9 +10,9 @@ use Rattle.wl_server.specs.Moves.{Moved, ScriptMoves, TakeSent, taken}
 use Rattle.wl_server.specs.PartStep.{Asked, WithTransport, lacks_move}
 use Rattle.wl_server.specs.Inside.Scripting.{Scripts}
 use Rattle.wl_server.specs.Server.{Stored}
-use Rattle.wl_server.proofs.CallSteps.OneClient.{IsOwn, done_at, not_stored}
+use Rattle.wl_server.proofs.CallSteps.OneClient.{IsOwn, done_to, none_stored}
 use Rattle.wl_server.proofs.CallSteps.Moved.{moved}
-use Rattle.wl_server.proofs.CallSteps.Slots.{Kind, slot_not_empty}
+use Rattle.wl_server.proofs.CallSteps.Slots.{Kind}
 use Rattle.wl_server.proofs.CleanupSteps.Taken.{slots_set}
 use Rattle.wl_server.proofs.runs.script.Backend+Memory+U+G+C.take_sent.Goals as goal
 
@@ -26,14 +26,9 @@ does : {U C : Type 0} (id : ClientParts) (before after : Stored Script U C) (ans
     → Does before (λ p did q. (did ≡ []) × Scripts p TakeSent answer q) after → Does before (λ p did q. takes answer id p false did q) after
 does id before after answer calm (did, q, (none, moves), is) = (did, q, (sym calm, none, moves), is)
 
-pub returns-then-not-is_stored : goal.returns-then-not-is_stored
-returns-then-not-is_stored g c = rw (← c.self.view_is)
-    (not_stored _ _ _ _ (own _ _) c.args.id.now (takes (taken (Err _))) _ (λ i l d b a h. (_, refl, h)) (sym c.is_stored.ensures.stored ∙ c.if-not-is_stored.true) refl)
-
-pub unreachable-requires : goal.unreachable-requires
-unreachable-requires g c =
-    slot_not_empty c.self.inside.clients.items c.args.id.now c.slot.result _ (sym c.is_stored.ensures.stored ∙ c.if-not-is_stored.false) c.slot.ensures
-    c.index_mut.ensures.value c.in-None.is
+pub returns-in_default : goal.returns-in_default
+returns-in_default g c = rw (← c.self.view_is)
+    (none_stored _ _ _ _ (own _ _) c.args.id.now (takes (taken (Err _))) _ (λ i l d b a h. (_, refl, h)) _ refl c.in_default.ensures.value refl)
 
 abbrev emptied : Script → Script
 emptied s = record s { sent = [] }
@@ -43,9 +38,8 @@ returns g c =
     let sent = c.take_sent.ensures.taken ∙ ap (λ (s : Script). s.sent) c.transport_mut.ensures.value in
     let rest : ◌≡◌ {A = Script} c.take_sent.new.self (record c.client.inside.socket.transport { sent = [] }) = c.take_sent.ensures.rest ∙ ap emptied c.transport_mut.ensures.value in
     rw (← c.self.view_is)
-    (done_at _ _ _ _ (own _ _) c.args.id.now (takes (taken (Ok c.take_sent.result))) _ (λ i l d b a h. (_, refl, h))
-    c.slot.result c.index_mut.result.now c.in-Some.client _ false (sym c.is_stored.ensures.stored ∙ c.if-not-is_stored.false) c.slot.ensures
-    c.index_mut.ensures.value c.in-Some.is (does c.args.id.now _ _ _ refl
+    (done_to _ _ _ _ (own _ _) c.args.id.now (takes (taken (Ok c.take_sent.result))) _ (λ i l d b a h. (_, refl, h))
+    _ c.in-Some.client.now _ false refl c.in-Some.ensures.value (does c.args.id.now _ _ _ refl
     (rw (← c.client.view_is)
     (moved _ (λ t t'. ScriptMoves t TakeSent (taken (Ok c.take_sent.result)) t') c.take_sent.new.self
     (ap (λ (l : List Queue). let r : Moved = Ok l in r) sent, rest)))))

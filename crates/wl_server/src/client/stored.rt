@@ -1,0 +1,42 @@
+//! The look-up of a stored client by its id, to change it.
+//!
+//! A client is *stored* from its insertion until `Backend::cleanup` takes it out.
+
+ghost use Rattle.std.specs.Borrow.{sem};
+ghost use Rattle.std.specs.Option.{option_copied_mut};
+ghost use Rattle.std.specs.Prelude.{◌≡◌, ◌<◌, IsTrue, is_some, length};
+ghost use Rattle.wl_server.specs.Inside.Lookup.{LendsStored};
+ghost use Rattle.wl_server.specs.Server.{client_at};
+
+use crate::client::Client;
+use crate::ids::client_id::ClientId;
+
+/// Whether the client is stored.
+fn is_stored<T: Drop, U: Drop, C: Drop>(
+    clients: &Vec<Option<Client<T, U, C>>>,
+    id: &ClientId,
+) -> bool
+    ensures stored { result ≡ is_some (client_at id.now clients.now.items) }
+    ensures within { IsTrue result → id.now.slot < length clients.now.items }
+{
+    match clients.get(id.slot() as usize) {
+        Some(Some(client)) => client.serial == id.serial(),
+        _ => false,
+    }
+}
+
+/// The client, borrowed mutably, while it is stored. It is asked of the field and not of the whole server, so that a call
+/// can use the server's other fields beside the client.
+pub fn stored_mut<'a, T: Drop, U: Drop, C: Drop>(
+    clients: &'a mut Vec<Option<Client<T, U, C>>>,
+    id: &ClientId,
+) -> Option<&'a mut Client<T, U, C>>
+    ensures* lends { sem 𝓛 (LendsStored T.row U.row C.row clients.entry id.now result) }
+    ensures value { option_copied_mut result ≡ client_at id.now clients.old.items }
+{
+    if is_stored(clients, id) {
+        clients[id.slot() as usize].as_mut()
+    } else {
+        None
+    }
+}
