@@ -1,13 +1,13 @@
 //! Recordings: their commands are carried out again, and what is printed now is compared with what was printed then.
 
-ghost use Rattle.std.specs.Prelude.{◌≡◌, ◌++◌, ◌∷◌, ◌↔◌, [], IfErr, IfOk, IfSome, IsTrue, MatchBool, MatchOption};
-ghost use Rattle.std.specs.Io.KnownBytes.{Appends};
+ghost use Rattle.std.specs.Prelude.{◌≡◌, ◌++◌, ◌∷◌, ◌↔◌, ℕ, [], Err, IfErr, IfOk, IfSome, IsTrue, MatchBool, MatchOption};
+ghost use Rattle.std.specs.Io.KnownBytes.{Appends, Keeps};
 ghost use Rattle.wl_bench.specs.Bench.{new_bench};
 ghost use Rattle.wl_bench.specs.Commands.{Finds, IsNumber};
 ghost use Rattle.wl_bench.specs.Inside.Comparing.{CarriesOut, EndsWith, GoesOn, IsBadAt, IsNumbered, IsWord, missing_in};
 ghost use Rattle.wl_bench.specs.Record.{IsAnother, IsNoCommand, IsOutput, Replays, Told, fed, lines, quoted, verdict_text};
 ghost use Rattle.wl_bench.specs.Table.{bench_rows};
-ghost use Rattle.wl_bench.specs.declared.stop.Stop.TheVariants.{Failed};
+ghost use Rattle.wl_bench.specs.declared.stop.Stop.TheVariants.{BadLine, Failed};
 
 use crate::bench::Bench;
 use crate::command::{Command, parse_line};
@@ -188,8 +188,8 @@ fn replay_lines<R: BufRead>(alloc: Global, reader: &mut R) -> Result<Replayed, S
 /// A line that begins with `> ` is output. Any other is a number from 1, without leading zeros and greater than the one
 /// before, a space, and a command, which is carried out under that number. The lines are looked at in order. The first in
 /// which the recording differs from the record of its own commands is answered with `Differs`, and the first that is no
-/// command, or names a slot at which no client was inserted, is `BadLine`; if output is due in its place, it is a
-/// difference. `Failed` if memory was refused, or the reader or the writer failed.
+/// command, or names a slot at which no client was inserted, is `BadLine`, and nothing is written then; if output is due in
+/// its place, it is a difference. `Failed` if memory was refused, or the reader or the writer failed.
 pub fn replay<R: BufRead, W: Write>(
     alloc: Global,
     reader: &mut R,
@@ -197,6 +197,7 @@ pub fn replay<R: BufRead, W: Write>(
 ) -> Result<Replayed, Stop>
     ensures replays { IfSome (R.remaining reader.old) (λ input. Replays (new_bench bench_rows) (lines input) result) }
     ensures told { IfOk result (λ verdict. Appends (W.contents writer.old) (W.contents writer.new) (fed (verdict_text verdict))) }
+    ensures kept { (place : ℕ) → result ≡ Err (BadLine place) → Keeps (W.contents writer.old) (W.contents writer.new) }
 {
     let replayed = replay_lines(alloc, reader)?;
     match replayed {
