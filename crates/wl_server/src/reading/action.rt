@@ -1,5 +1,9 @@
 //! What a reading hands out, how much it may read, and what became of a message.
 
+ghost use Rattle.std.specs.Prelude.{◌≡◌};
+ghost use Rattle.wl_server.specs.Deeds.{handed};
+ghost use Rattle.wl_server.specs.Inside.Turns.{found_with};
+
 use crate::ids::global_id::GlobalId;
 use crate::ids::object_id::ObjectId;
 use smallvec::SmallVec;
@@ -80,6 +84,25 @@ impl Found {
     /// The value before an action is found: a request of no object.
     pub fn none() -> Self {
         Found::Request(ObjectId::null(), 0, false, None)
+    }
+
+    /// The action, with these arguments if it is a request.
+    #[inline(always)]
+    pub fn with_args(self, args: SmallVec<Argument<ObjectId, Token>, INLINE_ARGS>) -> Action
+        ensures { handed result ≡ found_with self args.items }
+    {
+        match self {
+            Found::Request(sender, opcode, is_destructor, created) => {
+                Action::Request {
+                    sender,
+                    opcode,
+                    args,
+                    is_destructor,
+                    created,
+                }
+            }
+            Found::Bind(global, object) => Action::Bind { global, object },
+        }
     }
 }
 

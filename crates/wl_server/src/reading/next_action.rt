@@ -210,18 +210,7 @@ impl<T: Transport + Drop, U: Drop, G: GlobalHandler<C> + Drop, C: Drop> Backend<
         let mut found = Found::none();
         let mut args = SmallVec::new(self.alloc());
         self.read_client(id, &mut reading, &mut found, &mut args)?;
-        match found {
-            Found::Request(sender, opcode, is_destructor, created) => {
-                Ok(Action::Request {
-                    sender,
-                    opcode,
-                    args,
-                    is_destructor,
-                    created,
-                })
-            }
-            Found::Bind(global, object) => Ok(Action::Bind { global, object }),
-        }
+        Ok(found.with_args(args))
     }
 
     /// Reads the next action of the client, as `next_action` does, and receives at most as often as `reading` allows.
@@ -240,18 +229,7 @@ impl<T: Transport + Drop, U: Drop, G: GlobalHandler<C> + Drop, C: Drop> Backend<
         let mut found = Found::none();
         let mut args = SmallVec::new(self.alloc());
         self.read_client(id, reading, &mut found, &mut args)?;
-        match found {
-            Found::Request(sender, opcode, is_destructor, created) => {
-                Ok(Action::Request {
-                    sender,
-                    opcode,
-                    args,
-                    is_destructor,
-                    created,
-                })
-            }
-            Found::Bind(global, object) => Ok(Action::Bind { global, object }),
-        }
+        Ok(found.with_args(args))
     }
 
     /// Reads the client. An action that is handed out is in `found` then, and its arguments are in `args`.

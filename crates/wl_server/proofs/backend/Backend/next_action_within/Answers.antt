@@ -1,4 +1,4 @@
-use Rattle.std.proofs.Common.{refl}
+use Rattle.std.proofs.Common.{Ok, refl, ap}
 use Rattle.std.proofs.lemmas.Result.{err_from_is_err_and}
 use Rattle.wl_server.proofs.OverRuns.Cut.CuttingLaws.{histories_cut}
 use Rattle.wl_server.proofs.OverRuns.Cut.RoomLaws.{within_has_room}
@@ -17,20 +17,11 @@ returns-in_err-read_client-clause-cutting g c =
     let p = err_from_is_err_and c.from_residual.result c.from_residual.ensures.1 in
     rw (p.1, p.2) ((c.in_err-read_client.ensures.within _ refl).step, histories_cut _ _ _ _)
 
-pub returns-in-Request-clause-read : goal.returns-in-Request-clause-read
-returns-in-Request-clause-read g c = c.in_ok-read_client.ensures.within _ (rw c.in-Request.is refl)
+pub returns-clause-read : goal.returns-clause-read
+returns-clause-read g c = c.in_ok-read_client.ensures.within _ (ap Ok c.with_args.ensures)
 
-pub returns-in-Request-clause-room : goal.returns-in-Request-clause-room
-returns-in-Request-clause-room g c = within_has_room _ _ _ _ _ _
+pub returns-clause-room : goal.returns-clause-room
+returns-clause-room g c = within_has_room _ _ _ _ _ _
 
-pub returns-in-Request-clause-cutting : goal.returns-in-Request-clause-cutting
-returns-in-Request-clause-cutting g c = ((c.in_ok-read_client.ensures.within _ (rw c.in-Request.is refl)).step, histories_cut _ _ _ _)
-
-pub returns-in-Bind-clause-read : goal.returns-in-Bind-clause-read
-returns-in-Bind-clause-read g c = c.in_ok-read_client.ensures.within _ (rw c.in-Bind.is refl)
-
-pub returns-in-Bind-clause-room : goal.returns-in-Bind-clause-room
-returns-in-Bind-clause-room g c = within_has_room _ _ _ _ _ _
-
-pub returns-in-Bind-clause-cutting : goal.returns-in-Bind-clause-cutting
-returns-in-Bind-clause-cutting g c = ((c.in_ok-read_client.ensures.within _ (rw c.in-Bind.is refl)).step, histories_cut _ _ _ _)
+pub returns-clause-cutting : goal.returns-clause-cutting
+returns-clause-cutting g c = ((c.in_ok-read_client.ensures.within _ (ap Ok c.with_args.ensures)).step, histories_cut _ _ _ _)
