@@ -2,3 +2,4 @@
 pub mod Joining
 pub mod Waiting
 pub mod Serving
+pub mod Receiving

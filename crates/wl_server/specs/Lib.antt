@@ -38,6 +38,7 @@ pub mod Histories
 -- ---- dispatches
 pub mod Reached
 pub mod Dispatch
+pub mod Bounded
 -- ---- what callers use
 pub mod Plain
 -- ---- what the functions inside promise each other

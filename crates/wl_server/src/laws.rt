@@ -16,8 +16,9 @@
 //! A clause whose name begins with `script` is about steps with their replies, over the transport by script. It says of
 //! them what the other clauses of its function say of calls over every transport.
 
-ghost use Rattle.std.specs.Prelude.{◌≡◌, ◌≢◌, ◌<◌, ◌∷◌, ℕ, Bool, false, List, Option, Some, Result, Err};
+ghost use Rattle.std.specs.Prelude.{◌≡◌, ◌≢◌, ◌<◌, ◌≤◌, ◌∷◌, ◌++◌, [], ℕ, Bool, false, List, Option, Some, Result, Err};
 ghost use Rattle.wl_wire.specs.Table.{InterfaceRow};
+ghost use Rattle.wl_wire.specs.declared.error.IoFault.{IoFault};
 ghost use Rattle.wl_wire.specs.declared.interface.InterfaceId.{InterfaceId};
 ghost use Rattle.wl_link.specs.Exchange.{Queue, Sending, nothing, IsFunction, IsReceiveFunction};
 ghost use Rattle.wl_link.specs.Reader.{AllFed, Ends, Given, Gives, Reads, Turn, received_in, sends_in, ReaderState};
@@ -32,7 +33,10 @@ ghost use Rattle.wl_server.specs.declared.runs.step.Reply.{Reply};
 ghost use Rattle.wl_server.specs.declared.runs.step.Step.{Step};
 ghost use Rattle.wl_server.specs.Accounts.{AreAccountedFor, IsAccountedFor};
 ghost use Rattle.wl_server.specs.Announced.{EachAnnouncesShown, HaveAnnouncements};
+ghost use Rattle.wl_server.specs.Backend.{BackendState};
+ghost use Rattle.wl_server.specs.Bounded.{EachIsBounded, EachPartIsBounded, receives_over};
 ghost use Rattle.wl_server.specs.Cutting.{EachIsServed, GoesOn, HistoriesAreCut, IsServed};
+ghost use Rattle.wl_server.specs.Dispatch.{EndsDispatch, Serves, ServesEach, answering};
 ghost use Rattle.wl_server.specs.Globals.{CreatesGlobal, Globals, Offer};
 ghost use Rattle.wl_server.specs.Ids.{ClientParts, GlobalParts};
 ghost use Rattle.wl_server.specs.Outcome.{ClientsHaveOneOutcome, OffersHaveOneOutcome, OwnRunsHaveOneOutcome, StepsHaveOneOutcome};
@@ -51,6 +55,7 @@ ghost use Rattle.wl_server.specs.Stretches.{StretchIsServed, IsStretch, IsStretc
 ghost use Rattle.wl_server.specs.Telling.{Core, Finish, Told};
 ghost use Rattle.wl_server.specs.WholeOutcome.{AnswersAlike, PerformancesHaveOneOutcome, RunsHaveOneOutcome, SameServer};
 
+use crate::dispatch::Handler;
 use crate::globals::handler::GlobalHandler;
 use wl_link::Transport;
 
@@ -280,4 +285,32 @@ pub fn cutting_does_not_matter_to_a_run<U, G: GlobalHandler<C>, C>()
         IsStretch (around (over_scripts G.views) id offer) p run q → IsStretch (around (over_scripts G.views) id offer) p others r →
         arrived run ≡ arrived others → finished run ≡ finished others →
         (beside_exchanges (history run) ≡ beside_exchanges (history others)) × (handed_out run ≡ handed_out others) × SameLeft q r }
+{}
+
+/// The law of receives, for every transport: a reading receives at most as often as it may.
+///
+/// A call that does not read a client receives nothing from it. `next_action` receives from its client at most 64 times.
+/// The receives of `next_action_within`, with those that its `Reading` has left afterwards, are at most those that it had
+/// left before (clause `call`).
+///
+/// So a dispatch of one client receives from it at most 64 times, however many actions it handles and whatever its
+/// handler calls, its cleanup included (clause `dispatch`). A dispatch of several clients is one part for each of them, in
+/// order, and a cleanup. In its part each client is received from at most 64 times (clause `several`).
+pub fn each_reading_receives_within_its_bound<
+    T: Transport,
+    U,
+    G: GlobalHandler<C>,
+    C,
+    H: Handler<T, U, G, C>,
+>()
+    ensures call { (before after : ServerState T U G C) (e : Entry T U G C) →
+        OneStep (over T.sends T.receives G.views) before e after → EachIsBounded e }
+    ensures dispatch { (id : ClientParts) (h h' : H) (before mid : ServerState T U G C) (after : BackendState T U G C) (served : List (Entry T U G C))
+        (lacked : Bool) (answer result : Result ℕ IoFault) →
+        Serves (over T.sends T.receives G.views) (answering H.requests H.binds) id h before served lacked answer h' mid →
+        (ends : EndsDispatch (over T.sends T.receives G.views) before served lacked mid answer result after) →
+        receives_over id (served ++ ends.cleanup ∷ []) ≤ 64 }
+    ensures several { (ids : List ClientParts) (h h' : H) (before mid : ServerState T U G C) (served : List (Entry T U G C)) (lacked : Bool) (total : ℕ) →
+        ServesEach (over T.sends T.receives G.views) (answering H.requests H.binds) ids h before served lacked total h' mid →
+        EachPartIsBounded ids served }
 {}

@@ -72,7 +72,7 @@ not_true : (b : Bool) → not b ≡ true → b ≡ false
 not_true true is = absurd (true≢false (sym is))
 not_true false is = refl
 
-at_other : (P Q : Type 0) (b : Bool) → b ≡ false → MatchBool b P Q → Q
+pub at_other : (P Q : Type 0) (b : Bool) → b ≡ false → MatchBool b P Q → Q
 at_other P Q true is p = absurd (true≢false is)
 at_other P Q false is q = q
 
@@ -262,12 +262,12 @@ module _ {T U C : Type 0} (before after : Seen T U C) (lacked : Bool) (did : Lis
 
 module _ {T U G C : Type 0} where
   -- whether a call reads of this client
-  abbrev reads_of : ClientParts → Call T U G C → Bool
+  abbrev pub reads_of : ClientParts → Call T U G C → Bool
   reads_of id (Asked (step.NextAction target) answer) = same_client target id
   reads_of id (Asked (step.NextActionWithin target r) answer) = same_client target id
   reads_of id _ = false
 
-  spared_unread : (id : ClientParts) (call : Call T U G C) → spares id call ≡ true → reads_of id call ≡ false
+  pub spared_unread : (id : ClientParts) (call : Call T U G C) → spares id call ≡ true → reads_of id call ≡ false
   spared_unread id (Asked (step.NextAction target) answer) spared = not_true (same_client target id) spared
   spared_unread id (Asked (step.NextActionWithin target r) answer) spared = not_true (same_client target id) spared
   spared_unread id _ spared = refl
@@ -396,7 +396,7 @@ module _ {T Core Event Finish : Type 0} (sends : T → Queue → Result ℕ IoFa
       → CarriesOut sends reader v link es first lacked mid → length mid.link.incoming.bytes ≡ length link.incoming.bytes
   carried_length v link mid es first lacked carried = ap (λ (q : Queue). length q.bytes) (carries_stays sends reader v link mid es first lacked carried).incoming
 
-  stops_left : (left : ℕ) (p : ReaderState T Core) (out : Gives Event) → StopsReading sends reader left p out → out.left ≤ left
+  pub stops_left : (left : ℕ) (p : ReaderState T Core) (out : Gives Event) → StopsReading sends reader left p out → out.left ≤ left
   stops_left left p out h =
       elim (either_bool (reader.reads_on p.core) h) [
         | inl (inl (lacks, none, is)) ↦ let e = ap (λ (o : Gives Event). o.left) is in omega (arith, e)

@@ -51,7 +51,7 @@ module _ {U : Type 0} where
   came_both : (did others : List (Deed U)) → came_in (did ++ others) ≡ came_in did ++ came_in others
   came_both did others = ap (λ (d : Doings U). d.came) (done_both did others)
 
-  none_sent : (es : List Sending) (did : List (Deed U)) → came_in (map Sent es ++ did) ≡ came_in did
+  pub none_sent : (es : List Sending) (did : List (Deed U)) → came_in (map Sent es ++ did) ≡ came_in did
   none_sent [] did = refl
   none_sent (e ∷ es) did = none_sent es did
 
@@ -63,7 +63,7 @@ none_at_end : (U : Type 0) (o : Option DisconnectReason) → came_in (end_deeds 
 none_at_end U None = refl
 none_at_end U (Some reason) = refl
 
-no_more : (rs others : List (Result Queue IoFault)) → rs ≡ [] → others ≡ [] → rs ++ others ≡ []
+pub no_more : (rs others : List (Result Queue IoFault)) → rs ≡ [] → others ≡ [] → rs ++ others ≡ []
 no_more rs others none nor = ap (λ (l : List (Result Queue IoFault)). l ++ others) none ∙ nor
 
 -- what the turns received

@@ -1,0 +1,361 @@
+-- How often calls receive from a client: only readings do, and each at most as often as it is allowed.
+--
+-- A call that does not read a client is the same over a transport that never receives, and over that no base move does.
+use Rattle.std.proofs.Common.{◌≡◌, ℕ, ◌+◌, ◌≤◌, Bool, true, false, List, [], ◌∷◌, ◌++◌, append_assoc, append-nil, length, Option, None, Some, Result, Ok, Err, MatchBool, refl, sym, ap, subst, ◌∙◌, true≢false, arith}
+use mathlib.Core.Logic.{inl, inr}
+use Rattle.wl_wire.specs.declared.error.IoFault.{IoFault}
+use Rattle.wl_wire.specs.declared.error.IoFault.TheVariants as fault
+use Rattle.wl_link.proofs.Calls.Branches.{either_bool, either_option, either_result}
+use Rattle.wl_link.specs.Exchange.{Queue}
+use Rattle.wl_link.specs.Link.{count_of, counted_answer}
+use Rattle.wl_link.specs.Reader.{Gives, Handled, ReaderState, Reads, Received, Turn, Unread, with_link}
+use Rattle.wl_server.specs.declared.error.ActionError.{ActionError}
+use Rattle.wl_server.specs.declared.error.ActionError.TheVariants.{Io}
+use Rattle.wl_server.specs.declared.error.FinishError.{FinishError}
+use Rattle.wl_server.specs.declared.error.InsertClientError.{InsertClientError}
+use Rattle.wl_server.specs.declared.reading.action.Action.{Action}
+use Rattle.wl_server.specs.declared.reading.action.Action.TheVariants as action
+use Rattle.wl_server.specs.declared.reading.action.Reading.{Reading}
+use Rattle.wl_server.specs.declared.runs.step.Reply.{Reply}
+use Rattle.wl_server.specs.declared.runs.step.Reply.TheVariants as reply
+use Rattle.wl_server.specs.declared.runs.step.Step.{Step}
+use Rattle.wl_server.specs.declared.runs.step.Step.TheVariants as step
+use Rattle.wl_server.specs.Backend.{BackendState}
+use Rattle.wl_server.specs.Bounded.{EachIsBounded, EachPartIsBounded, KeepsTo, receives_in, receives_over}
+use Rattle.wl_server.specs.Deeds.{Deed, Handed, came_in}
+use Rattle.wl_server.specs.Dispatch.{Answering, Answers, EndsDispatch, Handles, Last, Round, Rounds, Serves, ServesEach, more, no_action, none, not_ended}
+use Rattle.wl_server.specs.Globals.{Offer}
+use Rattle.wl_server.specs.Ids.{ClientParts, same_client}
+use Rattle.wl_server.specs.Part.{Part}
+use Rattle.wl_server.specs.PartStep.{Asked, Call, Changed, InsertedAs, OfClient, PartCall, ReadsFor, Unfelt, World, around}
+use Rattle.wl_server.specs.Reached.{AllSpare}
+use Rattle.wl_server.specs.Reading.{Around, NextAction, action_content, new_reading, server}
+use Rattle.wl_server.specs.Runs.{IsNotInserted, Leads, concerns}
+use Rattle.wl_server.specs.Server.{Seen, ServerState, seen}
+use Rattle.wl_server.specs.Steps.{Entry, OneStep}
+use Rattle.wl_server.specs.Telling.{Core, Told, reader_part}
+use Rattle.wl_server.proofs.Dispatches.Waiting.{at_other, reads_of, spared_unread, stops_left}
+use Rattle.wl_server.proofs.OverRuns.Alone.IsolationLaw.{other_call, same_self}
+use Rattle.wl_server.proofs.OverRuns.Cut.RoomLaws.{no_more, none_sent, received, received_deeds}
+use Rattle.wl_server.proofs.OverRuns.Moves.BaseMoves.{Doings, Goes, Moves, born, cleaned, closed, ended, flushed, followed, found, found_none, handed_out, notes_taken, opens, received as received_move, relinked, remembered, stayed, taken_out, told, unfelt, went, within, wrote}
+use Rattle.wl_server.proofs.OverRuns.Moves.BaseMovesLaw.{call_goes}
+
+-- ---- over a transport that never receives
+
+abbrev never : {T : Type 0} → T → ℕ → Result Queue IoFault → T → Type 0
+never t n r t' = ⊥
+
+module _ {U : Type 0} where
+  came_of : (d e : Doings U) → d ≡ e → e.came ≡ [] → d.came ≡ []
+  came_of d e is nothing' = ap (λ (x : Doings U). x.came) is ∙ nothing'
+
+module _ {T U C : Type 0} (sends : T → Queue → Result ℕ IoFault → T → Type 0) (client : ClientParts) where
+  moves_quiet : (p q : Part T U C) (d : Doings U) → Moves sends never client p d q → d.came ≡ []
+  moves_quiet p q d (stayed is same) = came_of d _ is refl
+  moves_quiet p q d (followed {m = m} {a = a} {b = b} first second is) =
+      ap (λ (x : Doings U). x.came) is ∙ no_more a.came b.came (moves_quiet p m a first) (moves_quiet m q b second)
+  moves_quiet p q d (handed_out {a = a} ids moves among is) = ap (λ (x : Doings U). x.came) is ∙ moves_quiet p q a moves
+  moves_quiet p q d (relinked link waits stays is same) = came_of d _ is refl
+  moves_quiet p q d (received_move r answer link filled is same) = absurd filled.0
+  moves_quiet p q d (told messages es put answer link puts is same) = came_of d _ is refl
+  moves_quiet p q d (flushed es answer link by is same) = came_of d _ is refl
+  moves_quiet p q d (ended reason is same) = came_of d _ is refl
+  moves_quiet p q d (born n x free ne serial is same) = came_of d _ is refl
+  moves_quiet p q d (found n x holds is same) = came_of d _ is refl
+  moves_quiet p q d (found_none is same) = came_of d _ is refl
+  moves_quiet p q d (wrote n x u holds is same) = came_of d _ is refl
+  moves_quiet p q d (went n x waits holds is same) = came_of d _ is refl
+  moves_quiet p q d (remembered n x holds registry is same) = came_of d _ is refl
+  moves_quiet p q d (opens action h so is same) = came_of d _ is refl
+  moves_quiet p q d (closed is same) = came_of d _ is refl
+  moves_quiet p q d (cleaned is same) = came_of d _ is refl
+
+  goes_quiet : (s t : Seen T U C) (d : Doings U) → Goes sends never client s d t → d.came ≡ []
+  goes_quiet s t d (unfelt is same) = came_of d _ is refl
+  goes_quiet s t d (within p q there moves same) = moves_quiet p q d moves
+  goes_quiet s t d (taken_out p q there killed moves gone no_notes same) = moves_quiet p q d moves
+  goes_quiet s t d (notes_taken is same) = came_of d _ is refl
+
+-- ---- a call that does not read the client
+
+abbrev is_insertion : {T U G C : Type 0} → Call T U G C → Bool
+is_insertion (Asked (step.InsertClient transport info) answer) = true
+is_insertion _ = false
+
+module _ {T U G C : Type 0} (w : World T G C) (id : ClientParts) (offer : Offer G) (before after : Seen T U C) (lacked : Bool) (did : List (Deed U)) where
+  abbrev Quiet : Type 0
+  Quiet = came_in did ≡ []
+
+  unfelt_quiet : Unfelt before lacked did after → Quiet
+  unfelt_quiet (unlacked, none', same) = ap came_in none'
+
+  abbrev unheard : World T G C
+  unheard = record w { receives = never }
+
+  -- one that is the same over a transport that never receives
+  felt : (call : Call T U G C) → is_insertion call ≡ false → PartCall w id offer call before lacked did after → PartCall unheard id offer call before lacked did after → Quiet
+  felt call old h h' = go (concerns id call) refl
+    where
+      not_inserted : IsNotInserted id call
+      not_inserted new (transport, info, is) = absurd (true≢false (sym (ap is_insertion is) ∙ old))
+
+      go : (b : Bool) → concerns id call ≡ b → Quiet
+      go true about = goes_quiet w.sends id before after _ (call_goes unheard id offer call before lacked did after about h')
+      go false far = unfelt_quiet (other_call w id offer call before lacked did after not_inserted far h)
+
+  inserted_quiet : (transport : T) (info : C) (r : Result ClientParts InsertClientError) → InsertedAs w id offer transport info r before lacked did after → Quiet
+  inserted_quiet transport info (Ok new) h =
+      elim (either_bool (same_client new id) h) [
+        | inl (link, fresh, unlacked, did_so, same) ↦ ap came_in did_so
+        | inr other ↦ unfelt_quiet other
+      ]
+  inserted_quiet transport info (Err e) other = unfelt_quiet other
+
+  call_quiet : (call : Call T U G C) → reads_of id call ≡ false → PartCall w id offer call before lacked did after → Quiet
+  call_quiet (Asked (step.InsertClient transport info) answer) other (r, is, h) = inserted_quiet transport info r h
+  call_quiet (Asked (step.SetObjectData o u) answer) other h = felt (Asked (step.SetObjectData o u) answer) refl h h
+  call_quiet (Asked (step.CreateObject target i version u) answer) other h = felt (Asked (step.CreateObject target i version u) answer) refl h h
+  call_quiet (Asked (step.DestroyObject o) answer) other h = felt (Asked (step.DestroyObject o) answer) refl h h
+  call_quiet (Asked (step.SendEvent m) answer) other h = felt (Asked (step.SendEvent m) answer) refl h h
+  call_quiet (Asked (step.PostError o code text) answer) other h = felt (Asked (step.PostError o code text) answer) refl h h
+  call_quiet (Asked (step.KillClient target reason) answer) other h = felt (Asked (step.KillClient target reason) answer) refl h h
+  call_quiet (Asked (step.CreateGlobal i version handler) answer) other h = felt (Asked (step.CreateGlobal i version handler) answer) refl h h
+  call_quiet (Asked (step.DisableGlobal g) answer) other h = felt (Asked (step.DisableGlobal g) answer) refl h h
+  call_quiet (Asked (step.RemoveGlobal g) answer) other h = felt (Asked (step.RemoveGlobal g) answer) refl h h
+  call_quiet (Asked (step.Flush target) answer) other h = felt (Asked (step.Flush target) answer) refl h h
+  call_quiet (Asked (step.SetDefaultMaxBufferSize limit) answer) other h = felt (Asked (step.SetDefaultMaxBufferSize limit) answer) refl h h
+  call_quiet (Asked (step.SetClientMaxBufferSize target limit) answer) other h = felt (Asked (step.SetClientMaxBufferSize target limit) answer) refl h h
+  call_quiet (Asked (step.NextAction target) answer) other (r, left, is, h) = unfelt_quiet (at_other _ _ (same_client target id) other h)
+  call_quiet (Asked (step.NextActionWithin target reading) answer) other (r, left, is, h) = unfelt_quiet (at_other _ _ (same_client target id) other h)
+  call_quiet (Asked (step.FinishRequest target u) answer) other h = felt (Asked (step.FinishRequest target u) answer) refl h h
+  call_quiet (Asked (step.FinishBind target u) answer) other h = felt (Asked (step.FinishBind target u) answer) refl h h
+  call_quiet (Asked step.Cleanup answer) other h = felt (Asked step.Cleanup answer) refl h h
+  call_quiet (Asked step.TakeNotes answer) other h = felt (Asked step.TakeNotes answer) refl h h
+  call_quiet (Asked (step.Arrive target bytes tokens) answer) other h = felt (Asked (step.Arrive target bytes tokens) answer) refl h h
+  call_quiet (Asked (step.ArriveFault target f) answer) other h = felt (Asked (step.ArriveFault target f) answer) refl h h
+  call_quiet (Asked (step.Accept target n) answer) other h = felt (Asked (step.Accept target n) answer) refl h h
+  call_quiet (Asked (step.AcceptFault target f) answer) other h = felt (Asked (step.AcceptFault target f) answer) refl h h
+  call_quiet (Asked (step.TakeSent target) answer) other h = felt (Asked (step.TakeSent target) answer) refl h h
+  call_quiet (Changed target t) other h = felt (Changed target t) refl h h
+
+-- ---- a reading
+
+module _ {T U G C : Type 0} (sends : T → Queue → Result ℕ IoFault → T → Type 0) (receives : T → ℕ → Result Queue IoFault → T → Type 0)
+    (a : Around G C) where
+  -- the receives of its turns, and those that are left
+  turns_bounded : (left : ℕ) (p after : ReaderState T (Core U C)) (turns : List Turn) (out : Gives (Told U)) → Reads sends (server a) receives left p turns out after
+      → length (received U turns) + out.left ≤ left
+  turns_bounded left p after [] out (same, ends) = let few = stops_left sends receives (server a) left p out ends in omega (arith, few)
+  turns_bounded left p after (Received r ∷ turns) out (on, lacks, (n, is, (link, filled, finds, h))) =
+      elim (either_result (counted_answer (count_of r)) h) [
+        | inl (u, next) ↦ let few = turns_bounded n (with_link p link) after turns out next in omega (arith, few, is)
+        | inr (f, (over, ends, same)) ↦
+            let none' : length (received U turns) ≡ 0 = ap (λ (ts : List Turn). length (received U ts)) over in
+            let left_is : out.left ≡ n = ap (λ (o : Gives (Told U)). o.left) ends in omega (arith, none', left_is, is)
+      ]
+  turns_bounded left p after (Handled es ∷ turns) out (on, (v, link, first, lacked, mid, rest, found', by, split, next)) =
+      let few = turns_bounded left mid after turns rest next in
+      let heard : length (received U (Handled es ∷ turns)) ≡ length (received U turns) = ap length (none_sent {U = U} es _) in
+      let left_is : out.left ≡ rest.left = ap (λ (o : Gives (Told U)). o.left) split in omega (arith, few, heard, left_is)
+  turns_bounded left p after (Unread es ∷ turns) out (on, (v, link, first, lacked, mid, rest, found', by, split, next)) =
+      let few = turns_bounded left mid after turns rest next in
+      let heard : length (received U (Unread es ∷ turns)) ≡ length (received U turns) = ap length (none_sent {U = U} es _) in
+      let left_is : out.left ≡ rest.left = ap (λ (o : Gives (Told U)). o.left) split in omega (arith, few, heard, left_is)
+
+  none_left : (did : List (Deed U)) (r r' : Reading) → did ≡ [] → r' ≡ r → receives_in did + r'.receives_left ≤ r.receives_left
+  none_left did r r' none' same =
+      let heard : receives_in did ≡ 0 = ap receives_in none' in
+      let left_is : r'.receives_left ≡ r.receives_left = ap (λ (x : Reading). x.receives_left) same in omega (arith, heard, left_is)
+
+  part_bounded : (r : Reading) (p : Part T U C) (answer : Result Handed ActionError) (r' : Reading) (lacked : Bool) (did : List (Deed U)) (q : Part T U C)
+      → NextAction sends receives a r p answer r' lacked did q → receives_in did + r'.receives_left ≤ r.receives_left
+  part_bounded r p answer r' lacked did q h =
+      elim (either_option p.action h) [
+        | inr (open', is_open, (is, same, calm, none', stays)) ↦ none_left did r r' none' same
+        | inl (shut, g) ↦
+            elim (either_bool p.is_killed g) [
+              | inl (is, same, calm, none', stays) ↦ none_left did r r' none' same
+              | inr (turns, out, end, reads, is, left, calm, did_so, ends) ↦
+                  let few = turns_bounded r.receives_left (reader_part p) end turns out reads in
+                  let heard : receives_in did ≡ length (received U turns) =
+                  ap receives_in did_so ∙ ap length (received_deeds sends receives a r.receives_left p end turns out reads) in
+                  let left_is : r'.receives_left ≡ out.left = ap (λ (x : Reading). x.receives_left) left in omega (arith, few, heard, left_is)
+            ]
+      ]
+
+-- ---- a call
+
+module _ {T U G C : Type 0} (w : World T G C) (id : ClientParts) (offer : Offer G) (before after : Seen T U C) (lacked : Bool) (did : List (Deed U)) where
+  -- one that may read this client
+  reads_bounded : (target : ClientParts) (r : Reading) (answer : Result Handed ActionError) (r' : Reading) → ReadsFor w id offer target r answer r' before lacked did after
+      → MatchBool (same_client target id) (receives_in did + r'.receives_left ≤ r.receives_left) (receives_in did ≡ 0)
+  reads_bounded target r answer r' h = go (same_client target id) h
+    where
+      go : (b : Bool) → OfClient b before (λ p q. NextAction w.sends w.receives (around w id offer) r p answer r' lacked did q)
+          ((answer ≡ Err (Io fault.InvalidInput)) × (r' ≡ r)) lacked did after
+          → MatchBool b (receives_in did + r'.receives_left ≤ r.receives_left) (receives_in did ≡ 0)
+      go false (unlacked, none', same) = ap receives_in none'
+      go true h =
+          elim (either_option before.part h) [
+            | inl (missing, ((is, same), (unlacked, none', stays))) ↦ none_left w.sends w.receives (around w id offer) did r r' none' same
+            | inr (p, there, (q, next, same)) ↦ part_bounded w.sends w.receives (around w id offer) r p answer r' lacked did q next
+          ]
+
+  of_reply : (target : ClientParts) (reading r' : Reading) (r : Result Action ActionError) (answer : Reply T U) → answer ≡ reply.NextActionWithin r r'
+      → MatchBool (same_client target id) (receives_in did + r'.receives_left ≤ reading.receives_left) (receives_in did ≡ 0)
+      → KeepsTo {T = T} {U = U} {G = G} {C = C} id (Asked (step.NextActionWithin target reading) answer) (receives_in did)
+  of_reply target reading r' r answer is h =
+      subst (λ (x : Reply T U). KeepsTo {T = T} {U = U} {G = G} {C = C} id (Asked (step.NextActionWithin target reading) x) (receives_in did)) (sym is) h
+
+  at_most_new : (b : Bool) (n left : ℕ) → MatchBool b (n + left ≤ 64) (n ≡ 0) → MatchBool b (n ≤ 64) (n ≡ 0)
+  at_most_new true n left few = omega (arith, few)
+  at_most_new false n left none' = none'
+
+  nothing : (call : Call T U G C) → reads_of id call ≡ false → PartCall w id offer call before lacked did after → receives_in did ≡ 0
+  nothing call other h = ap length (call_quiet w id offer before after lacked did call other h)
+
+  keeps_to : (call : Call T U G C) → PartCall w id offer call before lacked did after → KeepsTo id call (receives_in did)
+  keeps_to (Asked (step.NextAction target) answer) (r, left, is, h) =
+      at_most_new (same_client target id) (receives_in did) left.receives_left (reads_bounded target new_reading (action_content r) left h)
+  keeps_to (Asked (step.NextActionWithin target reading) answer) (r, left, is, h) = of_reply target reading left r answer is (reads_bounded target reading (action_content r) left h)
+  keeps_to (Asked (step.InsertClient transport info) answer) h = nothing (Asked (step.InsertClient transport info) answer) refl h
+  keeps_to (Asked (step.SetObjectData o u) answer) h = nothing (Asked (step.SetObjectData o u) answer) refl h
+  keeps_to (Asked (step.CreateObject target i version u) answer) h = nothing (Asked (step.CreateObject target i version u) answer) refl h
+  keeps_to (Asked (step.DestroyObject o) answer) h = nothing (Asked (step.DestroyObject o) answer) refl h
+  keeps_to (Asked (step.SendEvent m) answer) h = nothing (Asked (step.SendEvent m) answer) refl h
+  keeps_to (Asked (step.PostError o code text) answer) h = nothing (Asked (step.PostError o code text) answer) refl h
+  keeps_to (Asked (step.KillClient target reason) answer) h = nothing (Asked (step.KillClient target reason) answer) refl h
+  keeps_to (Asked (step.CreateGlobal i version handler) answer) h = nothing (Asked (step.CreateGlobal i version handler) answer) refl h
+  keeps_to (Asked (step.DisableGlobal g) answer) h = nothing (Asked (step.DisableGlobal g) answer) refl h
+  keeps_to (Asked (step.RemoveGlobal g) answer) h = nothing (Asked (step.RemoveGlobal g) answer) refl h
+  keeps_to (Asked (step.Flush target) answer) h = nothing (Asked (step.Flush target) answer) refl h
+  keeps_to (Asked (step.SetDefaultMaxBufferSize limit) answer) h = nothing (Asked (step.SetDefaultMaxBufferSize limit) answer) refl h
+  keeps_to (Asked (step.SetClientMaxBufferSize target limit) answer) h = nothing (Asked (step.SetClientMaxBufferSize target limit) answer) refl h
+  keeps_to (Asked (step.FinishRequest target u) answer) h = nothing (Asked (step.FinishRequest target u) answer) refl h
+  keeps_to (Asked (step.FinishBind target u) answer) h = nothing (Asked (step.FinishBind target u) answer) refl h
+  keeps_to (Asked step.Cleanup answer) h = nothing (Asked step.Cleanup answer) refl h
+  keeps_to (Asked step.TakeNotes answer) h = nothing (Asked step.TakeNotes answer) refl h
+  keeps_to (Asked (step.Arrive target bytes tokens) answer) h = nothing (Asked (step.Arrive target bytes tokens) answer) refl h
+  keeps_to (Asked (step.ArriveFault target f) answer) h = nothing (Asked (step.ArriveFault target f) answer) refl h
+  keeps_to (Asked (step.Accept target n) answer) h = nothing (Asked (step.Accept target n) answer) refl h
+  keeps_to (Asked (step.AcceptFault target f) answer) h = nothing (Asked (step.AcceptFault target f) answer) refl h
+  keeps_to (Asked (step.TakeSent target) answer) h = nothing (Asked (step.TakeSent target) answer) refl h
+  keeps_to (Changed target t) h = nothing (Changed target t) refl h
+
+-- so each call does of each client
+pub each_bounded : {T U G C : Type 0} (w : World T G C) (before after : ServerState T U G C) (e : Entry T U G C) → OneStep w before e after → EachIsBounded e
+each_bounded w before after e one id = keeps_to w id before.offer (seen id before) (seen id after) (e.lacks id) (e.did id) e.call (one.each id)
+
+-- ---- calls one after another
+
+module _ {T U G C : Type 0} where
+  over_both : (id : ClientParts) (run others : List (Entry T U G C)) → receives_over id (run ++ others) ≡ receives_over id run + receives_over id others
+  over_both id [] others = omega arith
+  over_both id (e ∷ run) others = let rest = over_both id run others in omega (arith, rest)
+
+  over_split : (id : ClientParts) (run first next : List (Entry T U G C)) → run ≡ first ++ next → receives_over id run ≡ receives_over id first + receives_over id next
+  over_split id run first next is = ap (receives_over id) is ∙ over_both id first next
+
+module _ {T U G C : Type 0} (w : World T G C) (id : ClientParts) where
+  one_quiet : (before after : ServerState T U G C) (e : Entry T U G C) → reads_of id e.call ≡ false → OneStep w before e after → receives_in (e.did id) ≡ 0
+  one_quiet before after e other one = nothing w id before.offer (seen id before) (seen id after) (e.lacks id) (e.did id) e.call other (one.each id)
+
+  calls_quiet : (before after : ServerState T U G C) (run : List (Entry T U G C)) → Leads w before run after → AllSpare id run → receives_over id run ≡ 0
+  calls_quiet before after [] same spared = refl
+  calls_quiet before after (e ∷ run) (mid, one, leads) (spared, others) =
+      let first = one_quiet before mid e (spared_unread id e.call spared) one in
+      let rest = calls_quiet mid after run leads others in omega (arith, first, rest)
+
+  -- a reading of this client with so many receives left
+  reading_bounded : (before after : ServerState T U G C) (e : Entry T U G C) (r r' : Reading) (answer : Result Action ActionError)
+      → e.call ≡ Asked (step.NextActionWithin id r) (reply.NextActionWithin answer r') → OneStep w before e after
+      → receives_in (e.did id) + r'.receives_left ≤ r.receives_left
+  reading_bounded before after e r r' answer is one =
+      own (same_client id id) (same_self id) (subst (λ (c : Call T U G C). KeepsTo id c (receives_in (e.did id))) is (each_bounded w before after e one id))
+    where
+      own : (b : Bool) → b ≡ true → MatchBool b (receives_in (e.did id) + r'.receives_left ≤ r.receives_left) (receives_in (e.did id) ≡ 0)
+          → receives_in (e.did id) + r'.receives_left ≤ r.receives_left
+      own true is few = few
+      own false is h = absurd (true≢false (sym is))
+
+-- ---- a dispatch
+
+module _ {H T U G C : Type 0} (w : World T G C) (answers : Answering H T U G C) (id : ClientParts) where
+  handles_quiet : (h h' : H) (before : BackendState T U G C) (after : ServerState T U G C) (a : Action) (run : List (Entry T U G C)) (lacked : Bool) (why : Option FinishError)
+      → Handles w answers id h before a run lacked why h' after → receives_over id run ≡ 0
+  handles_quiet h h' before after a run lacked why handles =
+      let calls = calls_quiet w id before.server handles.left.server handles.calls handles.leads handles.spared in
+      let last = one_quiet w id handles.left.server after handles.ended ended_unread handles.ends in
+      let both = over_split id run handles.calls (handles.ended ∷ []) handles.run_is in omega (arith, calls, last, both)
+    where
+      unread : (a : Action) (end : Step T U G C) (answer : Reply T U) → Answers w answers id h before a end h' handles.left → reads_of id (Asked end answer) ≡ false
+      unread (action.Request sender opcode args is_destructor created) end answer (u, so, is) = ap (λ (s : Step T U G C). reads_of {T = T} {U = U} {G = G} {C = C} id (Asked s answer)) is
+      unread (action.Bind global object) end answer (u, so, is) = ap (λ (s : Step T U G C). reads_of {T = T} {U = U} {G = G} {C = C} id (Asked s answer)) is
+
+      ended_unread : reads_of id handles.ended.call ≡ false
+      ended_unread = ap (λ (c : Call T U G C). reads_of id c) handles.ended_is ∙ unread a handles.end handles.answer handles.answers_so
+
+  -- so many receives were made, and so many are left
+  abbrev Spends : Reading → List (Entry T U G C) → Reading → Type 0
+  Spends r run r' = receives_over id run + r'.receives_left ≤ r.receives_left
+
+  round_spends : (h h' : H) (r r' : Reading) (before after : ServerState T U G C) (run : List (Entry T U G C)) (lacked : Bool) (why : Option FinishError)
+      → Round w answers id h r before run lacked why h' r' after → Spends r run r'
+  round_spends h h' r r' before after run lacked why round =
+      let read = reading_bounded w id before round.found.server round.read r r' (Ok round.handed) round.read_is round.reads in
+      let rest = handles_quiet h h' round.found after round.handed round.rest round.end_lacked why round.handles in
+      let run_is : receives_over id run ≡ receives_in (round.read.did id) + receives_over id round.rest = ap (receives_over id) round.run_is in omega (arith, read, rest, run_is)
+
+  rounds_spend : (h h' : H) (r r' : Reading) (before after : ServerState T U G C) (run : List (Entry T U G C)) (lacked : Bool)
+      → Rounds w answers id h r before run lacked h' r' after → Spends r run r'
+  rounds_spend h h' r r' before after run lacked (none nothing' unlacked) = let is : receives_over id run ≡ 0 = ap (receives_over id) nothing' in omega (arith, is)
+  rounds_spend h h' r r' before after run lacked (more {h1 = h1} {r1 = r1} {s1 = s1} {first = first} {next = next} {before = was} {now = now} rounds round run_is lacked_is) =
+      let earlier = rounds_spend h h1 r r1 before s1 first was rounds in
+      let later = round_spends h1 h' r1 r' s1 after next now None round in
+      let both = over_split id run first next run_is in omega (arith, earlier, later, both)
+
+  last_spends : (h h' : H) (r r' : Reading) (before after : ServerState T U G C) (run : List (Entry T U G C)) (lacked : Bool) (f : IoFault)
+      → Last w answers id h r before run lacked f h' r' after → Spends r run r'
+  last_spends h h' r r' before after run lacked f (no_action e error one call run_is lacked_is fault_is same) =
+      let read = reading_bounded w id before after e r r' (Err error) call one in
+      let is : receives_over id run ≡ receives_in (e.did id) + 0 = ap (receives_over id) run_is in omega (arith, read, is)
+  last_spends h h' r r' before after run lacked f (not_ended why round fault_is) = round_spends h h' r r' before after run lacked (Some why) round
+
+  pub served_bounded : (h h' : H) (before after : ServerState T U G C) (run : List (Entry T U G C)) (lacked : Bool) (answer : Result ℕ IoFault)
+      → Serves w answers id h before run lacked answer h' after → receives_over id run ≤ 64
+  served_bounded h h' before after run lacked answer serves =
+      let s = serves.served in
+      let first = rounds_spend h s.handler new_reading s.reading before s.mid s.first s.first_lacked s.rounds in
+      let last = last_spends s.handler h' s.reading serves.left s.mid after s.last s.last_lacked serves.fault s.end in
+      let both = over_split id run s.first s.last s.run_is in omega (arith, first, last, both)
+
+  -- the cleanup at the end of a dispatch receives nothing
+  pub dispatch_bounded : (h h' : H) (before mid : ServerState T U G C) (after : BackendState T U G C) (served : List (Entry T U G C)) (lacked : Bool) (answer result : Result ℕ IoFault)
+      → Serves w answers id h before served lacked answer h' mid → (ends : EndsDispatch w before served lacked mid answer result after)
+      → receives_over id (served ++ ends.cleanup ∷ []) ≤ 64
+  dispatch_bounded h h' before mid after served lacked answer result serves ends =
+      let few = served_bounded h h' before mid served lacked answer serves in
+      let other : reads_of id ends.cleanup.call ≡ false = ap (λ (c : Call T U G C). reads_of id c) ends.cleanup_is in
+      let last = one_quiet w id mid after.server ends.cleanup other ends.cleans in
+      let both = over_both id served (ends.cleanup ∷ []) in omega (arith, few, last, both)
+
+-- ---- clients one after another
+
+module _ {T U G C : Type 0} where
+  one_more_part : (earlier : List ClientParts) (id : ClientParts) (first next : List (Entry T U G C)) → EachPartIsBounded earlier first → receives_over id next ≤ 64
+      → EachPartIsBounded (earlier ++ (id ∷ [])) (first ++ next)
+  one_more_part [] id first next nothing' few =
+      (next, [], ap (λ (run : List (Entry T U G C)). run ++ next) nothing' ∙ sym (append-nil next), few, refl)
+  one_more_part (e ∷ earlier) id first next (own, rest, is, own_few, others) few =
+      (own, rest ++ next, ap (λ (run : List (Entry T U G C)). run ++ next) is ∙ append_assoc own rest next, own_few, one_more_part earlier id rest next others few)
+
+module _ {H T U G C : Type 0} (w : World T G C) (answers : Answering H T U G C) where
+  pub parts_bounded : (ids : List ClientParts) (h h' : H) (before after : ServerState T U G C) (run : List (Entry T U G C)) (lacked : Bool) (total : ℕ)
+      → ServesEach w answers ids h before run lacked total h' after → EachPartIsBounded ids run
+  parts_bounded ids h h' before after run lacked total (none no_ids nothing' unlacked no_total) =
+      subst (λ (l : List ClientParts). EachPartIsBounded l run) (sym no_ids) nothing'
+  parts_bounded ids h h' before after run lacked total (more {earlier = earlier} {h1 = h1} {s1 = s1} {first = first} {next = next} {before = was} {now = now} {count = count} id answer each serves ids_are run_is lacked_is total_is) =
+      let first_parts = parts_bounded earlier h h1 before s1 first was count each in
+      let few = served_bounded w answers id h1 h' s1 after next now answer serves in
+      subst (λ (l : List ClientParts). EachPartIsBounded l run) (sym ids_are)
+      (subst (λ (x : List (Entry T U G C)). EachPartIsBounded (earlier ++ (id ∷ [])) x) (sym run_is) (one_more_part earlier id first next first_parts few))
