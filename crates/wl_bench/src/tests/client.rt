@@ -6,6 +6,7 @@
 mod acts;
 mod cuts;
 mod drill;
+mod drills;
 mod events;
 mod example;
 mod faults;

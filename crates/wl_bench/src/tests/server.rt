@@ -11,6 +11,8 @@ mod dispatches;
 mod drill;
 mod drills;
 mod example;
+mod faults;
+mod full;
 mod globals;
 mod handlers;
 mod hostile;

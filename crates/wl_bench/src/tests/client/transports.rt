@@ -1,5 +1,6 @@
 //! Each receive and each send of a client's transport fails in turn.
 
+use super::drill::Entry;
 use super::steps::{Call, steps};
 use super::told::write_reply;
 use super::values::Request;
@@ -153,8 +154,8 @@ fn is_receive(call: Call) -> bool {
 }
 
 /// The run, in which the receive at that call answers the fault.
-fn with_receive(alloc: Global, at: usize, fault: IoFault) -> Result<Vec<Call>, Fail> {
-    let (front, back) = RUN.split_at(at.min(RUN.len()));
+fn with_receive(alloc: Global, run: &[Call], at: usize, fault: IoFault) -> Result<Vec<Call>, Fail> {
+    let (front, back) = run.split_at(at.min(run.len()));
     let mut calls = Vec::from_slice(alloc, front)?;
     calls.push(Call::ArriveFault(fault))?;
     calls.extend_from_slice(back)?;
@@ -162,13 +163,18 @@ fn with_receive(alloc: Global, at: usize, fault: IoFault) -> Result<Vec<Call>, F
 }
 
 /// The run, in which that send answers the fault, counted from 0.
-fn with_send(alloc: Global, number: usize, fault: IoFault) -> Result<Vec<Call>, Fail> {
+fn with_send(
+    alloc: Global,
+    run: &[Call],
+    number: usize,
+    fault: IoFault,
+) -> Result<Vec<Call>, Fail> {
     let mut calls = Vec::new(alloc);
     for _ in 0..number {
         calls.push(Call::Accept(usize::MAX))?;
     }
     calls.push(Call::AcceptFault(fault))?;
-    calls.extend_from_slice(&RUN)?;
+    calls.extend_from_slice(run)?;
     Ok(calls)
 }
 
@@ -195,69 +201,128 @@ fn transport_that_would_block_or_lacks_memory(rt: HostRuntime) -> Result<(), Fai
     for fault in [IoFault::WouldBlock, IoFault::OutOfMemory] {
         for (at, call) in RUN.iter().enumerate() {
             if is_receive(*call) {
-                is_made_up_for(&rt, with_receive(alloc, at, fault)?.as_slice())?;
+                is_made_up_for(&rt, with_receive(alloc, &RUN, at, fault)?.as_slice())?;
             }
         }
         for number in 0..3 {
-            is_made_up_for(&rt, with_send(alloc, number, fault)?.as_slice())?;
+            is_made_up_for(&rt, with_send(alloc, &RUN, number, fault)?.as_slice())?;
         }
     }
     Ok(())
 }
 
-/// Whether a call of the run fails, and everything is as it has to be: the calls before tell what they tell if nothing
-/// fails, the call that fails reads or flushes, and after it each that does either fails too.
-fn fails_for_good(rt: &impl Abort, clean: &[String], texts: &[String]) -> bool {
+/// Fails if a call of a run, in which the transport fails, tells something else than it has to: up to the first reading or
+/// flush that answers the fault, what it tells if nothing fails; and from then on each that reads or flushes fails.
+fn fails_for_good(rt: &impl Abort, run: &[Call], clean: &[String], texts: &[String]) {
     let mut has_failed = false;
-    for (call, (was, is)) in RUN.iter().zip(clean.iter().zip(texts)) {
+    for (call, (was, is)) in run.iter().zip(clean.iter().zip(texts)) {
         let is_asked = matches!(call, Call::Next | Call::Flush);
-        if has_failed {
-            assert!(rt; !is_asked || is.as_str() == FAILED);
-        } else if is.as_str() != was.as_str() {
-            assert!(rt; is_asked);
-            assert_eq!(rt; is.as_str(), FAILED);
+        if is_asked && is.as_str() == FAILED {
             has_failed = true;
         }
+        if !has_failed {
+            assert_eq!(rt; is.as_str(), was.as_str());
+        } else if is_asked {
+            assert_eq!(rt; is.as_str(), FAILED);
+        }
     }
-    has_failed
+    assert!(rt; has_failed);
+}
+
+/// Fails if the run tells something else than if nothing fails.
+fn tells_the_same(rt: &impl Abort, clean: &[String], texts: &[String]) {
+    assert_eq!(rt; texts.len(), clean.len());
+    for (was, is) in clean.iter().zip(texts) {
+        assert_eq!(rt; is.as_str(), was.as_str());
+    }
 }
 
 /// Fails if the fault does not become the session's error, or is not answered from then on; whether it is met.
 fn is_stored(
     rt: &(impl Abort + AllocGlobal),
+    run: &[Call],
     clean: &[String],
     calls: &[Call],
 ) -> Result<bool, Fail> {
     let texts = played(rt.alloc(), calls)?;
-    let has_failed = fails_for_good(rt, clean, texts.as_slice());
-    let error = if has_failed {
-        "Io error: os error 5\n"
+    let is_met = texts
+        .last()
+        .is_some_and(|told| told.as_str() == "Io error: os error 5\n");
+    if is_met {
+        fails_for_good(rt, run, clean, texts.as_slice());
     } else {
-        "no error\n"
-    };
-    assert!(rt; texts.last().is_some_and(|told| told.as_str() == error));
-    Ok(has_failed)
+        tells_the_same(rt, clean, texts.as_slice());
+    }
+    Ok(is_met)
 }
 
-/// Each receive, and each of the two sends, fails: it is stored, and answered from then on. The last receive of the five is
-/// that of the last reading, which finds nothing else.
-#[test]
-fn transport_that_fails(rt: HostRuntime) -> Result<(), Fail> {
-    let alloc = rt.alloc();
-    let clean = played(alloc, &RUN)?;
-    for (at, call) in RUN.iter().enumerate() {
+/// Each receive of the run fails; how many are met.
+fn receives_fail(
+    rt: &(impl Abort + AllocGlobal),
+    run: &[Call],
+    clean: &[String],
+) -> Result<usize, Fail> {
+    let mut count = 0usize;
+    for (at, call) in run.iter().enumerate() {
         if is_receive(*call) {
-            let calls = with_receive(alloc, at, IoFault::Other(5))?;
-            assert!(rt;
-                is_stored(&rt, clean.as_slice(), calls.as_slice())?,
-                "receive at {at}"
-            );
+            let calls = with_receive(rt.alloc(), run, at, IoFault::Other(5))?;
+            if is_stored(rt, run, clean, calls.as_slice())? {
+                count = count.saturating_add(1);
+            } else {
+                assert!(rt;
+                    matches!(call, Call::Next),
+                    "what arrives at {at} is received"
+                );
+            }
         }
     }
-    for number in 0..3 {
-        let calls = with_send(alloc, number, IoFault::Other(5))?;
-        let is_met = is_stored(&rt, clean.as_slice(), calls.as_slice())?;
-        assert_eq!(rt; is_met, number < 2, "send {number}");
+    Ok(count)
+}
+
+/// Each send of the run fails, until none is met; how many are.
+fn sends_fail(
+    rt: &(impl Abort + AllocGlobal),
+    run: &[Call],
+    clean: &[String],
+) -> Result<usize, Fail> {
+    for number in 0..100 {
+        let calls = with_send(rt.alloc(), run, number, IoFault::Other(5))?;
+        if !is_stored(rt, run, clean, calls.as_slice())? {
+            return Ok(number);
+        }
     }
+    Err(Fail::new("there are more sends"))
+}
+
+/// Each receive of the run, and each send, fails: it is stored, and answered from then on. Fails if there are not so many.
+fn transport_fails(
+    rt: &(impl Abort + AllocGlobal),
+    run: &[Call],
+    counts: (usize, usize),
+) -> Result<(), Fail> {
+    let clean = played(rt.alloc(), run)?;
+    let receives = receives_fail(rt, run, clean.as_slice())?;
+    let sends = sends_fail(rt, run, clean.as_slice())?;
+    assert_eq!(rt; (receives, sends), counts);
     Ok(())
+}
+
+/// The same of the calls of these entries.
+pub fn fails_in_turn(
+    rt: &(impl Abort + AllocGlobal),
+    entries: &[Entry],
+    counts: (usize, usize),
+) -> Result<(), Fail> {
+    let mut run = Vec::new(rt.alloc());
+    for entry in entries {
+        run.push(entry.0)?;
+    }
+    transport_fails(rt, run.as_slice(), counts)
+}
+
+/// Each receive, and each of the two sends, fails. The last receive of the five is that of the last reading, which finds
+/// nothing else.
+#[test]
+fn transport_that_fails(rt: HostRuntime) -> Result<(), Fail> {
+    transport_fails(&rt, &RUN, (5, 2))
 }

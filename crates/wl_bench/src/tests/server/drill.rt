@@ -7,7 +7,7 @@
 
 use super::steps::{Call, Made, arrive, step};
 use super::told::reply;
-use super::values::{FIRST, SECOND, Shown, Who};
+use super::values::{FIRST, SECOND, Shown, THIRD, Who};
 use crate::tests::cuts::Stream;
 use crate::tests::quad::{QUAD, quad_table};
 use std::alloc::Global;
@@ -18,7 +18,7 @@ use wl_server::{ActionError, Backend, ClientId, DisconnectReason, Note, Reply};
 use wl_wire::IoFault;
 
 /// A server of the runs.
-type Server = Backend<Memory, u32, Shown, bool>;
+pub type Server = Backend<Memory, u32, Shown, bool>;
 
 /// A step of a run, and its reply if there is memory.
 #[derive(Clone, Copy)]
@@ -44,6 +44,8 @@ pub struct Run<'a> {
     pub dies: Option<usize>,
     /// How many bytes the first client is sent after that, if it broke the protocol: those of the error.
     pub error_bytes: usize,
+    /// How many sends to the first client there are, with the one of what waits in the end.
+    pub sends: usize,
 }
 
 /// The client of the call, if it names one.
@@ -66,7 +68,7 @@ fn client_of_call(call: Call) -> Option<Who> {
 }
 
 /// The client of the step, if it names one.
-fn client_of(entry: Entry) -> Option<Who> {
+pub fn client_of(entry: Entry) -> Option<Who> {
     match entry {
         Entry::Do(call, _) => client_of_call(call),
         Entry::Arrive(_) => Some(FIRST),
@@ -76,7 +78,7 @@ fn client_of(entry: Entry) -> Option<Who> {
 }
 
 /// The step.
-fn made(alloc: Global, entry: Entry) -> Result<Made, Fail> {
+pub fn made(alloc: Global, entry: Entry) -> Result<Made, Fail> {
     match entry {
         Entry::Do(call, _) => step(alloc, call),
         Entry::Arrive(stream) => arrive(alloc, FIRST, stream.bytes(alloc)?.as_slice()),
@@ -211,7 +213,7 @@ fn was_live(run: &Run, at: usize, who: Who) -> bool {
 }
 
 /// The clients of the runs.
-const CLIENTS: [Who; 3] = [FIRST, SECOND, Who(2, 3)];
+const CLIENTS: [Who; 3] = [FIRST, SECOND, THIRD];
 
 /// The clients that the step killed.
 fn killed_at(alloc: Global, server: &Server, run: &Run, at: usize) -> Result<Vec<Who>, Fail> {

@@ -1,12 +1,13 @@
-//! The runs for which each allocation is refused in turn.
+//! The runs for which each allocation is refused in turn, and in which each receive and each send fails in turn.
 
 use super::arrivals::{
     BIND, BIND_NULL, BIND_VERSION_1, DESTROY, GET_REGISTRY, GIVE, MAKE, SYNC, SYNC_AT_5,
     SYNC_AT_SERVER,
 };
 use super::drill::{Entry, Run, drill};
+use super::faults::fails_in_turn;
 use super::steps::Call;
-use super::values::{BOUND, Event, FIRST, Named, SECOND, Thing, Who};
+use super::values::{BOUND, Event, FIRST, Named, SECOND, THIRD, Thing, Who};
 use crate::tests::cuts::Stream;
 use crate::tests::quad::{QUAD, quad_table};
 use std::alloc::Global;
@@ -20,9 +21,6 @@ const MADE: Thing = Thing(FIRST, 0xFF00_0000, 1, QUAD);
 /// The second.
 const SECOND_MADE: Thing = Thing(FIRST, 0xFF00_0001, 2, QUAD);
 
-/// The client that is inserted third.
-const THIRD: Who = Who(2, 3);
-
 /// A bind of the global 1 with a name of 1400 bytes.
 const LONG_BIND: Stream = Stream {
     front: &[2, 0, 0, 0, 0, 0, 0x94, 5, 1, 0, 0, 0, 0x79, 5, 0, 0],
@@ -30,8 +28,25 @@ const LONG_BIND: Stream = Stream {
     back: &[0, 0, 0, 0, 3, 0, 0, 0, 3, 0, 0, 0],
 };
 
+/// What a run is tried by.
+#[derive(Clone, Copy)]
+enum Trial {
+    /// By memory that is refused.
+    Memory,
+    /// By a transport that fails.
+    Transport,
+}
+
+/// Makes the run, and fails if it is not as it has to be.
+fn tried(rt: &(impl Abort + Print + AllocGlobal), trial: Trial, run: &Run) -> Result<(), Fail> {
+    match trial {
+        Trial::Memory => drill(rt, run),
+        Trial::Transport => fails_in_turn(rt, run),
+    }
+}
+
 /// A registry is told.
-fn registry(rt: &(impl Abort + Print + AllocGlobal)) -> Result<(), Fail> {
+fn registry(rt: &(impl Abort + Print + AllocGlobal), trial: Trial) -> Result<(), Fail> {
     let entries = [
         Entry::Do(Call::Insert(true), "client 0, 1\n"),
         Entry::Do(Call::Global(QUAD, 3), "global 1, 1\n"),
@@ -65,12 +80,13 @@ fn registry(rt: &(impl Abort + Print + AllocGlobal)) -> Result<(), Fail> {
         entries: &entries,
         dies: None,
         error_bytes: 0,
+        sends: 3,
     };
-    drill(rt, &run)
+    tried(rt, trial, &run)
 }
 
 /// An object is bound.
-fn bound_object(rt: &(impl Abort + Print + AllocGlobal)) -> Result<(), Fail> {
+fn bound_object(rt: &(impl Abort + Print + AllocGlobal), trial: Trial) -> Result<(), Fail> {
     let entries = [
         Entry::Do(Call::Insert(true), "client 0, 1\n"),
         Entry::Do(Call::Global(QUAD, 3), "global 1, 1\n"),
@@ -111,12 +127,13 @@ fn bound_object(rt: &(impl Abort + Print + AllocGlobal)) -> Result<(), Fail> {
         entries: &entries,
         dies: None,
         error_bytes: 0,
+        sends: 1,
     };
-    drill(rt, &run)
+    tried(rt, trial, &run)
 }
 
 /// A sync is answered.
-fn sync(rt: &(impl Abort + Print + AllocGlobal)) -> Result<(), Fail> {
+fn sync(rt: &(impl Abort + Print + AllocGlobal), trial: Trial) -> Result<(), Fail> {
     let entries = [
         Entry::Do(Call::Insert(true), "client 0, 1\n"),
         Entry::Do(Call::Arrive(FIRST, &SYNC), ""),
@@ -133,12 +150,13 @@ fn sync(rt: &(impl Abort + Print + AllocGlobal)) -> Result<(), Fail> {
         entries: &entries,
         dies: None,
         error_bytes: 0,
+        sends: 1,
     };
-    drill(rt, &run)
+    tried(rt, trial, &run)
 }
 
 /// A new id that is not the next.
-fn wrong_new_id(rt: &(impl Abort + Print + AllocGlobal)) -> Result<(), Fail> {
+fn wrong_new_id(rt: &(impl Abort + Print + AllocGlobal), trial: Trial) -> Result<(), Fail> {
     let entries = [
         Entry::Do(Call::Insert(true), "client 0, 1\n"),
         Entry::Do(Call::Arrive(FIRST, &SYNC_AT_5), ""),
@@ -158,12 +176,13 @@ fn wrong_new_id(rt: &(impl Abort + Print + AllocGlobal)) -> Result<(), Fail> {
         entries: &entries,
         dies: Some(2),
         error_bytes: 40,
+        sends: 1,
     };
-    drill(rt, &run)
+    tried(rt, trial, &run)
 }
 
 /// A new id of the server's range.
-fn new_id_of_the_server(rt: &(impl Abort + Print + AllocGlobal)) -> Result<(), Fail> {
+fn new_id_of_the_server(rt: &(impl Abort + Print + AllocGlobal), trial: Trial) -> Result<(), Fail> {
     let entries = [
         Entry::Do(Call::Insert(true), "client 0, 1\n"),
         Entry::Do(Call::Arrive(FIRST, &SYNC_AT_SERVER), ""),
@@ -182,12 +201,13 @@ fn new_id_of_the_server(rt: &(impl Abort + Print + AllocGlobal)) -> Result<(), F
         entries: &entries,
         dies: Some(2),
         error_bytes: 48,
+        sends: 1,
     };
-    drill(rt, &run)
+    tried(rt, trial, &run)
 }
 
 /// A bind without a name.
-fn bind_without_a_name(rt: &(impl Abort + Print + AllocGlobal)) -> Result<(), Fail> {
+fn bind_without_a_name(rt: &(impl Abort + Print + AllocGlobal), trial: Trial) -> Result<(), Fail> {
     let entries = [
         Entry::Do(Call::Insert(true), "client 0, 1\n"),
         Entry::Do(Call::Global(QUAD, 3), "global 1, 1\n"),
@@ -214,12 +234,16 @@ fn bind_without_a_name(rt: &(impl Abort + Print + AllocGlobal)) -> Result<(), Fa
         entries: &entries,
         dies: Some(7),
         error_bytes: 64,
+        sends: 2,
     };
-    drill(rt, &run)
+    tried(rt, trial, &run)
 }
 
 /// A bind with a long name.
-fn bind_with_a_long_name(rt: &(impl Abort + Print + AllocGlobal)) -> Result<(), Fail> {
+fn bind_with_a_long_name(
+    rt: &(impl Abort + Print + AllocGlobal),
+    trial: Trial,
+) -> Result<(), Fail> {
     let entries = [
         Entry::Do(Call::Insert(true), "client 0, 1\n"),
         Entry::Do(Call::Global(QUAD, 3), "global 1, 1\n"),
@@ -235,12 +259,13 @@ fn bind_with_a_long_name(rt: &(impl Abort + Print + AllocGlobal)) -> Result<(), 
         entries: &entries,
         dies: Some(5),
         error_bytes: 0,
+        sends: 0,
     };
-    drill(rt, &run)
+    tried(rt, trial, &run)
 }
 
 /// A request of a later version.
-fn later_version(rt: &(impl Abort + Print + AllocGlobal)) -> Result<(), Fail> {
+fn later_version(rt: &(impl Abort + Print + AllocGlobal), trial: Trial) -> Result<(), Fail> {
     let entries = [
         Entry::Do(Call::Insert(true), "client 0, 1\n"),
         Entry::Do(Call::Global(QUAD, 3), "global 1, 1\n"),
@@ -269,12 +294,13 @@ fn later_version(rt: &(impl Abort + Print + AllocGlobal)) -> Result<(), Fail> {
         entries: &entries,
         dies: Some(9),
         error_bytes: 68,
+        sends: 2,
     };
-    drill(rt, &run)
+    tried(rt, trial, &run)
 }
 
 /// An error is posted.
-fn posted_error(rt: &(impl Abort + Print + AllocGlobal)) -> Result<(), Fail> {
+fn posted_error(rt: &(impl Abort + Print + AllocGlobal), trial: Trial) -> Result<(), Fail> {
     let entries = [
         Entry::Do(Call::Insert(true), "client 0, 1\n"),
         Entry::Do(
@@ -296,12 +322,13 @@ fn posted_error(rt: &(impl Abort + Print + AllocGlobal)) -> Result<(), Fail> {
         entries: &entries,
         dies: Some(2),
         error_bytes: 24,
+        sends: 1,
     };
-    drill(rt, &run)
+    tried(rt, trial, &run)
 }
 
 /// Objects are created.
-fn created_objects(rt: &(impl Abort + Print + AllocGlobal)) -> Result<(), Fail> {
+fn created_objects(rt: &(impl Abort + Print + AllocGlobal), trial: Trial) -> Result<(), Fail> {
     let entries = [
         Entry::Do(Call::Insert(true), "client 0, 1\n"),
         Entry::Do(
@@ -334,12 +361,13 @@ fn created_objects(rt: &(impl Abort + Print + AllocGlobal)) -> Result<(), Fail> 
         entries: &entries,
         dies: None,
         error_bytes: 0,
+        sends: 2,
     };
-    drill(rt, &run)
+    tried(rt, trial, &run)
 }
 
 /// The program destroys a sender.
-fn destroyed_sender(rt: &(impl Abort + Print + AllocGlobal)) -> Result<(), Fail> {
+fn destroyed_sender(rt: &(impl Abort + Print + AllocGlobal), trial: Trial) -> Result<(), Fail> {
     let entries = [
         Entry::Do(Call::Insert(true), "client 0, 1\n"),
         Entry::Do(Call::Global(QUAD, 3), "global 1, 1\n"),
@@ -373,12 +401,13 @@ fn destroyed_sender(rt: &(impl Abort + Print + AllocGlobal)) -> Result<(), Fail>
         entries: &entries,
         dies: None,
         error_bytes: 0,
+        sends: 2,
     };
-    drill(rt, &run)
+    tried(rt, trial, &run)
 }
 
 /// A slot is used again.
-fn slots(rt: &(impl Abort + Print + AllocGlobal)) -> Result<(), Fail> {
+fn slots(rt: &(impl Abort + Print + AllocGlobal), trial: Trial) -> Result<(), Fail> {
     let entries = [
         Entry::Do(Call::Insert(true), "client 0, 1\n"),
         Entry::Do(Call::Insert(true), "client 1, 2\n"),
@@ -399,25 +428,63 @@ fn slots(rt: &(impl Abort + Print + AllocGlobal)) -> Result<(), Fail> {
         entries: &entries,
         dies: Some(3),
         error_bytes: 0,
+        sends: 0,
     };
-    drill(rt, &run)
+    tried(rt, trial, &run)
+}
+
+/// Registries and binds.
+fn registries_and_binds(rt: &(impl Abort + Print + AllocGlobal), trial: Trial) -> Result<(), Fail> {
+    registry(rt, trial)?;
+    bound_object(rt, trial)?;
+    sync(rt, trial)
+}
+
+/// Errors.
+fn errors(rt: &(impl Abort + Print + AllocGlobal), trial: Trial) -> Result<(), Fail> {
+    wrong_new_id(rt, trial)?;
+    new_id_of_the_server(rt, trial)?;
+    bind_without_a_name(rt, trial)?;
+    bind_with_a_long_name(rt, trial)?;
+    later_version(rt, trial)?;
+    posted_error(rt, trial)
+}
+
+/// Objects and clients.
+fn objects_and_clients(rt: &(impl Abort + Print + AllocGlobal), trial: Trial) -> Result<(), Fail> {
+    created_objects(rt, trial)?;
+    destroyed_sender(rt, trial)?;
+    slots(rt, trial)
 }
 
 #[test]
 fn drill_of_registries_and_binds(rt: HostRuntime) -> Result<(), Fail> {
-    registry(&rt)?;
-    bound_object(&rt)?;
-    sync(&rt)
+    registries_and_binds(&rt, Trial::Memory)
+}
+
+#[test]
+fn faults_of_registries_and_binds(rt: HostRuntime) -> Result<(), Fail> {
+    registries_and_binds(&rt, Trial::Transport)
 }
 
 #[test]
 fn drill_of_errors(rt: HostRuntime) -> Result<(), Fail> {
-    wrong_new_id(&rt)?;
-    new_id_of_the_server(&rt)?;
-    bind_without_a_name(&rt)?;
-    bind_with_a_long_name(&rt)?;
-    later_version(&rt)?;
-    posted_error(&rt)
+    errors(&rt, Trial::Memory)
+}
+
+#[test]
+fn faults_of_errors(rt: HostRuntime) -> Result<(), Fail> {
+    errors(&rt, Trial::Transport)
+}
+
+#[test]
+fn drill_of_objects_and_clients(rt: HostRuntime) -> Result<(), Fail> {
+    objects_and_clients(&rt, Trial::Memory)
+}
+
+#[test]
+fn faults_of_objects_and_clients(rt: HostRuntime) -> Result<(), Fail> {
+    objects_and_clients(&rt, Trial::Transport)
 }
 
 /// Fails if the text of the object's id is not this; if memory is refused, it is the next time.
@@ -449,44 +516,36 @@ fn drill_of_the_text_of_an_id(rt: HostRuntime) -> Result<(), Fail> {
     is_displayed(&rt, &protocol, MADE, "quad@4278190080[0]")
 }
 
-#[test]
-fn drill_of_objects_and_clients(rt: HostRuntime) -> Result<(), Fail> {
-    created_objects(&rt)?;
-    destroyed_sender(&rt)?;
-    slots(&rt)
-}
-
 /// Puts the steps by which a client makes a registry.
 fn push_registry(entries: &mut Vec<Entry>, who: Who) -> Result<(), Fail> {
     entries.push(Entry::Do(Call::Arrive(who, &GET_REGISTRY), ""))?;
     Ok(entries.push(Entry::Do(Call::Next(who), "Io error: would block\n"))?)
 }
 
-/// Puts the steps by which three clients have a registry each, and 146 globals are created.
-fn push_three(entries: &mut Vec<Entry>) -> Result<(), Fail> {
+/// Puts the steps by which three clients have a registry each, and so many globals are created.
+fn push_three(entries: &mut Vec<Entry>, globals: u32) -> Result<(), Fail> {
     entries.push(Entry::Do(Call::Insert(true), "client 0, 1\n"))?;
     entries.push(Entry::Do(Call::Insert(true), "client 1, 2\n"))?;
     entries.push(Entry::Do(Call::Insert(true), "client 2, 3\n"))?;
     for who in [FIRST, SECOND, THIRD] {
         push_registry(entries, who)?;
     }
-    for name in 1..147 {
+    for name in 1..=globals {
         entries.push(Entry::Global(name))?;
     }
     Ok(())
 }
 
 /// The steps up to those, and these.
-fn three_and(alloc: Global, back: &[Entry]) -> Result<Vec<Entry>, Fail> {
+pub fn three_and(alloc: Global, globals: u32, back: &[Entry]) -> Result<Vec<Entry>, Fail> {
     let mut entries = Vec::new(alloc);
-    push_three(&mut entries)?;
+    push_three(&mut entries, globals)?;
     entries.extend_from_slice(back)?;
     Ok(entries)
 }
 
 /// Of three clients for each of which 4088 bytes wait, all are told of one more global.
-#[test]
-fn drill_of_147_globals(rt: HostRuntime) -> Result<(), Fail> {
+fn one_more_global(rt: &(impl Abort + Print + AllocGlobal), trial: Trial) -> Result<(), Fail> {
     let back = [
         Entry::Global(147),
         Entry::Do(Call::FlushAll, "done\n"),
@@ -499,14 +558,25 @@ fn drill_of_147_globals(rt: HostRuntime) -> Result<(), Fail> {
             "initialized 0, 1\ninitialized 1, 2\ninitialized 2, 3\n",
         ),
     ];
-    let entries = three_and(rt.alloc(), &back)?;
+    let entries = three_and(rt.alloc(), 146, &back)?;
     let run = Run {
         name: "147 globals",
         entries: entries.as_slice(),
         dies: None,
         error_bytes: 0,
+        sends: 3,
     };
-    drill(&rt, &run)
+    tried(rt, trial, &run)
+}
+
+#[test]
+fn drill_of_147_globals(rt: HostRuntime) -> Result<(), Fail> {
+    one_more_global(&rt, Trial::Memory)
+}
+
+#[test]
+fn faults_of_147_globals(rt: HostRuntime) -> Result<(), Fail> {
+    one_more_global(&rt, Trial::Transport)
 }
 
 /// The same, if the first of them cannot be written to.
@@ -524,12 +594,13 @@ fn drill_of_a_client_that_cannot_be_told(rt: HostRuntime) -> Result<(), Fail> {
             "initialized 0, 1\ninitialized 1, 2\ninitialized 2, 3\ndisconnected 0, 1: closed\n",
         ),
     ];
-    let entries = three_and(rt.alloc(), &back)?;
+    let entries = three_and(rt.alloc(), 146, &back)?;
     let run = Run {
         name: "147 globals, of which one client is not told",
         entries: entries.as_slice(),
         dies: Some(156),
         error_bytes: 0,
+        sends: 1,
     };
     drill(&rt, &run)
 }

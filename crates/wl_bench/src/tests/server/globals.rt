@@ -3,7 +3,7 @@
 use super::arrivals::{BIND, BIND_NULL, BIND_VERSION_1, DESTROY, GET_REGISTRY, MAKE};
 use super::run::{Act, Look, log_of};
 use super::steps::Call;
-use super::values::{BOUND, FIRST, Named, SECOND, Who};
+use super::values::{BOUND, FIRST, Named, SECOND, THIRD, Who};
 use crate::tests::quad::QUAD;
 use crate::tests::tells;
 use std::alloc::Global;
@@ -292,9 +292,6 @@ fn slots_are_used_again(rt: HostRuntime) -> Result<(), Fail> {
         "client 0, 1\nclient 1, 2\nlive: 2\nout: client 0, 1 with 0 sends\nclient 0, 3\nlive: 12\nIo error: would block\nIo error: invalid input\n",
     )
 }
-
-/// The client that is inserted third.
-const THIRD: Who = Who(2, 3);
 
 /// Puts the acts by which three clients have a registry each, and 4088 bytes wait for each.
 fn push_three(acts: &mut Vec<Act>) -> Result<(), Fail> {

@@ -267,7 +267,7 @@ fn destroyed(log: &mut String, id: ObjectId, data: u32) -> Result<(), Fail> {
 }
 
 /// Tells a note.
-fn note(log: &mut String, note: &Note<u32>) -> Result<(), Fail> {
+pub fn note(log: &mut String, note: &Note<u32>) -> Result<(), Fail> {
     match note {
         Note::Initialized(id) => initialized(log, *id),
         Note::Disconnected(id, why) => disconnected(log, *id, why),

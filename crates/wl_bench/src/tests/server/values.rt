@@ -32,6 +32,9 @@ pub const FIRST: Who = Who(0, 1);
 /// The client that is inserted second.
 pub const SECOND: Who = Who(1, 2);
 
+/// The client that is inserted third.
+pub const THIRD: Who = Who(2, 3);
+
 impl Who {
     /// Its id.
     pub fn id(self) -> ClientId {
