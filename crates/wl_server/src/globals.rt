@@ -1,11 +1,10 @@
 //! The globals of a server.
 
-ghost use Rattle.std.specs.Prelude.{◌≡◌, ℕ, MatchOption, IfOk, MatchResult, Some, option_copied};
+ghost use Rattle.std.specs.Prelude.{◌≡◌, ℕ, MatchOption, IfOk, Some, option_copied};
 ghost use Rattle.wl_link.specs.Identity.{names};
 ghost use Rattle.wl_link.specs.ObjectMap.{InsertsNew};
 ghost use Rattle.wl_link.specs.Store.{held, rewritten};
 ghost use Rattle.wl_server.specs.Globals.{CreatesGlobal, as_disabled, disabled, freed, global_serial, name_range, new_global, with_created};
-ghost use Rattle.wl_server.specs.Lookups.{global_info_by, handler_of, name_for};
 
 pub mod announce;
 pub mod create_global;

@@ -1,6 +1,6 @@
 //! What the registries of a client are told.
 
-ghost use Rattle.std.specs.Prelude.{◌≡◌, ◌∷◌, [], IfOk, Some, map};
+ghost use Rattle.std.specs.Prelude.{◌≡◌, IfOk, Some, map};
 ghost use Rattle.wl_wire.specs.Table.{name_of};
 ghost use Rattle.wl_server.specs.Globals.{shown_as};
 ghost use Rattle.wl_server.specs.Inside.News.{IsNews};

@@ -1,6 +1,6 @@
 //! The globals that a new registry is told of.
 
-ghost use Rattle.std.specs.Prelude.{◌≡◌, ◌∷◌, map};
+ghost use Rattle.std.specs.Prelude.{◌≡◌, map};
 ghost use Rattle.wl_server.specs.Globals.{is_shown as global_is_shown, shown};
 ghost use Rattle.wl_server.specs.Part.{id_of};
 ghost use Rattle.wl_server.specs.Inside.Puts.{Puts};

@@ -2,13 +2,10 @@
 //!
 //! A client is *stored* from its insertion until `Backend::cleanup` takes it out.
 
-ghost use Rattle.std.specs.Prelude.{◌≡◌, ◌<◌, ◌++◌, false, true, Err, IfSome, IsSome, Ok, OnErr, OnOk, MatchOption, is_some, map, not, option_copied};
-ghost use Rattle.std.specs.List.{filter};
-ghost use Rattle.std.specs.VecDeque.{deque_capacity, deque_len};
-ghost use Rattle.wl_link.specs.Store.{held, removed};
+ghost use Rattle.std.specs.Prelude.{◌≡◌, ◌<◌, false, Err, Ok, MatchOption};
 ghost use Rattle.wl_server.specs.Backend.{Calls};
 ghost use Rattle.wl_server.specs.Finish.{data_given};
-ghost use Rattle.wl_server.specs.Part.{named, note_of_end, registries_without, same_id, fresh_object as the_object, id_at as the_id};
+ghost use Rattle.wl_server.specs.Part.{named};
 ghost use Rattle.wl_server.specs.PartStep.{over};
 ghost use Rattle.wl_server.specs.Plain.{SetsObjectData};
 ghost use Rattle.wl_server.specs.declared.runs.step.Reply.TheVariants as reply;

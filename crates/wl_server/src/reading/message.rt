@@ -1,6 +1,6 @@
 //! One turn of a reading: takes the message at the front of the incoming buffer, and handles it.
 
-ghost use Rattle.std.specs.Prelude.{◌≡◌, ◌≢◌, ◌≤◌, ◌<◌, List, [], true, false, None, Some, Ok, Err, length, vec_len, vec_capacity, IfOk, IfSome, OnErr, OnOk, option_copied, option_map};
+ghost use Rattle.std.specs.Prelude.{◌≡◌, ◌≤◌, ◌<◌, List, [], true, false, Some, Ok, Err, length, vec_len, vec_capacity, IfOk, IfSome, OnErr, OnOk, option_copied, option_map};
 ghost use Rattle.smallvec.specs.SmallVec.{HasRoomFor};
 ghost use Rattle.wl_wire.specs.Argument.{Matches};
 ghost use Rattle.wl_wire.specs.Asked.{creates};

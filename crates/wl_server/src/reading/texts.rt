@@ -1,6 +1,6 @@
 //! The errors that a client is killed for, and their texts.
 
-ghost use Rattle.std.specs.Prelude.{◌≡◌, [], ◌++◌, false, IfOk};
+ghost use Rattle.std.specs.Prelude.{◌≡◌, [], false, IfOk};
 ghost use Rattle.std.specs.Option.{option_map_or};
 ghost use Rattle.std.specs.Str.Lossy.{utf8_lossy};
 ghost use Rattle.std.specs.String.{string_bytes};

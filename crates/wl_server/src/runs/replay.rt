@@ -239,7 +239,7 @@ impl<U: Drop, G: GlobalHandler<C> + Drop, C: Drop> Backend<Memory, U, G, C> {
         ensures refused { self.new.refused ≡ is_err result }
     {
         let mut steps = steps;
-        let mut replies = Vec::new(*self.notes.allocator());
+        let mut replies = Vec::new(self.alloc());
         self.perform_all(&mut steps, &mut replies);
         if self.refused {
             return Err(Stopped {
