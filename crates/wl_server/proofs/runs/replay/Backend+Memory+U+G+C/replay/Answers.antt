@@ -14,17 +14,17 @@ pub returns-then-self-clause-stopped : goal.returns-then-self-clause-stopped
 returns-then-self-clause-stopped g c =
     subst (λ (n : ℕ). StopsAt (over_scripts g.G.GlobalHandler.views) c.args.self.now.server c.args.steps.items n c.perform_all.new.replies.items c.perform_all.new.self.server)
     (sym (c.len.ensures ∙ c.perform_all.new.replies.ok.0))
-    (c.perform_all.ensures.stopped (sym (ap (λ s. s.refused) c.self-2.view_is) ∙ c.if-self.true))
+    (c.perform_all.ensures.stopped (sym (ap (λ s. s.refused) c.self.view_is) ∙ c.if-self.true))
 
 pub returns-then-self-clause-none : goal.returns-then-self-clause-none
 returns-then-self-clause-none g c none =
-    absurd (false≢true (sym (c.perform_all.ensures.none none) ∙ sym (ap (λ s. s.refused) c.self-2.view_is) ∙ c.if-self.true))
+    absurd (false≢true (sym (c.perform_all.ensures.none none) ∙ sym (ap (λ s. s.refused) c.self.view_is) ∙ c.if-self.true))
 
 pub returns-clause-count : goal.returns-clause-count
-returns-clause-count g c = (c.perform_all.ensures.made (sym (ap (λ s. s.refused) c.self-2.view_is) ∙ c.if-self.false)).1
+returns-clause-count g c = (c.perform_all.ensures.made (sym (ap (λ s. s.refused) c.self.view_is) ∙ c.if-self.false)).1
 
 pub returns-clause-steps : goal.returns-clause-steps
-returns-clause-steps g c = (c.perform_all.ensures.made (sym (ap (λ s. s.refused) c.self-2.view_is) ∙ c.if-self.false)).0
+returns-clause-steps g c = (c.perform_all.ensures.made (sym (ap (λ s. s.refused) c.self.view_is) ∙ c.if-self.false)).0
 
 pub returns-clause-joined : goal.returns-clause-joined
 returns-clause-joined g c begun run before =
@@ -46,4 +46,4 @@ pub returns-then-self-clause-stopped_history : goal.returns-then-self-clause-sto
 returns-then-self-clause-stopped_history g c =
     extends_up_to g.G.GlobalHandler.views c.args.self.now.server c.perform_all.new.self.server
     c.args.steps.items (length c.perform_all.new.replies.items) c.perform_all.new.replies.items
-    (c.perform_all.ensures.stopped (sym (ap (λ s. s.refused) c.self-2.view_is) ∙ c.if-self.true))
+    (c.perform_all.ensures.stopped (sym (ap (λ s. s.refused) c.self.view_is) ∙ c.if-self.true))
