@@ -3,7 +3,7 @@
 //! A *token* is a number that stands for a file descriptor. A *word* is a number of 32 bits, written as four bytes in
 //! little-endian order.
 
-ghost use Rattle.std.specs.Prelude.{◌≡◌, ◌≢◌, ◌↔◌, ◌+◌, ◌-◌, ◌*◌, ◌<◌, ◌≤◌, ◌^◌, ◌++◌, [], Err, length, take, drop, map, nat_le, replicate, IfOk, IsTrue, OnOk, OnErr, MatchOption, vec_len, vec_capacity};
+ghost use Rattle.std.specs.Prelude.{◌≡◌, ◌≢◌, ◌↔◌, ◌+◌, ◌-◌, ◌*◌, ◌<◌, ◌≤◌, ◌^◌, ◌++◌, [], Err, length, drop, map, nat_le, replicate, IfOk, IsTrue, OnOk, OnErr, MatchOption, vec_len, vec_capacity};
 ghost use Rattle.wl_wire.specs.declared.error.MessageWriteError.TheVariants.{OutOfMemory};
 ghost use Rattle.std.specs.List.{AllByRecursion, sum_by};
 ghost use Rattle.wl_wire.specs.Message.{content, IsArgument, IsMessage, counted, pad_len, piece, pieces, size, spelling, token, tokens, word};
@@ -22,9 +22,6 @@ const MAX_MESSAGE_SIZE: usize = 65535;
 
 /// The most words that fit into a message after its header.
 const MAX_WORDS: usize = (MAX_MESSAGE_SIZE - 8) / 4;
-
-/// From so many arguments on, the search for one that is no word goes through four at a time.
-const MANY_ARGUMENTS: usize = 8;
 
 impl From<AllocError> for MessageWriteError {
     ghost from_gives = { λ _ e. e ≡ OutOfMemory };
@@ -139,6 +136,7 @@ fn put_word(payload: &mut [u8], at: usize, n: u32) -> usize
 ///
 /// `ending` zeros (none or one) follow the bytes, and count with them. First a word of zeros is written over the last four
 /// bytes, and then the count and the bytes. The rest of that word is the ending and the padding.
+#[inline(never)]
 fn put_counted(payload: &mut [u8], at: usize, bytes: &[u8], ending: usize) -> usize
     requires room { at + counted_len (length bytes.now + ending) ≤ length payload.old }
     requires small { length bytes.now + ending ≤ 65535 }
@@ -302,43 +300,11 @@ fn put_header(payload: &mut [u8], sender: u32, size: usize, opcode: u16)
     put_word(payload, 4, size as u32 * 65536 + u32::from(opcode));
 }
 
-/// Whether the four arguments from `at` on are one word each on the wire.
-fn are_four_words<Id>(args: &[Argument<Id, Token>], at: usize) -> bool
-    requires room { at + 4 ≤ length args.now }
-    ensures words { IsTrue result → AllByRecursion IsWord (take at args.now) → AllByRecursion IsWord (take (at + 4) args.now) }
-    ensures others { AllByRecursion IsWord args.now → IsTrue result }
-{
-    is_word(&args[at]) && is_word(&args[at + 1]) && is_word(&args[at + 2]) && is_word(&args[at + 3])
-}
-
-/// How many arguments stand before the first that is not one word on the wire. It looks at four at a time, which spares
-/// three of four turns of the loop.
-///
-/// It is not inlined, so that it costs nothing for a message of few arguments.
-#[inline(never)]
-fn leading_words<Id>(args: &[Argument<Id, Token>]) -> usize
-    ensures few { result ≤ length args.now }
-    ensures words { AllByRecursion IsWord (take result args.now) }
-    ensures others { AllByRecursion IsWord args.now → result ≡ length args.now }
-{
-    let mut at = 0;
-    while args.len() - at >= 4 && are_four_words(args, at) {
-        at += 4;
-    }
-    while at < args.len() && is_word(&args[at]) {
-        at += 1;
-    }
-    at
-}
-
 /// Whether each argument is one word on the wire.
 fn are_words<Id>(args: &[Argument<Id, Token>]) -> bool
     ensures words { IsTrue result → AllByRecursion IsWord args.now }
     ensures others { AllByRecursion IsWord args.now → IsTrue result }
 {
-    if args.len() >= MANY_ARGUMENTS {
-        return leading_words(args) == args.len();
-    }
     for arg in args {
         if !is_word(arg) {
             return false;
@@ -423,6 +389,9 @@ fn write_words<Id, N: Numbering<Id>>(
 }
 
 /// Writes any message at the front of `payload`, and appends its tokens to `fds`. Returns how many bytes it wrote.
+///
+/// It is not inlined, so that it costs nothing for a message whose arguments are one word each.
+#[inline(never)]
 fn write_mixed<Id, N: Numbering<Id>>(
     message: &Message<Id, Token>,
     numbers: &N,
