@@ -163,6 +163,24 @@ impl Comparison {
             Replayed::Same(self.count)
         }
     }
+
+    /// Looks at the lines of a recording from its first on, up to the end, or to the first that differs or is bad.
+    fn read<R: BufRead>(&mut self, alloc: Global, reader: &mut R) -> Result<Replayed, Stop>
+        requires { (self.old.bench ≡ new_bench bench_rows) × (self.old.last ≡ 0) × (self.old.count ≡ 0) × (missing_in self.old ≡ []) }
+        ensures { IfSome (R.remaining reader.old) (λ input. Replays (new_bench bench_rows) (lines input) result) }
+    {
+        let mut line = Vec::new(alloc);
+        for place in 1..u64::MAX {
+            line.clear();
+            if reader.read_until(b'\n', &mut line)? == 0 {
+                return Ok(self.end(place));
+            }
+            if !self.line(alloc, without_line_feed(line.as_slice()), place)? {
+                return Ok(Replayed::Differs(place));
+            }
+        }
+        Err(Stop::Failed)
+    }
 }
 
 /// Looks at the lines of a recording up to the end, or to the first that differs or is bad.
@@ -170,17 +188,7 @@ fn replay_lines<R: BufRead>(alloc: Global, reader: &mut R) -> Result<Replayed, S
     ensures { IfSome (R.remaining reader.old) (λ input. Replays (new_bench bench_rows) (lines input) result) }
 {
     let mut comparison = Comparison::new(alloc)?;
-    let mut line = Vec::new(alloc);
-    for place in 1..u64::MAX {
-        line.clear();
-        if reader.read_until(b'\n', &mut line)? == 0 {
-            return Ok(comparison.end(place));
-        }
-        if !comparison.line(alloc, without_line_feed(line.as_slice()), place)? {
-            return Ok(Replayed::Differs(place));
-        }
-    }
-    Err(Stop::Failed)
+    comparison.read(alloc, reader)
 }
 
 /// Replays the recording that is read, over a new server, writes what it comes to as a line, and answers it.
