@@ -13,19 +13,19 @@ pub record Queue : Type 0 where
 abbrev pub nothing : Queue
 nothing = record { bytes = []; tokens = [] }
 
--- one queue behind another
+-- one queue after another
 abbrev pub joined : Queue → Queue → Queue
 joined q r = record { bytes = q.bytes ++ r.bytes; tokens = q.tokens ++ r.tokens }
 
 -- ---- a receive
 
--- What came, by the receive's count, the buffer after it, and the tokens that waited before and after it: the
--- first bytes of the buffer, and the tokens behind those that waited.
+-- What came by a receive that answered this, with this buffer after it, and these tokens before and after it: the first
+-- bytes of the buffer, and the tokens after those that waited before.
 abbrev pub receipt : Result ℕ IoFault → List ℕ → List Token → List Token → Result Queue IoFault
 receipt (Ok n) buffer before after = Ok (record { bytes = take n buffer; tokens = drop (length before) after })
 receipt (Err fault) buffer before after = Err fault
 
--- What came lies at the buffer's front and behind the tokens that waited. A fault changes neither.
+-- What came stands at the buffer's front, and after the tokens that waited. A fault changes neither.
 abbrev pub Lands : Result ℕ IoFault → List ℕ → List Token → List ℕ → List Token → Type 0
 Lands (Ok n) buffer tokens buffer' tokens' = (n ≤ length buffer) × (take (length tokens) tokens' ≡ tokens)
 Lands (Err fault) buffer tokens buffer' tokens' = (buffer' ≡ buffer) × (tokens' ≡ tokens)
@@ -44,14 +44,14 @@ Chain {T = T} sends before (e ∷ es) after = (mid : T) × sends before e.offer 
 
 -- ---- what may be asked of a transport
 
--- two sends of one offer, neither refused for want of memory, have one answer and leave one value
+-- two sends of one offer have one answer and leave one value, if memory is refused in neither
 abbrev pub IsFunction : {T : Type 0} → (T → Queue → Result ℕ IoFault → T → Type 0) → Type 0
 IsFunction {T = T} sends =
     (before : T) (offer : Queue) (one two : Result ℕ IoFault) (after after' : T)
     → sends before offer one after → sends before offer two after' → one ≢ Err fault.OutOfMemory → two ≢ Err fault.OutOfMemory
     → (one ≡ two) × (after ≡ after')
 
--- so have two receives into one room
+-- and so have two receives into the same room
 abbrev pub IsReceiveFunction : {T : Type 0} → (T → ℕ → Result Queue IoFault → T → Type 0) → Type 0
 IsReceiveFunction {T = T} receives =
     (before : T) (room : ℕ) (one two : Result Queue IoFault) (after after' : T)
@@ -62,6 +62,6 @@ IsReceiveFunction {T = T} receives =
 pub record IsWithinOffer {T : Type 0} (sends : T → Queue → Result ℕ IoFault → T → Type 0) : Type 0 where
   pub law : (before after : T) (offer : Queue) (n : ℕ) → sends before offer (Ok n) after → n ≤ length offer.bytes
 
--- the transport answers each send that it may be offered, and lacks no memory
+-- the transport answers each send that it may be offered, and memory is not refused
 abbrev pub AlwaysAnswers : {S : Type 0} → (S → Queue → Result ℕ IoFault → S → Type 0) → Type 0
 AlwaysAnswers {S = S} sends = (t : S) (offer : Queue) → (answer : Result ℕ IoFault) × (u : S) × sends t offer answer u × (answer ≢ Err fault.OutOfMemory)

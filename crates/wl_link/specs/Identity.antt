@@ -1,7 +1,7 @@
 -- What an id names, and how long: the objects of a session over a run of changes.
 --
--- Objects carry a serial, which `serial_of` reads. A session gives the serials out by one counter, so that an id,
--- which has a number and a serial, never names an object that took the number of its own.
+-- Objects carry a serial, which `serial_of` reads. A session gives the serials out by one counter, and an id has a number
+-- and a serial. So it never names a later object that took the number of its own.
 use Rattle.std.specs.Prelude.{◌≡◌, ◌≢◌, ℕ, ◌+◌, ◌≤◌, ◌==◌, if◌then◌else◌, Bool, true, false, List, [], ◌∷◌, ◌++◌, length, Option, None, Some, IsSome, AllPairs, Contains, ◌↔◌, ◌⊎◌}
 use Rattle.wl_wire.specs.declared.argument.Argument.{Argument}
 use Rattle.wl_wire.specs.declared.argument.Argument.TheVariants as arg
@@ -9,7 +9,7 @@ use Rattle.wl_wire.specs.declared.argument.Token.{Token}
 use Rattle.wl_link.specs.declared.object.Object.{Object}
 use Rattle.wl_link.specs.Store.{Store, empty_store, held, stored, removed, rewritten}
 
--- what names in an object id
+-- the parts of an object id by which it names an object
 pub record Id : Type 0 where
   pub number : ℕ
   pub serial : ℕ
@@ -41,8 +41,8 @@ pub record Objects (D : Type 0) : Type 0 where
   pub store : Store D
   pub last_serial : ℕ
 
--- What a step does, in order: an object is put at a number, leaves its number, is written to, ends, or an id is made of
--- it. An object that ends was the program's, and is so no more: it leaves its number, or stays there as this.
+-- One thing that a step does: an object is put at a number, leaves its number, is written to, or ends; or an id is made
+-- of one. An object that ends is no longer the program's: it leaves its number, or stays there as `left`.
 pub data Change (D : Type 0) : Type 0 where
   Born : (number : ℕ) (object : Object D) → Change D
   Gone : (number : ℕ) → Change D
@@ -62,7 +62,7 @@ abbrev pub with_made : Births → Id → Option Birth → Births
 with_made births id None = births
 with_made births id (Some birth) = record births { made = (id, birth) ∷ births.made }
 
--- the births after the changes of a step, where the step's next new object has this one
+-- the births after the changes of a step; the step's next new object has the birth `next`
 abbrev pub births_in : {D : Type 0} → Birth → Births → List (Change D) → Births
 births_in next births [] = births
 births_in next births (Born n _ ∷ rest) =
@@ -73,13 +73,13 @@ births_in next births (Ended n _ None ∷ rest) = births_in next (record births 
 births_in next births (Ended n _ (Some _) ∷ rest) = births_in next births rest
 births_in next births (Made id ∷ rest) = births_in next (with_made births id (births.of_number id.number)) rest
 
--- the births after the steps of a run, of which the next has this number
+-- the births after the steps of a run; the next of them has the number `step`
 abbrev pub births_over : {D : Type 0} → ℕ → Births → List (List (Change D)) → Births
 births_over step births [] = births
 births_over step births (changes ∷ rest) =
     births_over (step + 1) (births_in (record { step = step; place = 0 }) births changes) rest
 
--- a step of the run makes the id
+-- the step makes the id
 abbrev pub IsMadeInStep : {D : Type 0} → List (Change D) → Id → Type 0
 IsMadeInStep [] id = ⊥
 IsMadeInStep (Made made ∷ rest) id = (made ≡ id) ⊎ IsMadeInStep rest id
@@ -113,12 +113,12 @@ module _ {D : Type 0} (serial_of : D → ℕ) where
   named_in id None = None
   named_in id (Some x) = if serial_of x.value == id.serial then Some x else None
 
-  -- the object that an id names: the one at its number, if that has its serial. The number 0 names none
+  -- the object that an id names: the one at its number, if that has its serial; the number 0 names none
   abbrev pub names : Id → Store D → Option (Object D)
   names id store = if id.number == 0 then None else named_in id (held store id.number)
 
-  -- A new object takes a number that holds none, and the next serial; one that is written to, or stays where it ended,
-  -- keeps its serial; an id is made of the object that it then names.
+  -- A new object takes a number that holds none, and the next serial. One that is written to, or that ends and stays,
+  -- keeps its serial. An id is made of the object that it then names.
   abbrev pub Changes : Objects D → Change D → Objects D → Type 0
   Changes before (Born n x) after =
       (held before.store n ≡ None) × (serial_of x.value ≡ before.last_serial + 1)
@@ -150,7 +150,7 @@ module _ {D : Type 0} (serial_of : D → ℕ) where
         → serial_of x.value ≡ serial_of y.value → n ≡ m
     pub at_most_last : (n : ℕ) (x : Object D) → held objects.store n ≡ Some x → serial_of x.value ≤ objects.last_serial
 
-  -- the id names the object at its number exactly while that is the one of this birth, and else none
+  -- the id names an object exactly while its number holds the one of this birth
   abbrev pub NamesOwn : (ℕ → Option Birth) → Store D → Id → Birth → Type 0
   NamesOwn births store id birth = IsSome (names id store) ↔ (births id.number ≡ Some birth)
 
@@ -161,15 +161,15 @@ module _ {D : Type 0} (serial_of : D → ℕ) where
     pub kept : (n : ℕ) → IsSome ((births_of run).of_number n) ↔ IsSome (held after.store n)
     -- each id that was made has the birth of the object that it was made of
     pub made : (id : Id) → IsMadeIn run id → (birth : Birth) × Contains (births_of run).made (id, birth)
-    -- one that is made in the step that puts its object in place has a birth of that step
+    -- an id that is made in the step that puts its object in place has a birth of that step
     pub fresh : (done later : List (List (Change D))) (step : List (Change D)) → run ≡ done ++ step ∷ later → (id : Id)
         → IsMadeInStep step id → IsBornInStep serial_of step id
         → (birth : Birth) × (birth.step ≡ length done + 1) × Contains (births_of run).made (id, birth)
-    -- and names that object exactly while that is kept, and afterwards none
+    -- it names that object exactly while that is kept, and afterwards none
     pub own : (id : Id) (birth : Birth) → Contains (births_of run).made (id, birth)
         → NamesOwn (births_of run).of_number after.store id birth
 
-  -- every run of a session has that, from its display alone on, whose serial is 0
+  -- this holds of every run of a session, which begins with its display alone, whose serial is 0
   abbrev pub IdentityLaw : Type 0
   IdentityLaw =
       (display : Object D) → serial_of display.value ≡ 0 → (run : List (List (Change D))) (after : Objects D)
@@ -182,7 +182,7 @@ module _ {D : Type 0} (serial_of : D → ℕ) (counts : Object D → Bool) where
   abbrev pub counted_id : ℕ → Object D → List Id
   counted_id n x = if counts x then (record { number = n; serial = serial_of x.value } ∷ []) else []
 
-  -- those of the objects that end in a step, and over the steps of a run, in order
+  -- those of the objects that end in a step, in order; and over the steps of a run
   abbrev pub ended_in : List (Change D) → List Id
   ended_in [] = []
   ended_in (Ended n x _ ∷ rest) = counted_id n x ++ ended_in rest
@@ -205,16 +205,15 @@ module _ {D : Type 0} (serial_of : D → ℕ) (allows : Objects D → Change D �
   RunKeeps before (step ∷ rest) after = (between : Objects D) × StepKeeps before step between × RunKeeps between rest after
 
 module _ {D : Type 0} (is_over : D → Bool) where
-  -- An object ends that is not over, and is over where it stays; it is not written to so that it would be the program's
-  -- again.
+  -- Only an object that is not over ends, and it is over if it stays. No write makes it the program's again.
   abbrev pub Owns : Objects D → Change D → Type 0
   Owns before (Ended n x None) = is_over x.value ≡ false
   Owns before (Ended n x (Some y)) = (is_over x.value ≡ false) × (is_over y.value ≡ true)
   Owns before (Wrote n x) = (y : Object D) → held before.store n ≡ Some y → is_over y.value ≡ true → is_over x.value ≡ true
   Owns before _ = Unit {0}
 
-  -- An object ends exactly where it becomes over, or leaves its number and was not over: one that leaves otherwise is over,
-  -- and a write to an object leaves that as it was.
+  -- An object ends exactly if it becomes over, or leaves its number and was not over. One that leaves otherwise was over,
+  -- and a write to an object does not change whether it is over.
   abbrev pub OwnsExactly : Objects D → Change D → Type 0
   OwnsExactly before (Ended n x None) = is_over x.value ≡ false
   OwnsExactly before (Ended n x (Some y)) = (is_over x.value ≡ false) × (is_over y.value ≡ true)
@@ -233,7 +232,7 @@ module _ {D : Type 0} (serial_of : D → ℕ) (is_over : D → Bool) where
   abbrev pub RunEnds : Objects D → List (List (Change D)) → Objects D → Type 0
   RunEnds before run after = RunKeeps serial_of (OwnsExactly is_over) before run after
 
-  -- over every run of a session no number and serial ends twice, whichever objects count
+  -- over every run of a session no two ends have the same number and serial, whichever objects count
   abbrev pub EndsOnceLaw : (Object D → Bool) → Type 0
   EndsOnceLaw counts =
       (display : Object D) → serial_of display.value ≡ 0 → (run : List (List (Change D))) (after : Objects D)

@@ -7,12 +7,12 @@ use Rattle.wl_wire.specs.Message.{WireMessage}
 use Rattle.wl_link.specs.Exchange.{Queue, Sending, joined, nothing}
 use Rattle.wl_link.specs.Link.{LinkState, FlushedBy, WroteBy, spelled}
 
--- of a count above 0 that many bytes and all tokens that were offered; of a count 0 or a fault nothing
+-- with a count above 0 that many bytes and all tokens that were offered; with a count 0 or a fault nothing
 abbrev pub taken_by : Result ℕ IoFault → Queue → Queue
 taken_by (Ok n) offer = record { bytes = take n offer.bytes; tokens = if n == 0 then [] else offer.tokens }
 taken_by (Err fault) offer = nothing
 
--- what the transport took, one send behind another
+-- what the transport took, one send after another
 abbrev pub taken : List Sending → Queue
 taken [] = nothing
 taken (e ∷ es) = joined (taken_by e.answer e.offer) (taken es)
@@ -26,11 +26,11 @@ abbrev pub gone : List Sending → List Token
 gone [] = []
 gone (e ∷ es) = gone_by e.answer e.offer ++ gone es
 
--- no send answered 0, so that no tokens were dropped
+-- no send answered 0; so no tokens were dropped
 abbrev pub NoZero : List Sending → Type 0
 NoZero es = AllByRecursion (λ e. e.answer ≢ Ok 0) es
 
--- What is gone, followed by what waits, is what waited, followed by what was added.
+-- What is gone, and then what waits, is what waited, and then what was added.
 pub record LosesNothing (es : List Sending) (before added after : Queue) : Type 0 where
   pub bytes : (taken es).bytes ++ after.bytes ≡ before.bytes ++ added.bytes
   pub tokens : gone es ++ after.tokens ≡ before.tokens ++ added.tokens
@@ -45,15 +45,15 @@ abbrev pub FlushKeeps : {T : Type 0} → (T → Queue → Result ℕ IoFault →
 FlushKeeps sends before answer after =
     (es : List Sending) × FlushedBy sends before es answer after × LosesNothing es before.outgoing nothing after.outgoing
 
--- A flush that is answered by Ok, and in which no send answered 0, leaves no bytes, and the tokens behind 28 for each
--- byte.
+-- If a flush is answered by Ok, and no send in it answered 0, it leaves no bytes, and of the tokens those after the first
+-- 28 for each byte.
 abbrev pub FlushDrains : {T : Type 0} → (T → Queue → Result ℕ IoFault → T → Type 0) → LinkState T → Result (Unit {0}) IoFault → LinkState T → Type 0
 FlushDrains sends before answer after =
     (es : List Sending) × FlushedBy sends before es answer after
     × (answer ≡ Ok tt → NoZero es → (after.outgoing.bytes ≡ [])
     × (after.outgoing.tokens ≡ drop (28 * length before.outgoing.bytes) before.outgoing.tokens))
 
--- A write that is answered by Ok makes what was taken and what waits longer by one spelling; another adds nothing.
+-- A write that is answered by Ok adds one message to what was taken and what waits; another adds nothing.
 abbrev pub WriteKeeps : {T : Type 0} → (T → Queue → Result ℕ IoFault → T → Type 0) → LinkState T → WireMessage → Result (Unit {0}) IoFault → LinkState T → Type 0
 WriteKeeps sends before m answer after =
     (es : List Sending) × WroteBy sends before m es answer after × LosesNothing es before.outgoing (queued_by answer m) after.outgoing

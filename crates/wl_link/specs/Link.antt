@@ -20,10 +20,10 @@ use Rattle.wl_link.specs.Exchange.{Queue, Sending, Chain, joined, nothing}
 
 pub record LinkState (T : Type 0) : Type 0 where
   pub transport : T
-  -- received and not read yet, and how many bytes there is storage for
+  -- received and not read yet, and how many bytes the incoming buffer can hold
   pub incoming : Queue
   pub incoming_capacity : ℕ
-  -- written and not sent yet, how many bytes there is storage for, and how far that may grow
+  -- written and not sent yet, how many bytes the outgoing buffer can hold, and how far that may grow
   pub outgoing : Queue
   pub outgoing_capacity : ℕ
   pub limit : Option ℕ
@@ -80,8 +80,8 @@ with_incoming_capacity l room = record {
 
 -- ---- limits
 
--- A limit that is asked for becomes the least power of two that is not below it and not below 4096. Above the
--- greatest power of two it becomes the greatest number.
+-- A limit that is asked for becomes the least power of two that is not below it and not below 4096. One above the
+-- greatest power of two becomes the greatest number.
 abbrev pub IsLimit : ℕ → ℕ → Type 0
 IsLimit asked limit =
     (asked ≤ 2 ^ 63 → IsPowerOfTwo limit × (asked ≤ limit) × (4096 ≤ limit)
@@ -99,7 +99,7 @@ IsFresh transport asked l =
     (limit : Option ℕ) × AreLimits asked limit
     × (l ≡ record { transport = transport; incoming = nothing; incoming_capacity = 4096; outgoing = nothing; outgoing_capacity = 4096; limit = limit })
 
--- the limit is another one, and all else as it was
+-- the limit is another one, and all else is as it was
 abbrev pub LimitSet : {T : Type 0} → LinkState T → Option ℕ → LinkState T → Type 0
 LimitSet before asked after =
     (limit : Option ℕ) × AreLimits asked limit
@@ -114,14 +114,14 @@ LimitSet before asked after =
 
 -- ---- a flush
 
--- With more than 28 tokens waiting one byte is offered, and else up to 4096; of the tokens up to 28.
+-- If more than 28 tokens wait, one byte is offered, and else up to 4096; of the tokens up to 28.
 abbrev pub offer_size : List Token → ℕ
 offer_size tokens = if nat_le (length tokens) 28 then 4096 else 1
 
 abbrev pub offer_of : Queue → Queue
 offer_of q = record { bytes = take (offer_size q.tokens) q.bytes; tokens = take 28 q.tokens }
 
--- what is left where so many bytes were taken, and the tokens offered are gone
+-- what is left after n bytes were taken, and the tokens that were offered are gone
 abbrev pub left_of : ℕ → Queue → Queue
 left_of n q = record { bytes = drop n q.bytes; tokens = drop 28 q.tokens }
 
@@ -130,7 +130,7 @@ abbrev pub Goes : Result ℕ IoFault → Type 0 → Type 0 → Type 0 → Result
 Goes (Err fault) last same dropped answer on = last × same × (answer ≡ Err fault)
 Goes (Ok n) last same dropped answer on = MatchBool (n == 0) (last × dropped × (answer ≡ Ok tt)) (on n)
 
--- A flush of the queue makes these sends, gives this answer, and leaves that queue: while bytes wait, a beginning of
+-- A flush of the queue makes these sends, gives this answer, and leaves the queue `after`. While bytes wait, the front of
 -- what is left is offered.
 abbrev pub Flushes : Queue → List Sending → Result (Unit {0}) IoFault → Queue → Type 0
 Flushes q [] answer after = (q.bytes ≡ []) × (after ≡ q) × (answer ≡ Ok tt)
@@ -154,20 +154,20 @@ Flushed sends before answer after = (es : List Sending) × FlushedBy sends befor
 abbrev pub spelled : WireMessage → Queue
 spelled m = record { bytes = spelling m; tokens = tokens m.args }
 
--- a storage of that size has too little room, and may be doubled
+-- a buffer of that size has too little room, and may be doubled
 abbrev pub Wants : Option ℕ → ℕ → ℕ → Type 0
 Wants None needed size = size < needed
 Wants (Some limit) needed size = (size < needed) × (size < limit)
 
--- The storage is doubled as often as it has too little room and may be doubled: so to the least size that has room,
--- or else to the greatest that the limit allows.
+-- The buffer is doubled again and again, as long as it has too little room and may be doubled: to the least size that has
+-- room, or else to the greatest that the limit allows.
 pub record Grows (limit : Option ℕ) (needed size size' : ℕ) : Type 0 where
   pub times : ℕ
   pub grown : size' ≡ size * 2 ^ times
   pub wanted : (k : ℕ) → k < times → Wants limit needed (size * 2 ^ k)
   pub enough : ¬ (Wants limit needed size')
 
--- so many bytes are needed for what waits and so many more
+-- how many bytes are needed for what waits and `more` bytes
 abbrev pub needed : {T : Type 0} → LinkState T → ℕ → ℕ
 needed l more = length l.outgoing.bytes + more
 
@@ -175,7 +175,7 @@ abbrev pub Grown : {T : Type 0} → LinkState T → ℕ → LinkState T → Type
 Grown before more after =
     Grows before.limit (needed before more) before.outgoing_capacity after.outgoing_capacity × (after ≡ with_outgoing_capacity before after.outgoing_capacity)
 
--- the message stands behind what waits; or there is no memory for its tokens, and nothing is changed
+-- the message stands after what waits; or there is no memory for its tokens, and nothing is changed
 abbrev pub Put : {T : Type 0} → LinkState T → WireMessage → Result (Unit {0}) IoFault → LinkState T → Type 0
 Put before m answer after =
     ((answer ≡ Ok tt) × (after ≡ with_outgoing before before.transport (joined before.outgoing (spelled m))))
@@ -184,13 +184,13 @@ Put before m answer after =
 abbrev pub has_room : {T : Type 0} → LinkState T → ℕ → Bool
 has_room l more = nat_le (needed l more) l.outgoing_capacity
 
--- a flush in a write counts as done where the transport would block
+-- a flush in a write counts as done if the transport would block
 abbrev pub ignoring : Result (Unit {0}) IoFault → Result (Unit {0}) IoFault
 ignoring (Ok u) = Ok u
 ignoring (Err fault.WouldBlock) = Ok tt
 ignoring (Err other) = Err other
 
--- the message is put where there is room, and else where there is room after a flush
+-- the message is put if there is room; else a flush is made, and it is put if there is room then
 abbrev pub PlacedBy : {T : Type 0} → (T → Queue → Result ℕ IoFault → T → Type 0)
     → LinkState T → WireMessage → List Sending → Result (Unit {0}) IoFault → LinkState T → Type 0
 PlacedBy {T = T} sends before m es answer after =
@@ -204,8 +204,8 @@ abbrev pub Placed : {T : Type 0} → (T → Queue → Result ℕ IoFault → T �
     → LinkState T → WireMessage → Result (Unit {0}) IoFault → LinkState T → Type 0
 Placed sends before m answer after = (es : List Sending) × PlacedBy sends before m es answer after
 
--- A message above 65535 bytes is too big. Otherwise the storage grows, for which there may be no memory, and the
--- message is put.
+-- A message above 65535 bytes is too big. Otherwise the buffer grows if it has to, for which there may be no memory, and
+-- the message is put.
 abbrev pub WroteBy : {T : Type 0} → (T → Queue → Result ℕ IoFault → T → Type 0)
     → LinkState T → WireMessage → List Sending → Result (Unit {0}) IoFault → LinkState T → Type 0
 WroteBy {T = T} sends before m es answer after =
@@ -231,17 +231,17 @@ abbrev pub count_of : Result Queue IoFault → Result ℕ IoFault
 count_of (Ok came) = Ok (length came.bytes)
 count_of (Err fault) = Err fault
 
--- what came stands behind what waits, tokens also where no bytes came
+-- what came stands after what waits; tokens do so even if no bytes came
 abbrev pub with_came : Queue → Result Queue IoFault → Queue
 with_came q (Ok came) = joined q came
 with_came q (Err fault) = q
 
--- how far the incoming storage may grow under a limit
+-- how far the incoming buffer may grow under a limit
 abbrev pub incoming_limit : Option ℕ → ℕ
 incoming_limit None = 65536
 incoming_limit (Some limit) = min limit 65536
 
--- the storage that a receive finds: one of which no byte is free is doubled, where it is smaller than it may become
+-- the capacity of the buffer that a receive finds: it is doubled if no byte is free and it may still grow
 abbrev pub grown_capacity : {T : Type 0} → LinkState T → ℕ
 grown_capacity l = if nat_le l.incoming_capacity (length l.incoming.bytes) && nat_lt l.incoming_capacity (incoming_limit l.limit) then l.incoming_capacity * 2 else l.incoming_capacity
 
@@ -249,7 +249,7 @@ grown_capacity l = if nat_le l.incoming_capacity (length l.incoming.bytes) && na
 abbrev pub free_room : {T : Type 0} → LinkState T → ℕ
 free_room l = grown_capacity l - length l.incoming.bytes
 
--- One receive is offered the free part of the storage, which is doubled first where no byte of it is free, and gives this.
+-- One receive is offered the free part of the buffer, which may have been doubled first, and gives this.
 abbrev pub FilledBy : {T : Type 0} → (T → ℕ → Result Queue IoFault → T → Type 0)
     → LinkState T → Result Queue IoFault → Result (Unit {0}) IoFault → LinkState T → Type 0
 FilledBy receives before received answer after =
@@ -264,34 +264,34 @@ Filled receives before answer after =
     ((received : Result Queue IoFault) × FilledBy receives before received answer after)
     ⊎ ((answer ≡ Err fault.OutOfMemory) × (after ≡ before))
 
--- what waits does not hold the message at its front to its last byte
+-- the message at the front is not there to its last byte
 abbrev pub LacksBytes : List ℕ → Type 0
 LacksBytes bytes = (length bytes < 8) ⊎ (length bytes < length_of bytes)
 
--- the message at the front is no longer than the incoming storage may become
+-- the message at the front is no longer than the incoming buffer may become
 abbrev pub FrontFits : {T : Type 0} → LinkState T → Type 0
 FrontFits l = 8 ≤ length l.incoming.bytes → length_of l.incoming.bytes ≤ incoming_limit l.limit
 
--- a storage of that size has a byte free for what such a message lacks
+-- a buffer of that size has a byte free, if the message at the front lacks bytes and is no longer than it may become
 abbrev pub FindsRoom : {T : Type 0} → LinkState T → ℕ → Type 0
 FindsRoom l room = LacksBytes l.incoming.bytes → FrontFits l → length l.incoming.bytes < room
 
--- what is left behind so many whole messages
+-- what is left after n whole messages
 abbrev pub Behind : ℕ → List ℕ → List ℕ → Type 0
 Behind zero bytes rest = rest ≡ bytes
 Behind (suc n) bytes rest = IsWhole bytes × Behind n (drop (length_of bytes) bytes) rest
 
--- each message is at most so long, that of which only a beginning came too
+-- each message has at most so many bytes; this holds also of one that is not there to its end
 abbrev pub EachWithin : ℕ → List ℕ → Type 0
 EachWithin most bytes = (n : ℕ) (rest : List ℕ) → Behind n bytes rest → 8 ≤ length rest → length_of rest ≤ most
 
 -- ---- a read
 
--- what is left where the message at the front was read under this signature
+-- what is left after the message at the front was read under this signature
 abbrev pub behind_first : List ArgumentType → Queue → Queue
 behind_first signature q = record { bytes = drop (length_of q.bytes) q.bytes; tokens = drop (fd_count signature) q.tokens }
 
--- the answer under this signature; memory is refused only where the message may need some
+-- the answer under this signature; memory is refused only if the message may need some
 abbrev pub ReadUnder : {T : Type 0} → List ArgumentType → LinkState T → Result WireMessage MessageParseError → LinkState T → Type 0
 ReadUnder signature before (Ok m) after =
     ReadsMessage before.incoming.bytes signature before.incoming.tokens m
@@ -305,8 +305,8 @@ abbrev pub ReadFound : {T : Type 0} → Option (List ArgumentType) → LinkState
 ReadFound None before answer after = (answer ≡ Err errors.Malformed) × (after ≡ before)
 ReadFound (Some signature) before answer after = ReadUnder signature before answer after
 
--- A header that is not there to its end lacks data. Otherwise the answer is that of a parser under the signature that
--- the look-up has for the message's sender and opcode. No error changes anything.
+-- If the header is not there to its end, the answer is `MissingData`. Otherwise it is that of a parser, under the
+-- signature that the look-up has for the message's sender and opcode. No error changes anything.
 abbrev pub ReadOne : {T : Type 0} → (ℕ → ℕ → Option (List ArgumentType) → Type 0)
     → LinkState T → Result WireMessage MessageParseError → LinkState T → Type 0
 ReadOne looks_up before answer after =
@@ -315,12 +315,12 @@ ReadOne looks_up before answer after =
     × looks_up (sender_of before.incoming.bytes) (opcode_of before.incoming.bytes) found × ReadFound found before answer after)
     ((answer ≡ Err errors.MissingData) × (after ≡ before))
 
--- the answer of a read, without where the message's arguments lie in memory
+-- the answer of a read, with the message as contracts see it
 abbrev pub read_content : Result (Message ℕ Token) MessageParseError → Result WireMessage MessageParseError
 read_content (Ok message) = Ok (content message)
 read_content (Err e) = Err e
 
--- the same of a read whose message has a place of its own
+-- the same for a read into a message that the caller lends
 abbrev pub read_into : Result (Unit {0}) MessageParseError → Message ℕ Token → Result WireMessage MessageParseError
 read_into (Ok _) message = Ok (content message)
 read_into (Err e) message = Err e

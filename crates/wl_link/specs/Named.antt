@@ -4,7 +4,7 @@ use Rattle.wl_link.specs.declared.object.Object.{Object}
 use Rattle.wl_link.specs.Identity.{Birth, Change, Id, NamesOwn, Objects, RunLeads, births_of, first_objects, names}
 
 module _ {D : Type 0} (serial_of : D → ℕ) where
-  -- Behind the first steps of a run the number of the id holds the object of some birth. Behind the later ones the id names
+  -- After the first steps of a run the number of the id holds the object of some birth. After the later steps the id names
   -- that very object exactly while it is kept, and afterwards none.
   abbrev pub StaysNamed : List (List (Change D)) → List (List (Change D)) → Objects D → Id → Type 0
   StaysNamed done later after id =
@@ -18,7 +18,7 @@ module _ {D : Type 0} (serial_of : D → ℕ) where
       → RunLeads serial_of (first_objects display) done mid → RunLeads serial_of mid later after
       → (id : Id) → IsSome (names serial_of id mid.store) → StaysNamed done later after id
 
-  -- where such an id names none at a later point, it names none ever after
+  -- if such an id names none at a later point, it names none ever after
   abbrev pub NoneAgainLaw : Type 0
   NoneAgainLaw =
       (display : Object D) → serial_of display.value ≡ 0 → (done between later : List (List (Change D))) (first mid after : Objects D)

@@ -47,14 +47,14 @@ map_code {D} code =
     (λ p. record { store = p.0; reserved = p.1.0; words_read = p.1.1 })
     (λ _. refl)
 
--- the number that was told is the one that an insertion gives, and there is none where no number is left
+-- the number that was told is the one that an insertion gives; if none was told, no number is left
 abbrev pub IsGiven : Option ℕ → Result ℕ NewError → Type 0
 IsGiven next (Ok n) = next ≡ Some n
 IsGiven next (Err new.IdsExhausted) = next ≡ None
 IsGiven next (Err new.OutOfMemory) = IsSome next
 
 module _ {D : Type 0} where
-  -- an object is put at a number: exactly where the number is free, and memory is wanted only at the first unused one
+  -- an object is put at a number, exactly if the number is free; memory may be refused only at the first unused one
   abbrev pub InsertsAt : Store D → ℕ → Object D → Result (Unit {0}) InsertError → Store D → Type 0
   InsertsAt store n x (Ok _) after = (is_free store n ≡ true) × (after ≡ stored store n x)
   InsertsAt store n x (Err insert.NotFree) after = (is_free store n ≡ false) × (after ≡ store)
@@ -78,8 +78,8 @@ module _ {D : Type 0} where
   InsertionsGive range store next =
       (x : Object D) (answer : Result ℕ NewError) (after : Store D) → InsertsNew range store x answer after → IsGiven next answer
 
-  -- how many words the search for a new number reads: none where no number of the range was in use, one where each that
-  -- was holds an object, else one on each level over them
+  -- how many words the search for a new number reads: none if no number of the range was ever in use, one if each that was
+  -- holds an object, else one on each level
   pub record WordsRead (range : Range) (store : Store D) (read : ℕ) : Type 0 where
     pub none : first_unused store range.first ≡ range.first → read ≡ 0
     pub full : range.first < first_unused store range.first
@@ -87,7 +87,7 @@ module _ {D : Type 0} where
     pub some : (n : ℕ) → range.first ≤ n → n < first_unused store range.first → held store n ≡ None
         → IsHeight (first_unused store range.first - range.first) read
 
-  -- the one call of a closure at the object of a number, which then holds what the call left; without an object, no call
+  -- the closure is called once with the object of a number, which then holds what the call left; without an object, never
   abbrev pub Lends : {R : Type 0} → (Object D → R → Object D → Type 0) → Store D → ℕ → Option R → Store D → Type 0
   Lends call store n answer after =
       MatchOption (held store n) ((answer ≡ None) × (after ≡ store))

@@ -1,4 +1,4 @@
--- That a call, a read, or a reading has one outcome: what one comes to is what another comes to.
+-- That a call, a read, or a reading has one outcome: two of them answer the same and leave the same.
 use Rattle.std.proofs.Common.{◌≡◌, List, Result}
 use Rattle.wl_wire.specs.declared.error.IoFault.{IoFault}
 use Rattle.wl_link.specs.Exchange.{Queue, Sending}

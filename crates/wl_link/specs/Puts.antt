@@ -1,6 +1,4 @@
--- Messages that are put behind what waits to be sent, up to the first that fails.
---
--- A message of one's own that has a text takes memory before it is written.
+-- Messages that a session puts (writes after what waits to be sent), up to the first that fails.
 use Rattle.std.specs.Prelude.{◌≡◌, ◌⊎◌, ℕ, Bool, true, false, List, [], ◌∷◌, ◌++◌, Result, Ok, Err, MatchResult, MatchBool, map}
 use Rattle.std.specs.List.{list_any}
 use Rattle.wl_wire.specs.declared.error.IoFault.{IoFault}

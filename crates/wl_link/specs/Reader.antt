@@ -1,9 +1,9 @@
--- A reader of messages, whatever it makes of them: what it holds, and how it reads.
+-- A reader of messages: what it holds, and how it reads. Each of the two sessions is one.
 --
--- What a message comes to is a verdict: a function of the reader's core, which is all that it holds but its link, and of
--- the message. It says what the core becomes, what is put behind what waits to be sent, and what is handed out; and what
--- the core becomes where there is no memory. So a reading is a list of receives and of verdicts that were carried out,
--- and goes on while the core reads on.
+-- A reader has a link and a *core*, which is all else that it holds. For each message there is a *verdict*, a function of
+-- the core and the message. It says what the core becomes, which messages are *put* (written after what waits to be
+-- sent), and what is handed out; and what the core becomes if memory is refused. A *reading* is a list of receives and of
+-- verdicts that were carried out. It goes on while the core reads on.
 use Rattle.std.specs.Prelude.{◌≡◌, ◌≢◌, ◌⊎◌, ℕ, suc, ◌+◌, Bool, true, false, ◌||◌, List, [], ◌∷◌, ◌++◌, Option, None, Some, Result, Ok, Err, MatchResult, MatchBool, map}
 use Rattle.wl_wire.specs.declared.argument.ArgumentType.{ArgumentType}
 use Rattle.wl_wire.specs.declared.error.IoFault.{IoFault}
@@ -19,28 +19,28 @@ use Rattle.wl_link.specs.Puts.{FlushesOut, PutsOut, Said, lacked_memory}
 pub record Verdict (Core Event : Type 0) : Type 0 where
   -- what the core becomes at once
   pub core : Core
-  -- what is put behind what waits to be sent, up to the first that fails, and whether a flush follows
+  -- the messages that are put, up to the first that fails, and whether a flush follows
   pub puts : List Said
   pub flushes : Bool
-  -- what the core becomes behind that
+  -- what the core becomes after that
   pub last : Core → Core
-  -- whether memory is asked for before anything is put; and what the core becomes where there is none, then or for a put
+  -- whether memory is asked for before anything is put; and what the core becomes if it is refused, then or for a put
   pub asks : Bool
   pub starved : Core
-  -- what is handed out, by what the core came to
+  -- what is handed out; it depends on what the core became
   pub events : Core → List Event
 
 pub record Reader (Core Event Finish : Type 0) : Type 0 where
-  -- it is live, and nothing that it handed out is open
+  -- it is live, and nothing that was handed out is open
   pub reads_on : Core → Bool
   pub signature : Core → ℕ → ℕ → Option (List ArgumentType)
   -- a message of that sender and opcode asks for memory before it is read
   pub asks : Core → ℕ → ℕ → Bool
   pub handles : Core → WireMessage → Verdict Core Event
   pub malformed : Core → Verdict Core Event
-  -- what the end of what is open comes to with these data, if they are such as it takes
+  -- the verdict if what is open is ended with these data; `None` if it cannot be
   pub takes : Core → Finish → Option (Verdict Core Event)
-  -- a write failed; a receive failed
+  -- what the core becomes if a write failed, and if a receive failed
   pub broken : Core → IoFault → Core
   pub faulted : Core → IoFault → Core
 
@@ -48,7 +48,7 @@ pub record ReaderState (T Core : Type 0) : Type 0 where
   pub core : Core
   pub link : LinkState T
 
--- what it gives to others: a message that was put behind what waits to be sent, or what is handed out
+-- what a reader gives to others: a message that was put, or what was handed out
 pub data Given (Event : Type 0) : Type 0 where
   Queued : Said → Given Event
   HandedOut : Event → Given Event
@@ -59,13 +59,13 @@ queued_in [] = []
 queued_in (Queued m ∷ gave) = m ∷ queued_in gave
 queued_in (HandedOut _ ∷ gave) = queued_in gave
 
--- an entry of a reading: a receive, a message that was handled, or malformed bytes that were, with their sends
+-- an entry of a reading: a receive, or the handling of a message or of malformed bytes, with the sends that it made
 pub data Turn : Type 0 where
   Received : Result Queue IoFault → Turn
   Handled : List Sending → Turn
   Unread : List Sending → Turn
 
--- what a reading gives: messages and events, the fault that ended it where the core would read on, whether memory was
+-- what a reading gives: messages and events, the fault that ended it if the core would read on, whether memory was
 -- refused, and how many receives are left
 pub record Gives (Event : Type 0) : Type 0 where
   pub gave : List (Given Event)
@@ -122,7 +122,7 @@ abbrev pub put_and_gave : {Event : Type 0} → List Said → List Event → List
 put_and_gave put events = map Queued put ++ map HandedOut events
 
 module _ {Core Event Finish : Type 0} (reader : Reader Core Event Finish) where
-  -- what the core comes to where the messages were put, or where this write failed
+  -- what the core becomes if the messages were put, or if a write failed in this way
   abbrev pub came_to : Verdict Core Event → Result (Unit {0}) IoFault → Core
   came_to v (Ok _) = v.last v.core
   came_to v (Err fault.OutOfMemory) = v.starved
@@ -136,7 +136,7 @@ module _ {T Core Event Finish : Type 0} (sends : T → Queue → Result ℕ IoFa
       × (es ≡ first ++ others) × (after.core ≡ came_to reader v wrote) × (gave ≡ put_and_gave put (v.events (came_to reader v wrote)))
       × (refused ≡ lacked_memory wrote || lacked)
 
-  -- there is no memory, and nothing is put
+  -- memory is refused, and nothing is put
   abbrev pub Starves : Verdict Core Event → LinkState T → List Sending → List (Given Event) → Bool → ReaderState T Core → Type 0
   Starves v before es gave refused after =
       (v.asks ≡ true) × (refused ≡ true) × (es ≡ []) × (gave ≡ map HandedOut (v.events v.starved)) × (after ≡ record { core = v.starved; link = before })
@@ -159,20 +159,20 @@ module _ {T Core Event Finish : Type 0} (sends : T → Queue → Result ℕ IoFa
       × (reader.signature p.core (sender_of p.link.incoming.bytes) (opcode_of p.link.incoming.bytes) ≡ Some signature)
       × IsThere p.link.incoming.bytes signature p.link.incoming.tokens
 
-  -- the message at the front asks for memory: before it is read, where it is there whole, or for its texts and arrays
+  -- the message at the front asks for memory: if it is there whole, before it is read, or for its texts and arrays
   abbrev pub FrontAsks : ReaderState T Core → Type 0
   FrontAsks p =
       ((reader.asks p.core (sender_of p.link.incoming.bytes) (opcode_of p.link.incoming.bytes) ≡ true) × IsThereWhole p)
       ⊎ ReadsAs p (Err parse.OutOfMemory) p.link
 
-  -- the message at the front is taken, and comes to this; or malformed bytes, which stay
+  -- the message at the front is taken, and has this verdict; or the bytes there are malformed, and stay (`Leaves`)
   abbrev pub Takes : ReaderState T Core → Verdict Core Event → LinkState T → Type 0
   Takes p v link = (m : WireMessage) × ReadsAs p (Ok m) link × (v ≡ reader.handles p.core m)
 
   abbrev pub Leaves : ReaderState T Core → Verdict Core Event → LinkState T → Type 0
   Leaves p v link = ReadsAs p (Err parse.Malformed) p.link × (link ≡ p.link) × (v ≡ reader.malformed p.core)
 
-  -- no receive is left; or there is no memory for what the message asks for, or for what a receive may give
+  -- no receive is left; or memory is refused, for what the message asks for or for what a receive may give
   abbrev pub Halts : ℕ → ReaderState T Core → Gives Event → Type 0
   Halts left p out =
       (Lacks p × (left ≡ 0) × (out ≡ stops (Some fault.WouldBlock) false left))
@@ -182,7 +182,7 @@ module _ {T Core Event Finish : Type 0} (sends : T → Queue → Result ℕ IoFa
   abbrev pub Stops : ℕ → ReaderState T Core → Gives Event → Type 0
   Stops left p out = MatchBool (reader.reads_on p.core) (Halts left p out) (out ≡ stops None false left)
 
-  -- a verdict is carried out, and then it goes on
+  -- a verdict is carried out, and then the reading goes on
   abbrev pub Then : (ReaderState T Core → Verdict Core Event → LinkState T → Type 0) → ReaderState T Core → List Sending → Gives Event
       → (ReaderState T Core → Gives Event → Type 0) → Type 0
   Then Found before es out on =
@@ -190,8 +190,8 @@ module _ {T Core Event Finish : Type 0} (sends : T → Queue → Result ℕ IoFa
       × ((v : Verdict Core Event) × (link : LinkState T) × (first : List (Given Event)) × (lacked : Bool) × (mid : ReaderState T Core) × (rest : Gives Event)
       × Found before v link × CarriesOut v link es first lacked mid × (out ≡ behind first lacked rest) × on mid rest)
 
-  -- A reading with so many receives left. A receive stands only where data or tokens lack, and it finds a byte free for a
-  -- message that is no longer than the incoming storage may become.
+  -- A reading with so many receives left. A receive is made only if bytes or tokens are lacking. If the message at the front
+  -- lacks bytes, and is no longer than the incoming buffer may become, the receive finds a byte free.
   abbrev pub Reads : (T → ℕ → Result Queue IoFault → T → Type 0) → ℕ → ReaderState T Core → List Turn → Gives Event → ReaderState T Core → Type 0
   Reads receives left before [] out after = (after ≡ before) × Stops left before out
   Reads receives left before (Received r ∷ turns) out after =
@@ -206,7 +206,7 @@ module _ {T Core Event Finish : Type 0} (sends : T → Queue → Result ℕ IoFa
   Reads receives left before (Unread es ∷ turns) out after =
       Then Leaves before es out (λ mid rest. Reads receives left mid turns rest after)
 
-  -- what is open is ended with these data, which it takes
+  -- what is open is ended with these data
   abbrev pub Ends : ReaderState T Core → Finish → List Sending → List (Given Event) → Bool → ReaderState T Core → Type 0
   Ends before u es gave refused after =
       (v : Verdict Core Event) × (reader.takes before.core u ≡ Some v) × CarriesOut v before.link es gave refused after

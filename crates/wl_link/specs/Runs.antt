@@ -1,8 +1,7 @@
--- Calls one after another, whatever is called.
+-- Calls one after another, of any session.
 --
--- A step is a call that changes something, with its arguments; what one does is a relation of the value before it, its
--- reply, whether memory was refused in it, and the value after it. Of a call that moves a transport the relation names
--- the transport's value after it.
+-- A step is a call that changes something, with its arguments. What a step does is a relation of the value before it, its
+-- reply, whether memory was refused in it, and the value after it.
 use Rattle.std.specs.Prelude.{◌≡◌, ◌⊎◌, ℕ, Bool, true, false, List, [], ◌∷◌, ◌++◌, length}
 
 -- a step of a run, its reply, and whether memory was refused in it
@@ -18,14 +17,14 @@ module _ {Step Reply : Type 0} where
   entries (s ∷ steps) [] = []
   entries (s ∷ steps) (r ∷ replies) = record { step = s; answer = r; refused = false } ∷ entries steps replies
 
-  -- nothing, or the step behind so many, which met a want of memory
+  -- nothing; or the step after the first n, in which memory was refused
   abbrev pub IsWhereItStops : List Step → ℕ → List (RunEntry Step Reply) → Type 0
   IsWhereItStops steps n [] = Unit {0}
   IsWhereItStops steps n (e ∷ []) =
       (e.refused ≡ true) × ((done : List Step) × (left : List Step) × (steps ≡ done ++ e.step ∷ left) × (length done ≡ n))
   IsWhereItStops steps n (e ∷ f ∷ run) = ⊥
 
--- as many replies, and each the same as the other's at its place
+-- the lists are equally long, and the replies at each place are the same
 abbrev pub AllSame : {Reply : Type 0} → (Reply → Reply → Type 0) → List Reply → List Reply → Type 0
 AllSame same [] [] = Unit {0}
 AllSame same [] (r' ∷ replies') = ⊥
@@ -38,8 +37,8 @@ module _ {State Step Reply : Type 0} (makes : State → Step → Reply → Bool 
   Leads before [] after = after ≡ before
   Leads before (e ∷ run) after = (mid : State) × makes before e.step e.answer e.refused mid × Leads mid run after
 
-  -- A run stopped in a step: there was no room for the replies, and nothing was done; or the steps before it were made
-  -- with these replies, and it met a want of memory.
+  -- A run stopped in the step after the first n. Either there was no memory for the replies, and nothing was done; or the
+  -- steps before it were made with these replies, and memory was refused in it.
   abbrev pub StopsAt : State → List Step → ℕ → List Reply → State → Type 0
   StopsAt before steps n replies after =
       ((n ≡ 0) × (replies ≡ []) × (after ≡ before))
@@ -47,15 +46,15 @@ module _ {State Step Reply : Type 0} (makes : State → Step → Reply → Bool 
       × (steps ≡ done ++ next ∷ left) × (n ≡ length done) × (n ≡ length replies)
       × Leads before (entries done replies) mid × makes mid next answer true after)
 
-  -- where memory is not refused, a step has one reply, up to what is the same, and leaves one value
+  -- if memory is not refused, a step leaves one value, and any two replies to it are the same
   abbrev pub HasOneOutcome : (Reply → Reply → Type 0) → Type 0
   HasOneOutcome same =
       (before x y : State) (call : Step) (p q : Reply) → makes before call p false x → makes before call q false y → same p q × (x ≡ y)
 
 -- ---- the parts of a run
 
--- Whichever entries stand before it and behind it: where those before lead from the run's begin to the value in which the
--- part begins, and the part leads on, this holds of the part.
+-- This holds of each part of the run: whenever the entries before the part lead from the run's begin to the value in which
+-- the part begins, and the part leads on from there.
 abbrev pub EachPart : {S E : Type 0} → (S → List E → S → Type 0) → (S → List E → S → Type 0) → S → List E → Type 0
 EachPart {S = S} {E = E} Leads Holds begun run =
     (earlier middle later : List E) (first last : S) → run ≡ earlier ++ (middle ++ later) → Leads begun earlier first → Leads first middle last

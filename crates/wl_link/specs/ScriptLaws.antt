@@ -1,4 +1,4 @@
--- The laws of a transport, of the transport by script: its `Transport` takes them.
+-- That the transport by script keeps the laws of a transport. Its impl of `Transport` takes these lemmas.
 use Rattle.std.specs.Prelude.{◌≡◌, ℕ, zero, suc, ◌≤◌, min, List, [], ◌∷◌, length, take, Result, Ok, Err}
 use Rattle.std.proofs.Common.{ap, inl, inr, arith}
 use Rattle.std.proofs.lemmas.List.{length-take}

@@ -1,7 +1,7 @@
--- What is served of the bytes and tokens that wait, where nothing is received and memory is not refused.
+-- What is *served* of bytes and tokens: what a reader does with them if they all wait already, nothing more is received,
+-- and memory is not refused.
 --
--- It speaks of the reader over another transport, of which only the sends count: that of a reader which has received all
--- beforehand.
+-- The reader here has another transport, of which only the sends count.
 use Rattle.std.specs.Prelude.{◌≡◌, ◌⊎◌, ℕ, zero, suc, Bool, false, List, [], ◌∷◌, ◌++◌, None, Result, MatchBool, ◌↔◌}
 use Rattle.wl_wire.specs.declared.error.IoFault.{IoFault}
 use Rattle.wl_link.specs.Exchange.{Chain, Queue, Sending, joined}
@@ -12,7 +12,7 @@ use Rattle.wl_link.specs.Reader.{CarriesOut, Ends, Given, Lacks, Leaves, ReaderS
 abbrev pub Answers : Type 0
 Answers = List (Result ℕ IoFault)
 
--- the transport that answers each send by the next of the given answers
+-- the transport that gives each send the next of these answers
 abbrev pub AsTold : Answers → Queue → Result ℕ IoFault → Answers → Type 0
 AsTold before offer answer after = before ≡ answer ∷ after
 
@@ -27,12 +27,12 @@ link_as l more transport = record {
 }
 
 module _ {T Core : Type 0} where
-  -- the part without its storage for reading, where more waits, over another transport
+  -- the reader with `more` after what waits, over another transport; it does not receive, and has no incoming capacity
   abbrev pub state_as : {S : Type 0} → ReaderState T Core → Queue → S → ReaderState S Core
   state_as p more transport = record { core = p.core; link = link_as p.link more transport }
 
 module _ {T Core Event Finish : Type 0} (sends : T → Queue → Result ℕ IoFault → T → Type 0) (reader : Reader Core Event Finish) where
-  -- ---- one turn
+  -- ---- one message
 
   abbrev pub Finds : ReaderState T Core → Verdict Core Event → LinkState T → Type 0
   Finds p v link = Takes sends reader p v link ⊎ Leaves sends reader p v link
@@ -41,7 +41,7 @@ module _ {T Core Event Finish : Type 0} (sends : T → Queue → Result ℕ IoFa
   TakesNext p [] gave after left = ⊥
   TakesNext p (u ∷ finishes) gave after left = (es : List Sending) × Ends sends reader p u es gave false after × (left ≡ finishes)
 
-  -- what stands at the front is handled
+  -- the message at the front is handled, or the malformed bytes there
   abbrev pub Handles : ReaderState T Core → List (Given Event) → Bool → ReaderState T Core → Type 0
   Handles p gave refused after = (v : Verdict Core Event) × (link : LinkState T) × (es : List Sending) × Finds p v link × CarriesOut sends reader v link es gave refused after
 
@@ -68,14 +68,14 @@ module _ {T Core Event Finish : Type 0} (sends : T → Queue → Result ℕ IoFa
     pub serves : Serves count p finishes gave after left
     pub rests : Rests after left
 
--- These bytes and tokens behind what waits, with these finishes and over this transport for the sends, are served to this, and
--- lead there.
+-- what is served if `more` stands after what waits, what is open is ended with `finishes`, one after another, and
+-- `transport` answers the sends
 abbrev pub Served : {T S Core Event Finish : Type 0} → (S → Queue → Result ℕ IoFault → S → Type 0) → Reader Core Event Finish → ReaderState T Core → Queue → S → List Finish
     → List (Given Event) → ReaderState S Core → Type 0
 Served sends reader p more transport finishes gave after = ServedFrom sends reader (state_as p more transport) finishes gave after
 
--- Over each transport for sends that allows these sends, and whatever comes later: what is served of the one part over what
--- came and then the rest is what was given, followed by what is served of the other over the rest.
+-- The reader `before` served over `came` and any rest gives `gave`, and then what the reader `after` served over that rest
+-- gives. This holds for each rest, and over each transport that allows these sends.
 abbrev pub GoesOnAs : {T S Core Event Finish : Type 0} → (S → Queue → Result ℕ IoFault → S → Type 0) → Reader Core Event Finish → ReaderState T Core → Queue → List Sending
     → List Finish → List (Given Event) → ReaderState T Core → List Finish → Type 0
 GoesOnAs {S = S} {Core = Core} {Event = Event} sends reader before came es finishes gave after left =

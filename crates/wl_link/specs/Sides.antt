@@ -14,7 +14,7 @@ use Rattle.wl_link.specs.Kept.{taken, NoZero}
 
 -- ---- the sending side
 
--- a write of a message, or a flush where there is none; its sends, and its answer
+-- a write of a message, or a flush if there is no message; its sends, and its answer
 pub record SenderCall : Type 0 where
   pub message : Option WireMessage
   pub sends : List Sending
@@ -24,7 +24,7 @@ abbrev pub SenderStep : {T : Type 0} → (T → Queue → Result ℕ IoFault →
 SenderStep sends before c after =
     MatchOption c.message (FlushedBy sends before c.sends c.answer after) (λ m. WroteBy sends before m c.sends c.answer after)
 
--- Between two calls the transport may be changed.
+-- the calls one after another; between two of them the transport may be changed
 abbrev pub SenderRun : {T : Type 0} → (T → Queue → Result ℕ IoFault → T → Type 0) → LinkState T → List SenderCall → LinkState T → Type 0
 SenderRun sends before [] after = after ≡ before
 SenderRun {T = T} sends before (c ∷ cs) after =
@@ -92,7 +92,7 @@ messages_read (c ∷ cs) = read_by c ++ messages_read cs
 
 -- ---- messages
 
--- the messages' bytes and tokens, one message behind another
+-- the messages' bytes and tokens, one message after another
 abbrev pub spelled_all : List WireMessage → Queue
 spelled_all [] = nothing
 spelled_all (m ∷ ms) = joined (spelled m) (spelled_all ms)
@@ -106,9 +106,9 @@ pub record IsReadable (look_up : ℕ → ℕ → Option (List ArgumentType)) (m 
 
 -- ---- the laws
 
--- The messages that were written, carried in order, are read back in order, however bytes and tokens were cut into
--- sends and receives: those that were read are the first of those that were written, and what waits for reading,
--- followed by what is under way and by what waits for sending, is the spelling of the others.
+-- Messages are read in the order in which they were written, if bytes and tokens are carried in order; they may be cut
+-- anywhere into sends and receives. The messages that were read are the first of those that were written. The others are
+-- what waits for reading, then what is under way, then what waits for sending.
 abbrev pub StreamLaw : {S R : Type 0} → (S → Queue → Result ℕ IoFault → S → Type 0) → (R → ℕ → Result Queue IoFault → R → Type 0) → Type 0
 StreamLaw {S = S} {R = R} sends receives =
     (look_up : ℕ → ℕ → Option (List ArgumentType)) (start end : LinkState S) (sent : List SenderCall)
@@ -119,8 +119,8 @@ StreamLaw {S = S} {R = R} sends receives =
     → (left : List WireMessage) × (written sent ≡ messages_read got ++ left)
     × (joined full.incoming (joined under_way end.outgoing) ≡ spelled_all left)
 
--- So where nothing waits for sending and nothing is under way, and a next read gives none, though memory is not
--- refused, all messages that were written have been read.
+-- If nothing waits for sending, nothing is under way, and the next read finds no message, then all messages that were
+-- written have been read. In that read memory is not refused.
 abbrev pub AllReadLaw : {S R : Type 0} → (S → Queue → Result ℕ IoFault → S → Type 0) → (R → ℕ → Result Queue IoFault → R → Type 0) → Type 0
 AllReadLaw {S = S} {R = R} sends receives =
     (look_up : ℕ → ℕ → Option (List ArgumentType)) (start end : LinkState S) (sent : List SenderCall)
@@ -131,8 +131,7 @@ AllReadLaw {S = S} {R = R} sends receives =
     → ReceiverStep receives look_up full (Reading (Err e)) after → e ≢ errors.OutOfMemory
     → messages_read got ≡ written sent
 
--- Receiving one part and then another leaves what receiving both at once would, also where a read between finds no
--- message.
+-- Two receives leave what one receive of both parts would leave, even if a read between them finds no message.
 abbrev pub CuttingLaw : {T : Type 0} → (T → ℕ → Result Queue IoFault → T → Type 0) → Type 0
 CuttingLaw {T = T} receives =
     (look_up : ℕ → ℕ → Option (List ArgumentType)) (start mid between end at_once : LinkState T) (x y : Queue)
@@ -143,8 +142,7 @@ CuttingLaw {T = T} receives =
 
 -- ---- room
 
--- Each receive is made only where the read before it lacked data or tokens. At first nothing waits, so that it lacks data
--- without a read.
+-- Each receive is made only if the read before it lacked bytes or tokens. At first nothing waits, and no read is needed.
 abbrev pub InNeed : Bool → List ReceiverCall → Type 0
 InNeed lacking [] = Unit {0}
 InNeed lacking (Filling None ∷ cs) = InNeed lacking cs
@@ -155,16 +153,16 @@ InNeed lacking (Reading (Err errors.MissingFD) ∷ cs) = InNeed true cs
 InNeed lacking (Reading (Err errors.Malformed) ∷ cs) = InNeed false cs
 InNeed lacking (Reading (Err errors.OutOfMemory) ∷ cs) = InNeed false cs
 
--- tokens come no later than the last byte of their message: no read lacks them
+-- tokens come no later than the last byte of their message, so no read lacks them
 abbrev pub InTime : List ReceiverCall → Type 0
 InTime cs = AllByRecursion (λ c. c ≢ Reading (Err errors.MissingFD)) cs
 
--- what a transport receives where it is offered a byte at least
+-- a receive that is offered at least one byte
 abbrev pub roomy : {T : Type 0} → (T → ℕ → Result Queue IoFault → T → Type 0) → T → ℕ → Result Queue IoFault → T → Type 0
 roomy receives before room received after = receives before room received after × (room ≢ 0)
 
--- Where each message is no longer than the incoming storage may become, each receive that is made in need is offered a byte
--- at least: none finds the storage full.
+-- If each message is no longer than the incoming buffer may become, each receive that is made in need is offered at least
+-- one byte. So none finds the buffer full.
 abbrev pub RoomLaw : {T : Type 0} → (T → ℕ → Result Queue IoFault → T → Type 0) → Type 0
 RoomLaw {T = T} receives =
     (look_up : ℕ → ℕ → Option (List ArgumentType)) (empty full : LinkState T) (got : List ReceiverCall)
@@ -174,13 +172,14 @@ RoomLaw {T = T} receives =
 
 -- ---- a read
 
--- A read that is answered by Ok takes the first message off the stream: before it the stream is that message and
--- then others exactly where after it the stream is these others.
+-- A read that is answered by Ok takes the first message off the stream: before it the stream is that message and then
+-- others, exactly if after it the stream is these others.
 abbrev pub TakesFirst : (ℕ → ℕ → Option (List ArgumentType)) → Queue → WireMessage → Queue → Type 0
 TakesFirst look_up before m after =
     (ms : List WireMessage) → Stream look_up (m ∷ ms) before.bytes before.tokens ↔ Stream look_up ms after.bytes after.tokens
 
--- a read that is answered by Ok takes the first message off each stream whose look-up the look-up's answers are
+-- a read that is answered by Ok takes the first message off the stream, under each look-up function that answers as the
+-- look-up of the read did
 abbrev pub ReadTakes : {T : Type 0} → (ℕ → ℕ → Option (List ArgumentType) → Type 0) → LinkState T → Result WireMessage MessageParseError → LinkState T → Type 0
 ReadTakes looks_up before answer after =
     (look_up : ℕ → ℕ → Option (List ArgumentType))

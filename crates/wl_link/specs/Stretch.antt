@@ -1,6 +1,5 @@
--- A stretch over the transport by script in which bytes arrive, and a reader reads and ends what is open.
---
--- What a session does in a run of its calls is a list of such acts, where its other calls change nothing.
+-- A *stretch*: a list of acts over the transport by script. In each act bytes arrive, the reader reads, or what is open is
+-- ended.
 use Rattle.std.specs.Prelude.{◌≡◌, ◌⊎◌, ◌<◌, ℕ, false, List, [], ◌∷◌, ◌++◌, None, Some, Result, Err, length}
 use Rattle.wl_wire.specs.declared.error.IoFault.{IoFault}
 use Rattle.wl_wire.specs.declared.error.IoFault.TheVariants as fault
@@ -17,12 +16,12 @@ abbrev pub left_over : List (Result Queue IoFault) → Queue
 left_over [] = nothing
 left_over (r ∷ arrivals) = joined (came_by r) (left_over arrivals)
 
--- each brings a byte, or says that the transport would block
+-- each arrival brings a byte, or says that the transport would block
 abbrev pub AllPieces : List (Result Queue IoFault) → Type 0
 AllPieces [] = Unit {0}
 AllPieces (r ∷ arrivals) = IsFed r × AllPieces arrivals
 
--- the script apart from its arrivals, of which no send takes notice
+-- the script without its arrivals, which no send looks at
 abbrev pub sending_side : Script → Script
 sending_side script = record { arrivals = []; answers = script.answers; sent = script.sent }
 
@@ -68,7 +67,7 @@ module _ {Event Finish : Type 0} where
   IsWaiting (HasRead out) = out.stopped ≡ Some fault.WouldBlock
   IsWaiting _ = ⊥
 
-  -- the last act is one
+  -- the last act is such a reading
   abbrev pub EndsWaiting : List (Act Event Finish) → Type 0
   EndsWaiting [] = ⊥
   EndsWaiting (a ∷ []) = IsWaiting a
@@ -81,12 +80,12 @@ module _ {Core : Type 0} where
   abbrev pub with_arrival : ReaderState Script Core → Result Queue IoFault → ReaderState Script Core
   with_arrival p r = with_link p (with_transport p.link (record p.link.transport { arrivals = arrivals_of p ++ r ∷ [] }))
 
--- a byte of the incoming storage is free
+-- a byte of the incoming buffer is free
 abbrev pub HasByteFree : LinkState Script → Type 0
 HasByteFree link = length link.incoming.bytes < link.incoming_capacity
 
 module _ {Core Event Finish : Type 0} (reader : Reader Core Event Finish) where
-  -- memory is not refused in it
+  -- an act, in which memory is not refused
   abbrev pub Does : ReaderState Script Core → Act Event Finish → ReaderState Script Core → Type 0
   Does before (Arrived r) after = IsFed r × (after ≡ with_arrival before r)
   Does before (HasRead out) after =
@@ -99,53 +98,54 @@ module _ {Core Event Finish : Type 0} (reader : Reader Core Event Finish) where
   DoesAll before [] after = after ≡ before
   DoesAll before (a ∷ acts) after = (mid : ReaderState Script Core) × Does before a mid × DoesAll mid acts after
 
-  -- the message at the front waits whole for its tokens
+  -- the message at the front is there whole, but for its tokens
   abbrev pub LacksTokens : Core → LinkState Script → Type 0
   LacksTokens core link = ReadsAs ScriptSends reader (record { core = core; link = link }) (Err parse.MissingFD) link
 
-  -- the rest of the message at the front may come: it is no longer than the incoming storage may become, and lacks bytes
+  -- the rest of the message at the front may come: it is no longer than the incoming buffer may become, and its bytes are
+  -- not all there
   abbrev pub MayCome : Core → LinkState Script → Type 0
   MayCome core link = FrontFits link × (LacksTokens core link → ⊥)
 
-  -- a receive of no bytes may have ended the reader so, when this was its core, and data or tokens lacked
+  -- a receive of no bytes may have ended the reader, whose core was this one then, and bytes or tokens were lacking
   abbrev pub MayEndFrom : Core → ReaderState Script Core → Type 0
   MayEndFrom core after = (after.core ≡ reader.faulted core fault.Pipe) × Lacks ScriptSends reader (record { core = core; link = after.link })
 
-  -- No receive found the storage full: where one of no bytes may have ended the reader, a byte is free. So it is also where
-  -- the rest of the message at the front may come, since then a receive finds a byte free.
+  -- No receive found the buffer full: if a receive of no bytes may have ended the reader, then a byte is free, or the rest
+  -- of the message at the front may come, for which a receive finds a byte free.
   abbrev pub NotFull : ReaderState Script Core → Type 0
   NotFull after = (core : Core) → MayEndFrom core after → HasByteFree after.link ⊎ MayCome core after.link
 
-  -- it reads on no more, and ends nothing
+  -- the reader reads on no more, and nothing is open that could be ended
   abbrev pub IsOver : Core → Type 0
   IsOver core = (reader.reads_on core ≡ false) × ((u : Finish) → reader.takes core u ≡ None)
 
-  -- that the transport would block changes nothing, and the end of the stream is the end of the reader
+  -- a receive that would block changes nothing in the core, and the end of the stream is the end of the reader
   pub record EndsByPipe : Type 0 where
     pub blocks : (core : Core) → reader.faulted core fault.WouldBlock ≡ core
     pub over : (core : Core) → IsOver (reader.faulted core fault.Pipe)
 
-  -- The acts span from the one to the other: they end where the reader reads on no more, or with a reading that would block
-  -- where no arrival is left.
+  -- The acts lead from `before` to `after`. At their end the reader reads on no more, or the last act is a reading that
+  -- would block, and no arrival is left.
   pub record Spans (before : ReaderState Script Core) (acts : List (Act Event Finish)) (after : ReaderState Script Core) : Type 0 where
     pub does : DoesAll before acts after
     pub pieces : AllPieces (arrivals_of before)
     pub ends : (reader.reads_on after.core ≡ false) ⊎ (EndsWaiting acts × (arrivals_of after ≡ []))
 
-  -- a stretch, in which no receive found the storage full
+  -- a stretch in which no receive found the buffer full
   pub record IsStretch (before : ReaderState Script Core) (acts : List (Act Event Finish)) (after : ReaderState Script Core) : Type 0 where
     pub spans : Spans before acts after
     pub roomy : NotFull after
 
-  -- A stretch of messages each of which is no longer than the incoming storage may become, and whose tokens come no later
-  -- than its last byte: where its end may be a receive of no bytes, none waits whole for tokens.
+  -- A stretch of messages that are no longer than the incoming buffer may become, and whose tokens come no later than the
+  -- last byte: if a receive of no bytes may have ended the reader, the message at the front does not lack tokens alone.
   pub record IsStretchWithin (before : ReaderState Script Core) (acts : List (Act Event Finish)) (after : ReaderState Script Core) : Type 0 where
     pub spans : Spans before acts after
     pub within : EachWithin (incoming_limit before.link.limit) (joined before.link.incoming (joined (left_over (arrivals_of before)) (arrived acts))).bytes
     pub in_time : (core : Core) → after.core ≡ reader.faulted core fault.Pipe → LacksTokens core after.link → ⊥
 
-  -- What it gave, and what it came to, is what is served of all that arrived, with the data with which something was
-  -- ended, over the script's answers to the sends.
+  -- What the stretch gave, and the reader after it, are what is served of all that arrived, if what is open is ended with
+  -- the same data, and the script answers the sends.
   abbrev pub IsStretchServed : ReaderState Script Core → List (Act Event Finish) → ReaderState Script Core → Type 0
   IsStretchServed before acts after =
       Served ScriptSends reader before (joined (left_over (arrivals_of before)) (arrived acts)) (sending_side before.link.transport) (ended acts) (given_in acts)

@@ -1,4 +1,5 @@
--- That something is always served: by a reader whose verdicts can be carried out, and which malformed bytes end.
+-- That something is always served. The law holds of a reader whose verdicts can always be carried out, and which malformed
+-- bytes end.
 use Rattle.std.proofs.Common.{◌≡◌, ℕ, false, List, Some, Result}
 use Rattle.wl_wire.specs.declared.error.IoFault.{IoFault}
 use Rattle.wl_wire.specs.Message.{WireMessage}
@@ -9,7 +10,7 @@ use Rattle.wl_link.specs.Served.{ServedFrom}
 use Rattle.wl_link.specs.Stretch.{IsOver}
 
 module _ {T Core Event Finish : Type 0} (sends : T → Queue → Result ℕ IoFault → T → Type 0) (reader : Reader Core Event Finish) where
-  -- a verdict can be carried out without a want of memory, and leaves what waits to be read
+  -- the verdict can be carried out without a refusal of memory, and what waits to be read stays
   pub record Carried (v : Verdict Core Event) (link : LinkState T) : Type 0 where
     pub sent : List Sending
     pub gave : List (Given Event)
@@ -17,7 +18,7 @@ module _ {T Core Event Finish : Type 0} (sends : T → Queue → Result ℕ IoFa
     pub carried : CarriesOut sends reader v link sent gave false after
     pub waits : after.link.incoming ≡ link.incoming
 
-  -- each verdict of the reader can be carried out, and malformed bytes, which stay, are the end of it
+  -- each verdict of the reader can be carried out, and malformed bytes are the end of the reader
   pub record AlwaysGoesOn : Type 0 where
     pub handles : (c : Core) (m : WireMessage) (link : LinkState T) → Carried (reader.handles c m) link
     pub malformed : (c : Core) (link : LinkState T) → Carried (reader.malformed c) link
@@ -27,6 +28,6 @@ module _ {T Core Event Finish : Type 0} (sends : T → Queue → Result ℕ IoFa
   abbrev pub SomethingIsServed : ReaderState T Core → List Finish → Type 0
   SomethingIsServed p finishes = (gave : List (Given Event)) × (after : ReaderState T Core) × ServedFrom sends reader p finishes gave after
 
--- malformed bytes are the end of the reader, whatever its writes come to
+-- malformed bytes are the end of the reader, whether a write fails or not
 abbrev pub EndsMalformed : {Core Event Finish : Type 0} → Reader Core Event Finish → Type 0
 EndsMalformed {Core = Core} reader = (c : Core) (wrote : Result (Unit {0}) IoFault) → IsOver reader (came_to reader (reader.malformed c) wrote)

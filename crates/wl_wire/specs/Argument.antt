@@ -11,7 +11,7 @@ use Rattle.wl_wire.specs.declared.argument.Token.{Token}
 abbrev pub WireArgument : Type 0
 WireArgument = Argument ℕ Token
 
--- the type, whatever it says of null
+-- the type, as one that allows null
 abbrev pub kind_of : ArgumentType → ArgumentType
 kind_of kind.Int = kind.Int
 kind_of kind.Uint = kind.Uint
@@ -33,6 +33,6 @@ type_of (arg.NewId _) = kind.NewId
 type_of (arg.Array _) = kind.Array
 type_of (arg.Fd _) = kind.Fd
 
--- the arguments fit the signature: as many, of the same type at each place, whatever is said of null
+-- the arguments fit the signature: as many, of the same type at each place; null is not looked at
 abbrev pub Matches : {Id Fd : Type 0} → List ArgumentType → List (Argument Id Fd) → Type 0
 Matches signature args = map kind_of signature ≡ map type_of args

@@ -38,7 +38,7 @@ creates row = list_any is_new_id row.signature
 
 -- ---- the interfaces that it asks for
 
--- where none is left, any object will do
+-- if none is left, any object will do
 abbrev pub next_interface : List InterfaceId → InterfaceId
 next_interface [] = anonymous_id
 next_interface (i ∷ _) = i
@@ -58,7 +58,7 @@ fits asked i = if asked.0 == i.0 then true else asked.0 == anonymous_id.0
 
 -- ---- the types of its arguments
 
--- the types, counted, whatever they say of null
+-- a number for each type, whether it allows null or not
 abbrev pub type_number : ArgumentType → ℕ
 type_number kind.Int = 0
 type_number kind.Uint = 1

@@ -9,7 +9,7 @@ pub mod Stream
 pub mod Table
 pub mod Asked
 pub mod Enum
--- Descriptors and ids that are mapped.
+-- Descriptors and ids that are replaced.
 pub mod MapFd
 pub mod MapIds
 -- What only the functions inside promise each other.

@@ -4,7 +4,7 @@ use Rattle.wl_wire.specs.declared.argument.Argument.{Argument}
 use Rattle.wl_wire.specs.declared.argument.Argument.TheVariants as arg
 
 module _ {Id Fd T F : Type 0} (step : F → Fd → T → F → Type 0) where
-  -- a descriptor is replaced by what a call gave for it, which took the closure from f to g; all else stays
+  -- a descriptor is replaced by what a call gave for it, and the call took the closure from f to g; all else stays
   abbrev pub MapsFd : F → Argument Id Fd → Argument Id T → F → Type 0
   MapsFd f (arg.Fd t) (arg.Fd u) g = step f t u g
   MapsFd f (arg.Int x) (arg.Int y) g = (y ≡ x) × (g ≡ f)

@@ -17,18 +17,18 @@ with_ids object_id new_id (arg.NewId id) = arg.NewId (new_id id)
 with_ids object_id new_id (arg.Array bytes) = arg.Array bytes
 with_ids object_id new_id (arg.Fd t) = arg.Fd t
 
--- the message as it goes on the wire, where these functions number the ids of its objects and of its new ones
+-- the message as it goes on the wire; these functions give the numbers of its objects' ids and of its new ids
 abbrev pub numbered : {Id : Type 0} → (Id → ℕ) → (Id → ℕ) → Message Id Token → WireMessage
 numbered object_id new_id m =
     record { sender = object_id m.sender_id; opcode = m.opcode; args = map (with_ids object_id new_id) m.args.items }
 
--- the closure answers as the function does, in whatever state it is
+-- the closure answers as the function does, in each state of the closure
 abbrev pub AnswersAs : {Id New F : Type 0} → (F → Id → New → F → Type 0) → (Id → New) → Type 0
 AnswersAs {Id = Id} {New = New} {F = F} step answer = (f f' : F) (a : Id) (b : New) → step f a b f' → b ≡ answer a
 
 module _ {Id New Fd F G : Type 0} (object_step : F → Id → New → F → Type 0) (new_step : G → Id → New → G → Type 0) where
-  -- the id of an object is replaced by what a call of the first closure gave for it, which took that from f to f'; that
-  -- of a new object by what a call of the second gave; all else stays
+  -- The id of an object is replaced by what a call of the first closure gave for it, that of a new object by what a call
+  -- of the second gave; all else stays. The calls took the closures from f to f' and from g to g'.
   abbrev pub MapsId : F → G → Argument Id Fd → Argument New Fd → F → G → Type 0
   MapsId f g (arg.Object a) (arg.Object b) f' g' = object_step f a b f' × (g' ≡ g)
   MapsId f g (arg.NewId a) (arg.NewId b) f' g' = new_step g a b g' × (f' ≡ f)

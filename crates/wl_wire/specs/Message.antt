@@ -14,7 +14,7 @@ use Rattle.wl_wire.specs.declared.message.Message.{Message}
 use Rattle.wl_wire.specs.Text.{HasNoZero}
 use Rattle.wl_wire.specs.Argument.{WireArgument}
 
--- a message, without where its arguments lie in memory
+-- a message as contracts see it: its arguments are a plain list
 pub record WireMessage : Type 0 where
   pub sender : ℕ
   pub opcode : ℕ
@@ -27,7 +27,7 @@ content m = record { sender = m.sender_id; opcode = m.opcode; args = m.args.item
 unfoldable pub word : ℕ → List ℕ
 word n = to_le_bytes w32 n
 
--- how many bytes lead from so many to the next multiple of four
+-- how many bytes of padding follow n bytes, up to the next multiple of four
 abbrev pub pad_len : ℕ → ℕ
 pad_len n = (4 - n % 4) % 4
 

@@ -30,7 +30,7 @@ opcode_of raw = second_word raw % 65536
 abbrev pub payload_of : List ℕ → List ℕ
 payload_of raw = drop 8 (take (length_of raw) raw)
 
--- a message stands at the front, header and all, as long as its header says
+-- a whole message stands at the front: its header, and as many bytes as the header says
 pub record IsWhole (raw : List ℕ) : Type 0 where
   pub header : 8 ≤ length raw
   pub counts_header : 8 ≤ length_of raw
@@ -65,7 +65,7 @@ pub record ReadsMessage (raw : List ℕ) (signature : List ArgumentType) (fds : 
   pub opcode : m.opcode ≡ opcode_of raw
   pub args : Reads signature m.args (payload_of raw) fds
 
--- no arguments read
+-- the bytes and tokens cannot be read as arguments
 abbrev pub DoesNotRead : List ArgumentType → List ℕ → List Token → Type 0
 DoesNotRead signature payload fds = (args : List WireArgument) → ¬ (Reads signature args payload fds)
 
@@ -73,7 +73,7 @@ DoesNotRead signature payload fds = (args : List WireArgument) → ¬ (Reads sig
 abbrev pub IsThere : List ℕ → List ArgumentType → List Token → Type 0
 IsThere raw signature fds = IsWhole raw × (fd_count signature ≤ length fds)
 
--- which error it is where no message is given out, in the order of the decisions
+-- which error it is if no message is given out, in the order of the decisions
 abbrev pub RefusesMessage : List ℕ → List ArgumentType → List Token → MessageParseError → Type 0
 RefusesMessage raw signature fds errors.MissingData =
     (length raw < 8) ⊎ ((8 ≤ length raw) × (8 ≤ length_of raw) × (length raw < length_of raw))

@@ -1,8 +1,8 @@
 -- The arguments that bytes and tokens are, under a signature.
 --
--- The payload is a piece for each argument that is no descriptor, and a rest, which is ignored. A piece is read
--- whatever its padding holds. A string's bytes end in a zero and have no other; a string of no bytes at all is
--- null, whatever the signature says of null. The tokens are those of the descriptors, in order, and a rest.
+-- The payload is a piece for each argument that is no descriptor, and a rest, which is ignored. Padding is not looked
+-- at. A string's bytes end in a zero and have no other; a string of no bytes at all is null, even if the signature does
+-- not allow null. The tokens are those of the descriptors, in order, and a rest.
 use Rattle.std.specs.Prelude.{◌≡◌, ℕ, List, [], ◌∷◌, ◌++◌, length, Some, None}
 use Rattle.std.specs.Int.{w32, from_le_bytes, cast_signed}
 use Rattle.wl_wire.specs.declared.argument.ArgumentType.{ArgumentType}

@@ -1,9 +1,9 @@
 -- The table of interfaces: what a session knows of the protocol.
 --
 -- The first four interfaces are fixed: the interface of objects of which nothing is known, `wl_display`,
--- `wl_registry` and `wl_callback`. The caller's follow, in their order. The table is accepted where each name can go
--- on the wire and is taken once, each interface that a message names is in the table, and each message says of its
--- new object and of its objects what a session has to know.
+-- `wl_registry` and `wl_callback`. The caller's follow, in their order. The table is accepted if each name can go on the
+-- wire and is taken once, each interface that a message names is in the table, and each message says of its new object
+-- and of its objects what a session has to know.
 use Rattle.std.specs.Prelude.{◌≡◌, ℕ, ◌+◌, ◌<◌, ◌⊎◌, List, [], ◌∷◌, ◌++◌, length, take, map, Option, Some, None, Bool, true, false, ◌||◌, ◌&&◌, not, ◌==◌, nat_le, is_none, IsTrue, IsSomeAnd, slice_get, count_by, codes}
 use Rattle.std.specs.List.{list_any}
 use Rattle.std.specs.Option.{option_map_or, option_to_list}
@@ -63,7 +63,7 @@ interface_rows interfaces = map interface_row interfaces
 abbrev pub interface_at : ℕ → InterfaceId
 interface_at n = record { 0 = n }
 
--- the interface of objects of which nothing more is known; it stands for any in what a message asks of an object
+-- the interface of objects of which nothing more is known; a message that asks for it takes an object of any interface
 abbrev pub anonymous_id : InterfaceId
 anonymous_id = interface_at 0
 
@@ -116,7 +116,7 @@ registry_row = record {
       ∷ [];
 }
 
--- its event ends it
+-- its event ends the callback
 abbrev pub callback_row : InterfaceRow
 callback_row = record {
   name = codes "wl_callback";
@@ -149,7 +149,7 @@ holds_zero name = list_any (λ byte. byte == 0) name
 abbrev pub is_taken : List InterfaceRow → List ℕ → Bool
 is_taken rows name = list_any (λ row. bytes_eq name row.name) rows
 
--- the child interface, where there is one, and the argument interfaces
+-- the child interface, if there is one, and the argument interfaces
 abbrev pub interfaces_of : MessageRow → List InterfaceId
 interfaces_of m = option_to_list m.child_interface ++ m.arg_interfaces
 
@@ -178,7 +178,7 @@ is_message_at_fault count m (fault.MissingChild _) = nat_le 1 (new_ids m) && is_
 is_message_at_fault count m (fault.ArgInterfaces _) = not (length m.arg_interfaces == objects m)
 is_message_at_fault count m _ = false
 
--- an interface's name has the fault, where it is taken or not
+-- an interface's name has the fault; `taken` says whether the name is taken
 abbrev pub is_name_at_fault : Bool → List ℕ → TableError → Bool
 is_name_at_fault taken name (fault.ZeroInName _) = holds_zero name
 is_name_at_fault taken name (fault.DuplicateName _) = taken
@@ -199,7 +199,7 @@ place (fault.MissingChild i) = i
 place (fault.ArgInterfaces i) = i
 place fault.OutOfMemory = 0
 
--- where the fault stands among those of one interface
+-- the place of the fault among those of one interface
 abbrev pub rank : TableError → ℕ
 rank (fault.ZeroInName _) = 0
 rank (fault.DuplicateName _) = 1
@@ -209,7 +209,7 @@ rank (fault.MissingChild _) = 4
 rank (fault.ArgInterfaces _) = 5
 rank fault.OutOfMemory = 6
 
--- the name of the interface at that place is taken before it
+-- an earlier interface has the name of the one at that place
 abbrev pub is_repeated : List InterfaceRow → ℕ → Bool
 is_repeated table n = option_map_or (λ row. is_taken (take n table) row.name) (slice_get table n) false
 

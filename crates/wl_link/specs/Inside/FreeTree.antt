@@ -24,7 +24,7 @@ pub record IsLevel (flag : ℕ → Bool) (count : ℕ) (words : List ℕ) : Type
   pub small : (w : ℕ) → word words w < 2 ^ 64
   pub bits : (w b : ℕ) → w < length words → b < 64 → bit_at (word words w) b ≡ as_bit (flag (64 * w + b))
 
--- how many flags the level above this one has: one for each word, and none where one word is all
+-- how many flags the level above this one has: one for each word, and none if there is only one word
 abbrev pub flags_above : ℕ → ℕ
 flags_above words = if nat_lt 1 words then words else 0
 
@@ -67,7 +67,7 @@ FindsLeast flag count (Some n) = IsLeast flag n
 abbrev pub lowest_bit : ℕ → ℕ → Option ℕ
 lowest_bit at word = if word == 0 then None else Some (64 * at + trailing_zeros w64 word)
 
--- how many words a search reads: one on each level, and the highest alone where no flag is set
+-- how many words a search reads: one on each level, or the highest alone if no flag is set
 abbrev pub reads_of : Option ℕ → List (List ℕ) → ℕ
 reads_of (Some n) levels = height levels
 reads_of None levels = if height levels == 0 then 0 else 1
@@ -78,7 +78,7 @@ reads_of None levels = if height levels == 0 then 0 else 1
 abbrev pub changed : (ℕ → Bool) → ℕ → Bool → ℕ → Bool
 changed flag at on = λ j. if j == at then on else flag j
 
--- the levels, where a first word is added to the lowest, which has this flag
+-- the levels with a first word added to the lowest; the word has this flag
 abbrev pub with_first : Bool → List (List ℕ) → List (List ℕ)
 with_first on [] = []
 with_first on (words ∷ up) = (words ++ as_bit on ∷ []) ∷ up
@@ -135,7 +135,7 @@ AddsFlag count before after =
 
 -- ---- room
 
--- whether a vector takes one item more without memory
+-- whether a vector has capacity for one item more
 abbrev pub has_room : {A Z : Type 0} → Vec A Z → Bool
 has_room v = nat_lt (vec_len v) (vec_capacity v)
 
@@ -144,12 +144,12 @@ module _ {Z : Type 0} where
   words_of [] = []
   words_of (words ∷ up) = words.items ∷ words_of up
 
-  -- each level takes a word more without memory, and so does one without words above them
+  -- each level has capacity for one word more, and so has one without words above them
   abbrev pub is_ready : List (Vec ℕ Z) → Bool
   is_ready [] = false
   is_ready (words ∷ up) = has_room words && (vec_len words == 0 || is_ready up)
 
-  -- each level has room for a word more; where there was no level without words, one is still wanted
+  -- each level has capacity for one word more; if there was no level without words, one is still wanted
   abbrev pub RoomMade : Bool → List (Vec ℕ Z) → List (Vec ℕ Z) → Type 0
   RoomMade true before after = is_ready after ≡ true
   RoomMade false before after =

@@ -11,7 +11,7 @@ use Rattle.wl_link.specs.declared.object_map.Place.TheVariants.{Nowhere, Client,
 use Rattle.wl_link.specs.Inside.FreeTree.{IsTree, IsHeight, words_of, has_room, is_ready}
 use Rattle.wl_link.specs.Store.{Store, client_range, server_range}
 
--- how many places there are, once something is put at this one
+-- how many places there are after something is put at this one
 abbrev pub put_len : ℕ → ℕ → ℕ
 put_len at len = if at == len then at + 1 else len
 
@@ -28,7 +28,7 @@ module _ {A : Type 0} where
   abbrev pub is_free_place : List (Option A) → ℕ → Bool
   is_free_place places at = not (is_some (place places at)) && nat_le at (length places)
 
-  -- something is put at a place: exactly where it is free, and memory is wanted only for the one after the last
+  -- something is put at a place, exactly if it is free; memory may be refused only for the one after the last
   abbrev pub PutsAt : List (Option A) → ℕ → A → Result (Unit {0}) InsertError → List (Option A) → Type 0
   PutsAt before at x (Ok _) after =
       (is_free_place before at ≡ true) × Puts before at (Some x) after × (length after ≡ put_len at (length before))
@@ -36,7 +36,7 @@ module _ {A : Type 0} where
   PutsAt before at x (Err insert.OutOfMemory) after =
       (is_free_place before at ≡ true) × (at ≡ length before) × (after ≡ before)
 
-  -- a call of a closure at what a place holds, which the place then holds; without it, no call
+  -- the closure is called once with what a place holds, and the place then holds what the call left; else it is not called
   abbrev pub LendsAt : {R : Type 0} → (A → R → A → Type 0) → List (Option A) → ℕ → Option R → List (Option A) → Type 0
   LendsAt call before at answer after =
       MatchOption (place before at) ((answer ≡ None) × (after ≡ before))
@@ -48,8 +48,8 @@ module _ {A : Type 0} where
     pub free : place places at ≡ None
     pub taken : (i : ℕ) → i < at → is_some (place places i) ≡ true
 
-  -- Something new is put at the first place that holds nothing, if that is below the end, and the answer is its number: the
-  -- first place has this one.
+  -- Something new is put at the first place that holds nothing, if that is below the end, and the answer is its number. The
+  -- first place has the number `first`.
   abbrev pub PutsNew : List (Option A) → ℕ → ℕ → A → Result ℕ NewError → List (Option A) → Type 0
   PutsNew before number end x (Ok n) after =
       (at : ℕ) × (n ≡ at + number) × (at < end) × IsFirstFree before at × Puts before at (Some x) after × (length after ≡ put_len at (length before))
@@ -57,7 +57,7 @@ module _ {A : Type 0} where
   PutsNew before number end x (Err new.OutOfMemory) after =
       ((at : ℕ) × (at < end) × IsFirstFree before at × (at ≡ length before)) × (after ≡ before)
 
-  -- what the places hold, each with its number, where the first place has this number
+  -- what the places hold, each with its number; the first place has this number
   abbrev pub entries_from : ℕ → List (Option A) → List (ℕ × A)
   entries_from n [] = []
   entries_from n (None ∷ rest) = entries_from (n + 1) rest
@@ -75,18 +75,17 @@ module _ {A : Type 0} where
     pub tree : IsTree (free_flag places) (length places) (words_of levels)
     pub small : length places < 4294967296
 
-  -- how many words the search for a free place reads: none without places, one where no place is free, else one on each
-  -- level
+  -- how many words the search for a free place reads: none without places, one if no place is free, else one on each level
   pub record WordsReadIn (places : List (Option A)) (read : ℕ) : Type 0 where
     pub none : length places ≡ 0 → read ≡ 0
     pub full : 0 < length places → ((i : ℕ) → i < length places → is_some (place places i) ≡ true) → read ≡ 1
     pub some : (i : ℕ) → i < length places → place places i ≡ None → IsHeight (length places) read
 
-  -- no more words than so many levels have place for
+  -- no more words are read than there may be levels
   abbrev pub ReadsFew : List (Option A) → ℕ → Type 0
   ReadsFew places read = (most : ℕ) → 0 < most → length places ≤ 64 ^ most → read ≤ most
 
--- whether one place more takes no memory
+-- whether there is capacity for one place more
 abbrev pub has_place_room : {A Y Z X : Type 0} → Vec A Y → Vec (Vec ℕ Z) X → Bool
 has_place_room slots levels = has_room slots && is_ready levels.items
 

@@ -1,4 +1,5 @@
--- How turns and receives join to a reading, as the loops of the sessions above say it.
+-- How the entries of a reading (receives, and messages that are handled) join to a reading, as the loops of both sessions
+-- say it.
 use Rattle.std.proofs.Common.{◌≡◌, ◌⊎◌, ℕ, Bool, List, Option, None, Some, Result, Ok, Err}
 use Rattle.wl_wire.specs.declared.error.IoFault.{IoFault}
 use Rattle.wl_link.specs.Exchange.{Queue}
@@ -11,11 +12,11 @@ module _ {T Core Event Finish : Type 0} (sends : T → Queue → Result ℕ IoFa
   abbrev pub Reading : ℕ → ReaderState T Core → Gives Event → ReaderState T Core → Type 0
   Reading left before out after = (turns : List Turn) × Reads sends reader receives left before turns out after
 
-  -- where what is left of a reading may lead, the whole may, behind what was given so far
+  -- if a reading that begins now may end so, then one that began at `start` may, with what was given so far before it
   abbrev pub LeadsOn : ReaderState T Core → List (Given Event) → Bool → ReaderState T Core → Type 0
   LeadsOn start gave refused now = (left : ℕ) (rest : Gives Event) (end : ReaderState T Core) → Reading left now rest end → Reading left start (behind gave refused rest) end
 
-  -- a reading ends so, however many receives are left
+  -- the reading ends so, however many receives are left
   abbrev pub EndsSo : ReaderState T Core → List (Given Event) → Bool → Option IoFault → Bool → ReaderState T Core → Type 0
   EndsSo start gave refused stopped lacked after = (left : ℕ) → Reading left start (behind gave refused (stops stopped lacked left)) after
 

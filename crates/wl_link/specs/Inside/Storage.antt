@@ -1,4 +1,4 @@
--- Bytes that wait in a storage, as the functions inside the link say it.
+-- Bytes that wait in a buffer, as the functions inside the link say it.
 use Rattle.std.specs.Prelude.{◌≡◌, ℕ, ◌≢◌, ◌+◌, ◌-◌, ◌*◌, ◌<◌, ◌≤◌, ◌&&◌, List, [], ◌++◌, length, nat_le, nat_lt, if◌then◌else◌, Option, Result, Ok, Err}
 use Rattle.wl_wire.specs.declared.error.MessageWriteError.{MessageWriteError}
 use Rattle.wl_wire.specs.declared.error.MessageWriteError.TheVariants as errors
@@ -10,7 +10,7 @@ use Rattle.wl_link.specs.Exchange.{Queue}
 use Rattle.wl_wire.specs.Parse.{length_of}
 use Rattle.wl_link.specs.Link.{count_of, incoming_limit, with_came}
 
--- the bytes, and how many the storage can hold
+-- the bytes, and how many the buffer can hold
 pub record Waiting : Type 0 where
   pub bytes : List ℕ
   pub size : ℕ
@@ -26,7 +26,7 @@ abbrev pub arrived : {E : Type 0} → Result ℕ E → ℕ
 arrived (Ok n) = n
 arrived (Err _) = 0
 
--- One receive was offered the part of a storage that is free behind what waits, and what came stands behind it.
+-- One receive was offered the part of a buffer that is free after what waits, and what came stands after it.
 abbrev pub Received : {T : Type 0} → (T → ℕ → Result Queue IoFault → T → Type 0)
     → T → Queue → ℕ → Result ℕ IoFault → T → Queue → Type 0
 Received receives before waiting size answer after waiting' =
@@ -35,16 +35,16 @@ Received receives before waiting size answer after waiting' =
     × (answer ≡ count_of received)
     × (waiting' ≡ with_came waiting received)
 
--- the storage that a receive finds under a limit
+-- the capacity of the buffer that a receive finds, under a limit
 abbrev pub grown_to : Option ℕ → Waiting → ℕ
 grown_to limit w = if nat_le w.size (length w.bytes) && nat_lt w.size (incoming_limit limit) then w.size * 2 else w.size
 
--- the message at the front is no longer than a storage may become under a limit
+-- the message at the front is no longer than the incoming buffer may become, under a limit
 abbrev pub FitsUnder : Option ℕ → List ℕ → Type 0
 FitsUnder limit bytes = 8 ≤ length bytes → length_of bytes ≤ incoming_limit limit
 
--- The message stands behind what waits. A refusal changes nothing: the message is too long, or there is too little
--- room behind what waits, or there is no memory for its tokens.
+-- The message stands after what waits. An error changes nothing: the message is too long, or there is too little room
+-- after what waits, or there is no memory for its tokens.
 abbrev pub Appended : {X : Type 0} → Waiting → List Token → WireMessage → Result X MessageWriteError → Waiting → List Token → Type 0
 Appended before fds m (Ok _) after fds' =
     (size m ≤ 65535) × (length before.bytes + size m ≤ before.size)

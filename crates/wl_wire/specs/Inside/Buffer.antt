@@ -9,7 +9,7 @@ use Rattle.wl_wire.specs.Message.{pad_len}
 unfoldable pub overwritten : List ℕ → ℕ → List ℕ → List ℕ
 overwritten old at bytes = take at old ++ bytes ++ drop (at + length bytes) old
 
--- how many bytes so many counted ones take
+-- how many bytes a string or an array of n bytes takes, with its count and its padding
 abbrev pub counted_len : ℕ → ℕ
 counted_len n = 4 + n + pad_len n
 

@@ -97,24 +97,24 @@ arguments_at (k ∷ signature) payload fds = do
 abbrev pub with_front : List WireArgument → Option (List WireArgument × List Token) → Option (List WireArgument × List Token)
 with_front before read = read >>= λ x. Some (before ++ x.0, x.1)
 
--- a refusal is for want of memory, or because nothing is read
+-- an error comes if memory was refused, or if nothing is read
 abbrev pub Fails : {Y : Type 0} → MessageParseError → Option Y → Type 0
 Fails errors.Malformed read = read ≡ None
 Fails errors.OutOfMemory read = Unit {0}
 Fails _ read = ⊥
 
--- a function gives what is read, seen by the view, unless memory ran out
+-- a function gives what is read, seen by the view, unless memory was refused
 abbrev pub Gives : {X Y : Type 0} → (X → Y) → Result X MessageParseError → Option Y → Type 0
 Gives view (Ok x) read = read ≡ Some (view x)
 Gives view (Err e) read = Fails e read
 
--- what the parser answers where no whole message is there
+-- what the parser answers if no whole message is there
 abbrev pub RefusesHeader : List ℕ → MessageParseError → Type 0
 RefusesHeader raw errors.MissingData = (length raw < 8) ⊎ ((8 ≤ length raw) × (8 ≤ length_of raw) × (length raw < length_of raw))
 RefusesHeader raw errors.Malformed = (8 ≤ length raw) × (length_of raw < 8)
 RefusesHeader raw _ = ⊥
 
--- what the parser answers where the arguments were not given out: the header is there
+-- what the parser answers if the message is there whole, but no arguments are given out
 abbrev pub RefusesArguments : List ArgumentType → List ℕ → List Token → MessageParseError → Type 0
 RefusesArguments signature payload fds errors.MissingFD = length fds < fd_count signature
 RefusesArguments signature payload fds errors.Malformed = (fd_count signature ≤ length fds) × DoesNotRead signature payload fds
