@@ -1,8 +1,8 @@
--- That it does not matter to a client how bytes and tokens are cut: what its readings hand out, what is stored and what
--- is noted is what is served of all that came, joined.
+-- That it does not matter to a client how bytes and tokens are cut into receives: what its readings hand out, store and
+-- note is what is served of all that came, joined.
 --
--- What is served is said of the client as a reader, over a transport that is never asked: it sends nothing while it
--- reads, and nothing is received any more.
+-- What is served (`Served` of `wl_link`) is said of the client as a reader. A client sends nothing while it reads, so the
+-- transport for the sends is one that is never asked.
 use Rattle.std.specs.Prelude.{◌≡◌, ℕ, Bool, false, List, [], ◌∷◌, Option, None, Result, Ok}
 use Rattle.wl_wire.specs.declared.error.IoFault.{IoFault}
 use Rattle.wl_link.specs.Exchange.{Queue, nothing}
@@ -19,18 +19,18 @@ abbrev pub no_sends : {S : Type 0} → S → Queue → Result ℕ IoFault → S 
 no_sends before offer answer after = ⊥
 
 module _ {T U : Type 0} where
-  -- With this behind what waits, and with the data of these finishes, a client hands this out and comes to this.
+  -- what a client hands out, and what it becomes, if `more` stands after what waits and its events are ended with these data
   abbrev pub IsServed : ReaderState T (Core U) → Queue → List (Option U) → List (Given SessionMessage) → ReaderState (Unit {0}) (Core U) → Type 0
   IsServed p more finishes gave end = Served no_sends client p more tt finishes gave end
 
-  -- Whatever comes later: what is served of the one over what came and then the rest is what was given, followed by what
-  -- is served of the other over the rest.
+  -- The client `before`, served over `came` and any rest, gives `gave`, and then what the client `after` gives, served over
+  -- that rest.
   abbrev pub GoesOn : ReaderState T (Core U) → Queue → List (Option U) → List (Given SessionMessage) → ReaderState T (Core U) → List (Option U) → Type 0
   GoesOn before came finishes gave after left = GoesOnAs (no_sends {S = Unit {0}}) client before came [] finishes gave after left
 
-  -- A reading of a live session with no open event, in which memory is not refused, is some turns with this answer. Where
-  -- each of its receives brought a byte or would have blocked, the session before it goes on as the session after it,
-  -- behind what it handed out.
+  -- A reading of a live session with no open event, in which memory is not refused, is a list of receives and messages with
+  -- this answer. If each receive brought a byte or would have blocked, then what is served of the session before it is what
+  -- the reading handed out, and then what is served of the session after it.
   abbrev pub CutsReading : (T → Queue → Result ℕ IoFault → T → Type 0) → (T → ℕ → Result Queue IoFault → T → Type 0) → SessionState T U
       → Result SessionMessage EventError → Bool → SessionState T U → Type 0
   CutsReading sends receives before answer refused after =
@@ -39,7 +39,7 @@ module _ {T U : Type 0} where
       × (answer ≡ answered out.stopped out.gave)
       × (AllFed turns → (finishes : List (Option U)) → GoesOn (reader_state_of before) (received_in turns) finishes (handed_by answer) (reader_state_of after) finishes)
 
-  -- an accepted finish of a live session is the next of the finishes
+  -- a finish of a live session that is accepted is the next of the finishes
   abbrev pub CutsFinish : SessionState T U → Option U → Result (Unit {0}) (FinishRefused U) → SessionState T U → Type 0
   CutsFinish before u answer after =
       before.error ≡ None → answer ≡ Ok tt → (finishes : List (Option U)) → GoesOn (reader_state_of before) nothing (u ∷ finishes) [] (reader_state_of after) finishes

@@ -50,11 +50,11 @@ pub record Converting (U : Type 0) : Type 0 where
   pub child : Option InterfaceId
   pub created : Option IdParts
 
--- what an argument becomes, and how far that leads; or what is wrong with it
+-- what an argument becomes, and how far the arguments were gone through then; or what is wrong with it
 abbrev pub Converted : Type 0 → Type 0
 Converted U = Result (Argument IdParts Token × Converting U) EventFault
 
--- what the arguments come to; or what is wrong with the first that is wrong, and the objects as they then are
+-- what the arguments became; or what is wrong with the first that is wrong, and the objects as they then are
 pub data Outcome (U : Type 0) : Type 0 where
   Whole : Converting U → List (Argument IdParts Token) → Outcome U
   Wrong : EventFault → Objects (Kept U) → Outcome U
@@ -65,7 +65,7 @@ module _ {U : Type 0} where
   object_argument_of asked n (Some x) =
       if fits asked x.interface then Ok (id_at n x) else Err (wrong.WrongInterface n asked x.interface)
 
-  -- the id that the number of an object becomes; null is handed out whatever the signature says of it
+  -- the id that the number of an object becomes; null is handed out even if the signature does not allow it
   abbrev pub object_argument : Store (Kept U) → InterfaceId → ℕ → Result IdParts EventFault
   object_argument store asked n = if n == 0 then Ok null_parts else object_argument_of asked n (held store n)
 
@@ -73,17 +73,17 @@ module _ {U : Type 0} where
   is_destroyed None = false
   is_destroyed (Some x) = x.value.client_destroyed
 
-  -- the store without the object of a number, where the client destroyed it
+  -- the store without the object of a number, if the client destroyed it
   abbrev pub vacated : Store (Kept U) → ℕ → Store (Kept U)
   vacated store n = if is_destroyed (held store n) then removed store n else store
 
-  -- The server may make an object at that number: one of its range that is free, or whose object the client destroyed,
-  -- while a serial is left.
+  -- The server may make an object at that number: it is one of the server's range, and free, or its object was destroyed by
+  -- the client; and a serial is left.
   abbrev pub is_valid_new : Objects (Kept U) → ℕ → Bool
   is_valid_new objects n =
       is_server_number n && (is_free (vacated objects.store n) n && not (objects.last_serial == last_possible_serial))
 
-  -- the object that an event makes: of its receiver's version, and destroyed by the client if the receiver is
+  -- the object that an event makes: it has its receiver's version, and is destroyed by the client if the receiver is
   abbrev pub made_object : ℕ → Bool → InterfaceId → ℕ → Object (Kept U)
   made_object version destroyed i serial = with_flags destroyed false (fresh_object i version serial None)
 
@@ -110,7 +110,7 @@ module _ {U : Type 0} where
   with_new_argument version destroyed c n (Some i) =
       if is_valid_new c.objects n then Ok (with_new_at version destroyed c n i) else Err (wrong.InvalidNewId n i)
 
-  -- an argument of an event whose receiver has this version, and was destroyed by the client or not
+  -- what an argument of an event becomes; the receiver has this version, and was destroyed by the client or not
   abbrev pub convert_one : ℕ → Bool → Converting U → WireArgument → Converted U
   convert_one version destroyed c (arg.Int z) = Ok (arg.Int z, c)
   convert_one version destroyed c (arg.Uint n) = Ok (arg.Uint n, c)
@@ -126,7 +126,7 @@ module _ {U : Type 0} where
   going_on (Ok next) objects on = on next.0 next.1
   going_on (Err wrong) objects on = Wrong wrong objects
 
-  -- all arguments, from left to right, behind those that were gone through
+  -- all arguments, from left to right, after those that were gone through
   abbrev pub convert : ℕ → Bool → Converting U → List (Argument IdParts Token) → List WireArgument → Outcome U
   convert version destroyed c done [] = Whole c done
   convert version destroyed c done (a ∷ args) =
@@ -182,6 +182,7 @@ module _ {U : Type 0} where
   after_delete store n (Some x) =
       if x.value.client_destroyed then removed store n else rewritten store n (with_flags false true x)
 
-  -- An object that the client destroyed leaves the store where the server gives it up; another is flagged, and stays.
+  -- What is left after the server gave up a number: an object that the client destroyed leaves the store; another is
+  -- flagged, and stays.
   abbrev pub deleted : Store (Kept U) → ℕ → Store (Kept U)
   deleted store n = after_delete store n (held store n)

@@ -11,13 +11,13 @@ use Rattle.wl_client.specs.Session.{SessionState}
 use Rattle.wl_client.specs.Steps.{Entry}
 
 module _ {U : Type 0} where
-  -- a reading or a flush is answered by the failure; nothing is said of other steps
+  -- a reading or a flush answers `Failed`; of other steps nothing is said
   abbrev pub AnswersFailed : Step U → Reply U → Type 0
   AnswersFailed step.NextEvent answer = answer ≡ reply.NextEvent (Err no_event.Failed)
   AnswersFailed step.Flush answer = answer ≡ reply.Flush (Err flush.Failed)
   AnswersFailed _ answer = Unit {0}
 
-  -- so is each reading and each flush of the run
+  -- each reading and each flush of the run does so
   abbrev pub AllFail : List (Entry U) → Type 0
   AllFail [] = Unit {0}
   AllFail (e ∷ run) = AnswersFailed e.step e.answer × AllFail run

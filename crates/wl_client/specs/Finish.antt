@@ -19,13 +19,13 @@ use Rattle.wl_client.specs.ObjectId.{IdParts}
 use Rattle.wl_client.specs.Session.{Core, SessionState, named, alive, core_of, noted, id_at, with_core, with_flags, with_user_data}
 
 module _ {U : Type 0} where
-  -- an object gets the data, if a number's object is there
+  -- the object at the number gets the data, if there is one
   abbrev pub data_given : Store (Kept U) → ℕ → Option (Object (Kept U)) → U → Store (Kept U)
   data_given store n None u = store
   data_given store n (Some x) u = rewritten store n (with_user_data u x)
 
-  -- why an event that made this object is not finished with these data, whatever memory there is: data are given exactly
-  -- where it made one
+  -- why an event is not finished with these data, if not for want of memory: there have to be data exactly if the event made
+  -- an object
   abbrev pub refusal : Option IdParts → Option U → Option FinishError
   refusal created u =
       first_refusal
@@ -57,32 +57,32 @@ module _ {T U : Type 0} where
   abbrev pub Refuses : SessionState T U → Option U → FinishError → Result (Unit {0}) (FinishRefused U) → SessionState T U → Type 0
   Refuses before u e answer after = (answer ≡ Err (record { error = e; user_data = u })) × (after ≡ before)
 
-  -- the event ends an object that is noted then
+  -- the event ends an object, which is noted then
   abbrev pub NotesEnd : SessionState T U → OpenEvent → Type 0
   NotesEnd s event =
       (event.is_destructor ≡ true) × MatchOption (alive (named s.store event.sender)) ⊥ (λ x. IsSome x.value.user_data)
 
-  -- the event is closed; for the note of an object that it ends there may be no memory
+  -- the event is closed; or there is no memory for the note of an object that it ends
   abbrev pub Closes : SessionState T U → OpenEvent → Option U → Result (Unit {0}) (FinishRefused U) → SessionState T U → Type 0
   Closes before event u answer after =
       ((answer ≡ Ok tt) × (after ≡ with_core before (closed (core_of before) event u)))
       ⊎ (NotesEnd before event × Refuses before u finish.OutOfMemory answer after)
 
-  -- a refusal gives the data back, and the event stays open
+  -- an error gives the data back, and the event stays open
   abbrev pub Finishes : SessionState T U → Option U → Result (Unit {0}) (FinishRefused U) → SessionState T U → Type 0
   Finishes before u answer after =
       MatchOption before.open_event
       (Refuses before u finish.NoOpenEvent answer after)
       (λ event. MatchOption (refusal event.created u) (Closes before event u answer after) (λ e. Refuses before u e answer after))
 
-  -- what a session makes of a fault of its flush: it is stored, unless more may be sent later
+  -- the answer to a flush by that of the link; a fault is stored, unless more may be sent later
   abbrev pub FlushEnds : SessionState T U → Result (Unit {0}) IoFault → Result (Unit {0}) FlushError → SessionState T U → Type 0
   FlushEnds s (Ok _) answer after = (answer ≡ Ok tt) × (after ≡ s)
   FlushEnds s (Err fault.WouldBlock) answer after = (answer ≡ Err flush.WouldBlock) × (after ≡ s)
   FlushEnds s (Err fault.OutOfMemory) answer after = (answer ≡ Err flush.OutOfMemory) × (after ≡ s)
   FlushEnds s (Err other) answer after = (answer ≡ Err flush.Failed) × (after ≡ record s { error = Some (Io other) })
 
-  -- a stored error is answered first
+  -- a stored error is reported first
   abbrev pub SessionFlushed : (T → Queue → Result ℕ IoFault → T → Type 0) → SessionState T U → Result (Unit {0}) FlushError
       → SessionState T U → Type 0
   SessionFlushed sends before answer after =

@@ -1,8 +1,8 @@
 -- The ids that a session hands out, and what they name.
 --
--- A session's changes are told step by step: an object is put at a number, leaves its number, is written to, ends, or an
--- id is made of it, which then names it. Each id that a reply hands out is one of these; and what an id names follows from
--- the changes alone. No program stores them.
+-- Each step of a run has a list of changes (`Change` of `wl_link`): an object is put at a number, leaves its number, is
+-- written to, or ends; or an id is made of it. Each id that a reply hands out is made so, and what an id names follows from
+-- the changes alone. They exist in contracts only.
 use Rattle.std.specs.Prelude.{◌≡◌, ◌≢◌, List, [], ◌∷◌, ◌++◌, map, All, Bool, Some, IsSome, Contains, Result, Ok, Err}
 use Rattle.wl_link.specs.Identity.{Birth, Change, Ended, IsBornInStep, IsMadeInStep, HasIdentity, births_of, RunEnds, StepEnds, first_objects, HandedId, Found, New, argument_ids}
 use Rattle.wl_link.specs.Script.{Script}
@@ -49,27 +49,27 @@ note_ids (Destroyed id ∷ notes) = id ∷ note_ids notes
 
 -- ---- what they name
 
--- an object is the program's no more, where the client destroyed it or an event did
+-- an object is no longer the program's: the client destroyed it, or an event did
 abbrev pub is_over : {U : Type 0} → Kept U → Bool
 is_over k = k.client_destroyed
 
 module _ {U : Type 0} where
-  -- the notes of the objects that end in a step, in order: of each that has user data
+  -- the notes of the objects with user data that end in a step, in order
   abbrev pub ended_notes : List (Change (Kept U)) → List Note
   ended_notes [] = []
   ended_notes (Ended n x _ ∷ rest) = noted [] x.value.user_data (id_at n x) ++ ended_notes rest
   ended_notes (_ ∷ rest) = ended_notes rest
 
-  -- The id is made in this step, of an object that it then names; a new one of an object that the step puts there. An id
-  -- of the number 0 names none.
+  -- The id is made in this step, of an object that it then names; a new one is made of an object that the step puts in
+  -- place. An id of the number 0 names none.
   abbrev pub IsHandedIn : List (Change (Kept U)) → HandedId IdParts → Type 0
   IsHandedIn changes (Found id) = id.number ≢ 0 → IsMadeInStep changes (id_of id)
   IsHandedIn changes (New id) = id.number ≢ 0 → IsMadeInStep changes (id_of id) × IsBornInStep serial_of changes (id_of id)
 
-  -- The entries of a run lead from one value of the session to another, and the objects by these changes, a list of them
-  -- for each entry, in which an object ends exactly where it becomes the program's no more. In each step the ids of its reply are made. The notes that waited, and behind them those of the objects
-  -- that end in the step, are those that its reply hands out, and behind them those that wait after it; the ids of the
-  -- notes that are new are made in that step.
+  -- The entries of a run lead from `s` to `after`. For each entry there is a list of changes, which lead the objects along;
+  -- an object ends in it exactly if it becomes no longer the program's. The ids of the reply, and those of the new notes,
+  -- are made in it. The notes that waited, and then those of the objects that end in the step, are those that the reply
+  -- hands out, and then those that wait after the step.
   abbrev pub Follows : SessionState Script U → List (Entry U) → List (List (Change (Kept U))) → SessionState Script U → Type 0
   Follows s [] [] after = after ≡ s
   Follows s [] (changes ∷ rest) after = ⊥
@@ -82,9 +82,9 @@ module _ {U : Type 0} where
       × All (IsHandedIn changes) (map Found (note_ids (ended_notes changes)))
       × Follows mid run rest after
 
-  -- A run from the connecting on has changes, a list of them for each entry, by which its objects come to what they are.
-  -- Each kept serial is one object's, and each id that was handed out names the object that it was made of exactly
-  -- while that is kept, and afterwards none. So `info` knows something of an id only while its own object is kept.
+  -- A run from the connecting on has a list of changes for each entry, which lead to the objects that it ends with. The kept
+  -- serials are distinct, and each id that was handed out names the object that it was made of exactly while that is kept,
+  -- and afterwards none. So `info` answers for an id only while that very object is kept.
   pub record HasOwnIds (begins : SessionState Script U) (run : List (Entry U)) (ends : SessionState Script U) : Type 0 where
     pub changes : List (List (Change (Kept U)))
     pub follows : Follows begins run changes ends

@@ -1,6 +1,6 @@
--- What a message comes to: nothing, or an event to hand out, or the end of the session.
+-- How a message is handled: it does nothing more, or is an event to hand out, or ends the session.
 --
--- It is a function of the table, the objects and the message, and says what the objects are then.
+-- This is a function of the table, the objects and the message, and says what the objects are after it.
 use Rattle.std.specs.Prelude.{ℕ, List, [], ◌∷◌, ◌==◌, if◌then◌else◌, Option, None, Some, option_map}
 use Rattle.wl_wire.specs.declared.argument.Argument.{Argument}
 use Rattle.wl_wire.specs.declared.argument.ArgumentType.{ArgumentType}
@@ -35,7 +35,7 @@ module _ {U : Type 0} where
   abbrev pub front_row : List InterfaceRow → Store (Kept U) → List ℕ → Option MessageRow
   front_row table store bytes = row_in table (held store (sender_of bytes)) (opcode_of bytes)
 
--- ---- what a message comes to
+-- ---- the handling of a message
 
 -- nothing, or an event that is handed out and open from then on, or an error that ends the session; and the objects
 -- after it
@@ -57,7 +57,7 @@ module _ {U : Type 0} (table : List InterfaceRow) (objects : Objects (Kept U)) w
   of_display (Deletes n) = Swallows (record objects { store = deleted objects.store n })
   of_display Unreadable = Breaks (error_of table wrong.Malformed) objects
 
-  -- an event whose arguments were gone through: it is swallowed where the client destroyed its receiver
+  -- an event after its arguments were gone through: it is swallowed if the client destroyed its receiver
   abbrev pub of_converted : WireMessage → Object (Kept U) → MessageRow → Outcome U → Handling U
   of_converted m receiver row (Wrong w after) = Breaks (error_of table w) after
   of_converted m receiver row (Whole c args) =

@@ -10,9 +10,9 @@ use Rattle.wl_client.specs.Session.{SessionState, id_of, named, objects_of, seri
 use Rattle.wl_client.specs.Steps.{Entry}
 
 module _ {U : Type 0} where
-  -- The changes that make the ids of a run its own are those of its first entries, which lead to this point, and then those
-  -- of the later ones. Each id that names an object at this point, however it came to be, names that very object behind the
-  -- run exactly while it is kept, and else none.
+  -- The changes of a run (`HasOwnIds`) are those of its first entries, which lead to this point, and then those of the later
+  -- ones. Each id that names an object at this point, no matter where it comes from, names that very object after the run
+  -- exactly if it is still kept, and else none.
   pub record KeepsNaming (begins : SessionState Script U) (done : List (Entry U)) (point : SessionState Script U) (later : List (Entry U)) (ends : SessionState Script U) : Type 0 where
     pub ids : HasOwnIds begins (done ++ later) ends
     pub first : List (List (Change (Kept U)))

@@ -22,15 +22,15 @@ module _ {U : Type 0} where
   all_ended_notes [] = []
   all_ended_notes (changes ∷ rest) = ended_notes changes ++ all_ended_notes rest
 
-  -- By the changes that make its ids its own, the notes that a run handed out, and then those that still wait, are those of
-  -- the objects that ended with user data, in order. Their ids differ pairwise in number or serial.
+  -- The notes that a run handed out, and then those that still wait, are those of the objects that ended with user data by
+  -- the run's changes (`HasOwnIds`), in order. Any two of their ids differ in number or serial.
   pub record NotesWhatEnded (begins : SessionState Script U) (run : List (Entry U)) (ends : SessionState Script U) : Type 0 where
     pub ids : HasOwnIds begins run ends
     pub exact : notes_of run ++ ends.notes ≡ all_ended_notes ids.changes
     pub once : AllPairs (λ a b. a ≢ b) (map id_of (note_ids (notes_of run ++ ends.notes)))
 
-  -- A run, and then steps of which those before a want of memory have these replies: with the step that met it, if one was
-  -- begun, they lead to what is left, and ids and notes are as those of every run.
+  -- A run, and then steps that stopped because memory was refused in one of them; those before it have these replies. They
+  -- lead, with that step if it was begun, to what is left, and ids and notes are as those of every run.
   abbrev pub AccountsForStopped : SessionState Script U → List (Entry U) → List (Step U) → List (Reply U) → SessionState Script U → Type 0
   AccountsForStopped begins run steps replies ends =
       (last : List (Entry U)) × IsWhereItStops steps (length replies) last

@@ -19,7 +19,7 @@ module _ {U : Type 0} where
   user_data_in None = None
   user_data_in (Some x) = x.value.user_data
 
-  -- a number's object is no longer the client's
+  -- the object at the number is no longer the client's
   abbrev pub given_up : Store (Kept U) → ℕ → Object (Kept U) → Store (Kept U)
   given_up store n x = rewritten store n (with_flags true x.value.server_destroyed x)
 
@@ -42,8 +42,8 @@ module _ {T U : Type 0} where
   abbrev pub destroyable : SessionState T U → IdParts → Option (Object (Kept U))
   destroyable s id = if id.number == 1 then None else alive (named s.store id)
 
-  -- The object is flagged as destroyed by the client, and noted if it has user data. For the note there may be no
-  -- memory; then nothing is changed.
+  -- The object is flagged as destroyed by the client, and noted if it has user data. If there is no memory for the note,
+  -- nothing is changed.
   abbrev pub DestroyedBy : SessionState T U → IdParts → Result (Unit {0}) DestroyError → SessionState T U → Type 0
   DestroyedBy before id answer after =
       MatchOption (destroyable before id) ((answer ≡ Err destroy.InvalidId) × (after ≡ before))

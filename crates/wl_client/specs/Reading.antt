@@ -1,5 +1,4 @@
--- The client as a reader of messages: what its core becomes of each, and of the end of an event. Its reading is that of
--- every such reader.
+-- The client as a reader of messages (`Reader` of `wl_link`): what each message, and the end of an event, does to its core.
 use Rattle.std.specs.Prelude.{◌≡◌, ◌⊎◌, ℕ, length, List, [], ◌∷◌, Bool, true, false, ◌&&◌, ◌||◌, nat_lt, if◌then◌else◌, Option, None, Some, is_some, is_none, Result, Ok, Err, MatchOption}
 use Rattle.wl_wire.specs.declared.argument.Token.{Token}
 use Rattle.wl_wire.specs.declared.error.IoFault.{IoFault}
@@ -33,7 +32,7 @@ use Rattle.wl_client.specs.Session.{Core, SessionState, alive, core_of, named}
 abbrev pub receives_allowed : ℕ
 receives_allowed = 64
 
--- the answer of a reading, without where an event's arguments lie in memory
+-- the answer of a reading, with the event as contracts see it
 abbrev pub event_content : Result (Message IdParts Token) EventError → Result SessionMessage EventError
 event_content (Ok m) = Ok (session_content m)
 event_content (Err e) = Err e
@@ -53,14 +52,14 @@ module _ {U : Type 0} where
   abbrev pub fails_by : Core U → WaylandError → Core U
   fails_by c e = record c { error = Some e }
 
-  -- ---- what an event comes to
+  -- ---- the handling of an event
 
   abbrev pub came_to : Core U → Handling U → Core U
   came_to c (Swallows o) = with_objects c o
   came_to c (HandsOut m event o) = record (with_objects c o) { open_event = Some event }
   came_to c (Breaks e o) = fails_by (with_objects c o) (Protocol e)
 
-  -- where there is no memory for an error's texts, that is stored in its place; another message asks for none
+  -- if there is no memory for an error's texts, `OutOfMemory` is stored in its place; another message asks for no memory
   abbrev pub starved_to : Core U → Handling U → Core U
   starved_to c (Breaks e o) = fails_by (with_objects c o) (Io fault.OutOfMemory)
   starved_to c h = came_to c h
@@ -87,7 +86,7 @@ module _ {U : Type 0} where
   has_data None = false
   has_data (Some x) = is_some x.value.user_data
 
-  -- for the note of an object that the event ends there may be no memory
+  -- there may be no memory for the note of an object that the event ends
   abbrev pub finished : Core U → OpenEvent → Option U → Verdict (Core U) SessionMessage
   finished c event u = record {
     core = closed c event u;
@@ -154,7 +153,7 @@ module _ {T U : Type 0} where
   abbrev pub with_error : SessionState T U → WaylandError → SessionState T U
   with_error s e = record s { error = Some e }
 
-  -- the session as a part whose core reads
+  -- the session as the state of a reader
   abbrev pub reader_state_of : SessionState T U → ReaderState T (Core U)
   reader_state_of s = record { core = core_of s; link = s.link }
 
@@ -162,23 +161,23 @@ module _ {T U : Type 0} where
   abbrev pub ReadsAs : SessionState T U → Result WireMessage MessageParseError → LinkState T → Type 0
   ReadsAs s answer link = ReadOne (λ sender opcode found. found ≡ signature_in s.table s.store sender opcode) s.link answer link
 
-  -- what waits lacks data or tokens
+  -- of the message at the front bytes or tokens are lacking
   abbrev pub Lacks : SessionState T U → Type 0
   Lacks s = ReadsAs s (Err parse.MissingData) s.link ⊎ ReadsAs s (Err parse.MissingFD) s.link
 
-  -- Where it ends the session because no bytes came, a byte is free for what the message at the front lacks, unless this
-  -- is longer than the incoming storage may become.
+  -- If a reading ends the session because no bytes came, a byte was free for what the message at the front lacks, unless
+  -- that message is longer than the incoming buffer may become.
   abbrev pub EndsWithRoom : SessionState T U → SessionState T U → Type 0
   EndsWithRoom before after = before.error ≡ None → after.error ≡ Some (Io fault.Pipe) → FindsRoom after.link after.link.incoming_capacity
 
   module _ (sends : T → Queue → Result ℕ IoFault → T → Type 0) (receives : T → ℕ → Result Queue IoFault → T → Type 0) where
-    -- a reading that is allowed so many receives answers so
+    -- a reading answers so
     abbrev pub ReadsTo : SessionState T U → Result SessionMessage EventError → Bool → SessionState T U → Type 0
     ReadsTo before answer refused after =
         (turns : List Turn) × (out : Gives SessionMessage) × Reads sends client receives receives_allowed (reader_state_of before) turns out (reader_state_of after)
         × (answer ≡ answered out.stopped out.gave) × (out.gave ≡ handed_by answer) × (refused ≡ out.refused)
 
-    -- a stored error is answered first, and then that an event is open
+    -- a stored error is reported first, and then that an event is open
     abbrev pub NextEvent : SessionState T U → Result SessionMessage EventError → Bool → SessionState T U → Type 0
     NextEvent before answer refused after =
         MatchOption before.error

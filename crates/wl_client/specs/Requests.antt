@@ -31,7 +31,7 @@ use Rattle.wl_client.specs.ObjectId.{IdParts}
 use Rattle.wl_client.specs.Objects.{given_up}
 use Rattle.wl_client.specs.Session.{SessionState, last_possible_serial, null_parts, named, alive, noted, id_at, fresh_object}
 
--- a message of a session, without where its arguments lie in memory
+-- a message of a session as contracts see it: its arguments are a plain list
 pub record SessionMessage : Type 0 where
   pub sender : IdParts
   pub opcode : ℕ
@@ -46,7 +46,7 @@ session_content m = record { sender = m.sender_id; opcode = m.opcode; args = m.a
 abbrev pub Spec : Type 0
 Spec = InterfaceId × ℕ
 
--- what a request with a new id creates: as the caller says, or else as the table says, of the sender's version
+-- what a request with a new id creates: what the caller says, or else what the table says, at the sender's version
 abbrev pub child_of : MessageRow → ℕ → Option Spec → Option Spec
 child_of row version (Some spec) = Some spec
 child_of row version None = option_map (λ child. (child, version)) row.child_interface
@@ -55,7 +55,7 @@ abbrev pub names_no_interface : List InterfaceRow → Option Spec → Bool
 names_no_interface table None = false
 names_no_interface table (Some spec) = is_none (slice_get table spec.0.0)
 
--- the caller and the table say another interface, or the caller says another version than the sender's
+-- the caller's interface is not the table's, or the caller's version is not the sender's
 abbrev pub differ : Option InterfaceId → Option Spec → Bool
 differ (Some child) (Some spec) = not (child.0 == spec.0.0)
 differ _ _ = false
@@ -77,12 +77,12 @@ abbrev pub interface_fault : {U : Type 0} → InterfaceId → Option (Object (Ke
 interface_fault asked None = Some refused.InvalidId
 interface_fault asked (Some x) = if fits asked x.interface then None else Some refused.WrongInterface
 
--- why an object argument is refused, where the signature says this of null and the table asks for this interface
+-- why an object argument is refused; the signature allows null or not, and the table asks for this interface
 abbrev pub object_fault : {U : Type 0} → Store (Kept U) → AllowNull → InterfaceId → IdParts → Option RequestError
 object_fault store null asked id =
     if id.number == 0 then null_fault null else interface_fault asked (alive (named store id))
 
--- why an argument of that type is refused, where the table asks for this interface next
+-- why an argument is refused at a place of that type; the table asks for this interface next
 abbrev pub argument_fault : {U : Type 0} → Store (Kept U) → ArgumentType → InterfaceId → Argument IdParts Token → Option RequestError
 argument_fault store (kind.Object null) asked (arg.Object id) = object_fault store null asked id
 argument_fault store _ asked _ = None
@@ -106,7 +106,7 @@ child_refusals table row version spec has_data args =
     ∷ when (not (list_all is_placeholder args)) refused.NotPlaceholder
     ∷ []
 
--- what a request is granted that is not refused
+-- what is known of a request that is not refused
 abbrev pub grant : MessageRow → ℕ → Option Spec → Granted
 grant row version spec = record {
   child = if creates row then child_of row version spec else None;
@@ -126,25 +126,25 @@ module _ {U : Type 0} (table : List InterfaceRow) (store : Store (Kept U)) where
       ∷ (if creates row then first_refusal (child_refusals table row sender.version spec has_data m.args) else None)
       ∷ argument_faults store row.signature row.arg_interfaces m.args
 
-  -- an opcode that the sender's interface lacks is looked at before that
+  -- before that it is looked at whether the sender's interface has the opcode
   abbrev pub checked_row : Object (Kept U) → Option MessageRow → SessionMessage → Bool → Option Spec → Result Granted RequestError
   checked_row sender None m has_data spec = Err refused.UnknownOpcode
   checked_row sender (Some row) m has_data spec =
       unless (first_refusal (refusals sender row m has_data spec)) (grant row sender.version spec)
 
-  -- and a sender that the id does not name before all
+  -- and before all, whether the id names a sender
   abbrev pub checked_sender : Option (Object (Kept U)) → SessionMessage → Bool → Option Spec → Result Granted RequestError
   checked_sender None m has_data spec = Err refused.InvalidId
   checked_sender (Some sender) m has_data spec =
       checked_row sender (request_row table sender.interface m.opcode) m has_data spec
 
-  -- what the request is granted, or the first reason for which it is refused
+  -- what is known of the request, or the first reason for which it is refused
   abbrev pub request_check : SessionMessage → Bool → Option Spec → Result Granted RequestError
   request_check m has_data spec = checked_sender (named store m.sender) m has_data spec
 
--- ---- what a request does that is not refused
+-- ---- the sending of a request that is not refused
 
--- the argument as it goes on the wire, where the new object gets this number
+-- the argument as it goes on the wire; the new object gets this number
 abbrev pub wire_argument : ℕ → Argument IdParts Token → WireArgument
 wire_argument n (arg.Int z) = arg.Int z
 wire_argument n (arg.Uint u) = arg.Uint u
@@ -158,7 +158,7 @@ wire_argument n (arg.Fd token) = arg.Fd token
 abbrev pub wire_message : ℕ → SessionMessage → WireMessage
 wire_message n m = record { sender = m.sender.number; opcode = m.opcode; args = map (wire_argument n) m.args }
 
--- a write's fault takes the place of the last error
+-- a fault of the write takes the place of the stored error
 abbrev pub error_after : Option WaylandError → Result (Unit {0}) IoFault → Option WaylandError
 error_after error (Ok _) = error
 error_after error (Err e) = Some (Io e)
@@ -176,12 +176,12 @@ module _ {U : Type 0} where
   number_of_new None = 0
   number_of_new (Some new) = new.0
 
-  -- the sender, where the request ends it
+  -- the sender, if the request ends it
   abbrev pub ended_by : Store (Kept U) → SessionMessage → Bool → Option (Numbered U)
   ended_by store m false = None
   ended_by store m true = option_map (λ x. (m.sender.number, x)) (named store m.sender)
 
-  -- what asks for memory before the write: a new object, and the note of one that ends
+  -- whether memory is asked for before the write: for a new object, or for the note of one that ends
   abbrev pub AsksForMemory : Option (Numbered U) → Option (Numbered U) → Type 0
   AsksForMemory new ended = IsSome new ⊎ MatchOption ended ⊥ (λ e. IsSome e.1.value.user_data)
 
@@ -199,9 +199,9 @@ module _ {T U : Type 0} where
     notes = noted s.notes ended.1.value.user_data (id_at ended.0 ended.1);
   }
 
-  -- The message is written. Where there was memory for it, the new object is made and a destructor's sender given up,
-  -- also where the write has a fault, which is then stored. Where there was none, the session is as before, but for
-  -- what the write did to the link.
+  -- The message is written. If there was memory for it, the new object is made and a destructor's sender given up, even if
+  -- the write has a fault, which is then stored. If there was none, the session is as before, but for what the write did to
+  -- the link.
   abbrev pub Written : (T → Queue → Result ℕ IoFault → T → Type 0) → SessionState T U → WireMessage → Option (Numbered U)
       → Option (Numbered U) → Result IdParts RequestError → SessionState T U → Type 0
   Written sends before m new ended answer after =
@@ -221,8 +221,8 @@ module _ {T U : Type 0} where
   abbrev pub new_child : SessionState T U → Spec → U → Object (Kept U)
   new_child s child u = fresh_object child.0 child.1 (s.last_serial + 1) (Some u)
 
-  -- A new object gets the least number of the client's range that holds none, and the next serial; it is refused where
-  -- none is left.
+  -- A new object gets the least number of the client's range that holds none, and the next serial. If no number or no serial
+  -- is left, the request is refused.
   abbrev pub SentWithChild : (T → Queue → Result ℕ IoFault → T → Type 0) → SessionState T U → SessionMessage → Spec → U
       → Option (Numbered U) → Result IdParts RequestError → SessionState T U → Type 0
   SentWithChild sends before m child u ended answer after =
@@ -238,8 +238,8 @@ module _ {T U : Type 0} where
   SentAs sends before m (Some child) None ended answer after = ⊥
   SentAs sends before m (Some child) (Some u) ended answer after = SentWithChild sends before m child u ended answer after
 
-  -- what a request with this user data and this wish for the new object does: it is refused and nothing is changed, or
-  -- it is sent
+  -- what a request does, with this user data and this interface and version for the new object: it is refused and nothing is
+  -- changed, or it is sent
   abbrev pub Requested : (T → Queue → Result ℕ IoFault → T → Type 0) → SessionState T U → SessionMessage → Option U → Option Spec
       → Result IdParts RequestError → SessionState T U → Type 0
   Requested sends before m u spec answer after =

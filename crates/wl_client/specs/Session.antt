@@ -24,7 +24,7 @@ pub record SessionState (T U : Type 0) : Type 0 where
   pub open_event : Option OpenEvent
   pub notes : List Note
 
--- what contracts see of a client: its session, and whether its last call met a want of memory
+-- what contracts see of a client: its session, and whether memory was refused in its last call
 pub record ClientState (T U : Type 0) : Type 0 where
   pub session : SessionState T U
   pub refused : Bool
@@ -47,11 +47,11 @@ last_possible_serial = 0xFFFFFFFFFFFFFFFF
 abbrev pub null_parts : IdParts
 null_parts = record { number = 0; serial = 0; interface = anonymous_id }
 
--- what names in an id: all but its interface
+-- the parts of an id by which it names an object: all but its interface
 abbrev pub id_of : IdParts → Id
 id_of id = record { number = id.number; serial = id.serial }
 
--- the note of an object that is no longer the program's, where it has user data
+-- the notes, with that of an object that is no longer the program's, if it has user data
 abbrev pub noted : {U : Type 0} → List Note → Option U → IdParts → List Note
 noted notes None id = notes
 noted notes (Some _) id = notes ++ Destroyed id ∷ []

@@ -1,7 +1,7 @@
 -- The calls of a session one after another.
 --
--- A step is a call that changes the session, with its arguments; calls of a transport by script stand for what a
--- program does to it. An entry of a run is a step, its reply, and whether memory was refused in it.
+-- A step is a call that changes the session, with its arguments, or a call by which the program changes the transport by
+-- script. An entry of a run is a step, its reply, and whether memory was refused in it.
 use Rattle.std.specs.Prelude.{◌≡◌, ℕ, ◌<◌, List, [], ◌∷◌, ◌++◌, length, map, Bool, true, false, Result, Ok, Err}
 use Rattle.wl_wire.specs.declared.error.OutOfMemory.{OutOfMemory}
 use Rattle.wl_link.specs.declared.memory.ArriveError.{ArriveError}
@@ -58,11 +58,11 @@ refused_script (Err _) = true
 -- ---- steps
 
 module _ {U : Type 0} where
-  -- the transport is another one, and all else as it was
+  -- the transport is another one, and all else is as it was
   abbrev pub with_script : SessionState Script U → Script → SessionState Script U
   with_script s script = record s { link = with_transport s.link script }
 
-  -- a call of the transport that only memory can refuse, and what it makes the script
+  -- a call of the transport that fails only if memory is refused, and the script after it
   abbrev pub Scripts : SessionState Script U → Script → Result (Unit {0}) OutOfMemory → SessionState Script U → Type 0
   Scripts before script (Ok _) after = after ≡ with_script before script
   Scripts before script (Err _) after = after ≡ before
@@ -127,7 +127,7 @@ module _ {U : Type 0} where
   abbrev pub Leads : SessionState Script U → List (Entry U) → SessionState Script U → Type 0
   Leads before run after = RunLeads StepOf before run after
 
-  -- A run stopped in a step: there was no room for the replies, and nothing was done; or the steps before it were made
-  -- with these replies, and it met a want of memory.
+  -- A run stopped in the step after the first n. Either there was no memory for the replies, and nothing was done; or the
+  -- steps before it were made with these replies, and memory was refused in it.
   abbrev pub StopsAt : SessionState Script U → List (Step U) → ℕ → List (Reply U) → SessionState Script U → Type 0
   StopsAt before steps n replies after = RunStopsAt StepOf before steps n replies after

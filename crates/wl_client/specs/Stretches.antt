@@ -1,4 +1,4 @@
--- A stretch of a run in which bytes arrive, and events are read and finished.
+-- A *stretch* of a run: entries in which bytes arrive, and events are read and finished.
 use Rattle.std.specs.Prelude.{◌≡◌, ◌≢◌, ◌⊎◌, List, [], ◌∷◌, ◌++◌, false, Option, None, Some, Ok, Err}
 use Rattle.wl_wire.specs.declared.error.IoFault.TheVariants as fault
 use Rattle.wl_wire.specs.declared.error.MessageParseError.TheVariants as parse
@@ -23,7 +23,7 @@ use Rattle.wl_client.specs.Steps.{Entry, Leads}
 module _ {U : Type 0} where
   -- ---- its entries
 
-  -- an arrival of a byte at least, which was taken, or of the fault by which the transport would block; a reading; or a finish
+  -- an arrival of at least one byte that was accepted, or of the fault `WouldBlock`; a reading; or a finish
   abbrev pub IsHeard : Step U → Reply U → Type 0
   IsHeard (step.Arrive bytes tokens) answer = (bytes.items ≢ []) × (answer ≡ reply.Arrive (Ok tt))
   IsHeard (step.ArriveFault f) answer = f ≡ fault.WouldBlock
@@ -31,7 +31,7 @@ module _ {U : Type 0} where
   IsHeard (step.FinishEvent u) answer = Unit {0}
   IsHeard _ answer = ⊥
 
-  -- so is each of them, and memory was not refused
+  -- each entry is one of these, and memory was not refused in it
   abbrev pub AllHeard : List (Entry U) → Type 0
   AllHeard [] = Unit {0}
   AllHeard (e ∷ run) = (e.refused ≡ false) × IsHeard e.step e.answer × AllHeard run
@@ -67,7 +67,7 @@ module _ {U : Type 0} where
   events_of [] = []
   events_of (e ∷ run) = events_by e.answer ++ events_of run
 
-  -- the last entry is a reading that finds that the transport would block
+  -- the last entry is a reading that answers `WouldBlock`
   abbrev pub EndsWaiting : List (Entry U) → Type 0
   EndsWaiting [] = ⊥
   EndsWaiting (e ∷ []) = e.answer ≡ reply.NextEvent (Err no_event.WouldBlock)
@@ -75,48 +75,49 @@ module _ {U : Type 0} where
 
   -- ---- the law
 
-  -- The run spans from the one to the other: it begins where no error is stored, and ends with a stored error, with an open
-  -- event, or with a reading that would block where no arrival is left.
+  -- The run begins with no error stored. It ends with a stored error, with an open event, or with a reading that would
+  -- block, and no arrival is left.
   pub record Spans (before : SessionState Script U) (run : List (Entry U)) (after : SessionState Script U) : Type 0 where
     pub heard : AllHeard run
     pub live : before.error ≡ None
     pub pieces : AllPieces (arrivals_of (reader_state_of before))
     pub ends : (reads_on (core_of after) ≡ false) ⊎ (EndsWaiting run × (arrivals_of (reader_state_of after) ≡ []))
 
-  -- A stretch, in which no receive found the storage full: the transport answers by no byte only into a full one, which ends
-  -- the session with `Pipe`.
+  -- A stretch in which no receive found the buffer full. Since each arrival brings a byte, only a receive into a full buffer
+  -- gives none, and it ends the session with `Pipe`.
   pub record IsStretch (before : SessionState Script U) (run : List (Entry U)) (after : SessionState Script U) : Type 0 where
     pub spans : Spans before run after
     pub roomy : after.error ≢ Some (Io fault.Pipe)
 
-  -- what is left over of the arrivals, behind what waits
+  -- the arrivals that were not received yet, joined
   abbrev pub left_in : SessionState Script U → Queue
   left_in s = left_over (arrivals_of (reader_state_of s))
 
-  -- A stretch of messages each of which is no longer than the incoming storage may become, and whose tokens come no later
-  -- than its last byte: where it ends with `Pipe`, none waits whole for tokens.
+  -- A stretch of messages that are no longer than the incoming buffer may become, and whose tokens come no later than the
+  -- last byte: if it ends with `Pipe`, the message at the front does not lack tokens alone.
   pub record IsStretchWithin (before : SessionState Script U) (run : List (Entry U)) (after : SessionState Script U) : Type 0 where
     pub spans : Spans before run after
     pub within : EachWithin (incoming_limit before.link.limit) (joined before.link.incoming (joined (left_in before) (arrived run))).bytes
     pub in_time : after.error ≡ Some (Io fault.Pipe) → ReadsAs after (Err parse.MissingFD) after.link → ⊥
 
-  -- What it handed out, and what it came to, is what is served of all that arrived, with the finishes that were accepted.
+  -- What the run handed out, and the session after it, are what is served of all that arrived, with the finishes that were
+  -- accepted.
   abbrev pub IsRunServed : SessionState Script U → List (Entry U) → SessionState Script U → Type 0
   IsRunServed before run after =
       Served ScriptSends client (reader_state_of before) (joined (left_in before) (arrived run)) (sending_side before.link.transport) (finished run) (events_of run)
       (state_as (reader_state_of after) (left_in after) (sending_side after.link.transport))
 
-  -- the whole of a session as it is over what waits and what is left over of the arrivals, joined
+  -- two sessions hold the same, if what waits and the arrivals that were not received yet are joined
   abbrev pub SameLeft : SessionState Script U → SessionState Script U → Type 0
   SameLeft s t =
       state_as (reader_state_of s) (left_in s) (sending_side s.link.transport) ≡ state_as (reader_state_of t) (left_in t) (sending_side t.link.transport)
 
   -- ---- runs
 
-  -- where a run is a stretch, it is served so; and one of messages that are short enough is a stretch
+  -- if the run is a stretch, it gives what is served; and one of messages that are short enough is a stretch
   abbrev pub CutsStretch : SessionState Script U → List (Entry U) → SessionState Script U → Type 0
   CutsStretch before run after = (IsStretch before run after → IsRunServed before run after) × (IsStretchWithin before run after → IsStretch before run after)
 
-  -- so it is over each part of a run
+  -- so it is with each part of a run
   abbrev pub EachPartIsCut : SessionState Script U → List (Entry U) → Type 0
   EachPartIsCut begun run = EachPart Leads CutsStretch begun run

@@ -1,4 +1,4 @@
--- What the functions say to each other that go through the arguments of an event.
+-- What the functions that go through the arguments of an event say to each other.
 use Rattle.std.specs.Prelude.{◌≡◌, ◌≢◌, ℕ, Bool, true, List, Option, None, Some, Result, Ok, Err, false, ◌+◌}
 use Rattle.wl_wire.specs.declared.argument.Argument.{Argument}
 use Rattle.wl_wire.specs.declared.argument.Token.{Token}
@@ -37,13 +37,13 @@ module _ {U : Type 0} where
       let x : Object (Kept U) = made_object version destroyed i (before.last_serial + 1) in
       (is_valid_new before n ≡ true) × (after ≡ with_made_object before n x) × (id ≡ id_at n x)
 
-  -- an argument became this
+  -- what an argument became, and how far that leads
   abbrev pub Converts : ℕ → Bool → Converting U → WireArgument → Result (Argument IdParts Token) EventFault → Converting U → Type 0
   Converts version destroyed before a (Ok b) after = convert_one version destroyed before a ≡ Ok (b, after)
   Converts version destroyed before a (Err wrong) after =
       (convert_one version destroyed before a ≡ Err wrong) × (after.objects ≡ before.objects)
 
-  -- the arguments were gone through to their end, and came to this
+  -- the arguments were gone through to their end, with this outcome
   abbrev pub EndsWhole : Outcome U → Objects (Kept U) → Option IdParts → List (Argument IdParts Token) → Type 0
   EndsWhole (Whole c args) objects created args' = (c.objects ≡ objects) × (c.created ≡ created) × (args ≡ args')
   EndsWhole (Wrong _ _) objects created args' = ⊥

@@ -20,8 +20,7 @@ use Rattle.wl_client.specs.Requests.{Spec, Numbered, error_after, new_child}
 use Rattle.wl_client.specs.Session.{SessionState, last_possible_serial, id_at}
 
 module _ {U : Type 0} where
-  -- an object that may be the client's next one: its number is the least that is absent, which is free, and its serial
-  -- the next
+  -- an object that may be the client's next one: its number is the least that holds none, and its serial the next
   pub record IsNext (store : Store (Kept U)) (last_serial : ℕ) (new : Numbered U) : Type 0 where
     pub number : IsLeastAbsent client_range store new.0
     pub free : is_free store new.0 ≡ true
@@ -32,16 +31,16 @@ module _ {U : Type 0} where
   store_with store None = store
   store_with store (Some new) = stored store new.0 new.1
 
-  -- the last serial, where the new object, if there is one, uses up the next
+  -- the last serial; the new object, if there is one, uses up the next
   abbrev pub serial_with : ℕ → Option (Numbered U) → ℕ
   serial_with last None = last
   serial_with last (Some _) = last + 1
 
-  -- an object that is no longer the client's: its id, and whether it has user data
+  -- of an object that is no longer the client's: its id, and whether it has user data
   abbrev pub ending : Option (Numbered U) → Option (IdParts × Bool)
   ending ended = option_map (λ e. (id_at e.0 e.1, is_some e.1.value.user_data)) ended
 
-  -- what a number holds, if it holds something, is no longer the client's
+  -- the object at the number, if there is one, is no longer the client's
   abbrev pub given_up_at : Store (Kept U) → ℕ → Option (Object (Kept U)) → Store (Kept U)
   given_up_at store n None = store
   given_up_at store n (Some x) = given_up store n x
@@ -73,8 +72,8 @@ module _ {T U : Type 0} where
       ⊎ ((n : ℕ) × IsLeastAbsent client_range s.store n
       × ((s.last_serial == last_possible_serial) ≡ true) × (e ≡ refused.SerialsExhausted))
 
--- The message is written. A fault of the write takes the place of the last error, but for a want of memory, which is
--- answered.
+-- The message is written. A fault of the write takes the place of the stored error, except `OutOfMemory`, which is the
+-- answer.
 abbrev pub WrittenTo : {T : Type 0} → (T → Queue → Result ℕ IoFault → T → Type 0) → LinkState T → Option WaylandError → WireMessage
     → Result (Unit {0}) OutOfMemory → LinkState T → Option WaylandError → Type 0
 WrittenTo sends link error m answer link' error' =

@@ -1,4 +1,4 @@
--- What the functions of a reading say to each other.
+-- What the functions of a reading say to each other. In the code a *turn* is the handling of one message.
 use Rattle.std.specs.Prelude.{◌≡◌, ◌⊎◌, ◌||◌, ◌≤◌, ℕ, length, List, [], Bool, true, false, Option, None, Some, Result, Ok, Err}
 use Rattle.std.specs.Borrow.{Bor}
 use Rattle.wl_wire.specs.declared.argument.Token.{Token}
@@ -49,7 +49,7 @@ IsHeader link header =
     (8 ≤ length link.incoming.bytes) × (header.0 ≡ sender_of link.incoming.bytes) × (header.1 ≡ opcode_of link.incoming.bytes)
 
 module _ {U : Type 0} where
-  -- what an event came to whose arguments were gone through: it is open from then on, or not handed out, or has a fault
+  -- what becomes of an event whose arguments were gone through: it is open from then on, or not handed out, or has a fault
   abbrev pub HandledAs : WireMessage → Object (Kept U) → MessageRow → Outcome U → Result (Option OpenEvent) EventFault → SessionMessage → Objects (Kept U) → Type 0
   HandledAs m receiver row (Whole c args) (Ok None) event after =
       (receiver.value.client_destroyed ≡ true) × (after ≡ c.objects)
@@ -81,7 +81,7 @@ module _ {U : Type 0} where
       × (ReadsIn table store before (Err e) before
       ⊎ ((e ≡ parse.OutOfMemory) × EventAsks table store before.incoming))
 
--- what a turn came to, with the event that it hands out
+-- how a turn ended, with the event that it hands out
 pub data Turned : Type 0 where
   GaveEvent : Message IdParts Token → Turned
   WentOn : Turned
@@ -109,7 +109,7 @@ event_refused (Ok m) = false
 event_refused (Err end) = end.refused
 
 module _ {T U : Type 0} where
-  -- what a message came to was carried out
+  -- the handling of a message was carried out
   abbrev pub HandledTo : SessionState T U → Handling U → Turned → SessionState T U → Type 0
   HandledTo before (Swallows o) WentOn after = after ≡ with_objects before o
   HandledTo before (HandsOut m event o) (GaveEvent e) after =
@@ -120,7 +120,7 @@ module _ {T U : Type 0} where
       ⊎ ((end.refused ≡ true) × (after ≡ with_error (with_objects before o) (Io fault.OutOfMemory))))
   HandledTo before _ _ after = ⊥
 
-  -- an event of an object was carried out whose arguments were gone through
+  -- the same for an event of an object, after its arguments were gone through
   abbrev pub CarriedOut : SessionState T U → Result (Option OpenEvent) EventFault → TurnEnd → SessionState T U → Type 0
   CarriedOut before (Ok None) end after = (end ≡ came.GoesOn) × (after ≡ before)
   CarriedOut before (Ok (Some opened)) end after = (end ≡ came.Event) × (after ≡ record before { open_event = Some opened })
@@ -134,7 +134,7 @@ module _ {T U : Type 0} where
   abbrev pub NotTaken : SessionState T U → MessageParseError → Type 0
   NotTaken s e = ReadsAs s (Err e) s.link ⊎ ((e ≡ parse.OutOfMemory) × EventAsks s.table s.store s.link.incoming)
 
-  -- no message was taken, and that comes to this
+  -- no message was taken, and the turn ended so
   abbrev pub NotTakenTo : SessionState T U → Turned → SessionState T U → Type 0
   NotTakenTo before LacksMore after = Lacks before × (after ≡ before)
   NotTakenTo before (Ended end) after =
@@ -162,11 +162,11 @@ module _ {T U : Type 0} where
       pub answer_is : event_answer answer ≡ answered stopped (handed_by (event_answer answer))
       pub refused_is : event_refused answer ≡ lacked || short
 
-    -- where what is left of a reading may lead, the whole may
+    -- if a reading that begins now may end so, then one that began with `before` may
     abbrev pub Leads : SessionState T U → SessionState T U → Type 0
     Leads before now = LeadsOn sends receives client (reader_state_of before) [] false (reader_state_of now)
 
-    -- all that waits whole was handled, and that comes to this
+    -- each message that was there whole was handled, and the turns ended so
     abbrev pub Waited : SessionState T U → Option (Result (Message IdParts Token) NoEvent) → SessionState T U → Type 0
     Waited before None after = Live after × Lacks after × Leads before after
     Waited before (Some r) after = EndsAs before r after
