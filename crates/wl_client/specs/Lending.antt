@@ -13,6 +13,6 @@ over_transport s transport = record s { link = with_transport s.link transport }
 abbrev pub client_over : {T U : Type 0} → ClientState T U → T → ClientState T U
 client_over c transport = record c { session = over_transport c.session transport }
 
--- the client ends with what was left in the transport, and with all else as it was
+-- after the loan the client has the transport as it was left, and all else as it was
 abbrev pub LendsClientTransport : (T U : RattleType) → MutBor (ClientState T.Denot U.Denot) → MutBor T.Denot → Fml
 LendsClientTransport T U c transport = Lends (the_row T U) T c transport (λ t. client_over c.now t)

@@ -1,4 +1,4 @@
--- What an id names from a point of a session's run on, however it came to be.
+-- What any id names from a point of a session's run on, no matter where it comes from.
 use Rattle.std.specs.Prelude.{◌≡◌, List, ◌++◌, IsSome}
 use Rattle.wl_link.specs.Identity.{Change}
 use Rattle.wl_link.specs.Named.{StaysNamed}

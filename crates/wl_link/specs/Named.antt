@@ -1,4 +1,4 @@
--- What an id names from a point of a run on, however it came to be.
+-- What any id names from a point of a run on, no matter where it comes from.
 use Rattle.std.specs.Prelude.{◌≡◌, ℕ, List, ◌++◌, Some, IsSome}
 use Rattle.wl_link.specs.declared.object.Object.{Object}
 use Rattle.wl_link.specs.Identity.{Birth, Change, Id, NamesOwn, Objects, RunLeads, births_of, first_objects, names}

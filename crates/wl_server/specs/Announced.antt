@@ -23,7 +23,7 @@ use Rattle.wl_server.specs.Steps.{Entry}
 
 -- ---- what is announced
 
--- a global as a registry announces it: its name, its interface by that one's name, and its version
+-- a global as a registry announces it: its name, the name of its interface, and its version
 pub record Announced : Type 0 where
   pub name : ℕ
   pub interface : List ℕ
@@ -46,14 +46,14 @@ abbrev pub taken_back : List Announced → List WireArgument → List Announced
 taken_back told (arg.Uint name ∷ []) = without_name name told
 taken_back told _ = told
 
--- A registry's event 0, `global`, announces a global; its event 1, `global_remove`, takes those of a name back.
+-- A registry's event 0, `global`, announces a global. Its event 1, `global_remove`, takes those of a name back.
 abbrev pub announced_after : List Announced → WireMessage → List Announced
 announced_after told m =
     if m.opcode == 0
     then told ++ told_global m.args
     else (if m.opcode == 1 then taken_back told m.args else told)
 
--- what is announced on an object after these messages, of which only its own count
+-- what is announced on an object after these messages; only those that it sends count
 abbrev pub announced_over : Id → List Announced → List Said → List Announced
 announced_over r told [] = told
 announced_over r told (m ∷ log) = announced_over r (if same_id (sender_of m) r then announced_after told m.message else told) log
@@ -78,7 +78,7 @@ AreSameGlobals told others = (g : Announced) → Contains told g ↔ Contains ot
 -- ---- over runs
 
 module _ {T U G C : Type 0} where
-  -- The program itself sends no event of the object in the call, and does not destroy it. A call that is refused does
+  -- In the call the program itself sends no event of the object, and does not destroy it. A call that is refused does
   -- neither.
   abbrev pub IsLeftAlone : Id → Call T U G C → Type 0
   IsLeftAlone r (Asked (step.SendEvent m) (reply.SendEvent answer)) = id_of m.sender_id ≡ r → answer ≢ Ok tt
@@ -89,15 +89,15 @@ module _ {T U G C : Type 0} where
   IsAlwaysLeftAlone r [] = Unit {0}
   IsAlwaysLeftAlone r (e ∷ run) = IsLeftAlone r e.call × IsAlwaysLeftAlone r run
 
-  -- On each registry that was made for the client, and that the program leaves alone, these globals are announced, and not
-  -- taken back: exactly the enabled ones that the client may see, while it is live.
+  -- If the client is live: on each registry that was made for it, and that the program leaves alone, exactly the enabled
+  -- globals that the client may see are announced and not taken back.
   abbrev pub AnnouncesShown : World T G C → ClientParts → Offer G → List (Own T U G C) → Seen T U C → Type 0
   AnnouncesShown w id offer run s =
       (registry : Id) → Contains (registries_in (history run)) registry → IsAlwaysLeftAlone registry run
       → MatchOption s.part (Unit {0})
       (λ p. p.is_killed ≡ false → AreSameGlobals (announced (log_of (history run)) registry) (shown_of w.views offer id p.info))
 
-  -- so it is of each client that was inserted in the run, since then
+  -- so it is with each client that was inserted in the run, from then on
   abbrev pub EachAnnouncesShown : World T G C → List (Entry T U G C) → ServerState T U G C → Type 0
   EachAnnouncesShown w run after =
       (id : ClientParts) (transport : T) (info : C) (earlier later : List (Entry T U G C)) (e : Entry T U G C) →

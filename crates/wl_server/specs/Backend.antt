@@ -1,4 +1,4 @@
--- What contracts see of a backend: the server, and whether its last call met a want of memory.
+-- What contracts see of a backend: the server, and whether memory was refused in its last call.
 use Rattle.std.specs.Prelude.{Bool, false}
 use Rattle.wl_link.specs.Exchange.{IsWithinOffer}
 use Rattle.wl_server.specs.declared.runs.step.Reply.{Reply}
@@ -13,13 +13,13 @@ pub record BackendState (T U G C : Type 0) : Type 0 where
   pub server : ServerState T U G C
   pub refused : Bool
 
--- What a public call does: it is a step with this reply. And behind each run of calls of a new server that led here, all the
--- laws of runs hold of the run with this call: of one history, over a transport that takes no more than it is offered.
+-- What a public call does: it is a step with this reply. And if a run of calls of a new server led here, all the laws of
+-- runs hold of that run with this call after it, if the transport takes no more than it is offered.
 pub record Calls {T U G C : Type 0} (w : World T G C) (before : BackendState T U G C) (call : Step T U G C) (answer : Reply T U) (after : BackendState T U G C) : Type 0 where
   pub step : StepOf w before.server call answer after.refused after.server
   pub accounted : IsWithinOffer w.sends → StaysAccountedFor w before.server step.0 after.server
 
--- What a change of a client's transport does: it is a call of its own, and so it is behind it.
+-- The same for a change of a client's transport, which counts as a call.
 pub record IsChange {T U G C : Type 0} (w : World T G C) (before : ServerState T U G C) (id : ClientParts) (t : T) (after : ServerState T U G C) : Type 0 where
   pub step : Makes w before (Changed id t) false after
   pub accounted : IsWithinOffer w.sends → StaysAccountedFor w before step.0 after

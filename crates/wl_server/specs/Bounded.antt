@@ -1,7 +1,7 @@
 -- How often calls receive from a client.
 --
--- Only readings of a client receive from it, and each at most as often as it is allowed. A dispatch goes on with one reading
--- of a client from action to action. So it receives from the client 64 times at most, whatever its handler calls.
+-- Only readings of a client receive from it, and each at most as often as it may. A dispatch goes on with one reading of a
+-- client from action to action. So it receives from the client at most 64 times, whatever its handler calls.
 use Rattle.std.specs.Prelude.{◌≡◌, ℕ, ◌+◌, ◌≤◌, List, [], ◌∷◌, ◌++◌, length, MatchBool}
 use Rattle.wl_server.specs.declared.runs.step.Reply.TheVariants as reply
 use Rattle.wl_server.specs.declared.runs.step.Step.TheVariants as step
@@ -15,15 +15,15 @@ abbrev pub receives_in : {U : Type 0} → List (Deed U) → ℕ
 receives_in did = length (came_in did)
 
 module _ {T U G C : Type 0} where
-  -- a call that received so often from this client kept to what it was allowed: a reading that may go on has as many fewer
-  -- receives left, and a call that does not read this client received nothing from it
+  -- A call may receive n times from this client. A reading that can be continued then has at least n receives fewer left,
+  -- and a call that does not read this client receives nothing from it.
   abbrev pub KeepsTo : ClientParts → Call T U G C → ℕ → Type 0
   KeepsTo id (Asked (step.NextAction target) answer) n = MatchBool (same_client target id) (n ≤ 64) (n ≡ 0)
   KeepsTo id (Asked (step.NextActionWithin target reading) (reply.NextActionWithin answer left)) n =
       MatchBool (same_client target id) (n + left.receives_left ≤ reading.receives_left) (n ≡ 0)
   KeepsTo id _ n = n ≡ 0
 
-  -- so it is of each client
+  -- so it is with each client
   abbrev pub EachIsBounded : Entry T U G C → Type 0
   EachIsBounded e = (id : ClientParts) → KeepsTo id e.call (receives_in (e.did id))
 
@@ -32,7 +32,7 @@ module _ {T U G C : Type 0} where
   receives_over id [] = 0
   receives_over id (e ∷ run) = receives_in (e.did id) + receives_over id run
 
-  -- The run is one part for each of these clients, in order, each of which receives from its client 64 times at most.
+  -- The run has one part for each of these clients, in order, and each part receives from its client at most 64 times.
   abbrev pub EachPartIsBounded : List ClientParts → List (Entry T U G C) → Type 0
   EachPartIsBounded [] run = run ≡ []
   EachPartIsBounded (id ∷ ids) run =

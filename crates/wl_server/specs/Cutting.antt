@@ -1,8 +1,7 @@
--- That it does not matter to a client of a server how its bytes and tokens are cut: what its readings and the ends of its
--- actions give is what is served of all that came, joined.
+-- That it does not matter to a client of a server how its bytes and tokens are cut into receives: what its readings and the
+-- ends of its actions give is what is served of all that came, joined.
 --
--- What is served is said of the client as a reader, over a transport that answers each send as it is told, and from which
--- nothing is received any more.
+-- What is served (`Served` of `wl_link`) is said of the client as a reader. The answers to its sends are given as a list.
 use Rattle.std.specs.Prelude.{◌≡◌, ℕ, Bool, false, List, ◌∷◌, ◌++◌, map, None, Some, Result, Ok}
 use Rattle.wl_wire.specs.declared.error.IoFault.{IoFault}
 use Rattle.wl_link.specs.Exchange.{Queue, Sending, nothing}
@@ -23,25 +22,24 @@ use Rattle.wl_server.specs.Steps.{Entry, Makes, OneStep}
 use Rattle.wl_server.specs.Telling.{Core, Finish, OfBind, OfRequest, Told, deeds_of, part_of, reader_part}
 
 module _ {T U G C : Type 0} (a : Around G C) where
-  -- With this behind what waits, these answers to the sends, and the data of these finishes, a client is given this and
-  -- comes to this.
+  -- what a client gives, and what it becomes, if `more` stands after what waits, the sends are answered so, and its actions
+  -- are ended with these data
   abbrev pub IsServed : ReaderState T (Core U C) → Queue → Answers → List (Finish U) → List (Given (Told U)) → ReaderState Answers (Core U C) → Type 0
   IsServed p more answers finishes gave end = Served AsTold (server a) p more answers finishes gave end
 
-  -- Whatever comes later, and whatever later sends are answered: what is served of the one over what came and then the
-  -- rest, with the answers to these sends before the later ones, is what was given, followed by what is served of the other
-  -- over the rest.
+  -- The client `before`, served over `came` and any rest, gives `gave`, and then what the client `after` gives, served over
+  -- that rest. The answers to the sends `es` come first, and then any others.
   abbrev pub GoesOn : ReaderState T (Core U C) → Queue → List Sending → List (Finish U) → List (Given (Told U)) → ReaderState T (Core U C)
       → List (Finish U) → Type 0
   GoesOn before came es finishes gave after left = GoesOnAs AsTold (server a) before came es finishes gave after left
 
-  -- what is held of a client that a call left so, with these deeds
+  -- what is held of a client after a call with these deeds that left the reader so
   abbrev pub seen_after : Seen T U C → ReaderState T (Core U C) → List (Deed U) → Seen T U C
   seen_after before end did = record { part = Some (part_of end); made = before.made ++ notes_in did }
 
-  -- A reading of a live client with no action open is some turns, with this answer and these deeds. Where each of its
-  -- receives brought a byte or would have blocked, the client before it goes on as the client after it, behind what it gave:
-  -- what was put, what was done, and the action or why nothing more is read.
+  -- A reading of a live client with no action open is a list of receives and messages, with this answer and these deeds. If
+  -- each receive brought a byte or would have blocked, then what is served of the client before it is what the reading gave,
+  -- and then what is served of the client after it.
   abbrev pub CutsReading : (T → Queue → Result ℕ IoFault → T → Type 0) → (T → ℕ → Result Queue IoFault → T → Type 0) → Reading → Seen T U C
       → Result Handed ActionError → List (Deed U) → Seen T U C → Type 0
   CutsReading sends receives r before answer did after =
@@ -53,7 +51,7 @@ module _ {T U G C : Type 0} (a : Around G C) where
       × (after ≡ seen_after before end did)
       × (AllFed turns → (finishes : List (Finish U)) → GoesOn (reader_part p) (received_in turns) (sends_in turns) finishes out.gave end finishes)
 
-  -- an accepted finish of a live client, with these deeds, is the next of the finishes
+  -- a finish of a live client that is accepted, with these deeds, is the next of the finishes
   abbrev pub CutsFinish : {D : Type 0} → (T → Queue → Result ℕ IoFault → T → Type 0) → Finish U → Seen T U C → Result (Unit {0}) (FinishRefused D)
       → List (Deed U) → Seen T U C → Type 0
   CutsFinish sends u before answer did after =
@@ -66,8 +64,8 @@ module _ {T U G C : Type 0} (a : Around G C) where
 
 -- ---- a run of a server
 
--- Of each client that was inserted in the run and is stored at its end: of whatever waits and comes, with whatever finishes,
--- something is served, by some answers to the sends.
+-- For each client that was inserted in the run and is stored at its end: whatever waits and comes, and whatever the finishes
+-- are, something is served, by some answers to the sends.
 abbrev pub EachIsServed : {T U G C : Type 0} → World T G C → List (Entry T U G C) → ServerState T U G C → Type 0
 EachIsServed {T = T} {U = U} {G = G} {C = C} w run after =
     (id : ClientParts) (transport : T) (info : C) (earlier later : List (Entry T U G C)) (e : Entry T U G C) →
@@ -79,7 +77,8 @@ EachIsServed {T = T} {U = U} {G = G} {C = C} w run after =
 -- ---- the calls of a server
 
 module _ {T U G C : Type 0} (w : World T G C) (before : ServerState T U G C) (e : Entry T U G C) (after : ServerState T U G C) where
-  -- the deeds with the client are those of its turns, where memory was not refused; or those of the end of its action
+  -- it does not matter to this call how the client's bytes are cut, if it reads the client or ends its action; memory must
+  -- not be refused in the reading
   abbrev pub IsCut : Call T U G C → Type 0
   IsCut (Asked (step.NextAction id) (reply.NextAction answer)) =
       e.refused ≡ false

@@ -1,7 +1,7 @@
--- What a call does with one client that the client's value does not keep.
+-- The *deeds* of a call with one client: what it does that cannot be seen from what is held of the client before and after.
 --
--- Each call comes with its deeds, and what is told of a call to others hides them. No program stores them. The log of a
--- client, what its transport took, what its registries announced and what was noted are read off them.
+-- The definition of each call names its deeds. They exist in contracts only; no program stores them. From them follow the
+-- log of a client, what its transport took, what its registries announced, and what was noted.
 use Rattle.std.specs.Prelude.{◌≡◌, ◌⊎◌, ℕ, List, [], ◌∷◌, Bool, Option, None, Some, Result}
 use Rattle.wl_wire.specs.declared.argument.Argument.{Argument}
 use Rattle.wl_wire.specs.declared.argument.Token.{Token}
@@ -14,7 +14,7 @@ use Rattle.wl_server.specs.declared.reading.action.Action.TheVariants as action
 use Rattle.wl_server.specs.declared.notes.Happening.{Happening}
 use Rattle.wl_server.specs.Ids.{GlobalParts, IdParts}
 
--- an action that is handed out, without where its arguments lie in memory
+-- an action that is handed out, as contracts see it: its arguments are a plain list
 pub data Handed : Type 0 where
   Request : (sender : IdParts) (opcode : ℕ) (args : List (Argument IdParts Token)) (is_destructor : Bool) (created : Option IdParts) → Handed
   Bind : (global : GlobalParts) (object : IdParts) → Handed
@@ -24,10 +24,10 @@ handed (action.Request sender opcode args is_destructor created) = Request sende
 handed (action.Bind global object) = Bind global object
 
 pub data Deed (U : Type 0) : Type 0 where
-  -- its transport was offered this, and answered; it received this
+  -- its transport was offered this, and answered so; its transport gave this to a receive
   Sent : Sending → Deed U
   Came : Result Queue IoFault → Deed U
-  -- a message was put behind what waits to be sent
+  -- a message was put: written after what waits to be sent
   Put : Said → Deed U
   -- a registry was made for it, and is told of globals from then on
   Remembered : Id → Deed U

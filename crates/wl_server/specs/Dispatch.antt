@@ -1,6 +1,6 @@
 -- What a dispatch does: the actions of a client are read, handled and ended, one after another.
 --
--- A dispatch is a run of calls. What its rounds are is said here; the calls themselves are those of `Steps`.
+-- A dispatch is a run of calls. It goes in *rounds*, which are defined here; the calls themselves are those of `Steps`.
 use Rattle.std.specs.Prelude.{◌≡◌, ℕ, ◌+◌, ◌==◌, min, List, [], ◌∷◌, ◌++◌, Bool, false, ◌||◌, if◌then◌else◌, Option, None, Some, Result, Ok, Err}
 use Rattle.wl_wire.specs.declared.argument.Argument.{Argument}
 use Rattle.wl_wire.specs.declared.argument.Token.{Token}
@@ -30,7 +30,8 @@ use Rattle.wl_server.specs.Runs.{Leads}
 use Rattle.wl_server.specs.Server.{ServerState, new_server}
 use Rattle.wl_server.specs.Steps.{Entry, OneStep}
 
--- How a handler answers: it and the backend before the call, the client, the action, the answer, and both after the call.
+-- How a handler answers: a relation of the handler and the backend before the call, the client, the action, the answer, and
+-- the handler and the backend after the call.
 pub record Answering (H T U G C : Type 0) : Type 1 where
   pub requests : H → BackendState T U G C → ClientParts → IdParts → ℕ → List (Argument IdParts Token) → Option IdParts → Option U → H → BackendState T U G C → Type 0
   pub binds : H → BackendState T U G C → ClientParts → GlobalParts → IdParts → U → H → BackendState T U G C → Type 0
@@ -48,7 +49,7 @@ refusal_in (reply.FinishRequest (Err r)) = Some r.error
 refusal_in (reply.FinishBind (Err r)) = Some r.error
 refusal_in _ = None
 
--- the fault by which a dispatch ends where no action is handed out, and where the end of one is refused
+-- the fault by which a dispatch ends: because no action is handed out, or because the end of one is refused
 abbrev pub fault_of_reading : ActionError → IoFault
 fault_of_reading (Io f) = f
 fault_of_reading ActionOpen = fault.InvalidInput
@@ -57,17 +58,17 @@ abbrev pub fault_of_end : FinishError → IoFault
 fault_of_end finish.OutOfMemory = fault.OutOfMemory
 fault_of_end _ = fault.InvalidInput
 
--- the answer of a client's dispatch that ended by this fault, with so many requests read
+-- the answer of a client's dispatch that ended by this fault after so many requests were read
 abbrev pub dispatched : IoFault → ℕ → Result ℕ IoFault
 dispatched fault.WouldBlock read = if read == 0 then Err fault.WouldBlock else Ok read
 dispatched f read = Err f
 
--- the sum of the counts that were no faults, which stops at the greatest number
+-- the sum of the counts, which stops at the greatest number; faults do not count
 abbrev pub total_with : ℕ → Result ℕ IoFault → ℕ
 total_with total (Ok count) = min (total + count) 0xFFFFFFFFFFFFFFFF
 total_with total (Err f) = total
 
--- a cleanup that is refused is answered so, whatever came before
+-- the answer after the cleanup: if memory was refused to the cleanup, it is `OutOfMemory`, whatever came before
 abbrev pub behind_cleanup : {A E : Type 0} → Result A E → Result ℕ IoFault → Result ℕ IoFault
 behind_cleanup (Ok _) answer = answer
 behind_cleanup (Err _) answer = Err fault.OutOfMemory
@@ -79,14 +80,14 @@ cleaned _ answer = answer
 module _ {H T U G C : Type 0} (w : World T G C) (answers : Answering H T U G C) (id : ClientParts) where
   -- ---- a round
 
-  -- the handler is called with the action, and this is to end the action, with its answer
+  -- the handler is called with the action, and `end` is the call that ends the action with the handler's answer
   abbrev pub Answers : H → BackendState T U G C → Action → Step T U G C → H → BackendState T U G C → Type 0
   Answers h before (action.Request sender opcode args is_destructor created) end h' after =
       (u : Option U) × answers.requests h before id sender opcode args.items created u h' after × (end ≡ step.FinishRequest id u)
   Answers h before (action.Bind global object) end h' after =
       (u : U) × answers.binds h before id global object u h' after × (end ≡ step.FinishBind id u)
 
-  -- An action is handled: one call of the handler, which makes these calls, and then its answer ends the action, or is
+  -- An action is handled: the handler is called once, and makes these calls. Then its answer ends the action, or the end is
   -- refused for this reason.
   pub record Handles (h : H) (before : BackendState T U G C) (a : Action) (run : List (Entry T U G C)) (lacked : Bool) (why : Option FinishError)
       (h' : H) (after : ServerState T U G C) : Type 0 where
@@ -104,8 +105,8 @@ module _ {H T U G C : Type 0} (w : World T G C) (answers : Answering H T U G C) 
     pub run_is : run ≡ calls ++ (ended ∷ [])
     pub lacked_is : lacked ≡ ended.refused
 
-  -- A round: the client is read, and the action that is handed out is handled. Whether memory was refused is said of the
-  -- reading and of the action's end, and not of the handler's calls.
+  -- A round: the client is read, and the action that is handed out is handled. `lacked` says whether memory was refused in
+  -- the reading or in the action's end; the handler's calls do not count.
   pub record Round (h : H) (r : Reading) (before : ServerState T U G C) (run : List (Entry T U G C)) (lacked : Bool) (why : Option FinishError)
       (h' : H) (r' : Reading) (after : ServerState T U G C) : Type 0 where
     pub handed : Action
@@ -120,7 +121,7 @@ module _ {H T U G C : Type 0} (w : World T G C) (answers : Answering H T U G C) 
     pub run_is : run ≡ read ∷ rest
     pub lacked_is : lacked ≡ read.refused || end_lacked
 
-  -- rounds one after another, the ends of which were accepted
+  -- rounds one after another, in each of which the action was ended
   pub data Rounds : H → Reading → ServerState T U G C → List (Entry T U G C) → Bool → H → Reading → ServerState T U G C → Type 0 where
     none : {h : H} {r : Reading} {s : ServerState T U G C} {run : List (Entry T U G C)} {lacked : Bool}
         → run ≡ [] → lacked ≡ false → Rounds h r s run lacked h r s
@@ -128,7 +129,7 @@ module _ {H T U G C : Type 0} (w : World T G C) (answers : Answering H T U G C) 
         → Rounds h r s first before h1 r1 s1 → Round h1 r1 s1 next now None h' r' s' → run ≡ first ++ next → lacked ≡ before || now
         → Rounds h r s run lacked h' r' s'
 
-  -- The last: the reading hands out no action, or the end of its action is refused. It ends the dispatch by this fault.
+  -- The last round: the reading hands out no action, or the end of its action is refused. The dispatch ends by this fault.
   pub data Last (h : H) (r : Reading) (s : ServerState T U G C) (run : List (Entry T U G C)) (lacked : Bool) (f : IoFault) (h' : H) (r' : Reading)
       (s' : ServerState T U G C) : Type 0 where
     no_action : (e : Entry T U G C) (error : ActionError) → OneStep w s e s'
@@ -138,7 +139,7 @@ module _ {H T U G C : Type 0} (w : World T G C) (answers : Answering H T U G C) 
 
   -- ---- a client
 
-  -- rounds, and then the last, which ends them by this fault
+  -- rounds, and then the last one, which ends by this fault
   pub record RoundsEnd (h : H) (r : Reading) (before : ServerState T U G C) (run : List (Entry T U G C)) (lacked : Bool) (f : IoFault) (h' : H)
       (r' : Reading) (after : ServerState T U G C) : Type 0 where
     pub handler : H
@@ -153,7 +154,7 @@ module _ {H T U G C : Type 0} (w : World T G C) (answers : Answering H T U G C) 
     pub run_is : run ≡ first ++ last
     pub lacked_is : lacked ≡ first_lacked || last_lacked
 
-  -- A client is served, with one new reading. The answer is that of its dispatch.
+  -- A client is dispatched, with one new reading. The answer is that of its dispatch.
   pub record Serves (h : H) (before : ServerState T U G C) (run : List (Entry T U G C)) (lacked : Bool) (answer : Result ℕ IoFault) (h' : H)
       (after : ServerState T U G C) : Type 0 where
     pub left : Reading
@@ -164,7 +165,7 @@ module _ {H T U G C : Type 0} (w : World T G C) (answers : Answering H T U G C) 
 -- ---- clients one after another
 
 module _ {H T U G C : Type 0} (w : World T G C) (answers : Answering H T U G C) where
-  -- Each of the clients is served, in order, each with a reading of its own. The sum of the counts is this.
+  -- Each of the clients is dispatched, in order, with a reading of its own. The sum of the counts is `total`.
   pub data ServesEach : List ClientParts → H → ServerState T U G C → List (Entry T U G C) → Bool → ℕ → H → ServerState T U G C → Type 0 where
     none : {ids : List ClientParts} {h : H} {s : ServerState T U G C} {run : List (Entry T U G C)} {lacked : Bool} {total : ℕ}
         → ids ≡ [] → run ≡ [] → lacked ≡ false → total ≡ 0 → ServesEach ids h s run lacked total h s
@@ -176,20 +177,20 @@ module _ {H T U G C : Type 0} (w : World T G C) (answers : Answering H T U G C) 
 -- ---- the end of a dispatch
 
 module _ {T U G C : Type 0} (w : World T G C) (before : ServerState T U G C) (calls : List (Entry T U G C)) (after : ServerState T U G C) where
-  -- a run of a new server that led to the one leads, with these calls behind it, to the other, and all that holds of it
+  -- each run of a new server that led to `before` leads, with these calls after it, to `after`, and all laws hold of it
   abbrev pub StayAccountedFor : Type 0
   StayAccountedFor =
       (table : List InterfaceRow) (run : List (Entry T U G C)) → Leads w (new_server table) run before
       → Leads w (new_server table) (run ++ calls) after × IsAccountedFor w table (run ++ calls) after
 
-  -- It does not matter to each reading and to each end of an action among these calls how bytes and tokens are cut.
+  -- It does not matter to any reading, or end of an action, among these calls how bytes and tokens are cut.
   abbrev pub AreCut : Type 0
   AreCut =
       (earlier later : List (Entry T U G C)) (e : Entry T U G C) (found left : ServerState T U G C) → calls ≡ earlier ++ e ∷ later
       → Leads w before earlier found → OneStep w found e left → Leads w left later after → IsCut w found e left e.call
 
--- A cleanup ends the dispatch. The dispatch is a run of calls, and all the laws of runs hold of it behind whatever run led
--- to it. Whether memory was refused is said of its own calls, and not of its handler's.
+-- A cleanup ends the dispatch. The dispatch is a run of calls, and all the laws of runs hold of it after each run that led
+-- to it. `after.refused` says whether memory was refused in its own calls; those of its handler do not count.
 pub record EndsDispatch {T U G C : Type 0} (w : World T G C) (before : ServerState T U G C) (served : List (Entry T U G C)) (lacked : Bool)
     (mid : ServerState T U G C) (answer result : Result ℕ IoFault) (after : BackendState T U G C) : Type 0 where
   pub cleanup : Entry T U G C
@@ -209,7 +210,7 @@ module _ {H T U G C : Type 0} (w : World T G C) (answers : Answering H T U G C) 
       (served : List (Entry T U G C)) × (lacked : Bool) × (answer : Result ℕ IoFault) × (mid : ServerState T U G C)
       × Serves w answers id h before served lacked answer h' mid × EndsDispatch w before served lacked mid answer result after
 
-  -- what a dispatch of several clients does: their faults are dropped
+  -- what a dispatch of several clients does: the faults of single clients are dropped
   abbrev pub DispatchesAll : List ClientParts → H → ServerState T U G C → Result ℕ IoFault → H → BackendState T U G C → Type 0
   DispatchesAll ids h before result h' after =
       (served : List (Entry T U G C)) × (lacked : Bool) × (total : ℕ) × (mid : ServerState T U G C)

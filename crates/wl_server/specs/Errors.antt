@@ -36,7 +36,7 @@ since_text opcode version since interface number =
     ++ (codes " (since "
     ++ (decimal version ++ (codes " < " ++ (decimal since ++ (codes "), object " ++ (interface ++ (codes "#" ++ decimal number))))))))
 
--- the request's name behind its interface's
+-- the request's name after its interface's
 abbrev pub request_name : List InterfaceRow → InterfaceId → MessageRow → List ℕ
 request_name table i row = name_of table i.0 ++ (codes "." ++ row.name)
 
@@ -54,7 +54,7 @@ fault_text table i row wrong.NullObject = codes "Invalid null object in request 
 
 -- ---- an error
 
--- what its client is killed for: the code, the object, the interface that the id has, and the text
+-- what a client is killed for: the code, the object, the interface that the id has, and the text
 abbrev pub error_of : List InterfaceRow → IdParts → ℕ → List ℕ → ProtocolError
 error_of table id code text = record {
   code = code;
@@ -64,14 +64,14 @@ error_of table id code text = record {
 }
 
 module _ {U C : Type 0} where
-  -- the error is put where the client is not killed and the object is kept
+  -- the error is put if the client is not killed and the object is kept
   abbrev pub error_messages : Core U C → IdParts → ℕ → List ℕ → List Said
   error_messages c id code text =
       if not c.is_killed && is_some (named c.store id) then (error_message id.number code text ∷ []) else []
 
-  -- An error on an object: it is put, then what waits is flushed, whatever came of that, and the client is killed for it, or
-  -- as closed where it could not be put. Its texts are made first: where there is no memory for them nothing is put, and the
-  -- client is closed down. Of a killed client none is made.
+  -- An error on an object: it is put, then what waits is flushed, even if the put failed, and the client is killed: for the
+  -- error, or as closed if the put failed. The texts are made first. If there is no memory for them, nothing is put, and the
+  -- client is killed as closed. For a killed client no texts are made.
   abbrev pub posts : List InterfaceRow → Core U C → IdParts → ℕ → List ℕ → Verdict (Core U C) (Told U)
   posts table c id code text = record {
     core = c;
@@ -83,7 +83,7 @@ module _ {U C : Type 0} where
     events = λ d. [];
   }
 
-  -- the program posts an error on an object; a null id is of none, and nothing is done
+  -- the program posts an error on an object; if the id is null, nothing is done
   abbrev pub PostsError : {T : Type 0} → (T → Queue → Result ℕ IoFault → T → Type 0) → List InterfaceRow → Part T U C → IdParts → ℕ → List ℕ
       → Bool → List (Deed U) → Part T U C → Type 0
   PostsError sends table before id code text refused did after =

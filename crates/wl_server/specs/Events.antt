@@ -1,4 +1,4 @@
--- What an event does that the program sends.
+-- What an event that the program sends does.
 use Rattle.std.specs.Prelude.{◌≡◌, ℕ, ◌⊎◌, List, [], ◌∷◌, ◌++◌, map, Bool, true, false, not, ◌==◌, if◌then◌else◌, Option, None, Some, IsSome, Result, Ok, Err, MatchResult, MatchBool}
 use Rattle.wl_wire.specs.declared.argument.AllowNull.{AllowNull}
 use Rattle.wl_wire.specs.declared.argument.AllowNull.TheVariants.{Yes, No}
@@ -31,7 +31,7 @@ use Rattle.wl_server.specs.Objects.{leaving, without_noted}
 use Rattle.wl_server.specs.Part.{Part, named, with_link}
 use Rattle.wl_server.specs.Telling.{Core, Tells, Told, closed_down, core_of, deletions, tells}
 
--- a message of a server, without where its arguments lie in memory
+-- a message of a server as contracts see it: its arguments are a plain list
 pub record SessionMessage : Type 0 where
   pub sender : IdParts
   pub opcode : ℕ
@@ -56,12 +56,12 @@ is_child None i = false
 is_child (Some child) i = child.0 == i.0
 
 module _ {U : Type 0} (client : ClientParts) (store : Store (Kept U)) where
-  -- why an id that is not null is refused, where its object has to be of an interface that is asked for
+  -- why an id that is not null is refused; its object has to be of an interface that is asked for
   abbrev pub id_fault : (InterfaceId → Bool) → IdParts → Option EventError
   id_fault is_asked id =
       first_refusal (when (not (same_client id.client client)) refused.ForeignObject ∷ found_fault is_asked (named store id) ∷ [])
 
-  -- why an argument of that type is refused, where the table asks for this interface next
+  -- why an argument is refused at a place of that type; the table asks for this interface next
   abbrev pub argument_fault : MessageRow → ArgumentType → InterfaceId → Argument IdParts Token → Option EventError
   argument_fault row (kind.Object null) asked (arg.Object id) = if id.number == 0 then null_fault null else id_fault (fits asked) id
   argument_fault row kind.NewId asked (arg.NewId id) =
@@ -75,7 +75,7 @@ module _ {U : Type 0} (client : ClientParts) (store : Store (Kept U)) where
   argument_faults row (k ∷ kinds) asked (a ∷ args) =
       argument_fault row k (next_interface asked) a ∷ argument_faults row kinds (left_after a asked) args
 
-  -- the sender of an event that is granted, and whether the event ends it
+  -- of an event that is not refused: the sender, and whether the event ends it
   abbrev pub granted : Object (Kept U) → MessageRow → Option EventError → Result (Object (Kept U) × Bool) EventError
   granted sender row None = Ok (sender, row.is_destructor)
   granted sender row (Some e) = Err e
@@ -93,11 +93,11 @@ module _ {U : Type 0} (client : ClientParts) (store : Store (Kept U)) where
   checked_sender table None m = Err refused.InvalidId
   checked_sender table (Some sender) m = checked_row sender (event_row table sender.interface m.opcode) m
 
-  -- what the event is granted, or the first reason for which it is refused
+  -- the sender and whether the event ends it, or the first reason for which the event is refused
   abbrev pub event_check : List InterfaceRow → SessionMessage → Result (Object (Kept U) × Bool) EventError
   event_check table m = checked_sender table (named store m.sender) m
 
--- ---- what an event does that is not refused
+-- ---- the sending of an event that is not refused
 
 abbrev pub wire_argument : Argument IdParts Token → WireArgument
 wire_argument (arg.Int z) = arg.Int z
@@ -120,7 +120,7 @@ abbrev pub AsksForMemory : {U : Type 0} → Object (Kept U) → Bool → Type 0
 AsksForMemory sender ends = (ends ≡ true) × IsSome sender.value.user_data
 
 module _ {U C : Type 0} where
-  -- A destructor event ends its sender, which is told where the event was put.
+  -- A destructor event ends its sender. If the event was put, the client is told that the number is free.
   abbrev pub ends_sender : ClientParts → Core U C → SessionMessage → Object (Kept U) → Bool → Verdict (Core U C) (Told U)
   ends_sender client c m sender false = tells c []
   ends_sender client c m sender true =
@@ -128,12 +128,12 @@ module _ {U C : Type 0} where
         events = leaving m.sender sender.value.user_data;
       }
 
-  -- Where it could not be put, the client is closed down, and is told nothing more.
+  -- If the event could not be put, the client is killed as closed, and is told nothing more.
   abbrev pub ends_closed : ClientParts → Core U C → SessionMessage → Object (Kept U) → Bool → Verdict (Core U C) (Told U)
   ends_closed client c m sender ends = record (ends_sender client (closed_down c) m sender ends) { puts = [] }
 
 module _ {T U C : Type 0} (sends : T → Queue → Result ℕ IoFault → T → Type 0) (client : ClientParts) where
-  -- what a write of the event comes to
+  -- what follows from the result of the write
   abbrev pub SentAs : Part T U C → SessionMessage → Object (Kept U) → Bool → Result (Unit {0}) IoFault → LinkState T
       → Result (Unit {0}) EventError → Bool → List (Deed U) → Part T U C → Type 0
   SentAs before m sender ends (Ok _) link answer lacked did after =
@@ -144,7 +144,7 @@ module _ {T U C : Type 0} (sends : T → Queue → Result ℕ IoFault → T → 
   SentAs before m sender ends (Err other) link answer lacked did after =
       Tells sends (ends_closed client (core_of before) m sender ends) link lacked did after × (answer ≡ Ok tt)
 
-  -- The event is written. Where there is no memory for it, the event is refused; another fault kills the client.
+  -- The event is written. If there is no memory for it, the answer is `OutOfMemory`; another fault kills the client.
   abbrev pub SendsGranted : Part T U C → SessionMessage → Object (Kept U) → Bool → Result (Unit {0}) EventError → Bool → List (Deed U)
       → Part T U C → Type 0
   SendsGranted before m sender ends answer lacked did after =
@@ -153,7 +153,7 @@ module _ {T U C : Type 0} (sends : T → Queue → Result ℕ IoFault → T → 
       × WroteBy sends before.link (wire_message m) es wrote link
       × SentAs before m sender ends wrote link answer lacked rest after × (did ≡ map Sent es ++ rest))
 
-  -- The program sends an event. To a killed client nothing is sent, whatever the event.
+  -- The program sends an event. To a killed client nothing is sent, and the answer is `Ok`.
   abbrev pub SendsEvent : List InterfaceRow → Part T U C → SessionMessage → Result (Unit {0}) EventError → Bool → List (Deed U)
       → Part T U C → Type 0
   SendsEvent table before m answer lacked did after =

@@ -1,4 +1,4 @@
--- What each client feels of a call that is about no one client.
+-- What a call that is about all clients does to each of them. A client *feels* such a call.
 use Rattle.std.specs.Prelude.{◌≡◌, ℕ, List, [], ◌∷◌, ◌++◌, map, Bool, false, if◌then◌else◌, Option, None, Some, Result, MatchBool}
 use Rattle.std.specs.FinMap as finmap
 use Rattle.wl_wire.specs.declared.error.IoFault.{IoFault}
@@ -19,11 +19,11 @@ module _ {T U C : Type 0} where
   abbrev pub news : List InterfaceRow → Part T U C → Bool → Shown → List Said
   news table p visible g = if visible then map (λ r. global_message table r g) p.registries else []
 
-  -- what they are told of a global that is announced no more, whether the client could see it or not
+  -- what they are told of a global that is no longer announced, whether the client could see it or not
   abbrev pub removals : Part T U C → ℕ → List Said
   removals p name = map (removal_message name) p.registries
 
-  -- the client makes nothing of it
+  -- nothing is done to the client
   abbrev pub Stays : Part T U C → Bool → List (Deed U) → Part T U C → Type 0
   Stays before lacked did after = (lacked ≡ false) × (did ≡ []) × (after ≡ before)
 
@@ -54,8 +54,8 @@ objects_leave client (e ∷ rest) =
     map Noted (note_of_end client e.0 e.1) ++ (left_if (id_of (id_at client e.0 e.1)) e.1.value.user_data ++ objects_leave client rest)
 
 module _ {T U C : Type 0} (sends : T → Queue → Result ℕ IoFault → T → Type 0) (client : ClientParts) where
-  -- The notes that waited are made. A live client goes on. A killed one's objects leave and are noted, what waits to be sent
-  -- is flushed once, and it is taken out: its transport is handed out, and nothing more is held of it.
+  -- A cleanup: the notes that waited are made. A live client stays. The objects of a killed one leave and are noted, what
+  -- waits to be sent is flushed once, and the client is taken out: its transport is handed out, and nothing is held of it.
   abbrev pub Cleaned : Part T U C → Bool → List (Deed U) → List T → Option (Part T U C) → Type 0
   Cleaned before lacked did out after =
       MatchBool before.is_killed

@@ -18,8 +18,8 @@ use Rattle.wl_server.specs.Objects.{unless_refused, without}
 use Rattle.wl_server.specs.Part.{Part, id_of, named, note_of_end, with_user_data}
 use Rattle.wl_server.specs.Telling.{Core, Did, Finish, OfBind, OfRequest, Tells, Told, core_of, deletions, tells}
 
--- why a request that made this object is not finished with these data: data are given exactly where it made one, but that a
--- killed client's may lack them
+-- why a request is not finished with these data, if not for want of memory: there have to be data exactly if the request
+-- made an object; for a killed client they may be missing
 abbrev pub refusal : {U : Type 0} → Bool → Option IdParts → Option U → Option FinishError
 refusal killed created u =
     first_refusal
@@ -46,7 +46,7 @@ module _ {U : Type 0} where
   ended_by store sender is_destructor = if is_destructor then named store sender else None
 
 module _ {U C : Type 0} where
-  -- ---- what an end comes to that is accepted
+  -- ---- an end that is accepted
 
   -- no action is open any more
   abbrev pub closed : Core U C → Option IdParts → Option U → Core U C
@@ -55,15 +55,15 @@ module _ {U C : Type 0} where
   abbrev pub closes : Core U C → Option IdParts → Option U → Verdict (Core U C) (Told U)
   closes c created u = tells (closed c created u) []
 
-  -- the sender is noted at once, where it is gone and had user data
+  -- the sender is noted at once, if it left and had user data
   abbrev pub ending : ClientParts → IdParts → Object (Kept U) → Core U C → List (Told U)
   ending client id x c =
       if is_some (named c.store id)
       then []
       else map Did (map Noted (note_of_end client id.number x) ++ left_if (id_of id) x.value.user_data)
 
-  -- A destructor request ends its own sender, while that is kept: the client is told that the number is free, and the object
-  -- leaves. Where there is no memory for its note or for the message, nothing is done, and the action stays open.
+  -- A destructor request ends its own sender, if that is still kept: the client is told that the number is free, and the
+  -- object leaves. If there is no memory for its note or for the message, nothing is done, and the action stays open.
   abbrev pub ends : ClientParts → Core U C → IdParts → Option (Object (Kept U)) → Option IdParts → Option U → Verdict (Core U C) (Told U)
   ends client c id None created u = closes c created u
   ends client c id (Some x) created u = record (closes (without c id.number x) created u) {
@@ -76,7 +76,7 @@ module _ {U C : Type 0} where
   abbrev pub ends_request : ClientParts → Core U C → IdParts → Bool → Option IdParts → Option U → Verdict (Core U C) (Told U)
   ends_request client c sender is_destructor created u = ends client c sender (ended_by c.store sender is_destructor) created u
 
-  -- ---- what of a live client's action is ended by these data, if they are such as it takes
+  -- ---- the verdict if an open action is ended with these data; `None` if it cannot be
 
   abbrev pub finishing : ClientParts → Core U C → Option OpenAction → Finish U → Option (Verdict (Core U C) (Told U))
   finishing client c (Some (opened.Request sender is_destructor created)) (OfRequest u) =
@@ -85,7 +85,7 @@ module _ {U C : Type 0} where
   finishing client c _ _ = None
 
 module _ {T U C : Type 0} where
-  -- the refusal gives the data back, and changes nothing
+  -- the error gives the data back, and nothing is changed
   abbrev pub Refuses : {D : Type 0} → Part T U C → D → FinishError → Result (Unit {0}) (FinishRefused D) → Bool → List (Deed U) → Part T U C
       → Type 0
   Refuses before d e answer refused did after =

@@ -22,7 +22,7 @@ pub record Globals (G : Type 0) : Type 0 where
 abbrev pub name_range : Range
 name_range = record { first = 1; end = 0x100000000 }
 
--- what the server offers to all clients: its table, its globals, and the limit of a new client's outgoing storage
+-- what the server offers to all clients: its table, its globals, and the limit of a new client's buffers
 pub record Offer (G : Type 0) : Type 0 where
   pub table : List InterfaceRow
   pub globals : Globals G
@@ -73,7 +73,7 @@ module _ {G : Type 0} where
   disabled_at globals n None = globals
   disabled_at globals n (Some x) = record globals { store = rewritten globals.store n (as_disabled x) }
 
-  -- the global that the id names is announced no more
+  -- the globals after the one that the id names was disabled: it is no longer announced
   abbrev pub disabled : Globals G → GlobalParts → Globals G
   disabled globals id = disabled_at globals id.name (global_of globals id)
 
@@ -81,7 +81,7 @@ module _ {G : Type 0} where
   freed_at globals n None = globals
   freed_at globals n (Some _) = record globals { store = removed globals.store n }
 
-  -- the global that the id names is kept no more, and its name is free
+  -- the globals without the one that the id names; its name is free
   abbrev pub freed : Globals G → GlobalParts → Globals G
   freed globals id = freed_at globals id.name (global_of globals id)
 
@@ -92,7 +92,7 @@ module _ {G : Type 0} where
     value = record { serial = serial; handler = handler; is_disabled = false };
   }
 
-  -- with a new global, where one was created
+  -- the globals with the new one, if one was created
   abbrev pub with_created : Globals G → InterfaceId → ℕ → G → Result GlobalParts GlobalError → Globals G
   with_created globals i version handler (Err _) = globals
   with_created globals i version handler (Ok g) =
@@ -104,12 +104,13 @@ module _ {G : Type 0} where
   abbrev pub LacksName : Globals G → Type 0
   LacksName globals = IsFull name_range globals.store ⊎ (globals.last_serial ≡ last_possible_serial)
 
-  -- the least name that no other has, and the next serial
+  -- the id of the next global: the least name that no other has, and the next serial
   abbrev pub IsNextGlobal : Globals G → GlobalParts → Type 0
   IsNextGlobal globals id =
       IsLeastAbsent name_range globals.store id.name × (globals.last_serial < last_possible_serial) × (id.serial ≡ globals.last_serial + 1)
 
-  -- A new global gets these, or there is no memory for a name that was never in use. It is refused where none are left.
+  -- A new global gets the next id, or there is no memory for it, if its name was never in use. If no name or no serial is
+  -- left, the answer is `Full`.
   abbrev pub CreatesNext : Globals G → Result GlobalParts GlobalError → Type 0
   CreatesNext globals (Ok id) = IsNextGlobal globals id
   CreatesNext globals (Err refused.Full) = LacksName globals
@@ -117,7 +118,7 @@ module _ {G : Type 0} where
       (id : GlobalParts) × IsNextGlobal globals id × (id.name ≡ first_unused globals.store id.name)
   CreatesNext globals (Err other) = ⊥
 
-  -- what the creation of a global answers: its interface is in the table, and its version not above that of the table
+  -- what the creation of a global answers; its interface has to be in the table, and its version not above that of the table
   abbrev pub CreatesGlobal : List InterfaceRow → Globals G → InterfaceId → ℕ → Result GlobalParts GlobalError → Type 0
   CreatesGlobal table globals i version answer =
       MatchOption (slice_get table i.0) (answer ≡ Err refused.UnknownInterface)

@@ -1,4 +1,4 @@
--- Runs of any entries over the transport by script: steps with their replies, and changes of a client's transport.
+-- Runs over the transport by script, whose entries are steps with their replies and changes of a client's transport.
 use Rattle.std.specs.Prelude.{Bool, List, ◌++◌, length}
 use Rattle.wl_wire.specs.Table.{InterfaceRow}
 use Rattle.wl_link.specs.Runs.{RunEntry, IsWhereItStops, entries}
@@ -14,10 +14,9 @@ use Rattle.wl_server.specs.Steps.{Entry}
 use Rattle.wl_server.specs.Stretches.{EachPartIsCut}
 
 module _ {U G C : Type 0} (views : G → ClientParts → C → GlobalParts → Bool) where
-  -- Steps with these replies are the calls of entries that lead from one value of a server to another. Whatever history of a
-  -- new server led to the first, changes of transports among its entries, these entries extend it, and all laws of runs hold
-  -- of it with them behind it. Over each part of a history that they extend, cutting does not matter; and so it is whatever
-  -- their deeds.
+  -- The steps with these replies are the calls of entries that lead from one value of a server to another. They extend each
+  -- history of a new server that led to the first, even if transports were changed in it: all laws of runs hold of the
+  -- history with these entries after it. Cutting does not matter to any part of it, whatever the deeds of the steps are.
   pub record Extends (before : ServerState Script U G C) (steps : List (RunEntry (Step Script U G C) (Reply Script U))) (after : ServerState Script U G C) : Type 0 where
     pub run : List (Entry Script U G C)
     pub are : AreOf steps run
@@ -27,7 +26,8 @@ module _ {U G C : Type 0} (views : G → ClientParts → C → GlobalParts → B
     pub cut : (begun : ServerState Script U G C) (history more : List (Entry Script U G C)) → Leads (over_scripts views) begun history before
         → AreOf steps more → Leads (over_scripts views) before more after → EachPartIsCut views begun (history ++ more)
 
-  -- steps of which those before a want of memory have these replies: so it is with the step that met it, if one was begun
+  -- The same for steps that stopped because memory was refused in one of them; those before it have these replies. It holds
+  -- with that step, if it was begun.
   abbrev pub ExtendsUpTo : ServerState Script U G C → List (Step Script U G C) → List (Reply Script U) → ServerState Script U G C → Type 0
   ExtendsUpTo before steps replies after =
       (last : List (RunEntry (Step Script U G C) (Reply Script U))) × IsWhereItStops steps (length replies) last

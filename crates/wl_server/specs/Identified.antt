@@ -1,8 +1,8 @@
 -- The ids that a server hands out of a client's objects, and what they name.
 --
--- The changes of a client's objects are told call by call: an object is put at a number, leaves its number, is written to,
--- or an id is made of it, which then names it. Each id that is handed out is one of these; and what an id names follows
--- from the changes alone. No program stores them.
+-- Each call has a list of changes of a client's objects (`Change` of `wl_link`): an object is put at a number, leaves its
+-- number, or is written to; or an id is made of it. Each id that is handed out is made so, and what an id names follows
+-- from the changes alone. They exist in contracts only.
 use Rattle.std.specs.Prelude.{◌≡◌, ◌≢◌, ◌⊎◌, ◌↔◌, ℕ, List, [], ◌∷◌, ◌++◌, All, AllPairs, Bool, false, Option, None, Some, is_some, IsSome, Contains, Result, Ok, Err, MatchOption}
 use Rattle.wl_wire.specs.Table.{InterfaceRow}
 use Rattle.wl_link.specs.declared.object.Object.{Object}
@@ -50,24 +50,24 @@ module _ {U : Type 0} where
   abbrev pub is_over : Kept U → Bool
   is_over k = false
 
-  -- it has user data, so that it is noted where it leaves
+  -- it has user data, so it is noted if it leaves
   abbrev pub has_data : Object (Kept U) → Bool
   has_data x = is_some x.value.user_data
 
   module _ (client : ClientParts) where
-    -- The id is of this client, and is made in this call, of an object that it then names; a new one of an object that the
-    -- call puts there. Or it is the client's null id, which names none.
+    -- The id is of this client, and is made in this call, of an object that it then names; a new one is made of an object
+    -- that the call puts in place. Or it is the client's null id, which names none.
     abbrev pub IsHandedIn : List (Change (Kept U)) → HandedId IdParts → Type 0
     IsHandedIn changes (Found id) = (id ≡ null_id client) ⊎ ((id.client ≡ client) × IsMadeInStep changes (id_of id))
     IsHandedIn changes (New id) = (id.client ≡ client) × IsMadeInStep changes (id_of id) × IsBornInStep serial_of changes (id_of id)
 
-    -- the id of a note is made where its object leaves
+    -- the id of a note is made in the call in which its object leaves
     abbrev pub IsNotedIn : List (Change (Kept U)) → Happening U → Type 0
     IsNotedIn changes (Destroyed id u) = (id.client ≡ client) × IsMadeInStep changes (id_of id)
     IsNotedIn changes _ = Unit {0}
 
 module _ {T U C : Type 0} where
-  -- these are the objects of a client, of which there is none once it is taken out
+  -- these are the objects of a client; there is none once the client is taken out
   abbrev pub AreObjectsOf : Seen T U C → Objects (Kept U) → Type 0
   AreObjectsOf s o = MatchOption s.part ((n : ℕ) → held o.store n ≡ None) (λ p. o ≡ objects_of p)
 
@@ -83,9 +83,10 @@ module _ {T U C : Type 0} where
 -- ---- what they name
 
 module _ {T U G C : Type 0} (w : World T G C) (id : ClientParts) where
-  -- The calls of a client's run lead from what is held of it to what is then held, and its objects by these changes, a list
-  -- of them for each call. In each call the ids of its reply are made. The objects with user data that end in it are those
-  -- that leave by its deeds; and each note that it makes, or that waits after it, waited before it, or its id is made in it.
+  -- The calls of a client's run lead from what is held of it at first to what is held of it then. For each call there is a
+  -- list of changes, which lead its objects along. The ids of the reply are made in it. The objects with user data that end
+  -- in it are those that leave by its deeds. Each note that the call makes, or that waits after it, waited before it, or its
+  -- id is made in it.
   abbrev pub Follows : Offer G → Seen T U C → Objects (Kept U) → List (Own T U G C) → List (List (Change (Kept U))) → Seen T U C → Objects (Kept U)
       → Type 0
   Follows offer s o [] [] t o' = (t ≡ s) × (o' ≡ o)
@@ -99,9 +100,9 @@ module _ {T U G C : Type 0} (w : World T G C) (id : ClientParts) where
       × ((h : Happening U) → Contains (notes_in e.did ++ waiting_of mid.part) h → Contains (waiting_of s.part) h ⊎ IsNotedIn id changes h)
       × Follows (offer_after offer e.call) mid between run rest t o'
 
-  -- The run of a client has changes, a list of them for each call, by which its objects come to what they are. Each id that
-  -- was handed out was made in its call of the object that it then named, and names that object exactly while it is kept and
-  -- its client stored, and afterwards none; the ids of notes too. No object leaves twice.
+  -- The run of a client has a list of changes for each call, which lead to the objects that it ends with. Each id that was
+  -- handed out, also one of a note, was made in its call of the object that it then named. It names that object exactly
+  -- while the object is kept and its client stored, and afterwards none. No object leaves twice.
   pub record HasOwnIds (offer : Offer G) (begins : Seen T U C) (run : List (Own T U G C)) (ends : Seen T U C) : Type 0 where
     pub changes : List (List (Change (Kept U)))
     pub kept : Objects (Kept U)
@@ -119,8 +120,7 @@ module _ {T U G C : Type 0} (w : World T G C) (id : ClientParts) where
 -- ---- of every client of a server
 
 module _ {T U G C : Type 0} where
-  -- Each client that was inserted in the run has ids of its own, from its insertion on, by its own calls and the shared
-  -- ones.
+  -- each client that was inserted in the run has ids of its own, from its insertion on
   abbrev pub EachHasOwnIds : World T G C → List InterfaceRow → List (Entry T U G C) → ServerState T U G C → Type 0
   EachHasOwnIds w table run after =
       (id : ClientParts) (transport : T) (info : C) (earlier later : List (Entry T U G C)) (e : Entry T U G C) →
@@ -128,7 +128,7 @@ module _ {T U G C : Type 0} where
       (link : LinkState T) × IsFresh transport (Some (offer_over (new_offer table) earlier).default_limit) link
       × HasOwnIds w id (offer_over (new_offer table) (earlier ++ e ∷ [])) (just_inserted link info) (mine id later) (seen id after)
 
-  -- steps of a new server, with these replies, are the calls of a run in which each client has
+  -- steps of a new server, with these replies, are the calls of a run in which that is so
   abbrev pub HaveOwnIds : World T G C → List InterfaceRow → List (RunEntry (Step T U G C) (Reply T U)) → ServerState T U G C → Type 0
   HaveOwnIds w table steps after =
       (run : List (Entry T U G C)) × AreOf steps run × Leads w (new_server table) run after × EachHasOwnIds w table run after

@@ -15,7 +15,7 @@ use Rattle.wl_server.specs.contracts.backend.Backend as backend
 abbrev pub over_transport : {T U C : Type 0} → Stored T U C → T → Stored T U C
 over_transport s transport = record s { part = with_link s.part (with_transport s.part.link transport) }
 
--- the client ends with what was left in the transport, and with all else as it was
+-- after the loan the client has the transport as it was left, and all else as it was
 abbrev pub LendsTransportOf : (T U C : RattleType) → MutBor (Stored T.Denot U.Denot C.Denot) → MutBor T.Denot → Fml
 LendsTransportOf T U C c transport = Lends (client.the_row T U C) T c transport (λ t. over_transport c.now t)
 
@@ -27,6 +27,6 @@ module _ {T U G C : Type 0} where
   abbrev pub state_over : BackendState T U G C → ClientParts → T → BackendState T U G C
   state_over b id transport = record b { server = server_over b.server id transport }
 
--- the server ends with what was left in the transport, and with all else as it was
+-- after the loan the server has the transport as it was left, and all else as it was
 abbrev pub LendsServerTransport : (T U G C : RattleType) → MutBor (BackendState T.Denot U.Denot G.Denot C.Denot) → ClientParts → Result (MutBor T.Denot) InvalidId → Fml
 LendsServerTransport T U G C b id transport = LendsIfOk (backend.the_row T U G C) T b transport (λ t. state_over b.now id t) b.now

@@ -17,19 +17,19 @@ use Rattle.wl_server.specs.Runs.{AreOf, Leads, history, mine}
 use Rattle.wl_server.specs.Server.{Seen, ServerState, new_server, seen}
 use Rattle.wl_server.specs.Steps.{Entry}
 
--- What the transport took, followed by what waits, is the spelling of the messages that were put; the tokens too, where no
--- send answered 0, which drops those that it was offered.
+-- What the transport took, and then what waits, is the spelling of the messages that were put. So are the tokens, if no
+-- send answered 0; one that does drops the tokens that it was offered.
 pub record LogIsSpelled {U : Type 0} (did : List (Deed U)) (waits : Queue) : Type 0 where
   pub bytes : (taken (sends_of did)).bytes ++ waits.bytes ≡ (spelled_all (messages_of (log_of did))).bytes
   pub tokens : NoZero (sends_of did) → (taken (sends_of did)).tokens ++ waits.tokens ≡ (spelled_all (messages_of (log_of did))).tokens
 
--- this waits to be sent to the client, while it is stored
+-- this waits to be sent to the client, if it is stored
 abbrev pub WaitsFor : {T U C : Type 0} → Seen T U C → Queue → Type 0
 WaitsFor s waits = MatchOption s.part (Unit {0}) (λ p. waits ≡ p.link.outgoing)
 
 module _ {T U G C : Type 0} where
-  -- Of each client that was inserted in the run, what its transport took since then, followed by what waits, is the
-  -- spelling of what was put. Of one that was taken out, that is what was left over at its end.
+  -- For each client that was inserted in the run: what its transport took since then, and then what waits, is the spelling
+  -- of what was put. For a client that was taken out, what waits is what was left at its end.
   abbrev pub EachLogIsSpelled : List (Entry T U G C) → ServerState T U G C → Type 0
   EachLogIsSpelled run after =
       (id : ClientParts) (transport : T) (info : C) (earlier later : List (Entry T U G C)) (e : Entry T U G C) →

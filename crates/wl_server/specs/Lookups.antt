@@ -1,4 +1,4 @@
--- What a server answers of itself, without a change.
+-- What look-ups answer. They change nothing.
 use Rattle.std.specs.Prelude.{ℕ, ◌+◌, List, [], ◌∷◌, ◌++◌, Bool, ◌==◌, if◌then◌else◌, Option, None, Some, map, option_map}
 use Rattle.std.specs.FinMap as finmap
 use Rattle.std.specs.Fmt.{decimal}
@@ -16,7 +16,7 @@ use Rattle.wl_server.specs.Ids.{ClientParts, GlobalParts, IdParts}
 use Rattle.wl_server.specs.Part.{Part, id_at, named}
 use Rattle.wl_server.specs.Server.{ServerState, Stored, seen}
 
--- what an option's value comes to, if there is one
+-- the function of the option's value, if there is one (`Option::and_then`)
 abbrev pub and_then : {A B : Type 0} → Option A → (A → Option B) → Option B
 and_then None f = None
 and_then (Some x) f = f x
@@ -50,18 +50,18 @@ name_if views client info n x = if is_visible views client info n x then Some n 
 module _ {T U G C : Type 0} (s : ServerState T U G C) where
   -- ---- clients and objects
 
-  -- what is held of the client, killed or not, while it is stored
+  -- what is held of the client, killed or not, if it is stored
   abbrev pub client_of : ClientParts → Option (Part T U C)
   client_of id = (seen id s).part
 
-  -- the object that the id names, while its client is stored
+  -- the object that the id names, if its client is stored
   abbrev pub object_of : IdParts → Option (Object (Kept U))
   object_of id = and_then (client_of id.client) (λ p. named p.store id)
 
   abbrev pub object_info_of : IdParts → Option ObjectInfo
   object_info_of id = option_map (info_at id.number) (object_of id)
 
-  -- the client of an id, which need not name an object
+  -- the client of an id, if it is stored; the id need not name an object
   abbrev pub client_by : IdParts → Option ClientParts
   client_by id = option_map (λ p. id.client) (client_of id.client)
 

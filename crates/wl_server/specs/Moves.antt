@@ -29,14 +29,14 @@ abbrev pub taken : Result (Vec (Vec ℕ Global × Vec Token Global) Global) Inva
 taken (Ok sent) = Ok (map parcel sent.items)
 taken (Err _) = Err refused.InvalidId
 
--- what comes behind the arrivals and the answers of a script that there are
+-- the script with one more arrival or answer, after those that are there
 abbrev pub with_arrival : Script → Result Queue IoFault → Script
 with_arrival s arrival = record s { arrivals = s.arrivals ++ arrival ∷ [] }
 
 abbrev pub with_answer : Script → Result ℕ IoFault → Script
 with_answer s answer = record s { answers = s.answers ++ answer ∷ [] }
 
--- a move that only memory can refuse
+-- a move that fails only if memory is refused
 abbrev pub Becomes : Script → Script → Moved → Script → Type 0
 Becomes before script (Ok given) after = (given ≡ []) × (after ≡ script)
 Becomes before script (Err refused.OutOfMemory) after = after ≡ before
@@ -49,7 +49,7 @@ ArrivesWith before chunk (Err refused.TooManyTokens) after = (28 < length chunk.
 ArrivesWith before chunk (Err refused.OutOfMemory) after = ¬ (28 < length chunk.tokens) × (after ≡ before)
 ArrivesWith before chunk (Err refused.InvalidId) after = ⊥
 
--- the moves of a transport by script, whose client is stored
+-- the moves of a transport by script; its client is stored
 abbrev pub ScriptMoves : Script → Move → Moved → Script → Type 0
 ScriptMoves before (Arrive chunk) answer after = ArrivesWith before chunk answer after
 ScriptMoves before (ArriveFault f) answer after = Becomes before (with_arrival before (Err f)) answer after

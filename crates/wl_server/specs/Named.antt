@@ -1,4 +1,4 @@
--- What an id names from a point of a run on, however it came to be: by a reply, an action or a note, or by a look-up.
+-- What any id names from a point of a run on, no matter where it comes from: a reply, an action, a note or a look-up.
 use Rattle.std.specs.Prelude.{◌≡◌, ◌↔◌, List, [], ◌∷◌, ◌++◌, Some, IsSome, Ok}
 use Rattle.wl_wire.specs.Table.{InterfaceRow}
 use Rattle.wl_link.specs.Identity.{Birth, Change, Objects, births_of}
@@ -16,15 +16,15 @@ use Rattle.wl_server.specs.Runs.{Own, just_inserted, mine, offer_over}
 use Rattle.wl_server.specs.Server.{Seen, ServerState, seen}
 use Rattle.wl_server.specs.Steps.{Entry, offer_after}
 
--- the offer after a client's own calls and the shared ones
+-- what the server offers after a client's own calls and those that all clients feel
 abbrev pub offer_through : {T U G C : Type 0} → Offer G → List (Own T U G C) → Offer G
 offer_through offer [] = offer
 offer_through offer (e ∷ run) = offer_through (offer_after offer e.call) run
 
 module _ {T U G C : Type 0} (w : World T G C) (id : ClientParts) where
-  -- The changes that make the ids of a client's run its own are those of its first calls, which lead to this point, and then
-  -- those of the later ones. Each id that names an object of the client at this point, however it came to be, names that
-  -- very object behind the run exactly while it is kept and its client stored, and else none.
+  -- The changes of a client's run (`HasOwnIds`) are those of its first calls, which lead to this point, and then those of
+  -- the later ones. Each id that names an object of the client at this point names that very object after the run exactly
+  -- if it is still kept and its client stored, and else none.
   pub record KeepsNaming (offer : Offer G) (begins : Seen T U C) (done : List (Own T U G C)) (point : Seen T U C) (later : List (Own T U G C)) (ends : Seen T U C) : Type 0 where
     pub ids : HasOwnIds w id offer begins (done ++ later) ends
     pub first : List (List (Change (Kept U)))
@@ -43,7 +43,7 @@ module _ {T U C : Type 0} where
   NamesNoneAgain point mid ends = (o : IdParts) → IsSome (named_of point o) → ¬ IsSome (named_of mid o) → ¬ IsSome (named_of ends o)
 
 module _ {T U G C : Type 0} where
-  -- Of each client that was inserted before the point, from its insertion on, by its own calls and the shared ones.
+  -- so it is with each client that was inserted before the point, from its insertion on
   abbrev pub EachKeepsNaming : World T G C → List InterfaceRow → List (Entry T U G C) → ServerState T U G C → List (Entry T U G C) → ServerState T U G C → Type 0
   EachKeepsNaming w table done point later after =
       (id : ClientParts) (transport : T) (info : C) (earlier between : List (Entry T U G C)) (e : Entry T U G C) →

@@ -24,7 +24,7 @@ NotesAreOfEnds {U = U} client did s =
     (o : IdParts) (u : U) → Contains (taken_in did ++ (s.made ++ waiting_of s.part)) (Destroyed o u) → (o.client ≡ client) × Contains (left_in did) (id_of o)
 
 module _ {T U G C : Type 0} where
-  -- so it is of each client that was inserted in the run, since then
+  -- so it is with each client that was inserted in the run, from then on
   abbrev pub EachNoteIsOfAnEnd : List (Entry T U G C) → ServerState T U G C → Type 0
   EachNoteIsOfAnEnd run after =
       (id : ClientParts) (transport : T) (info : C) (earlier later : List (Entry T U G C)) (e : Entry T U G C) →
@@ -36,8 +36,7 @@ module _ {T U G C : Type 0} where
   HaveNotesOfEnds w table steps after =
       (run : List (Entry T U G C)) × AreOf steps run × Leads w (new_server table) run after × EachNoteIsOfAnEnd run after
 
--- The objects that leave with user data by the end of a request are those that the notes made in that call tell of: each is
--- among the made notes at once.
+-- If an object with user data leaves by the end of a request, its note is made in that call.
 abbrev pub EndIsNotedAtOnce : {T G C : Type 0} (U : Type 0) → World T G C → Type 0
 EndIsNotedAtOnce {T} {G} {C} U w =
     (before after : ServerState T U G C) (e : Entry T U G C) (target : ClientParts) (u : _) (answer : Reply T U) → OneStep w before e after

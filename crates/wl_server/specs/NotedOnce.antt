@@ -1,4 +1,4 @@
--- The notes of a client over a run: of each object that left with user data one, and one of its end.
+-- The notes of a client over a run: one of each object that left with user data, and one of the client's end.
 use Rattle.std.specs.Prelude.{◌≡◌, ◌≢◌, ℕ, ◌+◌, List, [], ◌∷◌, ◌++◌, AllPairs, IsPermutation, if◌then◌else◌, Bool, Option, None, Some, Ok, Vec}
 use Rattle.std.specs.Global.{Global}
 use Rattle.wl_wire.specs.Table.{InterfaceRow}
@@ -37,21 +37,21 @@ module _ {U : Type 0} where
 abbrev pub one_if : Bool → ℕ
 one_if b = if b then 1 else 0
 
--- how often a client has ended: a live one never; one that was killed once, and it was before it was taken out
+-- how often a client has ended: a live one never, one that was killed once. A client was killed before it is taken out
 abbrev pub ended_times : {T U C : Type 0} → Option (Part T U C) → ℕ
 ended_times None = 1
 ended_times (Some p) = one_if p.is_killed
 
--- The objects that left with user data by these deeds are, in some order, those that notes tell of as destroyed: of the
--- notes that were handed out, that were made, and that wait for the next cleanup. None of them left twice. The client's end
--- is told of once, if it was killed.
+-- The objects that left with user data by these deeds are, in some order, those that notes tell of as destroyed. These are
+-- the notes that were handed out, that were made, and that wait for the next cleanup. No object left twice. One note tells
+-- of the client's end, if it was killed.
 pub record NotesEach {T U C : Type 0} (did : List (Deed U)) (s : Seen T U C) : Type 0 where
   pub destroyed : IsPermutation (left_in did) (destroyed_in (taken_in did ++ (s.made ++ waiting_of s.part)))
   pub once : AllPairs (λ a b. a ≢ b) (left_in did)
   pub disconnected : ends_in (taken_in did ++ s.made) ≡ ended_times s.part
 
 module _ {T U G C : Type 0} where
-  -- so it is of each client that was inserted in the run, since then
+  -- so it is with each client that was inserted in the run, from then on
   abbrev pub EachIsNoted : List (Entry T U G C) → ServerState T U G C → Type 0
   EachIsNoted run after =
       (id : ClientParts) (transport : T) (info : C) (earlier later : List (Entry T U G C)) (e : Entry T U G C) →
@@ -70,7 +70,7 @@ module _ {T G C : Type 0} (U : Type 0) (w : World T G C) where
       (before after : ServerState T U G C) (e : Entry T U G C) (out : Vec (ClientParts × T) Global) → OneStep w before e after
       → e.call ≡ Asked step.Cleanup (reply.Cleanup (Ok out)) → (id : ClientParts) → waiting_of (seen id after).part ≡ []
 
-  -- and the end of a request lets none wait: what leaves by it is noted by it
+  -- the end of a request does not change which notes wait; what leaves by it is noted in the call itself
   abbrev pub FinishNotesAtOnce : Type 0
   FinishNotesAtOnce =
       (before after : ServerState T U G C) (e : Entry T U G C) (target : ClientParts) (u : Option U) (answer : Reply T U) → OneStep w before e after

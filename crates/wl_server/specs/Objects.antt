@@ -39,8 +39,8 @@ module _ {T U C : Type 0} where
       ((answer ≡ Ok (id_at client n x)) × (after ≡ with_new_at before n x))
       ⊎ ((answer ≡ Err create.OutOfMemory) × (n ≡ first_unused before.store n) × (after ≡ before))
 
-  -- A new object gets the least number of the server's range that holds none, and the next serial. It is refused where its
-  -- interface is not in the table, and where no number or no serial is left.
+  -- A new object gets the least number of the server's range that holds none, and the next serial. The call is refused if
+  -- the interface is not in the table, or if no number or no serial is left.
   abbrev pub Creates : List InterfaceRow → ClientParts → Part T U C → InterfaceId → ℕ → U → Result IdParts CreateError → Part T U C → Type 0
   Creates table client before i version u answer after =
       MatchOption (slice_get table i.0) ((answer ≡ Err create.UnknownInterface) × (after ≡ before))
@@ -53,7 +53,7 @@ module _ {T U C : Type 0} where
 -- ---- an object that leaves
 
 module _ {U C : Type 0} where
-  -- it leaves the store, and is no registry any more
+  -- it leaves the store, and is no longer among the registries
   abbrev pub without : Core U C → ℕ → Object (Kept U) → Core U C
   without c n x = record c { store = removed c.store n; registries = registries_without c.registries n x }
 
@@ -61,11 +61,11 @@ module _ {U C : Type 0} where
   abbrev pub without_noted : ClientParts → Core U C → ℕ → Object (Kept U) → Core U C
   without_noted client c n x = record (without c n x) { waiting = c.waiting ++ note_of_end client n x }
 
-  -- what it leaves behind, where it is gone
+  -- the deed that an object with user data left, if it is gone
   abbrev pub leaving : IdParts → Option U → Core U C → List (Told U)
   leaving id u c = if is_some (named c.store id) then [] else map Did (left_if (id_of id) u)
 
-  -- The client is told that the number is free, and the object leaves. Where there is no memory for its note or for the
+  -- The client is told that the number is free, and the object leaves. If there is no memory for its note or for the
   -- message, it stays.
   abbrev pub destroys : ClientParts → Core U C → IdParts → Object (Kept U) → Verdict (Core U C) (Told U)
   destroys client c id x = record (tells (without_noted client c id.number x) (deletions id.number)) {
@@ -74,7 +74,7 @@ module _ {U C : Type 0} where
     events = leaving id x.value.user_data;
   }
 
--- the answer of a call that only a want of memory can refuse by then
+-- the answer of a call that can fail by now only because memory is refused
 abbrev pub unless_refused : {E : Type 0} → E → Bool → Result (Unit {0}) E
 unless_refused e refused = if refused then Err e else Ok tt
 

@@ -1,8 +1,8 @@
 -- When two replies are the same to a client, and when two runs of one client are.
 --
--- Where the answers of a transport follow from its value, what a client's own calls and the shared ones lead to alone is
--- one outcome, but for whether memory is there. It is said of one client: a server's value may differ in what no client
--- sees, such as the order in which the notes of two clients stand.
+-- If the answers of a transport follow from its value, and memory is not refused, then a client's own calls, and those
+-- that all clients feel, have one outcome. The law is about one client, since a server's value may differ in what no
+-- client sees, such as the order in which the notes of two clients stand.
 use Rattle.std.specs.Prelude.{◌≡◌, Bool, true, false, List, [], ◌∷◌, ◌++◌, Ok}
 use Rattle.wl_wire.specs.Table.{InterfaceRow}
 use Rattle.wl_link.specs.Exchange.{Queue}
@@ -24,8 +24,8 @@ use Rattle.wl_server.specs.Steps.{Entry, NumbersGlobal, lacks_growth, offer_afte
 -- ---- replies
 
 module _ {T U : Type 0} (id : ClientParts) where
-  -- Two replies are the same to a client: but for where their lists lie in memory, of which a program sees nothing; and of
-  -- what a cleanup hands out, and of the notes, this client's share.
+  -- Two replies are the same to a client: their lists have the same items. Of the notes, and of what a cleanup hands out,
+  -- only this client's share counts.
   abbrev pub SameReply : Reply T U → Reply T U → Type 0
   SameReply (reply.NextAction r) (reply.NextAction r') = action_content r ≡ action_content r'
   SameReply (reply.NextActionWithin r left) (reply.NextActionWithin r' left') = (action_content r ≡ action_content r') × (left ≡ left')
@@ -34,8 +34,8 @@ module _ {T U : Type 0} (id : ClientParts) where
   SameReply (reply.TakeSent r) (reply.TakeSent r') = taken r ≡ taken r'
   SameReply r r' = r ≡ r'
 
--- Two outcomes of a step are the same to a client: its deeds with the client and what is then held of it; and where the
--- step is the client's own or shared, its replies.
+-- Two outcomes of a step are the same to a client: the deeds with it are the same, and what is then held of it; and, if
+-- the step is the client's own or about all clients, the replies.
 pub record SameOutcome {T U C : Type 0} (id : ClientParts) (is_own : Bool) (answer answer' : Reply T U) (did did' : List (Deed U))
     (after after' : Seen T U C) : Type 0 where
   pub reply : is_own ≡ true → SameReply id answer answer'
@@ -43,8 +43,8 @@ pub record SameOutcome {T U C : Type 0} (id : ClientParts) (is_own : Bool) (answ
   pub held : after ≡ after'
 
 module _ {T U G C : Type 0} where
-  -- The answers are the same where they tell what all clients share: the id of a new client and that of a new global. What
-  -- is shared before determines them.
+  -- The answers are the same if they tell what all clients share: the id of a new client or of a new global. What is shared
+  -- before the call determines them.
   abbrev pub SharedSame : Step T U G C → Reply T U → Reply T U → Type 0
   SharedSame (step.InsertClient _ _) answer answer' = answer ≡ answer'
   SharedSame (step.CreateGlobal _ _ _) answer answer' = answer ≡ answer'
@@ -60,7 +60,7 @@ module _ {T U G C : Type 0} where
   ArrivesSame target chunk (step.Arrive target' bytes tokens) = (target ≡ target') × (chunk ≡ record { bytes = bytes.items; tokens = tokens.items })
   ArrivesSame target chunk _ = ⊥
 
-  -- Two steps are the same, but for where their lists lie in memory.
+  -- two steps are the same: their lists have the same items
   abbrev pub SameStep : Step T U G C → Step T U G C → Type 0
   SameStep (step.SendEvent m) s' = SendsSame (session_content m) s'
   SameStep (step.Arrive target bytes tokens) s' = ArrivesSame target (record { bytes = bytes.items; tokens = tokens.items }) s'
@@ -77,19 +77,19 @@ module _ {T U G C : Type 0} where
   SameAnswer id (Asked _ answer) (Asked _ answer') = SameReply id answer answer'
   SameAnswer id _ _ = Unit {0}
 
-  -- the answers are the same where they tell what all clients share
+  -- the answers are the same if they tell what all clients share
   abbrev pub SharedAnswer : Call T U G C → Call T U G C → Type 0
   SharedAnswer (Asked s answer) (Asked _ answer') = SharedSame s answer answer'
   SharedAnswer _ _ = Unit {0}
 
   -- ---- runs of one client
 
-  -- memory is not refused: neither to the client nor for what a shared call makes of its own
+  -- memory is not refused: neither to the client, nor to a shared call for what belongs to no client
   abbrev pub HasMemory : List (Own T U G C) → Type 0
   HasMemory [] = Unit {0}
   HasMemory (e ∷ run) = (e.lacked ≡ false) × (lacks_growth e.call ≡ false) × HasMemory run
 
-  -- memory is not refused for what a shared call makes of its own
+  -- memory is not refused to a shared call for what belongs to no client
   abbrev pub AreAmple : List (Own T U G C) → Type 0
   AreAmple [] = Unit {0}
   AreAmple (e ∷ run) = (lacks_growth e.call ≡ false) × AreAmple run
@@ -99,7 +99,7 @@ module _ {T U G C : Type 0} where
   AreOwn id [] = Unit {0}
   AreOwn id (e ∷ run) = (concerns id e.call ≡ true) × AreOwn id run
 
-  -- the globals that are created are numbered by the offer alone
+  -- the ids of new globals follow from the offer alone
   abbrev pub AreNumbered : Offer G → List (Own T U G C) → Type 0
   AreNumbered offer [] = Unit {0}
   AreNumbered offer (e ∷ run) = NumbersGlobal offer e.call × AreNumbered (offer_after offer e.call) run
@@ -110,7 +110,7 @@ module _ {T U G C : Type 0} where
   SameSteps (e ∷ run) (f ∷ run') = SameCall e.call f.call × SameSteps run run'
   SameSteps _ _ = ⊥
 
-  -- and so are their replies to the client, and the deeds with it
+  -- the runs have the same replies to the client, and the same deeds with it
   abbrev pub SameRun : ClientParts → List (Own T U G C) → List (Own T U G C) → Type 0
   SameRun id [] [] = Unit {0}
   SameRun id (e ∷ run) (f ∷ run') = SameAnswer id e.call f.call × (e.did ≡ f.did) × SameRun id run run'
@@ -119,8 +119,8 @@ module _ {T U G C : Type 0} where
 -- ---- one outcome
 
 module _ {T G C : Type 0} where
-  -- A step that is made once with this reply and once with that: where memory is refused neither to the client nor for what
-  -- a shared call makes of its own, and the answers that tell what all clients share are the same.
+  -- A step that is made twice from the same value has one outcome, if memory is not refused (neither to the client, nor to a
+  -- shared call for what belongs to no client), and the answers that tell what all clients share are the same.
   abbrev pub StepsHaveOneOutcome : Type 0 → World T G C → Type 0
   StepsHaveOneOutcome U w =
       (id : ClientParts) (offer : Offer G) (before after after' : Seen T U C) (s s' : Step T U G C) (answer answer' : Reply T U) (did did' : List (Deed U)) →
@@ -128,16 +128,16 @@ module _ {T G C : Type 0} where
       PartStep w id offer s answer before false did after → PartStep w id offer s' answer' before false did' after' →
       SameOutcome id (is_about id s) answer answer' did did' after after'
 
-  -- A client's own calls and the shared ones, one after another: the offer alone numbers the globals that are created, so
-  -- the answers to that need not be the same.
+  -- So have a client's own calls and the shared ones, one after another. The ids of new globals follow from the offer, so it
+  -- need not be said that the answers to `create_global` are the same.
   abbrev pub OwnRunsHaveOneOutcome : Type 0 → World T G C → Type 0
   OwnRunsHaveOneOutcome U w =
       (id : ClientParts) (offer : Offer G) (before after after' : Seen T U C) (run run' : List (Own T U G C)) →
       AreOwn id run → SameSteps run run' → HasMemory run → HasMemory run' → AreNumbered offer run → AreNumbered offer run' →
       Alone w id offer before run after → Alone w id offer before run' after' → SameRun id run run' × (after ≡ after')
 
-  -- The offer that two runs of a new server lead to: one, where the shared calls are of the same steps, and those that name
-  -- some client id.
+  -- Two runs of a new server lead to the same offer, if the shared calls, and those that name some one client id, are the
+  -- same steps.
   abbrev pub OffersHaveOneOutcome : Type 0 → World T G C → Type 0
   OffersHaveOneOutcome U w =
       (table : List InterfaceRow) (id : ClientParts) (run run' : List (Entry T U G C)) (after after' : ServerState T U G C) →
@@ -148,9 +148,9 @@ module _ {T G C : Type 0} where
   abbrev pub InsertsAs : {U : Type 0} → ClientParts → T → C → Entry T U G C → Type 0
   InsertsAs id transport info e = e.call ≡ Asked (step.InsertClient transport info) (reply.InsertClient (Ok id))
 
-  -- Two runs of a new server, in each of which a client was inserted: with the same id, transport and data, at the same
-  -- offer. Its own calls and the shared ones from then on are of the same steps. What other clients did and do may differ,
-  -- and whether memory was refused to them.
+  -- In each of two runs of a new server a client was inserted, with the same id, transport and data, and at the same offer.
+  -- If its own calls and the shared ones are the same steps from then on, they have one outcome. What other clients do may
+  -- differ, and whether memory is refused to them.
   abbrev pub ClientsHaveOneOutcome : Type 0 → World T G C → Type 0
   ClientsHaveOneOutcome U w =
       (table : List InterfaceRow) (id : ClientParts) (transport : T) (info : C) (earlier later earlier' later' : List (Entry T U G C)) (e e' : Entry T U G C)

@@ -1,4 +1,4 @@
--- All that is one client's, and the look-ups that its calls share.
+-- All that the server holds of one client, and the look-ups that its calls share.
 use Rattle.std.specs.Prelude.{ℕ, List, [], ◌∷◌, Bool, false, not, ◌==◌, ◌&&◌, if◌then◌else◌, Option, None, Some}
 use Rattle.std.specs.List.{filter}
 use Rattle.wl_wire.specs.declared.interface.InterfaceId.{InterfaceId}
@@ -15,7 +15,7 @@ use Rattle.wl_server.specs.Ids.{ClientParts, IdParts}
 
 -- The link to the client, the program's data of it, its objects and the last serial given out, whether it was killed, the
 -- action that was handed out and not finished yet, the kept registries that were made for it, in order, and the notes that
--- wait for the next cleanup, in order. Its id is no part of it: no step changes that.
+-- wait for the next cleanup, in order. The client's id is not in here, since no step changes it.
 pub record Part (T U C : Type 0) : Type 0 where
   pub link : LinkState T
   pub info : C
@@ -32,7 +32,7 @@ last_possible_serial = 0xFFFFFFFFFFFFFFFF
 
 -- ---- ids
 
--- what names in an id: all but its client and its interface
+-- the parts of an id by which it names an object of its client: all but the client and the interface
 abbrev pub id_of : IdParts → Id
 id_of id = record { number = id.number; serial = id.serial }
 
@@ -83,7 +83,7 @@ module _ {U : Type 0} where
   end_note id None = []
   end_note id (Some u) = Destroyed id u ∷ []
 
-  -- the note of an object that is gone: if it had user data
+  -- the note of an object that is gone, if it had user data
   abbrev pub note_of_end : ClientParts → ℕ → Object (Kept U) → List (Happening U)
   note_of_end client n x = end_note (id_at client n x) x.value.user_data
 

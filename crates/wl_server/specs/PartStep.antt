@@ -1,9 +1,9 @@
 -- What a call does to what is held of one client id.
 --
--- A call is about one client, and then it is a step of that client's part and of no other; or it is about none, and then
--- each part feels it by itself. In no case does another client stand among what it depends on.
+-- A call may name one client. Then it changes what is held of that client, and nothing of any other. Or it names none, and
+-- then each client *feels* it by itself. What happens to a client never depends on another one.
 --
--- Whether memory was refused is said of each part by itself, and so are the deeds.
+-- Whether memory was refused is said for each client by itself, and so are the deeds.
 use Rattle.std.specs.Prelude.{◌≡◌, ℕ, List, [], ◌∷◌, ◌++◌, map, Bool, true, false, if◌then◌else◌, Option, None, Some, Result, Ok, Err, MatchBool, MatchOption, Vec}
 use Rattle.std.specs.Global.{Global}
 use Rattle.wl_wire.specs.declared.error.IoFault.{IoFault}
@@ -44,15 +44,15 @@ use Rattle.wl_server.specs.Reading.{Around, NextAction, action_content, new_read
 use Rattle.wl_server.specs.Server.{Seen, notes_of}
 use Rattle.wl_server.specs.Telling.{Kills}
 
--- What stands outside a server: how a transport sends and receives, what its program does to it by script, and which
--- clients a handler lets see its global.
+-- What is given from outside a server: how a transport sends and receives, what the calls of a transport by script do, and
+-- which clients a handler lets see its global.
 pub record World (T G C : Type 0) : Type 1 where
   pub sends : T → Queue → Result ℕ IoFault → T → Type 0
   pub receives : T → ℕ → Result Queue IoFault → T → Type 0
   pub moves : T → Move → Moved → T → Type 0
   pub views : G → ClientParts → C → GlobalParts → Bool
 
--- over any transport, which its program may change as it likes
+-- over any transport, which the program may change as it likes
 abbrev pub over : {T G C : Type 0} → (T → Queue → Result ℕ IoFault → T → Type 0) → (T → ℕ → Result Queue IoFault → T → Type 0)
     → (G → ClientParts → C → GlobalParts → Bool) → World T G C
 over sends receives views = record { sends = sends; receives = receives; moves = no_moves; views = views }
@@ -61,7 +61,7 @@ over sends receives views = record { sends = sends; receives = receives; moves =
 abbrev pub over_scripts : {G C : Type 0} → (G → ClientParts → C → GlobalParts → Bool) → World Script G C
 over_scripts views = record { sends = ScriptSends; receives = ScriptReceives; moves = ScriptMoves; views = views }
 
--- A call of a server: a step with its reply; or the program changed the transport of a client, to this value.
+-- A call of a server: a step with its reply; or a change of a client's transport to this value, by the program.
 pub data Call (T U G C : Type 0) : Type 0 where
   Asked : Step T U G C → Reply T U → Call T U G C
   Changed : ClientParts → T → Call T U G C
@@ -78,28 +78,28 @@ lacks_move _ = false
 
 -- ---- forms of a step
 
--- what of a list is a client's
+-- a client's share of a list
 abbrev pub share_of : {T : Type 0} → ClientParts → List (ClientParts × T) → List T
 share_of id [] = []
 share_of id (e ∷ rest) = if same_client e.0 id then (e.1 ∷ share_of id rest) else share_of id rest
 
--- a step that neither needs memory nor does more than change the part
+-- a step that needs no memory, has no deeds, and only changes the part
 abbrev pub Quietly : {U : Type 0} → Bool → List (Deed U) → Type 0 → Type 0
 Quietly lacked did changes = (lacked ≡ false) × (did ≡ []) × changes
 
 module _ {T U C : Type 0} where
-  -- the client makes nothing of it
+  -- the step does nothing to the client
   abbrev pub Unfelt : Seen T U C → Bool → List (Deed U) → Seen T U C → Type 0
   Unfelt before lacked did after = (lacked ≡ false) × (did ≡ []) × (after ≡ before)
 
-  -- The part makes a step, and the notes of it are behind those that were made. Where there is none, nothing changes, and
-  -- the answer is that to a client that is not stored.
+  -- The part changes by R, and its new notes come after those that were made. If the client is not stored, nothing changes,
+  -- and the answer is the one for such a client.
   abbrev pub OnPart : Seen T U C → (Part T U C → Part T U C → Type 0) → Type 0 → Bool → List (Deed U) → Seen T U C → Type 0
   OnPart before R missing lacked did after =
       MatchOption before.part (missing × Unfelt before lacked did after)
       (λ p. (q : Part T U C) × R p q × (after ≡ record { part = Some q; made = before.made ++ notes_in did }))
 
-  -- a step that is about this client or about another
+  -- a step that names a client: this one, or another
   abbrev pub OfClient : Bool → Seen T U C → (Part T U C → Part T U C → Type 0) → Type 0 → Bool → List (Deed U) → Seen T U C → Type 0
   OfClient about before R missing lacked did after = MatchBool about (OnPart before R missing lacked did after) (Unfelt before lacked did after)
 
@@ -117,7 +117,7 @@ around w id offer = record { table = offer.table; client = id; globals = offer.g
 module _ {T U G C : Type 0} (w : World T G C) (id : ClientParts) (offer : Offer G) where
   -- ---- insertion
 
-  -- a new client, in which nothing has happened but that
+  -- a new client, in which nothing has happened but its insertion
   abbrev pub Inserted : T → C → Seen T U C → Bool → List (Deed U) → Seen T U C → Type 0
   Inserted transport info before lacked did after =
       (link : LinkState T) × IsFresh transport (Some offer.default_limit) link
@@ -131,7 +131,7 @@ module _ {T U G C : Type 0} (w : World T G C) (id : ClientParts) (offer : Offer 
 
   -- ---- globals
 
-  -- a global that was created is told to each registry of a client that may see it
+  -- a global that was created is announced on each registry of a client that may see it
   abbrev pub FeelsGlobal : InterfaceId → ℕ → G → Result GlobalParts GlobalError → Seen T U C → Bool → List (Deed U) → Seen T U C → Type 0
   FeelsGlobal i version handler (Ok g) before lacked did after =
       Feels before
@@ -140,7 +140,7 @@ module _ {T U G C : Type 0} (w : World T G C) (id : ClientParts) (offer : Offer 
       lacked did after
   FeelsGlobal i version handler (Err e) before lacked did after = Unfelt before lacked did after
 
-  -- that a global is announced no more is told once, where it was enabled
+  -- each registry is told that the global is no longer announced, if it was enabled until now
   abbrev pub FeelsLoss : GlobalParts → Seen T U C → Bool → List (Deed U) → Seen T U C → Type 0
   FeelsLoss g before lacked did after =
       MatchBool (is_enabled (global_of offer.globals g))
@@ -155,7 +155,7 @@ module _ {T U G C : Type 0} (w : World T G C) (id : ClientParts) (offer : Offer 
   FlushedFor (Some target) answer before lacked did after =
       OfClient (same_client target id) before (λ p q. FlushedTo w.sends p answer lacked did q) (answer ≡ Ok tt) lacked did after
 
-  -- a cleanup hands out the transports of the clients that it takes out, or changes nothing for want of memory
+  -- a cleanup hands out the transports of the clients that it takes out; or memory is refused, and nothing is changed
   abbrev pub CleanedAs : Result (Vec (ClientParts × T) Global) OutOfMemory → Seen T U C → Bool → List (Deed U) → Seen T U C → Type 0
   CleanedAs (Ok out) before lacked did after =
       MatchOption before.part ((share_of id out.items ≡ []) × Unfelt before lacked did after)
@@ -163,7 +163,7 @@ module _ {T U G C : Type 0} (w : World T G C) (id : ClientParts) (offer : Offer 
       × (after ≡ record { part = q; made = before.made ++ notes_in did }))
   CleanedAs (Err _) before lacked did after = Unfelt before lacked did after
 
-  -- the notes that were made are handed out, in order; or none, for want of memory
+  -- the notes that were made are handed out, in order; or memory is refused, and nothing is changed
   abbrev pub NotesTaken : Result (Vec (Note U) Global) OutOfMemory → Seen T U C → Bool → List (Deed U) → Seen T U C → Type 0
   NotesTaken (Ok out) before lacked did after =
       (notes_of id out.items ≡ before.made) × (lacked ≡ false) × (did ≡ map NoteTaken before.made)
@@ -254,7 +254,7 @@ module _ {T U G C : Type 0} (w : World T G C) (id : ClientParts) (offer : Offer 
   PartStep (step.TakeSent target) answer before lacked did after =
       (r : _) × (answer ≡ reply.TakeSent r) × MovedFor target TakeSent (taken r) before lacked did after
 
-  -- the same of a call
+  -- the same for a call
   abbrev pub PartCall : Call T U G C → Seen T U C → Bool → List (Deed U) → Seen T U C → Type 0
   PartCall (Asked s answer) before lacked did after = PartStep s answer before lacked did after
   PartCall (Changed target t) before lacked did after =

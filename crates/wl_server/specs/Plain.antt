@@ -1,7 +1,8 @@
--- What a call answers of one object, one client or the notes, and that the others are as before: in the words of the look-ups.
+-- What a program finds after a call: what it did to one object, one client or the notes, and that the others are as before.
+-- All is said in the words of the look-ups.
 --
--- A call whose contract cites one of these has beside it the clause `call`, or `finished` of an end of an action, which says all
--- that the call does, as a step. What stands here follows from that, and can be used without it.
+-- A contract that cites one of these has another clause beside it, `call` or `finished`, which says all that the call does,
+-- as a step. What stands here follows from that clause, and can be used without it.
 use Rattle.std.specs.Prelude.{◌≡◌, ◌⊎◌, ℕ, List, [], ◌∷◌, ◌++◌, Bool, true, false, ◌&&◌, if◌then◌else◌, Option, None, Some, IsSome, is_some, Result, Ok, Err, MatchOption, MatchResult, Vec, option_map}
 use Rattle.std.specs.Global.{Global}
 use Rattle.wl_wire.specs.declared.error.IoFault.{IoFault}
@@ -36,11 +37,11 @@ use Rattle.wl_server.specs.Steps.{RiseBySlot}
 use Rattle.wl_server.specs.Telling.{core_of}
 use Rattle.wl_server.specs.WholeOutcome.{SameServer}
 
--- both ids name in one client, by the same number and serial
+-- the ids have the same client, number and serial
 abbrev pub same_object : IdParts → IdParts → Bool
 same_object a b = same_client a.client b.client && same_id (id_of a) (id_of b)
 
--- of a client's request: the id is that of the sender that it ends; the id is that of the object that it made
+-- for a client's request: the id is that of the sender, and the request ends it; the id is that of the object that it made
 abbrev pub is_ended : Bool → IdParts → IdParts → Bool
 is_ended is_destructor sender id = is_destructor && same_id (id_of sender) (id_of id)
 
@@ -53,7 +54,7 @@ abbrev pub with_given : {U : Type 0} → Option U → Object (Kept U) → Object
 with_given None x = x
 with_given (Some u) x = with_user_data u x
 
--- the note that an object left, where it was kept and had data
+-- the note of the object's end, if it was kept and had data
 abbrev pub notes_if_kept : {U : Type 0} → ClientParts → ℕ → Option (Object (Kept U)) → List (Happening U)
 notes_if_kept client n None = []
 notes_if_kept client n (Some x) = note_of_end client n x
@@ -62,12 +63,12 @@ module _ {T U C : Type 0} where
   abbrev pub as_killed : Part T U C → Part T U C
   as_killed p = record p { is_killed = true }
 
-  -- the note that a client is killed, which only a stored and live one gets
+  -- the note that a client is killed; only one that is stored and live gets it
   abbrev pub end_note_of : Option (Part T U C) → DisconnectReason → List (Happening U)
   end_note_of None reason = []
   end_note_of (Some p) reason = if p.is_killed then [] else (Disconnected reason ∷ [])
 
-  -- A killed client is handed out, once, with its transport, over which what waited was flushed; and it is stored no more.
+  -- A killed client is handed out once, with its transport, over which what waited was flushed. It is no longer stored.
   abbrev pub HandsOut : (T → Queue → Result ℕ IoFault → T → Type 0) → Part T U C → List T → Option (Part T U C) → Type 0
   HandsOut sends p out after =
       (answer : Result (Unit {0}) IoFault) × (link : LinkState T) × Flushed sends p.link answer link × (out ≡ link.transport ∷ []) × (after ≡ None)
@@ -75,7 +76,7 @@ module _ {T U C : Type 0} where
 module _ {T U G C : Type 0} where
   -- ---- what a program finds
 
-  -- the client, while it is stored
+  -- the client, if it is stored
   abbrev pub client_in : BackendState T U G C → ClientParts → Option (Part T U C)
   client_in b id = client_of b.server id
 
@@ -92,7 +93,7 @@ module _ {T U G C : Type 0} where
 
   -- ---- what is as before
 
-  -- nothing has changed, but that the call says whether memory was refused
+  -- nothing has changed; only whether memory was refused may differ
   abbrev pub IsUnchanged : BackendState T U G C → BackendState T U G C → Type 0
   IsUnchanged before after = SameServer after.server before.server
 
@@ -110,7 +111,7 @@ module _ {T U G C : Type 0} where
 
   -- ---- the calls on objects
 
-  -- The object that the id names has the data, and is else as it was. Or the id names none, and nothing has changed.
+  -- The object that the id names has the data, and is otherwise as it was. Or the id names none, and nothing has changed.
   pub record SetsObjectData (before : BackendState T U G C) (id : IdParts) (u : U) (answer : Result (Unit {0}) InvalidId) (after : BackendState T U G C) : Type 0 where
     pub object : MatchResult answer
         (λ _. (x : Object (Kept U)) × (object_in before id ≡ Some x) × (object_in after id ≡ Some (with_user_data u x)))
@@ -175,11 +176,11 @@ module _ {T U G C : Type 0} where
     pub notes : (other : ClientParts) → notes_made_in after other ≡ notes_made_in before other
     pub memory : after.refused ≡ false
 
-  -- whether the client is killed, while it is stored
+  -- whether the client is killed, if it is stored
   abbrev pub killed_in : BackendState T U G C → ClientParts → Option Bool
   killed_in b client = option_map (λ p. p.is_killed) (client_in b client)
 
-  -- data are given exactly where the request made an object, but that those of a killed client may lack
+  -- there are data exactly if the request made an object; for a killed client they may be missing
   abbrev pub DataFit : BackendState T U G C → ClientParts → Option IdParts → Option U → Type 0
   DataFit before client None u = u ≡ None
   DataFit before client (Some made) u = IsSome u ⊎ (killed_in before client ≡ Some true)
@@ -189,7 +190,8 @@ module _ {T U G C : Type 0} where
   sender_notes before client sender is_destructor =
       notes_if_kept client sender.number (if is_destructor then object_of_client before client sender else None)
 
-  -- The sender that leaves is noted. Where the client could not be told that its number is free, it is killed, which is noted, too.
+  -- The sender that leaves is noted. If the client could not be told that the number is free, it is killed, and that is noted
+  -- too.
   abbrev pub EndIsTold : BackendState T U G C → ClientParts → IdParts → Bool → BackendState T U G C → Type 0
   EndIsTold before client sender is_destructor after =
       ((killed_in after client ≡ killed_in before client)
@@ -212,12 +214,12 @@ module _ {T U G C : Type 0} where
         → object_of_client after client id ≡ object_of_client before client id
     pub told : EndIsTold before client sender is_destructor after
 
-  -- nothing has changed, and memory was not refused
+  -- the call was refused: nothing has changed, and memory was not refused
   abbrev pub IsRefusedWhole : BackendState T U G C → BackendState T U G C → Type 0
   IsRefusedWhole before after = IsUnchanged before after × (after.refused ≡ false)
 
-  -- Why the end of a request is refused. It changes nothing; but where there is no memory to end the sender, what was sent of
-  -- that which waited is gone from the client's link.
+  -- Why the end of a request is refused. Nothing is changed then. Only if memory was refused for the end of the sender, some
+  -- of what waited may have been sent.
   abbrev pub RequestRefusedAs : BackendState T U G C → ClientParts → Option U → FinishError → BackendState T U G C → Type 0
   RequestRefusedAs before client u finish.InvalidId after = (client_in before client ≡ None) × IsRefusedWhole before after
   RequestRefusedAs before client u finish.NoOpenAction after =
@@ -258,7 +260,7 @@ module _ {T U G C : Type 0} where
     pub clients : OtherClientsStay before id after
     pub memory : after.refused ≡ false
 
-  -- what a flush is answered: of all clients always `Ok`, and so of one that is not stored
+  -- the answer of a flush: always `Ok` for all clients, and for one that is not stored
   abbrev pub FlushedAs : (T → Queue → Result ℕ IoFault → T → Type 0) → BackendState T U G C → Option ClientParts → Result (Unit {0}) IoFault → BackendState T U G C
       → Type 0
   FlushedAs sends before None answer after =
@@ -269,7 +271,7 @@ module _ {T U G C : Type 0} where
       (λ p. (link : LinkState T) × Flushed sends p.link answer link × (client_in after id ≡ Some (record p { link = link })))
       × OtherClientsStay before id after
 
-  -- A flush changes no more of a client than its link: its transport, and what waits to be sent.
+  -- A flush changes nothing of a client but its link: the transport, and what waits to be sent.
   pub record FlushesClients (sends : T → Queue → Result ℕ IoFault → T → Type 0) (before : BackendState T U G C) (target : Option ClientParts) (answer : Result (Unit {0}) IoFault)
       (after : BackendState T U G C) : Type 0 where
     pub answered : FlushedAs sends before target answer after
@@ -279,7 +281,8 @@ module _ {T U G C : Type 0} where
 
   -- ---- a cleanup
 
-  -- Each killed client is handed out. A live one stays, and its notes that waited are made. The others are not there.
+  -- Each killed client is handed out. A live one stays, and its notes that waited are made. Of other ids nothing is handed
+  -- out.
   pub record CleansTo (sends : T → Queue → Result ℕ IoFault → T → Type 0) (before : BackendState T U G C) (out : List (ClientParts × T)) (after : BackendState T U G C) : Type 0 where
     pub killed : (id : ClientParts) (p : Part T U C) → client_in before id ≡ Some p → p.is_killed ≡ true → HandsOut sends p (share_of id out) (client_in after id)
     pub live : (id : ClientParts) (p : Part T U C) → client_in before id ≡ Some p → p.is_killed ≡ false
@@ -294,7 +297,7 @@ module _ {T U G C : Type 0} where
 
   -- ---- notes
 
-  -- The notes that were made are handed out, of each client in order, and none is left. Else is all as before.
+  -- The notes that were made are handed out, those of each client in order, and none is left. All else is as before.
   pub record TakesAll (before : BackendState T U G C) (out : List (Note U)) (after : BackendState T U G C) : Type 0 where
     pub taken : (id : ClientParts) → notes_of id out ≡ notes_made_in before id
     pub left : (id : ClientParts) → notes_made_in after id ≡ []

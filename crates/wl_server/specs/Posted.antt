@@ -1,4 +1,5 @@
--- What the post of an error makes, where its client is told of it: one write and one flush, or nothing.
+-- What the post of an error does to the client's link, if the client is told of the error: one write and one flush, or
+-- nothing.
 use Rattle.std.specs.Prelude.{◌≡◌, ◌⊎◌, ℕ, List, Bool, true, false, ◌||◌, IsSome, Some, Result}
 use Rattle.wl_wire.specs.declared.error.IoFault.{IoFault}
 use Rattle.wl_link.specs.Exchange.{Queue, Sending}
@@ -11,23 +12,23 @@ use Rattle.wl_server.specs.Part.{Part, named}
 use Rattle.wl_server.specs.Telling.{error_message}
 
 module _ {T : Type 0} (sends : T → Queue → Result ℕ IoFault → T → Type 0) where
-  -- The error is written, then what waits is flushed, whatever came of that. The message's text is there already, so the write
-  -- wants memory for its storage alone.
+  -- The error is written, then what waits is flushed, even if the write failed. The message's text is there already, so the
+  -- write needs memory only to double the buffer.
   abbrev pub TellsError : LinkState T → ℕ → ℕ → List ℕ → Bool → LinkState T → Type 0
   TellsError before n code text refused after =
       (wrote : Result (Unit {0}) IoFault) × (mid : LinkState T) × (es : List Sending) × (lacked : Bool)
       × Wrote sends before (error_message n code text).message wrote mid × FlushesOut sends true mid es lacked after
       × (refused ≡ lacked_memory wrote || lacked)
 
-  -- or there was no memory for the texts of the note, and nothing is written or flushed
+  -- or memory is refused for the texts of the note, and nothing is written or flushed
   abbrev pub TellsOrLacks : LinkState T → ℕ → ℕ → List ℕ → Bool → LinkState T → Type 0
   TellsOrLacks before n code text refused after = TellsError before n code text refused after ⊎ ((refused ≡ true) × (after ≡ before))
 
-  -- so it is where the client is live and the object is kept
+  -- so it is if the client is live and the object is kept
   abbrev pub PostsOn : {U C : Type 0} → Part T U C → IdParts → ℕ → List ℕ → Bool → Part T U C → Type 0
   PostsOn p id code text refused q = p.is_killed ≡ false → IsSome (named p.store id) → TellsOrLacks p.link id.number code text refused q.link
 
-  -- and of the client of a server
+  -- the same, said of a server
   abbrev pub PostsExactly : {U G C : Type 0} → BackendState T U G C → IdParts → ℕ → List ℕ → BackendState T U G C → Type 0
   PostsExactly {U = U} {C = C} before id code text after =
       (p q : Part T U C) → client_of before.server id.client ≡ Some p → client_of after.server id.client ≡ Some q → PostsOn p id code text after.refused q

@@ -8,7 +8,7 @@ use Rattle.wl_server.specs.Runs.{Leads}
 use Rattle.wl_server.specs.Server.{ServerState}
 use Rattle.wl_server.specs.Steps.{Entry}
 
--- whether a step reads of this client, or ends its action
+-- whether a step reads this client, or ends its action
 abbrev pub serves : {T U G C : Type 0} → ClientParts → Step T U G C → Bool
 serves id (step.NextAction target) = same_client target id
 serves id (step.NextActionWithin target _) = same_client target id
@@ -17,7 +17,7 @@ serves id (step.FinishBind target _) = same_client target id
 serves id _ = false
 
 module _ {T U G C : Type 0} where
-  -- a call that neither reads of this client nor ends its action
+  -- a call that neither reads this client nor ends its action
   abbrev pub spares : ClientParts → Call T U G C → Bool
   spares id (Asked s answer) = not (serves id s)
   spares id (Changed target t) = true
@@ -26,7 +26,7 @@ module _ {T U G C : Type 0} where
   AllSpare id [] = Unit {0}
   AllSpare id (e ∷ run) = (spares id e.call ≡ true) × AllSpare id run
 
--- Calls lead from one value of a server to another, none of which reads of this client or ends its action.
+-- Calls lead from one value of a server to another, and none of them reads this client or ends its action.
 pub record Reached {T U G C : Type 0} (w : World T G C) (id : ClientParts) (before after : ServerState T U G C) : Type 0 where
   pub run : List (Entry T U G C)
   pub leads : Leads w before run after
