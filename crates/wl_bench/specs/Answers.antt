@@ -39,7 +39,7 @@ Line = List ℕ
 abbrev pub hex : List ℕ → Line
 hex bytes = flat_map hex_digits bytes
 
--- a text behind this character
+-- a text after this character
 abbrev pub behind : {X : Type 0} → ℕ → (X → Line) → X → Line
 behind byte text x = byte ∷ text x
 
@@ -86,7 +86,7 @@ action_text (Request sender opcode args is_destructor created) =
     ++ effect_text is_destructor created
 action_text (Bind global object) = bind_text global object
 
--- what a reading comes to
+-- how a reading is answered if it hands out no action
 abbrev pub name_of_fault : ActionError → Line
 name_of_fault ActionOpen = codes "ActionOpen"
 name_of_fault (Io fault.WouldBlock) = codes "WouldBlock"
@@ -210,7 +210,7 @@ abbrev pub sent_text : ℕ → List Queue → Line
 sent_text slot sends =
     codes "out " ++ decimal slot ++ codes " " ++ hex (flat_map bytes_of sends) ++ codes " " ++ tokens_text (flat_map tokens_of sends)
 
--- a line, where it was sent something
+-- one line, if the client was sent something
 abbrev pub sent_lines : ℕ → List Queue → List Line
 sent_lines slot [] = []
 sent_lines slot (q ∷ sends) = sent_text slot (q ∷ sends) ∷ []

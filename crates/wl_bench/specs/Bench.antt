@@ -82,7 +82,7 @@ client_of seat = seat.client
 
 -- ---- which steps a command is
 
--- the place of the first interface of this name, or that behind the last where none has it
+-- the place of the first interface of this name, or the one after the last if none has it
 abbrev pub place_of : List ℕ → List InterfaceRow → ℕ
 place_of name [] = 0
 place_of name (row ∷ rows) = if bytes_eq row.name name then 0 else suc (place_of name rows)
@@ -119,7 +119,7 @@ finish_step seat n = finishing seat.client seat.action n
 abbrev pub accept_step : ClientParts → ℕ → BenchStep
 accept_step client count = step.Accept client count
 
--- the calls of a command about a client: one, but that `accept` is one for each count
+-- the calls of a command about a client: one; for `accept` one for each count
 abbrev pub client_calls : Seat → ℕ → ClientCommand → List BenchStep
 client_calls seat n (Arrive bytes tokens) = step.Arrive seat.client bytes tokens ∷ []
 client_calls seat n Read = step.NextAction seat.client ∷ []
@@ -149,8 +149,8 @@ shared_call b Notes = Some step.TakeNotes
 abbrev pub all_clients : BenchState → List ClientParts
 all_clients b = map client_of (all_latest b.clients)
 
--- The clients that such a command may have sent something to, by slot: of these the records are taken behind it. A cleanup
--- sends only to clients that it takes out, and hands out their transports.
+-- The clients to which such a command may have sent something, by slot; their records are taken after it. A cleanup sends
+-- only to clients that it takes out, and hands out their transports.
 abbrev pub heard_by : BenchState → Command → List ClientParts
 heard_by b (Create name version) = all_clients b
 heard_by b (Disable name) = all_clients b
@@ -203,8 +203,8 @@ line_answers = answering answers_request answers_bind
 abbrev pub line_handler : ℕ → LineHandler
 line_handler n = record { number = n }
 
--- These clients are dispatched by the command of that number, and so many requests are read. No memory was refused. No
--- script is changed in a dispatch.
+-- These clients are dispatched by the command of that number, and so many requests are read. Memory was not refused. The
+-- program changes no script in a dispatch.
 abbrev pub Dispatches : BenchServer → ℕ → List ClientParts → ℕ → BenchServer → Type 0
 Dispatches before n clients count after =
     (h : LineHandler)
@@ -215,20 +215,20 @@ Dispatches before n clients count after =
 abbrev pub client_at : BenchState → ℕ → Option ClientParts
 client_at b slot = option_map client_of (latest slot b.clients)
 
--- at one of the slots none was
+-- at one of the slots no client was inserted
 abbrev pub LacksClient : BenchState → List ℕ → Type 0
 LacksClient b slots = (slot : ℕ) × Contains slots slot × (latest slot b.clients ≡ None)
 
 -- ---- what a command does
 
--- The calls are made, and then the records of what these clients were sent are taken. This is the reply to the last call,
--- and these are those to the steps behind it.
+-- The calls are made, and then the records of what these clients were sent are taken. `answer` is the reply to the last
+-- call, and `taken` are the replies to the steps after it.
 abbrev pub Makes : BenchServer → List BenchStep → List ClientParts → BenchReply → List BenchReply → BenchServer → Type 0
 Makes before calls heard answer taken after =
     (earlier : List BenchReply) × (length calls ≡ length earlier + 1) × (length taken ≡ length heard)
     × Performs bench_world before (entries (calls ++ map take_step heard) (earlier ++ answer ∷ taken)) after
 
--- the replies are that and those
+-- the replies are that to the last call, and then those to the steps after it
 abbrev pub Replies : BenchServer → List BenchStep → List ClientParts → List BenchReply → BenchServer → Type 0
 Replies before calls heard replies after =
     (answer : BenchReply) × (taken : List BenchReply) × (replies ≡ answer ∷ taken) × Makes before calls heard answer taken after
@@ -260,8 +260,9 @@ abbrev pub TakesRecords : BenchServer → List ClientParts → List BenchReply �
 TakesRecords before heard taken after =
     (length taken ≡ length heard) × Performs bench_world before (entries (map take_step heard) taken) after
 
--- A dispatch of the clients that were inserted last at the slots. It prints how many requests were read, and a line for each
--- client that was sent something, but for those that it took out, whose transports are gone with what they had been sent.
+-- A dispatch of the clients that were inserted last at the slots. It prints how many requests were read, and a line for
+-- each client that was sent something. It prints none for a client that it took out: the transport is gone, with what was
+-- sent.
 abbrev pub DoesDispatch : BenchState → ℕ → List ℕ → List Line → BenchState → Type 0
 DoesDispatch before n slots out after =
     (clients : List ClientParts) × (map Some clients ≡ map (client_at before) slots)

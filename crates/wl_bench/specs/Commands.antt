@@ -121,10 +121,10 @@ AskSame Cleanup Cleanup = ⊤
 AskSame Notes Notes = ⊤
 AskSame c d = ⊥
 
--- something that is what the text says, or nothing, where the text says nothing of the kind
+-- something that the text stands for; or nothing, if there is no such thing
 abbrev pub Finds : {X T : Type 0} → (X → T → Type 0) → T → Option X → Type 0
 Finds {X} Is text found = MatchOption found ((x : X) → ¬ (Is x text)) (λ x. Is x text)
 
--- the same of a vector, as the list of its elements
+-- the same for a vector, as the list of its elements
 abbrev pub FindsAll : {X T : Type 0} → (List X → T → Type 0) → T → Option (Vec X Global) → Type 0
 FindsAll {X} Are text found = MatchOption found ((xs : List X) → ¬ (Are xs text)) (λ v. Are v.items text)

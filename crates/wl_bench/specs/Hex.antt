@@ -7,7 +7,7 @@ use Rattle.std.specs.List.{flat_map}
 abbrev pub hex_digits : ℕ → List ℕ
 hex_digits n = digit_glyph false (n / 16) ∷ digit_glyph false (n % 16) ∷ []
 
--- a byte's digits behind a space
+-- a byte's digits after a space
 abbrev pub spaced_digits : ℕ → List ℕ
 spaced_digits n = 32 ∷ hex_digits n
 

@@ -1,4 +1,4 @@
--- The record of numbered commands, what runs of lines come to, and what a recording is compared with.
+-- The record of numbered commands, how runs of lines end, and what a recording is compared with.
 use Rattle.std.specs.Prelude.{◌≡◌, ◌≢◌, ℕ, suc, ◌+◌, ◌<◌, ◌≤◌, List, [], ◌∷◌, ◌++◌, length, map, codes, ◌⊎◌, ⊤, Option, Result, Ok, Err, if◌then◌else◌}
 use Rattle.std.specs.Fmt.{decimal}
 use Rattle.std.specs.Io.KnownBytes.{Appends, Keeps}
@@ -17,7 +17,7 @@ use Rattle.wl_bench.specs.Commands.{IsLine, parts}
 
 -- ---- lines
 
--- the lines of an input: what stands between its line feeds, and nothing behind the last
+-- the lines of an input, without their line feeds; what stands after the last line feed is a line if it is not empty
 abbrev pub whole_lines : List Line → List Line
 whole_lines [] = []
 whole_lines (line ∷ []) = if bytes_eq line [] then [] else line ∷ []
@@ -41,7 +41,7 @@ pub record Told : Type 0 where
   pub line : Line
   pub answer : List Line
 
--- a line of output, behind `> `
+-- a line of output, after `> `
 abbrev pub quoted : Line → Line
 quoted line = 62 ∷ 32 ∷ line
 
@@ -57,8 +57,8 @@ record_of t = command_line t ∷ map quoted t.answer
 abbrev pub recording_of : List Told → List Line
 recording_of all = flat_map record_of all
 
--- Each is a command under its number, which prints this behind those before it. The order of the notes of two clients is that
--- which the run gave.
+-- Each is a command under its number, which prints this after the commands before it. The notes of two clients are in the
+-- order in which the run gave them.
 abbrev pub Leads : BenchState → List Told → BenchState → Type 0
 Leads before [] after = after ≡ before
 Leads before (t ∷ all) after =
@@ -86,9 +86,9 @@ written_of form.Record t = record_of t
 abbrev pub written : Form → List Told → List Line
 written f all = flat_map (written_of f) all
 
--- What a run over these lines ends with, the first of which has this number, and what it has written behind what a writer
--- held, where that is known. It ends well where each line is empty or a command; and at the first bad line, by its number. Of
--- one that failed nothing is said.
+-- How a run over these lines ends, and what it has written after what the writer held, if that is known. The first line has
+-- this number. The run ends with `Ok` if each line is empty or a command, and else at the first bad line, with its number.
+-- Nothing is said of a run that failed.
 abbrev pub Runs : Form → ℕ → BenchState → List Line → Result (Unit {0}) Stop → Option (List ℕ) → Option (List ℕ) → Type 0
 Runs f n before all (Ok _) held held' =
     (told : List Told) × (after : BenchState) × AreOf n all told × Leads before told after × Appends held held' (text_of (written f told))
@@ -107,7 +107,7 @@ Answers f n before line after held held' =
     ⊎ ((t : Told) × (t.number ≡ n) × (t.line ≡ line) × (line ≢ []) × Leads before (t ∷ []) after
     × Appends held held' (text_of (written_of f t)))
 
--- a run that does not go on behind a line: that is bad, and has this number, or something failed
+-- a run that does not go on after a line: the line is bad, and has this number; or something failed
 abbrev pub StopsAt : ℕ → BenchState → Line → Stop → Option (List ℕ) → Option (List ℕ) → Type 0
 StopsAt n b line (BadLine m) held held' = (m ≡ n) × IsBad b line × Keeps held held'
 StopsAt n b line Failed held held' = ⊤
@@ -121,14 +121,14 @@ abbrev pub Ascend : ℕ → List Told → Type 0
 Ascend last [] = ⊤
 Ascend last (t ∷ told) = (last < t.number) × (t.number ≤ 4294967295) × Ascend t.number told
 
--- the number of the last of them, or this where there is none
+-- the number of the last of them, or this number if there is none
 abbrev pub last_number : ℕ → List Told → ℕ
 last_number last [] = last
 last_number last (t ∷ told) = last_number t.number told
 
--- The lines are the record of these commands, whose numbers ascend from 1 on, but that these lines of output are missing at
--- its end. They are of the last command, since no line of a command begins with `> `. What each command printed is what this
--- run printed: the order of the notes of two clients is that which it gave.
+-- The lines are the record of these commands, whose numbers ascend from 1 on; only these lines of output are missing at the
+-- end. They belong to the last command, since no line of a command begins with `> `. The notes of two clients are in the
+-- order in which this run gave them.
 abbrev pub IsRecord : BenchState → List Line → List Told → List Line → BenchState → Type 0
 IsRecord before all told missing after =
     (recording_of told ≡ all ++ map quoted missing) × Ascend 0 told × Leads before told after
@@ -137,26 +137,27 @@ IsRecord before all told missing after =
 abbrev pub IsOutput : Line → Type 0
 IsOutput line = (output : Line) × (line ≡ quoted output)
 
--- The line is no command behind the one of this number: it is not a greater number, a space and a command, or that names a
--- slot at which no client was inserted.
+-- The line is no command after the one of this number: it is not a greater number, a space and a command; or the command
+-- names a slot at which no client was inserted.
 abbrev pub IsNoCommand : ℕ → BenchState → Line → Type 0
 IsNoCommand last b line =
     (n : ℕ) → last < n → n ≤ 4294967295 → (text : Line) → line ≡ decimal n ++ 32 ∷ text
     → (command : Command) → IsLine command text → NamesNone b command
 
--- another line than the output that is missing; or output, where none is
+-- the line is another than the output that is missing; or it is output, and none is missing
 abbrev pub IsAnother : List Line → Line → Type 0
 IsAnother [] line = IsOutput line
 IsAnother (output ∷ missing) line = line ≢ quoted output
 
--- and what goes on otherwise than by the missing output: it ends, or its first line is another
+-- the lines go on otherwise than with the missing output: they end, or the first of them is another
 abbrev pub GoesOff : List Line → List Line → Type 0
 GoesOff missing [] = missing ≢ []
 GoesOff missing (line ∷ rest) = IsAnother missing line
 
--- What a recording of these lines comes to. It is the same where it is a record of its own commands, which are so many. It
--- differs at the first line that is another than in that record, also where that goes on behind the last one. And it is bad at
--- the first line that is no command, where no output is missing. Of a replay that failed nothing is said.
+-- The verdict about a recording of these lines. It is `Same` if the lines are the record of their own commands, of which it
+-- gives the count. It differs at the first line that is another than in that record, even if the record goes on after the
+-- last line. It is bad at the first line that is no command while no output is missing. Of a replay that failed nothing is
+-- said.
 abbrev pub Replays : BenchState → List Line → Result Replayed Stop → Type 0
 Replays before all (Ok (replayed.Same count)) =
     (told : List Told) × (after : BenchState) × IsRecord before all told [] after × (count ≡ length told)
@@ -171,7 +172,7 @@ Replays before all (Err Failed) = ⊤
 Replays before all (Err Usage) = ⊥
 Replays before all (Err Differs) = ⊥
 
--- the line that says what a recording came to
+-- the line that gives the verdict
 abbrev pub verdict_text : Replayed → Line
 verdict_text (replayed.Same count) = codes "same " ++ decimal count
 verdict_text (replayed.Differs place) = codes "differs at line " ++ decimal place

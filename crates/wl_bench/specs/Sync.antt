@@ -18,7 +18,7 @@ use Rattle.wl_server.specs.Server.{ServerState}
 abbrev pub one_argument : ℕ → ℕ → WireArgument → WireMessage
 one_argument sender opcode argument = record { sender = sender; opcode = opcode; args = argument ∷ [] }
 
--- the bytes of what was sent, one send behind another
+-- the bytes of what was sent, one send after another
 abbrev pub all_bytes : List Queue → List ℕ
 all_bytes sent = flat_map (λ (q : Queue). q.bytes) sent
 

@@ -16,8 +16,8 @@ use Rattle.wl_server.specs.Server.{ServerState, new_server}
 use Rattle.wl_server.specs.Steps.{Entry}
 
 module _ {T U G C : Type 0} (w : World T G C) where
-  -- Whatever calls led from a new server to this one: by all that was put for the client since it was inserted, each registry
-  -- that was made for it, and that the program left alone, announces this.
+  -- Whatever calls led from a new server to this one: each registry that was made for the client, and that the program left
+  -- alone, announces this global, by all that was put for the client since it was inserted.
   abbrev pub IsTold : ServerState T U G C → ClientParts → Announced → Type 0
   IsTold after id g =
       (table : List InterfaceRow) (run earlier later : List (Entry T U G C)) (e : Entry T U G C) (transport : T) (info : C) (registry : Id)

@@ -15,17 +15,17 @@ use Rattle.wl_client.specs.Session.{SessionState}
 abbrev pub Event : Type 0
 Event = Message IdParts Token
 
--- what a reading without an event makes of the loop: that it would block is no error
+-- the answer of the loop if a reading gives no event: that it would block is no error
 abbrev pub ended : EventError → Result (Unit {0}) EventError
 ended WouldBlock = Ok tt
 ended error = Err error
 
 module _ {T U : Type 0} (sends : T → Queue → Result ℕ IoFault → T → Type 0) (receives : T → ℕ → Result Queue IoFault → T → Type 0) where
-  -- a reading that is answered so
+  -- a reading with this answer
   abbrev pub Reads : SessionState T U → Result Event EventError → SessionState T U → Type 0
   Reads before answer after = (refused : Bool) × NextEvent sends receives before (event_content answer) refused after
 
-  -- an event is read, and its end is asked for, which is answered so
+  -- an event is read and then finished, with this answer
   abbrev pub ReadsOne : SessionState T U → Event → Result (Unit {0}) (FinishRefused U) → SessionState T U → Type 0
   ReadsOne before event answer after = (read : SessionState T U) × Reads before (Ok event) read × Finishes read None answer after
 
@@ -34,8 +34,8 @@ module _ {T U : Type 0} (sends : T → Queue → Result ℕ IoFault → T → Ty
   ReadsEach before [] after = after ≡ before
   ReadsEach before (event ∷ events) after = (mid : SessionState T U) × ReadsOne before event (Ok tt) mid × ReadsEach mid events after
 
-  -- Why nothing more is read after so many events, of which there may be so many at most; and the event that could not be
-  -- finished, if there is one.
+  -- Why nothing more is read after so many events, if at most so many may be read; and the event that could not be finished,
+  -- if there is one.
   abbrev pub Stops : ℕ → ℕ → SessionState T U → Result (Unit {0}) EventError → List Event → SessionState T U → Type 0
   Stops most count mid answer left after =
       ((answer ≡ Ok tt) × (count ≡ most) × (left ≡ []) × (after ≡ mid))
@@ -44,8 +44,7 @@ module _ {T U : Type 0} (sends : T → Queue → Result ℕ IoFault → T → Ty
       ⊎ ((error : EventError) × (answer ≡ ended error) × (left ≡ []) × Reads mid (Err error) after)
       ⊎ ((answer ≡ Err EventOpen) × (event : Event) × (refused : FinishRefused U) × (left ≡ event ∷ []) × ReadsOne mid event (Err refused) after))
 
-  -- The events that were read stand after the list as it was, in order. Each was finished, but one that could not be, which is
-  -- the last.
+  -- The events that were read were appended to the list, in order. Each was finished; only the last one may not have been.
   abbrev pub HandsOn : SessionState T U → ℕ → List Event → Result (Unit {0}) EventError → List Event → SessionState T U → Type 0
   HandsOn before most listed answer now_listed after =
       (events : List Event) × (left : List Event) × (mid : SessionState T U) × ReadsEach before events mid

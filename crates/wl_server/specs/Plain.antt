@@ -190,8 +190,8 @@ module _ {T U G C : Type 0} where
   sender_notes before client sender is_destructor =
       notes_if_kept client sender.number (if is_destructor then object_of_client before client sender else None)
 
-  -- The sender that leaves is noted. If the client could not be told that the number is free, it is killed, and that is noted
-  -- too.
+  -- The sender that leaves is noted. If the client could not be told that the number is free, it is killed, and that is
+  -- noted too.
   abbrev pub EndIsTold : BackendState T U G C → ClientParts → IdParts → Bool → BackendState T U G C → Type 0
   EndIsTold before client sender is_destructor after =
       ((killed_in after client ≡ killed_in before client)

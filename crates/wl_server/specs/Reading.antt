@@ -1,4 +1,4 @@
--- A client of the server as a reader of messages: what each request comes to. Its reading is that of every such reader.
+-- A client of the server as a reader of messages (`Reader` of `wl_link`): what each request does.
 use Rattle.std.specs.Prelude.{◌≡◌, ℕ, ◌+◌, min, length, List, [], ◌∷◌, ◌++◌, map, Bool, false, not, ◌==◌, ◌&&◌, ◌||◌, nat_lt, nat_le, if◌then◌else◌, Option, None, Some, is_none, option_map, Result, Ok, Err, MatchOption, MatchBool}
 use Rattle.std.specs.Option.{option_map_or}
 use Rattle.std.specs.Str.{bytes_eq}
@@ -34,7 +34,7 @@ use Rattle.wl_server.specs.Part.{Part, display_of, id_at}
 use Rattle.wl_server.specs.Requests.{Outcome, Whole, Wrong, convert, is_valid_new, made_id, start, with_made}
 use Rattle.wl_server.specs.Telling.{Core, Did, Finish, Stops, Told, closed_down, deeds_of, deletions, done_message, global_message, objects_in, part_of, reader_part, tells, with_objects}
 
--- what a reading asks beside its own client: the table, the client's id, the globals, and what a client may see of them
+-- what a reading looks at beside its own client: the table, the client's id, the globals, and what a client may see of them
 pub record Around (G C : Type 0) : Type 0 where
   pub table : List InterfaceRow
   pub client : ClientParts
@@ -55,7 +55,7 @@ row_asks (Some row) = creates row || nat_lt 4 (length row.signature)
 -- ---- forms of a verdict
 
 module _ {U C : Type 0} where
-  -- a client that is killed is read no more
+  -- a client that is killed is no longer read
   abbrev pub stops_if : Core U C → List (Told U)
   stops_if c = if c.is_killed then Stops fault.Pipe ∷ [] else []
 
@@ -81,7 +81,7 @@ module _ {U C : Type 0} where
   abbrev pub reads_on : Core U C → Bool
   reads_on c = not c.is_killed && is_none c.action
 
-  -- what is open is ended, of a live client
+  -- the verdict if the open action of a live client is ended
   abbrev pub takes : ClientParts → Core U C → Finish U → Option (Verdict (Core U C) (Told U))
   takes client c u = if c.is_killed then None else finishing client c c.action u
 
@@ -99,11 +99,11 @@ module _ {U G C : Type 0} (a : Around G C) where
   abbrev pub new_at : Core U C → ℕ → Id
   new_at c n = record { number = n; serial = c.last_serial + 1 }
 
-  -- the callback is made, and gone again at once
+  -- the callback is made, and is gone again at once
   abbrev pub synced : Core U C → ℕ → Core U C
   synced c n = let made = with_made (objects_in c) n callback_id 1 in with_objects c (record made { store = removed made.store n })
 
-  -- it is told that it is done, and that its number is free again
+  -- the client is told that the callback is done, and that its number is free again
   abbrev pub syncs : Core U C → ℕ → Verdict (Core U C) (Told U)
   syncs c n = replies (synced c n) (done_message (new_at c n) ∷ deletions n) []
 
@@ -111,7 +111,7 @@ module _ {U G C : Type 0} (a : Around G C) where
   with_registry c n =
       record (with_objects c (with_made (objects_in c) n registry_id 1)) { registries = c.registries ++ new_at c n ∷ [] }
 
-  -- a registry is told of each global that the client is shown, and of others from then on
+  -- a new registry is told of each global that the client is shown, and from then on of new ones
   abbrev pub registers : Core U C → ℕ → Verdict (Core U C) (Told U)
   registers c n =
       replies (with_registry c n) (map (global_message a.table (new_at c n)) (shown a.views a.globals a.client c.info))
@@ -124,8 +124,8 @@ module _ {U G C : Type 0} (a : Around G C) where
 
   -- ---- requests to a registry
 
-  -- The global may be bound so: the name is its interface's, the version is neither 0 nor above its own, and the client may
-  -- see it. It need not be enabled. A null is no name.
+  -- The global may be bound so: the interface's name is the right one, the version is neither 0 nor above the global's, and
+  -- the client may see the global. It need not be enabled. Null is no name.
   abbrev pub may_bind : Core U C → ℕ → Option (List ℕ) → ℕ → Object (KeptGlobal G) → Bool
   may_bind c g None version x = false
   may_bind c g (Some name) version x =
@@ -170,7 +170,7 @@ module _ {U G C : Type 0} (a : Around G C) where
 
   -- ---- the reader
 
-  -- each object of these interfaces is treated so, whatever its number
+  -- a request goes by the interface of its object, whatever the object's number is
   abbrev pub request_to : Core U C → WireMessage → Object (Kept U) → MessageRow → Verdict (Core U C) (Told U)
   request_to c m receiver row =
       if receiver.interface.0 == display_id.0
@@ -228,13 +228,13 @@ abbrev pub read_on : Reading → ℕ → ℕ → Reading
 read_on r left handled = record { receives_left = left; read = min (r.read + handled) 0xFFFFFFFFFFFFFFFF }
 
 module _ {T U C : Type 0} where
-  -- nothing is read: for this reason
+  -- nothing is read, for this reason
   abbrev pub ReadsNone : ActionError → Reading → Part T U C → Result Handed ActionError → Reading → Bool → List (Deed U) → Part T U C → Type 0
   ReadsNone e r before answer r' refused did after =
       (answer ≡ Err e) × (r' ≡ r) × (refused ≡ false) × (did ≡ []) × (after ≡ before)
 
 module _ {T U G C : Type 0} (sends : T → Queue → Result ℕ IoFault → T → Type 0) (receives : T → ℕ → Result Queue IoFault → T → Type 0) where
-  -- a reading that may receive so often answers so
+  -- a reading answers so
   abbrev pub ReadsTo : Around G C → Reading → Part T U C → Result Handed ActionError → Reading → Bool → List (Deed U) → Part T U C → Type 0
   ReadsTo a r before answer r' refused did after =
       (turns : List Turn) × (out : Gives (Told U)) × (end : ReaderState T (Core U C))
@@ -242,7 +242,7 @@ module _ {T U G C : Type 0} (sends : T → Queue → Result ℕ IoFault → T �
       × (answer ≡ answered out.stopped out.gave) × (r' ≡ read_on r out.left (handled_in turns)) × (refused ≡ out.refused)
       × (did ≡ deeds_of (exchanges_in turns) out.gave end.core) × (after ≡ part_of end)
 
-  -- an open action is answered first, and then that the client was killed
+  -- an open action is reported first, and then that the client was killed
   abbrev pub NextAction : Around G C → Reading → Part T U C → Result Handed ActionError → Reading → Bool → List (Deed U) → Part T U C → Type 0
   NextAction a r before answer r' refused did after =
       MatchOption before.action

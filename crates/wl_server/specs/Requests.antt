@@ -31,11 +31,11 @@ pub record Converting (U : Type 0) : Type 0 where
   pub child : Option InterfaceId
   pub created : Option IdParts
 
--- what an argument becomes, and how far that leads; or what is wrong with it
+-- what an argument becomes, and how far the arguments were gone through then; or what is wrong with it
 abbrev pub Converted : Type 0 → Type 0
 Converted U = Result (Argument IdParts Token × Converting U) RequestFault
 
--- what the arguments come to; or what is wrong with the first that is wrong, and the objects as they then are
+-- what the arguments became; or what is wrong with the first that is wrong, and the objects as they then are
 pub data Outcome (U : Type 0) : Type 0 where
   Whole : Converting U → List (Argument IdParts Token) → Outcome U
   Wrong : RequestFault → Objects (Kept U) → Outcome U
@@ -52,7 +52,7 @@ kinds_after (_ ∷ kinds) = kinds
 module _ {U : Type 0} where
   -- ---- new objects
 
-  -- the client may make an object at that number: one of its range that is free, while a serial is left
+  -- the client may make an object at that number: it is one of its range, and free, and a serial is left
   abbrev pub is_valid_new : Objects (Kept U) → ℕ → Bool
   is_valid_new objects n =
       not (is_server_number n) && (is_free objects.store n && not (objects.last_serial == last_possible_serial))
@@ -107,7 +107,7 @@ module _ {U : Type 0} where
       )
       else Err (wrong.InvalidNewId n)
 
-  -- an argument of a request whose object has this version
+  -- what an argument of a request becomes; its object has this version
   abbrev pub convert_one : ClientParts → ℕ → Converting U → WireArgument → Converted U
   convert_one client version c (arg.Int z) = passed c (arg.Int z)
   convert_one client version c (arg.Uint n) = passed c (arg.Uint n)
@@ -123,7 +123,7 @@ module _ {U : Type 0} where
   going_on (Ok next) objects on = on next.0 next.1
   going_on (Err wrong) objects on = Wrong wrong objects
 
-  -- all arguments, from left to right, behind those that were gone through
+  -- all arguments, from left to right, after those that were gone through
   abbrev pub convert : ClientParts → ℕ → Converting U → List (Argument IdParts Token) → List WireArgument → Outcome U
   convert client version c done [] = Whole c done
   convert client version c done (a ∷ args) =

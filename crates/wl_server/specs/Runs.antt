@@ -24,12 +24,12 @@ module _ {T U G C : Type 0} (w : World T G C) where
   Leads before [] after = after ≡ before
   Leads before (e ∷ run) after = (mid : ServerState T U G C) × OneStep w before e mid × Leads mid run after
 
-  -- steps with these replies, and of each whether memory was refused in it, lead from one value to another, by some deeds
+  -- steps with these replies lead from one value to another, by some deeds
   abbrev pub Performs : ServerState T U G C → List (RunEntry (Step T U G C) (Reply T U)) → ServerState T U G C → Type 0
   Performs before run after = RunLeads (StepOf w) before run after
 
-  -- A run stopped in a step: there was no room for the replies, and nothing was done; or the steps before it were made with
-  -- these replies, and it met a want of memory.
+  -- A run stopped in the step after the first n. Either there was no memory for the replies, and nothing was done; or the
+  -- steps before it were made with these replies, and memory was refused in it.
   abbrev pub StopsAt : ServerState T U G C → List (Step T U G C) → ℕ → List (Reply T U) → ServerState T U G C → Type 0
   StopsAt before steps n replies after = RunStopsAt (StepOf w) before steps n replies after
 
@@ -43,7 +43,7 @@ module _ {T U G C : Type 0} where
 
 -- ---- one client's calls
 
--- whether a step names the client, or is about none; the insertion of a client is not among another's steps
+-- whether a step names the client, or is about all clients; the insertion of a client is about no client that is there
 abbrev pub is_about : {T U G C : Type 0} → ClientParts → Step T U G C → Bool
 is_about id (step.InsertClient _ _) = false
 is_about id (step.SetObjectData o _) = same_client o.client id
@@ -75,7 +75,7 @@ abbrev pub concerns : {T U G C : Type 0} → ClientParts → Call T U G C → Bo
 concerns id (Asked s answer) = is_about id s
 concerns id (Changed target t) = same_client target id
 
--- what one client's run has of an entry: the call, whether memory was refused to this client, and the deeds with it
+-- an entry of one client's own run: the call, whether memory was refused to this client, and the deeds with it
 pub record Own (T U G C : Type 0) : Type 0 where
   pub call : Call T U G C
   pub lacked : Bool
@@ -89,7 +89,7 @@ module _ {T U G C : Type 0} where
   abbrev pub own_of : ClientParts → Entry T U G C → Own T U G C
   own_of id e = record { call = e.call; lacked = e.lacks id; did = e.did id }
 
-  -- a client's own calls, and those that are about none
+  -- a client's own calls, and those that are about all clients (the *shared* calls)
   abbrev pub mine : ClientParts → List (Entry T U G C) → List (Own T U G C)
   mine id [] = []
   mine id (e ∷ run) = if concerns id e.call then (own_of id e ∷ mine id run) else mine id run
@@ -104,8 +104,8 @@ module _ {T U G C : Type 0} where
   offer_over offer [] = offer
   offer_over offer (e ∷ run) = offer_over (offer_after offer e.call) run
 
-  -- From the offer and what is held of one client to what is then held of it, by its own calls and the shared ones alone: no
-  -- other client is there.
+  -- A client's own calls and the shared ones lead, by themselves, from the offer and what is held of this client to what is
+  -- held of it then. No other client occurs here.
   abbrev pub Alone : World T G C → ClientParts → Offer G → Seen T U C → List (Own T U G C) → Seen T U C → Type 0
   Alone w id offer before [] after = after ≡ before
   Alone w id offer before (e ∷ run) after =
@@ -113,8 +113,8 @@ module _ {T U G C : Type 0} where
 
   -- ---- isolation
 
-  -- What is held of a client that was inserted in the run is what its own calls and the shared ones lead to alone, begun
-  -- with the id that it got and the offer of that moment.
+  -- What is held of a client that was inserted in the run is what its own calls and the shared ones lead to by themselves,
+  -- from the id that it got and the offer of that moment.
   abbrev pub EachAlone : World T G C → List InterfaceRow → List (Entry T U G C) → ServerState T U G C → Type 0
   EachAlone w table run after =
       (id : ClientParts) (transport : T) (info : C) (earlier later : List (Entry T U G C)) (e : Entry T U G C) →
@@ -134,8 +134,7 @@ module _ {T U G C : Type 0} where
   IsNeverInserted id [] = Unit {0}
   IsNeverInserted id (e ∷ run) = IsNotInserted id e.call × IsNeverInserted id run
 
-  -- Of a client that is not inserted nothing is held, and each reply to a call that names it is that to a client that is not
-  -- stored.
+  -- Nothing is held of a client that was not inserted, and a call that names it is answered as for one that is not stored.
   abbrev pub NoneUnseen : World T G C → List InterfaceRow → List (Entry T U G C) → ServerState T U G C → Type 0
   NoneUnseen w table run after =
       (id : ClientParts) → IsNeverInserted id run
@@ -145,8 +144,8 @@ module _ {T U G C : Type 0} where
   abbrev pub HasNextSerial : ℕ → Call T U G C → Type 0
   HasNextSerial last call = (new : ClientParts) → Inserts new call → (last < last_possible_serial) × (new.serial ≡ last + 1)
 
-  -- From the offer and the last serial before, each global and each client is numbered by these values alone, and the run
-  -- leads to those after.
+  -- The id of each new global, and the serial of each new client, follows from the offer and the last serial alone. The run
+  -- leads from the offer and the last serial before it to those after it.
   abbrev pub SharedAlone : Offer G → ℕ → List (Entry T U G C) → Offer G → ℕ → Type 0
   SharedAlone offer last [] offer' last' = (offer' ≡ offer) × (last' ≡ last)
   SharedAlone offer last (e ∷ run) offer' last' =

@@ -1,4 +1,4 @@
--- What a server holds: what all clients share, and of each client id its part.
+-- What a server holds: what all clients share, and what is held of each client id.
 use Rattle.std.specs.Prelude.{ℕ, List, [], ◌∷◌, ◌++◌, ◌==◌, if◌then◌else◌, Option, None, Some, option_map, slice_get}
 use Rattle.std.specs.List.{flat_map}
 use Rattle.std.specs.Option.{option_map_or}
@@ -24,7 +24,7 @@ pub record ServerState (T U G C : Type 0) : Type 0 where
   pub clients : List (Option (Stored T U C))
   pub notes : List (Note U)
 
--- What is held of one client id: its part while it is stored, and the notes of it that were made and not taken, in order.
+-- what is held of one client id: its part, if it is stored, and the notes of it that were made and not taken, in order
 pub record Seen (T U C : Type 0) : Type 0 where
   pub part : Option (Part T U C)
   pub made : List (Happening U)

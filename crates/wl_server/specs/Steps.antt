@@ -15,8 +15,8 @@ use Rattle.wl_server.specs.Part.{last_possible_serial}
 use Rattle.wl_server.specs.PartStep.{Asked, Call, PartCall, World}
 use Rattle.wl_server.specs.Server.{ServerState, Stored, seen, stored_at}
 
--- A call of a run, whether memory was refused in it, and of each client id whether it was refused to that client, and the
--- deeds of the call with it: its sends and receives among them.
+-- A call of a run, and whether memory was refused in it; and for each client id whether memory was refused to that client,
+-- and the deeds of the call with it, among them its sends and receives.
 pub record Entry (T U G C : Type 0) : Type 0 where
   pub call : Call T U G C
   pub refused : Bool
@@ -26,7 +26,7 @@ pub record Entry (T U G C : Type 0) : Type 0 where
 -- ---- clients
 
 module _ {T U C : Type 0} where
-  -- some client is such
+  -- the relation holds of some client
   abbrev pub SomeClient : List (Option (Stored T U C)) → (Stored T U C → Type 0) → Type 0
   SomeClient clients R = (slot : ℕ) × (s : Stored T U C) × (stored_at slot clients ≡ Some s) × R s
 
@@ -43,8 +43,8 @@ module _ {T U C : Type 0} where
   abbrev pub IsNextClient : ℕ → List (Option (Stored T U C)) → ClientParts → Type 0
   IsNextClient last clients id = IsLeastFree clients id.slot × (last < last_possible_serial) × (id.serial ≡ last + 1)
 
-  -- A new client gets the least free slot and the next serial, or there is no memory for it. It is refused where none are
-  -- left.
+  -- A new client gets the least free slot and the next serial, or there is no memory for it. If no slot or no serial is
+  -- left, the answer is `Full`.
   abbrev pub InsertsNext : ℕ → List (Option (Stored T U C)) → Result ClientParts InsertClientError → Type 0
   InsertsNext last clients (Ok id) = IsNextClient last clients id
   InsertsNext last clients (Err insert.Full) = LacksSlot last clients
@@ -60,7 +60,7 @@ module _ {T U G C : Type 0} where
   inserted_by (Asked (step.InsertClient _ _) (reply.InsertClient (Ok id))) = 1
   inserted_by _ = 0
 
--- they stand by slot
+-- the clients are in the order of their slots
 abbrev pub RiseBySlot : {T : Type 0} → List (ClientParts × T) → Type 0
 RiseBySlot out = AllPairs (λ a b. a.0.slot < b.0.slot) out
 
@@ -80,27 +80,27 @@ module _ {T U G C : Type 0} where
   offer_after offer (Asked (step.SetDefaultMaxBufferSize limit) answer) = record offer { default_limit = limit }
   offer_after offer _ = offer
 
-  -- a new global has the least free name and the next serial, and each refusal of one has its reason
+  -- a new global has the least free name and the next serial, and each error has its reason
   abbrev pub NumbersGlobal : Offer G → Call T U G C → Type 0
   NumbersGlobal offer (Asked (step.CreateGlobal i version handler) (reply.CreateGlobal r)) = CreatesGlobal offer.table offer.globals i version r
   NumbersGlobal offer _ = Unit {0}
 
-  -- the clients that a cleanup takes out stand by slot
+  -- the clients that a cleanup takes out are in the order of their slots
   abbrev pub RisesBySlot : Call T U G C → Type 0
   RisesBySlot (Asked step.Cleanup (reply.Cleanup (Ok out))) = AllPairs (λ a b. a.0.slot < b.0.slot) out.items
   RisesBySlot _ = Unit {0}
 
   -- ---- whether memory was refused
 
-  -- A cleanup asks for memory only where notes are to be gathered or a client is to be taken out, and so does the list of
-  -- notes only where some are to be gathered.
+  -- A cleanup asks for memory only if there are notes to be gathered or a client to be taken out; `take_notes` does only if
+  -- there are notes to be gathered.
   abbrev pub AsksForRoom : ServerState T U G C → Call T U G C → Type 0
   AsksForRoom before (Asked step.Cleanup (reply.Cleanup (Err _))) =
       SomeClient before.clients (λ s. (s.made ++ s.part.waiting ≢ []) ⊎ (s.part.is_killed ≡ true))
   AsksForRoom before (Asked step.TakeNotes (reply.TakeNotes (Err _))) = SomeClient before.clients (λ s. s.made ≢ [])
   AsksForRoom before _ = Unit {0}
 
-  -- the call met a want of memory for what it makes of its own, and not of any client
+  -- memory was refused to the call for what belongs to no client
   abbrev pub lacks_growth : Call T U G C → Bool
   lacks_growth (Asked _ (reply.InsertClient (Err insert.OutOfMemory))) = true
   lacks_growth (Asked _ (reply.CreateGlobal (Err global.OutOfMemory))) = true
@@ -108,13 +108,13 @@ module _ {T U G C : Type 0} where
   lacks_growth (Asked _ (reply.TakeNotes (Err _))) = true
   lacks_growth _ = false
 
-  -- it was refused exactly where that was, or to some client
+  -- memory was refused in the call exactly if it was refused for that, or to some client
   abbrev pub IsRefused : Entry T U G C → Type 0
   IsRefused e = (e.refused ≡ true) ↔ ((lacks_growth e.call ≡ true) ⊎ ((id : ClientParts) × (e.lacks id ≡ true)))
 
 -- ---- a call
 
--- a call of a server, with all that an entry says of it
+-- a call of a server, as an entry of a run
 pub record OneStep {T U G C : Type 0} (w : World T G C) (before : ServerState T U G C) (e : Entry T U G C) (after : ServerState T U G C) : Type 0 where
   pub offer : after.offer ≡ offer_after before.offer e.call
   pub last : after.last_client ≡ before.last_client + inserted_by e.call
@@ -126,7 +126,7 @@ pub record OneStep {T U G C : Type 0} (w : World T G C) (before : ServerState T 
   pub each : (id : ClientParts) → PartCall w id before.offer e.call (seen id before) (e.lacks id) (e.did id) (seen id after)
 
 module _ {T U G C : Type 0} (w : World T G C) where
-  -- a call, and whether memory was refused in it, by some deeds
+  -- a call, and whether memory was refused in it, with some deeds
   abbrev pub Makes : ServerState T U G C → Call T U G C → Bool → ServerState T U G C → Type 0
   Makes before call refused after = (e : Entry T U G C) × (e.call ≡ call) × (e.refused ≡ refused) × OneStep w before e after
 

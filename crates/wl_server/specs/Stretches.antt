@@ -1,4 +1,5 @@
--- A stretch of a client's own run over the transport by script in which bytes arrive, and actions are read and finished.
+-- A *stretch* of a client's own run over the transport by script: calls in which bytes arrive, and actions are read and
+-- finished.
 use Rattle.std.specs.Prelude.{◌≡◌, ◌≢◌, ◌⊎◌, ◌≤◌, List, [], ◌∷◌, ◌++◌, Bool, true, false, if◌then◌else◌, Option, None, Some, Result, Ok, Err}
 use Rattle.wl_wire.specs.declared.error.IoFault.{IoFault}
 use Rattle.wl_wire.specs.declared.error.IoFault.TheVariants as fault
@@ -34,7 +35,7 @@ module _ {U : Type 0} where
   beside_exchanges (Came r ∷ did) = beside_exchanges did
   beside_exchanges (d ∷ did) = d ∷ beside_exchanges did
 
-  -- the end of the client is among them
+  -- the note of the client's end is among the deeds
   abbrev pub was_killed : List (Deed U) → Bool
   was_killed [] = false
   was_killed (Noted (Disconnected reason) ∷ did) = true
@@ -50,7 +51,7 @@ module _ {U : Type 0} where
 -- ---- the entries of a stretch
 
 module _ {T U G C : Type 0} where
-  -- an arrival of a byte at least, which was taken, or of the fault by which the transport would block; a reading; or a finish
+  -- an arrival of at least one byte that was accepted, or of the fault `WouldBlock`; a reading; or a finish
   abbrev pub IsHeard : Call T U G C → Type 0
   IsHeard (Asked (step.Arrive target bytes tokens) answer) = (bytes.items ≢ []) × (answer ≡ reply.Arrive (Ok tt))
   IsHeard (Asked (step.ArriveFault target f) answer) = f ≡ fault.WouldBlock
@@ -60,7 +61,7 @@ module _ {T U G C : Type 0} where
   IsHeard (Asked (step.FinishBind target u) answer) = Unit {0}
   IsHeard _ = ⊥
 
-  -- so is each of them, about this client, and memory was not refused to it
+  -- each call is one of these and about this client, and memory was not refused to it
   abbrev pub AllHeard : ClientParts → List (Own T U G C) → Type 0
   AllHeard id [] = Unit {0}
   AllHeard id (e ∷ run) = (concerns id e.call ≡ true) × (e.lacked ≡ false) × IsHeard e.call × AllHeard id run
@@ -89,7 +90,7 @@ module _ {T U G C : Type 0} where
   reading_by (Asked (step.NextActionWithin target reading) (reply.NextActionWithin r left)) = Some (action_content r)
   reading_by _ = None
 
--- what a reading handed out, or why nothing more was read, where the client was killed in it
+-- the action that a reading handed out, or why the client was killed in it
 abbrev pub told_by : {U : Type 0} → Option (Result Handed ActionError) → List (Deed U) → List (Result Handed IoFault)
 told_by None did = []
 told_by (Some (Ok h)) did = Ok h ∷ []
@@ -98,12 +99,12 @@ told_by (Some (Err (Io fault.WouldBlock))) did = []
 told_by (Some (Err (Io f))) did = if was_killed did then Err f ∷ [] else []
 
 module _ {T U G C : Type 0} where
-  -- the actions and why nothing more was read, in order
+  -- the actions that were handed out, and why nothing more was read, in order
   abbrev pub handed_out : List (Own T U G C) → List (Result Handed IoFault)
   handed_out [] = []
   handed_out (e ∷ run) = told_by (reading_by e.call) e.did ++ handed_out run
 
-  -- the last entry is a reading that finds that the transport would block
+  -- the last entry is a reading that answers `WouldBlock`
   abbrev pub EndsWaiting : List (Own T U G C) → Type 0
   EndsWaiting [] = ⊥
   EndsWaiting (e ∷ []) = reading_by e.call ≡ Some (Err (Io fault.WouldBlock))
@@ -115,36 +116,35 @@ module _ {U C : Type 0} where
   abbrev pub arrivals_in : Part Script U C → List (Result Queue IoFault)
   arrivals_in p = arrivals_of (reader_part p)
 
-  -- what is left over of the arrivals, behind what waits
+  -- the arrivals that were not received yet, joined
   abbrev pub left_in : Part Script U C → Queue
   left_in p = left_over (arrivals_in p)
 
 module _ {U G C : Type 0} (a : Around G C) where
-  -- The run spans from the one to the other: it begins with a live client, and ends where it was killed, with an open
-  -- action, or with a reading that would block where no arrival is left.
+  -- The run begins with a live client. It ends with a killed one, with an open action, or with a reading that would block,
+  -- and no arrival is left.
   pub record Spans (before : Part Script U C) (run : List (Own Script U G C)) (after : Part Script U C) : Type 0 where
     pub heard : AllHeard a.client run
     pub live : before.is_killed ≡ false
     pub pieces : AllPieces (arrivals_in before)
     pub ends : (reads_on (core_of after) ≡ false) ⊎ (EndsWaiting run × (arrivals_in after ≡ []))
 
-  -- A stretch, in which no receive found the storage full: where the client was killed while data or tokens lacked, a byte
-  -- is free. So it is also where the rest of the message at the front may come, since then a receive finds a byte free.
+  -- A stretch in which no receive found the buffer full: if the client was killed while bytes or tokens were lacking, then a
+  -- byte is free, or the rest of the message at the front may come, for which a receive finds a byte free.
   pub record IsStretch (before : Part Script U C) (run : List (Own Script U G C)) (after : Part Script U C) : Type 0 where
     pub spans : Spans before run after
     pub roomy : after.is_killed ≡ true → Lacks ScriptSends (server a) (reader_part after)
         → HasByteFree after.link ⊎ MayCome (server a) (core_of after) after.link
 
-  -- A stretch of messages each of which is no longer than the incoming storage may become, and whose tokens come no later
-  -- than its last byte: where the client was killed, none waits whole for tokens.
+  -- A stretch of messages that are no longer than the incoming buffer may become, and whose tokens come no later than the
+  -- last byte: if the client was killed, the message at the front does not lack tokens alone.
   pub record IsStretchWithin (before : Part Script U C) (run : List (Own Script U G C)) (after : Part Script U C) : Type 0 where
     pub spans : Spans before run after
     pub within : EachWithin (incoming_limit before.link.limit) (joined before.link.incoming (joined (left_in before) (arrived run))).bytes
     pub in_time : after.is_killed ≡ true → LacksTokens (server a) (core_of after) after.link → ⊥
 
-  -- What it gave, and what it came to, is what is served of all that arrived, with the finishes that were accepted, over the
-  -- script's answers to the sends: by that it is determined what was put and done and noted, what was answered, and how
-  -- the client stands.
+  -- What the stretch gave, and the client after it, are what is served of all that arrived, with the finishes that were
+  -- accepted, over the script's answers to the sends. So are its deeds, beside sends and receives, and its answers.
   pub record StretchIsServed (before : Part Script U C) (run : List (Own Script U G C)) (after : Part Script U C) : Type 0 where
     pub gave : List (Given (Told U))
     pub end : ReaderState Script (Core U C)
@@ -155,7 +155,7 @@ module _ {U G C : Type 0} (a : Around G C) where
     pub answers : handed_out run ≡ answers_in gave
 
 module _ {U C : Type 0} where
-  -- the whole of a client as it is over what waits and what is left over of the arrivals, joined
+  -- the same is held of both clients, if what waits and the arrivals that were not received yet are joined
   abbrev pub SameLeft : Part Script U C → Part Script U C → Type 0
   SameLeft p q =
       state_as (reader_part p) (left_in p) (sending_side p.link.transport) ≡ state_as (reader_part q) (left_in q) (sending_side q.link.transport)
@@ -163,16 +163,16 @@ module _ {U C : Type 0} where
 -- ---- runs of a server
 
 module _ {U G C : Type 0} where
-  -- where the client's own run is a stretch, it is served so; and one of messages that are short enough is a stretch
+  -- if the client's own run is a stretch, it gives what is served; and one of messages that are short enough is a stretch
   abbrev pub CutsStretch : Around G C → Part Script U C → List (Own Script U G C) → Part Script U C → Type 0
   CutsStretch a p run q = (IsStretch a p run q → StretchIsServed a p run q) × (IsStretchWithin a p run q → IsStretch a p run q)
 
-  -- so it is of each client that was there before and is stored in the end
+  -- so it is with each client that was there before and is stored in the end
   abbrev pub EachIsCut : (G → ClientParts → C → GlobalParts → Bool) → ServerState Script U G C → List (Entry Script U G C) → ServerState Script U G C → Type 0
   EachIsCut views begun run after =
       (id : ClientParts) (p q : Part Script U C) → id.serial ≤ begun.last_client → (seen id begun).part ≡ Some p → (seen id after).part ≡ Some q
       → CutsStretch (around (over_scripts views) id begun.offer) p (mine id run) q
 
-  -- so it is over each part of a run
+  -- so it is with each part of a run
   abbrev pub EachPartIsCut : (G → ClientParts → C → GlobalParts → Bool) → ServerState Script U G C → List (Entry Script U G C) → Type 0
   EachPartIsCut views begun run = EachPart (Leads (over_scripts views)) (EachIsCut views) begun run

@@ -1,7 +1,7 @@
--- What is told to a client, and what becomes of it by that.
+-- The server's own messages to a client, and what becomes of the client.
 --
--- The messages of one call are put one after another, and none behind one that could not be put. A client to which one
--- could not be put is killed: its connection is closed.
+-- The messages of one call are put one after another, up to the first that cannot be put. Then the client is killed, as
+-- one whose connection is closed.
 use Rattle.std.specs.Prelude.{◌≡◌, ℕ, List, [], ◌∷◌, ◌++◌, map, Bool, true, false, if◌then◌else◌, Option, None, Some, Result}
 use Rattle.wl_wire.specs.declared.argument.Argument.TheVariants as arg
 use Rattle.wl_wire.specs.declared.error.IoFault.{IoFault}
@@ -60,8 +60,7 @@ removal_message name registry = by_object registry 1 (arg.Uint name ∷ [])
 
 -- ---- all of a client's part but its link
 
--- What a call changes of a client beside its link; and why it was killed in that call, if it was. Before a call that is
--- none.
+-- All that is held of a client but its link; and in `ended`, why it was killed in this call, if it was.
 pub record Core (U C : Type 0) : Type 0 where
   pub info : C
   pub store : Store (Kept U)
@@ -72,7 +71,7 @@ pub record Core (U C : Type 0) : Type 0 where
   pub waiting : List (Happening U)
   pub ended : Option DisconnectReason
 
--- what is done beside what is put: a deed; or an answer, which is that nothing more is read
+-- what is handed out: a deed; or the reason for which nothing more is read
 pub data Told (U : Type 0) : Type 0 where
   Did : Deed U → Told U
   Stops : IoFault → Told U
@@ -85,7 +84,7 @@ pub data Finish (U : Type 0) : Type 0 where
 -- ---- deeds
 
 module _ {U : Type 0} where
-  -- the end of the client is noted once, where it is killed
+  -- the note of the client's end, if it is killed in this call
   abbrev pub end_deeds : Option DisconnectReason → List (Deed U)
   end_deeds None = []
   end_deeds (Some reason) = Noted (Disconnected reason) ∷ []
@@ -103,14 +102,14 @@ module _ {U C : Type 0} where
   abbrev pub with_objects : Core U C → Objects (Kept U) → Core U C
   with_objects c objects = record c { store = objects.store; last_serial = objects.last_serial }
 
-  -- The client is killed, for this reason. Of one that is killed already only the first reason counts.
+  -- The client is killed, for this reason. If it is killed already, the earlier reason stays.
   abbrev pub killed : Core U C → DisconnectReason → Core U C
   killed c reason = record c { is_killed = true; ended = if c.is_killed then c.ended else Some reason }
 
   abbrev pub closed_down : Core U C → Core U C
   closed_down c = killed c ConnectionClosed
 
-  -- A client is told these messages. Where one could not be put it is closed down, also where there was no memory for it.
+  -- A client is told these messages. If one cannot be put, also for want of memory, the client is killed as closed.
   abbrev pub tells : Core U C → List Said → Verdict (Core U C) (Told U)
   tells c puts = record {
     core = c;
@@ -122,7 +121,7 @@ module _ {U C : Type 0} where
     events = λ d. [];
   }
 
-  -- A client to which is only spoken: all that it has of a reader is that a write which fails closes it down.
+  -- A client that is not read in this call, as a reader: a write that fails kills it as closed, and nothing else happens.
   abbrev pub speaker : Reader (Core U C) (Told U) (Finish U)
   speaker = record {
     reads_on = λ c. false;
@@ -152,7 +151,7 @@ module _ {T U C : Type 0} where
     ended = None;
   }
 
-  -- a client as a part whose core goes through a call
+  -- the client as the state of a reader
   abbrev pub reader_part : Part T U C → ReaderState T (Core U C)
   reader_part p = record { core = core_of p; link = p.link }
 
@@ -168,7 +167,7 @@ module _ {T U C : Type 0} where
     waiting = p.core.waiting;
   }
 
-  -- a verdict is carried out over the link: whether memory was refused in that, the deeds, and the client after it
+  -- A verdict is carried out over the link. `refused` says whether memory was refused in that, `did` are the deeds.
   abbrev pub Tells : (T → Queue → Result ℕ IoFault → T → Type 0) → Verdict (Core U C) (Told U) → LinkState T → Bool → List (Deed U)
       → Part T U C → Type 0
   Tells sends v link refused did after =

@@ -1,6 +1,6 @@
 -- When two servers are the same to their program, and when two of their runs are.
 --
--- A program finds of a server what is held of each client id, the offer, and how many clients there were. It does not find
+-- A program can see of a server what is held of each client id, the offer, and how many clients there were. It does not see
 -- in which order the notes of two clients stand, nor which of a client's notes were gathered already.
 use Rattle.std.specs.Prelude.{◌≡◌, ℕ, Bool, false, List, [], ◌∷◌, length, Ok}
 use Rattle.wl_wire.specs.declared.interface.InterfaceId.{InterfaceId}
@@ -22,7 +22,7 @@ pub record SameServer {T U G C : Type 0} (s t : ServerState T U G C) : Type 0 wh
   pub last : s.last_client ≡ t.last_client
   pub each : (id : ClientParts) → seen id s ≡ seen id t
 
--- They answer the same of themselves.
+-- look-ups answer the same
 pub record AnswersAlike {T U G C : Type 0} (s t : ServerState T U G C) : Type 0 where
   pub object_info : (id : IdParts) → object_info_of s id ≡ object_info_of t id
   pub client : (id : IdParts) → client_by s id ≡ client_by t id
@@ -37,8 +37,8 @@ pub record AnswersAlike {T U G C : Type 0} (s t : ServerState T U G C) : Type 0 
   pub name : (views : G → ClientParts → C → GlobalParts → Bool) (id : GlobalParts) (client : ClientParts) → name_for s views id client ≡ name_for t views id client
 
 module _ {T U : Type 0} where
-  -- Two replies are the same to the program: but for where their lists lie in memory, and for the order of the notes of two
-  -- clients.
+  -- Two replies are the same to the program: their lists have the same items, and only the notes of two different clients
+  -- may be in another order.
   abbrev pub WholeReply : Reply T U → Reply T U → Type 0
   WholeReply (reply.Cleanup (Ok out)) (reply.Cleanup (Ok out')) = out.items ≡ out'.items
   WholeReply answer answer' = (id : ClientParts) → SameReply id answer answer'
@@ -54,7 +54,7 @@ module _ {T U G C : Type 0} where
   SameCalls (e ∷ run) (f ∷ run') = SameCall e.call f.call × (e.refused ≡ false) × (f.refused ≡ false) × SameCalls run run'
   SameCalls _ _ = ⊥
 
-  -- and so are their replies, and the deeds with each client
+  -- the replies are the same, and the deeds with each client
   abbrev pub SameEntries : List (Entry T U G C) → List (Entry T U G C) → Type 0
   SameEntries [] [] = Unit {0}
   SameEntries (e ∷ run) (f ∷ run') = WholeAnswer e.call f.call × ((id : ClientParts) → e.did id ≡ f.did id) × SameEntries run run'
@@ -63,14 +63,14 @@ module _ {T U G C : Type 0} where
 -- ---- one outcome
 
 module _ {T G C : Type 0} where
-  -- runs of calls, with all that their entries say
+  -- two runs of the same calls, from servers that are the same, have the same replies and deeds, and lead to the same
   abbrev pub RunsHaveOneOutcome : Type 0 → World T G C → Type 0
   RunsHaveOneOutcome U w =
       (before before' after after' : ServerState T U G C) (run run' : List (Entry T U G C)) →
       SameServer before before' → SameCalls run run' → Leads w before run after → Leads w before' run' after' →
       SameEntries run run' × SameServer after after'
 
-  -- steps with their replies, in none of which memory was refused
+  -- the same for steps with their replies, in none of which memory was refused
   abbrev pub PerformancesHaveOneOutcome : Type 0 → World T G C → Type 0
   PerformancesHaveOneOutcome U w =
       (before before' after after' : ServerState T U G C) (steps : List (Step T U G C)) (replies replies' : List (Reply T U)) →

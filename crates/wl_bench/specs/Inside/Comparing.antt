@@ -1,4 +1,4 @@
--- What a comparison of a recording holds, and what a line makes of it.
+-- What a comparison of a recording holds, and what each line does to it.
 use Rattle.std.specs.Prelude.{◌≡◌, ◌≢◌, ℕ, ◌+◌, ◌<◌, ◌≤◌, List, [], ◌∷◌, ◌++◌, map, drop, ◌⊎◌, ⊤}
 use Rattle.std.specs.Fmt.{decimal}
 use Rattle.std.specs.List.{All}
@@ -25,7 +25,7 @@ IsNumbered p line = (text : Line) × (line ≡ decimal p.0 ++ 32 ∷ text) × (p
 abbrev pub missing_in : Comparison → List Line
 missing_in c = drop c.found (map string_bytes c.lines.items)
 
--- the line is that of this command, which is carried out; what it prints is missing behind it
+-- the line is that of this command, which is carried out; the output that it prints is missing from then on
 abbrev pub CarriesOut : Comparison → Line → Told → Comparison → Type 0
 CarriesOut before line t after =
     (line ≡ command_line t) × (before.last < t.number) × (t.number ≤ 4294967295) × Leads before.bench (t ∷ []) after.bench
@@ -41,14 +41,14 @@ Finds before line after =
 abbrev pub GoesOn : Comparison → Line → Comparison → Type 0
 GoesOn before line after = Finds before line after ⊎ ((missing_in before ≡ []) × (t : Told) × CarriesOut before line t after)
 
--- the recording is bad at this line, the place of which this is; or something failed
+-- the recording is bad at this line, which has this number; or something failed
 abbrev pub IsBadAt : Comparison → Line → ℕ → Stop → Type 0
 IsBadAt c line place (BadLine n) = (n ≡ place) × (missing_in c ≡ []) × ¬ (IsOutput line) × IsNoCommand c.last c.bench line
 IsBadAt c line place Failed = ⊤
 IsBadAt c line place Usage = ⊥
 IsBadAt c line place Differs = ⊥
 
--- what a comparison comes to where the recording ends, of which this is the place behind the last line
+-- the verdict of a comparison if the recording ends here; `place` is the number of the line after the last one
 abbrev pub EndsWith : Comparison → ℕ → Replayed → Type 0
 EndsWith c place (replayed.Same count) = (missing_in c ≡ []) × (count ≡ c.count)
 EndsWith c place (replayed.Differs n) = (missing_in c ≢ []) × (n ≡ place)

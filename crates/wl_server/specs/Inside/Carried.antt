@@ -1,4 +1,4 @@
--- How a verdict was carried out over a client, as the functions that do so tell their callers.
+-- How a verdict was carried out over a client, as the functions that do so say to their callers.
 use Rattle.std.specs.Prelude.{◌≡◌, ◌⊎◌, ℕ, List, ◌++◌, Bool, true, ◌||◌, Result, map}
 use Rattle.wl_wire.specs.declared.error.IoFault.{IoFault}
 use Rattle.wl_link.specs.Exchange.{Queue, Sending}
@@ -16,18 +16,18 @@ abbrev pub told_notes : {U : Type 0} → List (Told U) → List (Happening U)
 told_notes events = notes_in (deeds_in (map HandedOut events))
 
 module _ {T U C : Type 0} (sends : T → Queue → Result ℕ IoFault → T → Type 0) where
-  -- the messages were put and what waits was flushed, and the core came to what that answered
+  -- the messages were put, what waits was flushed if it had to be, and the core is what the answer makes it
   abbrev pub Put : Verdict (Core U C) (Told U) → LinkState T → Bool → Core U C → LinkState T → Type 0
   Put v before refused core after =
       (wrote : Result (Unit {0}) IoFault) × (mid : LinkState T) × (others : List Sending) × (lacked : Bool)
       × Puts sends before v.puts wrote mid × FlushesOut sends v.flushes mid others lacked after
       × (core ≡ came_to speaker v wrote) × (refused ≡ lacked_memory wrote || lacked)
 
-  -- there was no memory for it
+  -- memory was refused before anything was put
   abbrev pub Starved : Verdict (Core U C) (Told U) → LinkState T → Bool → Core U C → LinkState T → Type 0
   Starved v before refused core after = (v.asks ≡ true) × (refused ≡ true) × (core ≡ v.starved) × (after ≡ before)
 
-  -- one of these, and the notes of it are behind those that were made
+  -- one of these, and the new notes come after those that were made
   abbrev pub IsCarried : Verdict (Core U C) (Told U) → Stored T U C → Bool → Stored T U C → Type 0
   IsCarried v before refused after =
       (core : Core U C) × (link : LinkState T)

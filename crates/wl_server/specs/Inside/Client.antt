@@ -7,13 +7,13 @@ use Rattle.wl_server.specs.Part.{Part, fresh_part}
 use Rattle.wl_server.specs.Server.{Stored}
 
 module _ {T U C : Type 0} where
-  -- its part makes a step of this kind, and the notes of it are behind those that were made
+  -- the part changes by R, and the new notes come after those that were made
   abbrev pub Does : Stored T U C → (Part T U C → List (Deed U) → Part T U C → Type 0) → Stored T U C → Type 0
   Does before R after =
       (did : List (Deed U)) × (q : Part T U C) × R before.part did q
       × (after ≡ record { serial = before.serial; part = q; made = before.made ++ notes_in did })
 
-  -- nothing has happened in it but that it was inserted
+  -- nothing has happened in it but its insertion
   abbrev pub IsInserted : ℕ → T → Option ℕ → C → Stored T U C → Type 0
   IsInserted serial transport limit info s =
       (link : LinkState T) × IsFresh transport limit link

@@ -12,7 +12,7 @@ use Rattle.wl_server.specs.PartStep.{Asked, World}
 use Rattle.wl_server.specs.Server.{Seen, ServerState, seen}
 use Rattle.wl_server.specs.Steps.{Entry, OneStep}
 
--- how many bytes wait to be read of a client, by what is held of it
+-- how many bytes of a client wait to be read
 abbrev pub waits : {T U C : Type 0} → Seen T U C → ℕ
 waits s = option_map_or (λ p. length p.link.incoming.bytes) s.part 0
 
@@ -24,7 +24,7 @@ module _ {T U G C : Type 0} where
   abbrev pub Fewer : ClientParts → Reading → ServerState T U G C → Reading → ServerState T U G C → Type 0
   Fewer id r s r' s' = (r'.receives_left < r.receives_left) ⊎ ((r'.receives_left ≡ r.receives_left) × (waiting_of id s' < waiting_of id s))
 
--- Each of these says whether memory was refused, in its own calls or in those of the dispatch before it.
+-- In each of these, `refused` says whether memory was refused in its own calls or in those of the dispatch before it.
 module _ {H T U G C : Type 0} (w : World T G C) (answers : Answering H T U G C) (id : ClientParts) where
   -- The client is read once, and an action is handled, if there is one. This fault ends the dispatch, or none does.
   pub record ServesOnce (h : H) (r : Reading) (before : BackendState T U G C) (end : Option IoFault) (h' : H) (r' : Reading) (after : BackendState T U G C) : Type 0 where

@@ -17,18 +17,18 @@ use Rattle.wl_server.specs.Inside.Puts.{Puts}
 use Rattle.wl_server.specs.Server.{Stored}
 use Rattle.wl_server.specs.Telling.{Kills, deletions}
 
--- what a client is told where the object of this number is ended, and where it is not
+-- what a client is told: if the object of this number is ended, that the number is free; else nothing
 abbrev pub told_of_end : Bool → ℕ → List Said
 told_of_end true n = deletions n
 told_of_end false n = []
 
--- where an event was written that ends the object of the number, or does not, its client is told
+-- if the event was written, the client is told what it has to be told
 abbrev pub PutsEnd : {T : Type 0} → (T → Queue → Result ℕ IoFault → T → Type 0) → LinkState T → ℕ → Bool → Result (Unit {0}) IoFault
     → Result (Unit {0}) IoFault → LinkState T → Type 0
 PutsEnd sends before n ends written answer after =
     MatchResult written (λ _. Puts sends before (told_of_end ends n) answer after) (λ fault. (answer ≡ Err fault) × (after ≡ before))
 
--- and it is closed down where that write failed, or the event's
+-- the client is killed as closed if that write failed, or the write of the event
 abbrev pub TellsEnd : {T U C : Type 0} → (T → Queue → Result ℕ IoFault → T → Type 0) → Stored T U C → ℕ → Bool → Result (Unit {0}) IoFault → Bool
     → Stored T U C → Type 0
 TellsEnd {T = T} sends before n ends written refused after =
@@ -38,7 +38,7 @@ TellsEnd {T = T} sends before n ends written refused after =
     (λ _. Does (record before { part = with_link before.part link }) (λ p did q. Kills p ConnectionClosed did q) after)
 
 module _ {U : Type 0} where
-  -- the store without what a number holds, where that is ended
+  -- the store without the object of the number, if that is ended
   abbrev pub store_ending : Bool → Store (Kept U) → ℕ → Store (Kept U)
   store_ending true store n = removed store n
   store_ending false store n = store

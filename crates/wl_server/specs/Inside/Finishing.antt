@@ -18,7 +18,7 @@ use Rattle.wl_server.specs.Inside.Puts.{Puts}
 use Rattle.wl_server.specs.Server.{Stored}
 use Rattle.wl_server.specs.Telling.{deletions}
 
--- whether memory was refused, by the reason and by the answer
+-- whether memory was refused, by the reason or the answer
 abbrev pub is_memory : FinishError → Bool
 is_memory finish.OutOfMemory = true
 is_memory _ = false
@@ -28,17 +28,17 @@ lacks_finish (Ok _) = false
 lacks_finish (Err r) = is_memory r.error
 
 module _ {T U C : Type 0} where
-  -- no action is open any more, and the object that it made has its data
+  -- no action is open any longer, and the object that it made has its data
   abbrev pub part_closed : Part T U C → Option IdParts → Option U → Part T U C
   part_closed p created u = record p { action = None; store = store_with_data p.store created u }
 
-  -- an object left, over this link
+  -- the part without an object, with this link
   abbrev pub part_without : Part T U C → LinkState T → ℕ → Object (Kept U) → Part T U C
   part_without p link n x = record p { link = link; store = removed p.store n; registries = registries_without p.registries n x }
 
 module _ {T U C : Type 0} (sends : T → Queue → Result ℕ IoFault → T → Type 0) (client : ClientParts) where
-  -- The client was told that the object's number is free, and the object left and was noted; the answer is that of the
-  -- telling, which did not want memory. Or there was none, and the object stays.
+  -- The client was told that the object's number is free, with this answer, and the object left and was noted. Or memory was
+  -- refused, and the object stays.
   abbrev pub EndsObject : Stored T U C → IdParts → Object (Kept U) → Result (Result (Unit {0}) IoFault) OutOfMemory → Stored T U C → Type 0
   EndsObject before sender x (Ok wrote) after =
       Puts sends before.part.link (deletions sender.number) wrote after.part.link × (lacked_memory wrote ≡ false)
@@ -53,7 +53,7 @@ module _ {T U C : Type 0} (sends : T → Queue → Result ℕ IoFault → T → 
       × Puts sends before.part.link (deletions sender.number) wrote after.part.link
       × (after ≡ record before { part = with_link before.part after.part.link }))
 
-  -- the same of a request that may end its sender
+  -- the same for a request that may end its sender
   abbrev pub EndsSender : Stored T U C → IdParts → Bool → Result (Result (Unit {0}) IoFault) OutOfMemory → Stored T U C → Type 0
   EndsSender before sender is_destructor answer after =
       MatchOption (ended_by before.part.store sender is_destructor) ((answer ≡ Ok (Ok tt)) × (after ≡ before))

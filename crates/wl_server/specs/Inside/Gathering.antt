@@ -6,20 +6,20 @@ use Rattle.wl_server.specs.Ids.{ClientParts}
 use Rattle.wl_server.specs.Server.{Stored, client_at, note_of, notes_of}
 
 module _ {T U C : Type 0} (waits : Bool) where
-  -- the notes of the client of a slot that are gathered, in order: those that were made, and then, where they are to be,
-  -- those that wait
+  -- the notes of a slot's client that are gathered, in order: those that were made, and then, if they are to be gathered
+  -- too, those that wait
   abbrev pub leaving : Option (Stored T U C) → List (Happening U)
   leaving None = []
   leaving (Some s) = s.made ++ (if waits then s.part.waiting else [])
 
-  -- it without them
+  -- the client without them
   abbrev pub emptied : Stored T U C → Stored T U C
   emptied s = record { serial = s.serial; part = record s.part { waiting = if waits then [] else s.part.waiting }; made = [] }
 
   abbrev pub all_emptied : List (Option (Stored T U C)) → List (Option (Stored T U C))
   all_emptied clients = map (option_map emptied) clients
 
-  -- how many they are, of all clients
+  -- how many there are of all clients
   abbrev pub count_leaving : List (Option (Stored T U C)) → ℕ
   count_leaving [] = 0
   count_leaving (x ∷ clients) = length (leaving x) + count_leaving clients
@@ -28,13 +28,13 @@ module _ {T U C : Type 0} (waits : Bool) where
   notes_from slot None told = []
   notes_from slot (Some s) told = map (note_of (record { slot = slot; serial = s.serial })) told
 
-  -- the first of the notes of the client of a slot goes behind these notes
+  -- the first of the notes of a slot's client is appended to these notes
   abbrev pub MovesNote : ℕ → Option (Stored T U C) → List (Note U) → Option (Stored T U C) → List (Note U) → Type 0
   MovesNote slot before notes after notes' =
       (h : Happening U) × (leaving before ≡ h ∷ leaving after) × (option_map emptied after ≡ option_map emptied before)
       × (notes' ≡ notes ++ notes_from slot before (h ∷ []))
 
-  -- some notes of all clients do: of each id the same is told as before
+  -- some notes of all clients are moved so; of each client id the notes tell the same as before
   pub record Gathers (clients : List (Option (Stored T U C))) (notes : List (Note U)) (clients' : List (Option (Stored T U C))) (notes' : List (Note U)) : Type 0 where
     pub rest : all_emptied clients' ≡ all_emptied clients
     pub told : (id : ClientParts) → notes_of id notes' ++ leaving (client_at id clients') ≡ notes_of id notes ++ leaving (client_at id clients)

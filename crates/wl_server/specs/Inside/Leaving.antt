@@ -64,7 +64,7 @@ abbrev pub FlushesKilled : {T U C : Type 0} → (T → Queue → Result ℕ IoFa
 FlushesKilled sends before lacked did after =
     MatchBool before.is_killed ((answer : Result (Unit {0}) IoFault) × FlushedTo sends before answer lacked did after) (Stays before lacked did after)
 
--- what waits for a client is flushed where it is killed, or where it is live, as is asked for
+-- what waits is flushed: for a killed client (`true`), or for a live one
 abbrev pub Flushes : {T U C : Type 0} → (T → Queue → Result ℕ IoFault → T → Type 0) → Bool → Part T U C → Bool → List (Deed U) → Part T U C → Type 0
 Flushes sends true before lacked did after = FlushesKilled sends before lacked did after
 Flushes sends false before lacked did after = FlushesLive sends before lacked did after

@@ -15,7 +15,7 @@ use Rattle.wl_server.specs.contracts.client.Client as client
 abbrev pub clients_row : (T U C : RattleType) → RattleType
 clients_row T U C = vec.the_row (option.the_row (client.the_row T U C)) global.the_row ghosts
 
--- the clients end with what was left in the client of the id, and with all else as it was
+-- after the loan the client of the id is as it was left, and all else is as it was
 abbrev pub LendsStored : (T U C : RattleType) → MutBor (Vec (Option (Stored T.Denot U.Denot C.Denot)) global.the_row.Denot) → ClientParts
     → Option (MutBor (Stored T.Denot U.Denot C.Denot)) → Fml
 LendsStored T U C clients id stored =

@@ -1,4 +1,4 @@
--- What a client hears of a new global, as the functions that tell it say to each other.
+-- What a client is told of a new global, as the functions that tell it say to each other.
 use Rattle.std.specs.Prelude.{◌≡◌, ℕ, List, [], ◌∷◌, Bool, Some, Result}
 use Rattle.wl_wire.specs.declared.argument.Argument.TheVariants as arg
 use Rattle.wl_wire.specs.declared.argument.Token.{Token}

@@ -8,11 +8,11 @@ use Rattle.wl_server.specs.declared.notes.queues.NotePlace.{NotePlace}
 use Rattle.wl_server.specs.Inside.Gathering.{leaving}
 use Rattle.wl_server.specs.Server.{Stored, stored_at}
 
--- the number behind this one; none is behind the greatest, which stays
+-- the number after this one; after the greatest, that one again
 abbrev pub number_behind : ℕ → ℕ
 number_behind n = min (n + 1) (2 ^ 128 - 1)
 
--- the place of a note that is kept with its number, which waits or not, at a slot
+-- the place of a note with its number, at a slot; the note waits for a cleanup or not
 abbrev pub place_of : {U : Type 0} → Bool → ℕ → ℕ × Happening U → NotePlace
 place_of waits slot note = record { waits = waits; number = note.0; slot = slot }
 
@@ -24,7 +24,7 @@ IsNoLater a b = (IsTrue a.waits → IsTrue b.waits) × (a.waits ≡ b.waits → 
 abbrev pub Rise : List NotePlace → Type 0
 Rise order = AllAdjacentBelow IsNoLater order (length order)
 
--- how many places are of a slot
+-- how many places belong to a slot
 abbrev pub places_at : ℕ → List NotePlace → ℕ
 places_at slot order = sum_by (λ p. if p.slot == slot then 1 else 0) order
 

@@ -12,7 +12,7 @@ module _ {T U G C : Type 0} where
   IsOfObject (step.PostError o code text) = Unit {0}
   IsOfObject _ = ⊥
 
-  -- it reads of a client, or ends what was read
+  -- it reads a client, or ends its action
   abbrev pub IsOfReading : Step T U G C → Type 0
   IsOfReading (step.NextAction target) = Unit {0}
   IsOfReading (step.NextActionWithin target reading) = Unit {0}

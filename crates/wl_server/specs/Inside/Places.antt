@@ -7,7 +7,7 @@ use Rattle.wl_server.specs.Part.{Part}
 use Rattle.wl_server.specs.Server.{Stored}
 
 module _ {T U C : Type 0} (R : ClientParts → Part T U C → Bool → List (Deed U) → Part T U C → Type 0) where
-  -- the client of a slot feels it, if there is one, and memory was refused to it or not
+  -- the client of a slot, if there is one, feels the step; `lacked` says whether memory was refused to it
   abbrev pub PlaceFeels : ℕ → Option (Stored T U C) → Bool → Option (Stored T U C) → Type 0
   PlaceFeels slot None lacked after = (lacked ≡ false) × (after ≡ None)
   PlaceFeels slot (Some s) lacked after =
@@ -18,8 +18,8 @@ module _ {T U C : Type 0} (R : ClientParts → Part T U C → Bool → List (Dee
   FeltAt slot (Some place) lacked after =
       (place' : Option (Stored T U C)) × PlaceFeels slot place lacked place' × (after ≡ Some place')
 
-  -- The clients of the slots below this one felt it, and the others are as they were. Memory was refused exactly where it
-  -- was to some client.
+  -- The clients of the slots below this one felt the step, and the others are as they were. `refused` says whether memory
+  -- was refused to one of them.
   pub record AllFeel (refused : Bool) (slot : ℕ) (start now : List (Option (Stored T U C))) : Type 0 where
     pub lacks : ℕ → Bool
     pub len : length now ≡ length start

@@ -1,4 +1,4 @@
--- What the calls of a transport by script say to each other.
+-- The calls of a transport by script, as the functions that make them say to each other.
 use Rattle.std.specs.Prelude.{Result, Ok, Err}
 use Rattle.wl_wire.specs.declared.error.OutOfMemory.{OutOfMemory}
 use Rattle.wl_link.specs.declared.memory.ArriveError.{ArriveError}
