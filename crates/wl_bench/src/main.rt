@@ -1,11 +1,19 @@
 //! The program `wl-bench`.
 //!
-//! `wl-bench sync` prints the bytes that a fresh client sends for its first `wl_display.sync`, and those of the
-//! server's answer, a line each. `wl-bench run` drives a server by the lines of its standard input, and prints what
-//! each comes to; `wl-bench record` prints each command beside that, and `wl-bench replay` compares such a recording with
-//! what its commands come to now. It ends with status 0; with 1 if a recording differs; with 2 and its usage on standard
-//! error if the arguments are others; with 2 and `line <number>: bad command` there at the first bad line; with 3 and
-//! `failed` there if memory, input or output failed.
+//! `wl-bench sync` prints the bytes that a fresh client sends for its first `wl_display.sync`, and those of the server's
+//! answer, a line each. `wl-bench run` carries out the commands on its standard input, one a line, on a server, and prints
+//! their answers. `wl-bench record` prints each command with its answer, and `wl-bench replay` compares such a recording
+//! with the answers of today. The program ends with status 0; with 1 if a recording differs; with 2 and its usage on
+//! standard error if the arguments are others; with 2 and `line <number>: bad command` there at the first bad line; with 3
+//! and `failed` there if memory, input or output failed.
+//!
+//! | Subject | Code | Definitions, in `specs/` |
+//! |---|---|---|
+//! | `sync` | `sync`, `hex` | `Sync`, `Hex` |
+//! | which lines are commands | `command`, `words` | `Commands` |
+//! | what a command does, and what it prints | `bench`, `latest`, `table`, `answer` | `Bench`, `Table`, `Answers` |
+//! | `run`, `record`, `replay` | `commands`, `replay`, `stop` | `Record` |
+//! | a law of commands | `laws` | `Apart` |
 #![tactic(auto)]
 
 mod answer;

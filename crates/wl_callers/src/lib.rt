@@ -1,7 +1,7 @@
 //! Callers of `wl_server` and `wl_client`, proved from the public contracts of these crates alone.
 //!
-//! Each is a function that a program might have, with the contract that its user wants. `README.md` says which to read
-//! first.
+//! Each module has one function that a program might have, with the contract that its user wants. `README.md` says what
+//! each contract says, and which to read first.
 #![tactic(auto)]
 
 pub mod announcement;

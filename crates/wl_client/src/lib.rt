@@ -10,7 +10,7 @@
 //!
 //! | Calls | Code | Relations, in `specs/` |
 //! |---|---|---|
-//! | `connect`, `take_notes`, the limit, `transport_mut` | `backend`: read it first | `Session`, `Lending` |
+//! | `connect`, `take_notes`, the limit, `transport_mut`, .. | `backend`: read it first | `Session`, `Lending` |
 //! | `send_request`, `flush` | `request`, `send_request`, `flush` | `Requests`, `Finish` |
 //! | `next_event` | `next_event`, `message`, `event`, `arguments`, `display` | `Reading`, `Handling`, `Events`, `Cutting` |
 //! | `finish_event` | `finish_event` | `Finish`, `Cutting` |

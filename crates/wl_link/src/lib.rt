@@ -7,15 +7,20 @@
 //!
 //! | Calls | Code | Definitions, in `specs/` |
 //! |---|---|---|
-//! | of a `BufferedSocket` | `buffered_socket` | `Link` |
+//! | of a `BufferedSocket` | `buffered_socket` | `Link`, `Kept` |
 //! | of a `Transport`, and of `Memory`, the transport by script | `transport`, `memory` | `Exchange`, `Script` |
 //! | of an `ObjectMap`, and of `AllObjects` and `IntoObjects`, the walks over it | `object_map`, `all_objects`, `into_objects` | `Store`, `ObjectMap` |
 //!
 //! The `requires` and `ensures` lines of a function are its *contract*: what the caller has to see to, and what is proved
 //! of each call. The functions of [`laws`] do nothing. Their contracts state what follows from the definitions alone. The
-//! statements are in these files of `specs/`: for calls `Kept` (nothing is lost), `Outcome` (there is one outcome) and
-//! `Sides` (messages come back); for readers `Reader`, `Served`, `Respect`, `Total` and `Stretch`; for runs `Runs`; for ids
-//! `Identity` and `Named`.
+//! words of these contracts are in the following files of `specs/`:
+//!
+//! | Laws | Code | Definitions, in `specs/` |
+//! |---|---|---|
+//! | of calls: nothing is lost, messages come back, one outcome | `laws::calls` | `Kept`, `Sides`, `Outcome` |
+//! | of readers: how both sessions read | `laws::readers` | `Reader`, `Puts`, `Served`, `Respect`, `Total`, `Stretch` |
+//! | of runs of calls | `laws::runs` | `Runs` |
+//! | of object ids | `laws::ids` | `Identity`, `Named` |
 #![tactic(auto)]
 
 mod all_objects;

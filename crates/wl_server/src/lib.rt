@@ -12,8 +12,9 @@
 //! |---|---|---|
 //! | `insert_client`, `kill_client`, `flush`, the limits, `transport_mut` | `client` | `PartStep`, `Felt`, `Telling` |
 //! | `create_object`, `destroy_object`, `set_object_data` | `objects` | `Objects` |
-//! | `send_event`, `post_error` | `events` | `Events`, `Errors` |
-//! | `next_action`, `next_action_within`, `finish_request`, `finish_bind` | `reading` | `Reading`, `Requests`, `Finish` |
+//! | `send_event`, `post_error` | `events` | `Events`, `Errors`, `Posted` |
+//! | `next_action`, `next_action_within` | `reading` | `Reading`, `Requests`, `Cutting`, `Room` |
+//! | `finish_request`, `finish_bind` | `reading::finish` | `Finish`, `Cutting` |
 //! | `dispatch_single_client`, `dispatch_all_clients`, [`Handler`] | `dispatch` | `Dispatch`, `Reached` |
 //! | `create_global`, `disable_global`, `remove_global` | `globals` | `Globals`, `Felt` |
 //! | `cleanup`, `take_notes` | `notes` | `PartStep`, `Felt` |
@@ -25,9 +26,10 @@
 //!
 //! The laws of runs are the contracts of the functions of [`laws`]. A *run* is a list of calls, one after another. The
 //! statement of each law stands in a file of `specs/`: `Runs` (each client is alone), `Identified` and `Named` (ids),
-//! `Logged` (what was sent), `Announced` (globals), `NotedOnce` (notes), `Cutting` and `Stretches` (it does not matter
-//! how the bytes are cut into receives), `Outcome` and `WholeOutcome` (there is one outcome), `Room` (a message always
-//! has room in the buffer).
+//! `Logged` (what was sent), `Announced` (globals), `NotedOnce` and `NotedEnds` (notes), `Accounts` (all of these of one
+//! history), `Cutting` and `Stretches` (it does not matter how the bytes are cut into receives), `Outcome` and
+//! `WholeOutcome` (there is one outcome), `Bounded` (how often is received). That a message always has room in the buffer
+//! (`Room`) is a clause of `next_action` itself.
 #![tactic(auto)]
 
 mod backend;

@@ -9,15 +9,18 @@
 //! | Calls | Code | Definitions, in `specs/` |
 //! |---|---|---|
 //! | `write_to_buffers`, `write_numbered`, `message_size`, `numbered_size` | `write` | `Message`, `MapIds` |
-//! | `parse_message`, `parse_into`, `message_header`, `message_is_there` | `parse` | `Parse`, `Reading` |
-//! | `Protocol`, `check_for_signature`, `same_interface` | `protocol` | `Table`, `Argument`, `Asked` |
+//! | `parse_message`, `parse_into`, `message_header`, `message_is_there` | `parse` | `Parse`, `Reading`, `Argument` |
+//! | `Protocol`, `check_for_signature`, `same_interface` | `protocol`, `table_check` | `Table`, `Argument`, `Asked` |
 //! | `Message::map_ids`, `Message::map_fd` | `map_ids`, `message` | `MapIds`, `MapFd` |
 //! | `WEnum`, `WaylandEnum` | `enums` | `Enum` |
 //!
 //! The `requires` and `ensures` lines of a function are its *contract*: what the caller has to see to, and what is proved
-//! of each call. Lines that begin with `ghost` are for the checker alone.
+//! of each call. Lines that begin with `ghost` are for the checker alone. `ghost use Rattle.wl_wire.specs.Message.{size}`
+//! says that the word `size` of a contract is defined in `specs/Message.antt`. The names in `specs.declared` are those of
+//! the crate's Rust types.
 //!
-//! The functions of [`laws`] do nothing. Their contracts state what follows from the definitions alone.
+//! The functions of [`laws`] do nothing. Their contracts state what follows from the definitions alone: `Message`,
+//! `Parse`, and `Stream` (messages one after another).
 #![tactic(auto)]
 
 mod argument;
