@@ -69,6 +69,7 @@ module _ {U : Type 0} (table : List InterfaceRow) (objects : Objects (Kept U)) w
       of_converted m receiver row (convert receiver.version receiver.value.client_destroyed (start objects row) [] m.args)
   of_event m _ _ = Breaks (error_of table wrong.Malformed) objects
 
+  -- the handling of a message; one whose sender or opcode is unknown is malformed
   abbrev pub handling : WireMessage → Handling U
   handling m =
       if m.sender == 1 then of_display (display_event m.opcode m.args)

@@ -98,6 +98,7 @@ module _ {U : Type 0} where
     events = λ d. [];
   }
 
+  -- the verdict if an event is finished with these data; `None` if no event is open, or they do not fit
   abbrev pub finish : Core U → Option WaylandError → Option OpenEvent → Option U → Option (Verdict (Core U) SessionMessage)
   finish c None (Some event) u = if is_none (refusal event.created u) then Some (finished c event u) else None
   finish c _ _ u = None
@@ -113,6 +114,7 @@ module _ {U : Type 0} where
   abbrev pub reads_on : Core U → Bool
   reads_on c = is_none c.error && is_none c.open_event
 
+  -- the client as a reader
   abbrev pub client : Reader (Core U) SessionMessage (Option U)
   client = record {
     reads_on = reads_on;
@@ -137,6 +139,7 @@ by_fault fault.WouldBlock = no_event.WouldBlock
 by_fault fault.OutOfMemory = no_event.OutOfMemory
 by_fault other = no_event.Failed
 
+-- the answer of a reading that ended so and gave this
 abbrev pub answered : Option IoFault → List (Given SessionMessage) → Result SessionMessage EventError
 answered None gave = event_in gave
 answered (Some f) gave = Err (by_fault f)

@@ -18,6 +18,7 @@ use Rattle.wl_wire.specs.Message.{WireMessage, content, size, spelling, tokens}
 use Rattle.wl_wire.specs.Parse.{IsWhole, length_of, sender_of, opcode_of, fd_count, IsInline, ReadsMessage, RefusesMessage}
 use Rattle.wl_link.specs.Exchange.{Queue, Sending, Chain, joined, nothing}
 
+-- what contracts see of a link
 pub record LinkState (T : Type 0) : Type 0 where
   pub transport : T
   -- received and not read yet, and how many bytes the incoming buffer can hold
@@ -118,6 +119,7 @@ LimitSet before asked after =
 abbrev pub offer_size : List Token → ℕ
 offer_size tokens = if nat_le (length tokens) 28 then 4096 else 1
 
+-- what a send is offered of what waits
 abbrev pub offer_of : Queue → Queue
 offer_of q = record { bytes = take (offer_size q.tokens) q.bytes; tokens = take 28 q.tokens }
 
@@ -138,6 +140,7 @@ Flushes q (e ∷ es) answer after =
     (q.bytes ≢ []) × (e.offer ≡ offer_of q)
     × Goes e.answer (es ≡ []) (after ≡ q) (after ≡ left_of 0 q) answer (λ n. Flushes (left_of n q) es answer after)
 
+-- a flush of the link with these sends
 abbrev pub FlushedBy : {T : Type 0} → (T → Queue → Result ℕ IoFault → T → Type 0)
     → LinkState T → List Sending → Result (Unit {0}) IoFault → LinkState T → Type 0
 FlushedBy sends before es answer after =
@@ -171,6 +174,7 @@ pub record Grows (limit : Option ℕ) (needed size size' : ℕ) : Type 0 where
 abbrev pub needed : {T : Type 0} → LinkState T → ℕ → ℕ
 needed l more = length l.outgoing.bytes + more
 
+-- the outgoing buffer has grown, as far as it may, to have room for `more` bytes
 abbrev pub Grown : {T : Type 0} → LinkState T → ℕ → LinkState T → Type 0
 Grown before more after =
     Grows before.limit (needed before more) before.outgoing_capacity after.outgoing_capacity × (after ≡ with_outgoing_capacity before after.outgoing_capacity)

@@ -25,11 +25,13 @@ pub record SameRead {T : Type 0} (a b : Result WireMessage MessageParseError) (x
   pub answer : a ≡ b
   pub after : x ≡ y
 
+-- what was put of one list of messages, the answer, and what it leaves, are those of another
 pub record SamePut {T : Type 0} (p q : List Said) (a b : Result (Unit {0}) IoFault) (x y : LinkState T) : Type 0 where
   pub put : p ≡ q
   pub answer : a ≡ b
   pub after : x ≡ y
 
+-- what one reading gives, and what it leaves, are those of another
 pub record SameReading {T Core Event : Type 0} (o o' : Gives Event) (x y : ReaderState T Core) : Type 0 where
   pub out : o ≡ o'
   pub after : x ≡ y

@@ -16,6 +16,7 @@ use Rattle.wl_link.specs.Exchange.{Queue, Sending, joined, nothing}
 use Rattle.wl_link.specs.Link.{FilledBy, FindsRoom, LinkState, ReadOne, count_of, counted_answer}
 use Rattle.wl_link.specs.Puts.{FlushesOut, PutsOut, Said, lacked_memory}
 
+-- what a message, malformed bytes, or the end of what is open does
 pub record Verdict (Core Event : Type 0) : Type 0 where
   -- what the core becomes at once
   pub core : Core
@@ -44,6 +45,7 @@ pub record Reader (Core Event Finish : Type 0) : Type 0 where
   pub broken : Core → IoFault → Core
   pub faulted : Core → IoFault → Core
 
+-- what a reader holds
 pub record ReaderState (T Core : Type 0) : Type 0 where
   pub core : Core
   pub link : LinkState T
@@ -73,6 +75,7 @@ pub record Gives (Event : Type 0) : Type 0 where
   pub refused : Bool
   pub left : ℕ
 
+-- nothing was given, and the reading ends here
 abbrev pub stops : {Event : Type 0} → Option IoFault → Bool → ℕ → Gives Event
 stops stopped refused left = record { gave = []; stopped = stopped; refused = refused; left = left }
 
@@ -86,6 +89,7 @@ handled_in [] = 0
 handled_in (Handled es ∷ turns) = handled_in turns + 1
 handled_in (_ ∷ turns) = handled_in turns
 
+-- the receive brought a byte, or would have blocked
 abbrev pub IsFed : Result Queue IoFault → Type 0
 IsFed (Ok came) = came.bytes ≢ []
 IsFed (Err f) = f ≡ fault.WouldBlock
@@ -100,6 +104,7 @@ abbrev pub came_by : Result Queue IoFault → Queue
 came_by (Ok came) = came
 came_by (Err f) = nothing
 
+-- what all receives brought
 abbrev pub received_in : List Turn → Queue
 received_in [] = nothing
 received_in (Received r ∷ turns) = joined (came_by r) (received_in turns)
@@ -129,6 +134,7 @@ module _ {Core Event Finish : Type 0} (reader : Reader Core Event Finish) where
   came_to v (Err f) = v.last (reader.broken v.core f)
 
 module _ {T Core Event Finish : Type 0} (sends : T → Queue → Result ℕ IoFault → T → Type 0) (reader : Reader Core Event Finish) where
+  -- the messages of a verdict are put, and what waits is flushed if the verdict says so
   abbrev pub Carries : Verdict Core Event → LinkState T → List Sending → List (Given Event) → Bool → ReaderState T Core → Type 0
   Carries v before es gave refused after =
       (first : List Sending) × (others : List Sending) × (put : List Said) × (wrote : Result (Unit {0}) IoFault) × (mid : LinkState T) × (lacked : Bool)
@@ -141,14 +147,17 @@ module _ {T Core Event Finish : Type 0} (sends : T → Queue → Result ℕ IoFa
   Starves v before es gave refused after =
       (v.asks ≡ true) × (refused ≡ true) × (es ≡ []) × (gave ≡ map HandedOut (v.events v.starved)) × (after ≡ record { core = v.starved; link = before })
 
+  -- a verdict is carried out: with these sends, giving this; `refused` says whether memory was refused
   abbrev pub CarriesOut : Verdict Core Event → LinkState T → List Sending → List (Given Event) → Bool → ReaderState T Core → Type 0
   CarriesOut v before es gave refused after = Carries v before es gave refused after ⊎ Starves v before es gave refused after
 
   -- ---- a reading
 
+  -- a read of the message at the front answers so, under the signature that the core has for it
   abbrev pub ReadsAs : ReaderState T Core → Result WireMessage MessageParseError → LinkState T → Type 0
   ReadsAs p answer link = ReadOne (λ sender opcode found. found ≡ reader.signature p.core sender opcode) p.link answer link
 
+  -- bytes or tokens of the message at the front are lacking
   abbrev pub Lacks : ReaderState T Core → Type 0
   Lacks p = ReadsAs p (Err parse.MissingData) p.link ⊎ ReadsAs p (Err parse.MissingFD) p.link
 
@@ -179,6 +188,7 @@ module _ {T Core Event Finish : Type 0} (sends : T → Queue → Result ℕ IoFa
       ⊎ ((FrontAsks p × (out ≡ stops (Some fault.OutOfMemory) true left))
       ⊎ (Lacks p × ((n : ℕ) × (left ≡ suc n) × (out ≡ stops (Some fault.OutOfMemory) true n))))
 
+  -- the reading ends here: the core reads on no more, or it has to (`Halts`)
   abbrev pub Stops : ℕ → ReaderState T Core → Gives Event → Type 0
   Stops left p out = MatchBool (reader.reads_on p.core) (Halts left p out) (out ≡ stops None false left)
 

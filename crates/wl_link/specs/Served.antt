@@ -34,9 +34,11 @@ module _ {T Core : Type 0} where
 module _ {T Core Event Finish : Type 0} (sends : T → Queue → Result ℕ IoFault → T → Type 0) (reader : Reader Core Event Finish) where
   -- ---- one message
 
+  -- the verdict of what stands at the front, a message or malformed bytes
   abbrev pub Finds : ReaderState T Core → Verdict Core Event → LinkState T → Type 0
   Finds p v link = Takes sends reader p v link ⊎ Leaves sends reader p v link
 
+  -- what is open is ended with the next of the finishes
   abbrev pub TakesNext : ReaderState T Core → List Finish → List (Given Event) → ReaderState T Core → List Finish → Type 0
   TakesNext p [] gave after left = ⊥
   TakesNext p (u ∷ finishes) gave after left = (es : List Sending) × Ends sends reader p u es gave false after × (left ≡ finishes)
@@ -45,10 +47,12 @@ module _ {T Core Event Finish : Type 0} (sends : T → Queue → Result ℕ IoFa
   abbrev pub Handles : ReaderState T Core → List (Given Event) → Bool → ReaderState T Core → Type 0
   Handles p gave refused after = (v : Verdict Core Event) × (link : LinkState T) × (es : List Sending) × Finds p v link × CarriesOut sends reader v link es gave refused after
 
+  -- one step: the front is handled if the reader reads on, and else what is open is ended
   abbrev pub ServesOne : ReaderState T Core → List Finish → List (Given Event) → ReaderState T Core → List Finish → Type 0
   ServesOne p finishes gave after left =
       MatchBool (reader.reads_on p.core) (Handles p gave false after × (left ≡ finishes)) (TakesNext p finishes gave after left)
 
+  -- n such steps
   abbrev pub Serves : ℕ → ReaderState T Core → List Finish → List (Given Event) → ReaderState T Core → List Finish → Type 0
   Serves zero p finishes gave after left = (gave ≡ []) × (after ≡ p) × (left ≡ finishes)
   Serves (suc n) p finishes gave after left =
@@ -59,9 +63,11 @@ module _ {T Core Event Finish : Type 0} (sends : T → Queue → Result ℕ IoFa
   NoneFits core [] = Unit {0}
   NoneFits core (u ∷ finishes) = reader.takes core u ≡ None
 
+  -- no step is left: bytes or tokens are lacking, or the next of the finishes does not fit
   abbrev pub Rests : ReaderState T Core → List Finish → Type 0
   Rests p finishes = MatchBool (reader.reads_on p.core) (Lacks sends reader p) (NoneFits p.core finishes)
 
+  -- steps until none is left
   pub record ServedFrom (p : ReaderState T Core) (finishes : List Finish) (gave : List (Given Event)) (after : ReaderState T Core) : Type 0 where
     pub count : ℕ
     pub left : List Finish

@@ -12,6 +12,7 @@ use Rattle.wl_link.specs.Script.{Script, ScriptReceives, ScriptSends}
 
 -- ---- what has not been received yet
 
+-- all arrivals, joined
 abbrev pub left_over : List (Result Queue IoFault) → Queue
 left_over [] = nothing
 left_over (r ∷ arrivals) = joined (came_by r) (left_over arrivals)

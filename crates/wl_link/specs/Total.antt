@@ -25,6 +25,7 @@ module _ {T Core Event Finish : Type 0} (sends : T → Queue → Result ℕ IoFa
     pub over : (c : Core) (link : LinkState T) → IsOver reader (malformed c link).after.core
     pub takes : (c : Core) (u : Finish) (v : Verdict Core Event) (link : LinkState T) → reader.takes c u ≡ Some v → Carried v link
 
+  -- there is something that is served
   abbrev pub SomethingIsServed : ReaderState T Core → List Finish → Type 0
   SomethingIsServed p finishes = (gave : List (Given Event)) × (after : ReaderState T Core) × ServedFrom sends reader p finishes gave after
 

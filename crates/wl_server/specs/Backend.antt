@@ -9,6 +9,7 @@ use Rattle.wl_server.specs.PartStep.{Changed, World}
 use Rattle.wl_server.specs.Server.{ServerState}
 use Rattle.wl_server.specs.Steps.{Makes, StepOf}
 
+-- what contracts see of a backend
 pub record BackendState (T U G C : Type 0) : Type 0 where
   pub server : ServerState T U G C
   pub refused : Bool

@@ -23,6 +23,7 @@ abbrev pub handed : Action → Handed
 handed (action.Request sender opcode args is_destructor created) = Request sender opcode args.items is_destructor created
 handed (action.Bind global object) = Bind global object
 
+-- one thing that a call does with a client
 pub data Deed (U : Type 0) : Type 0 where
   -- its transport was offered this, and answered so; its transport gave this to a receive
   Sent : Sending → Deed U

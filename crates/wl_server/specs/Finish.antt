@@ -107,6 +107,7 @@ module _ {T U C : Type 0} where
       (EndsRequest sends client before sender is_destructor created u answer refused did after)
       (λ e. Refuses before u e answer refused did after)
 
+  -- the end of a request with these data
   abbrev pub FinishesRequest : (T → Queue → Result ℕ IoFault → T → Type 0) → ClientParts → Part T U C → Option U
       → Result (Unit {0}) (FinishRefused (Option U)) → Bool → List (Deed U) → Part T U C → Type 0
   FinishesRequest sends client before u answer refused did after =
@@ -121,6 +122,7 @@ module _ {T U C : Type 0} where
       (answer ≡ Ok tt) × (refused ≡ false) × (did ≡ [])
       × (after ≡ record before { action = None; store = store_with_data before.store (Some object) (Some u) })
 
+  -- the end of a bind with these data
   abbrev pub FinishesBind : Part T U C → U → Result (Unit {0}) (FinishRefused U) → Bool → List (Deed U) → Part T U C → Type 0
   FinishesBind before u answer refused did after =
       MatchOption before.action (Refuses before u finish.NoOpenAction answer refused did after)

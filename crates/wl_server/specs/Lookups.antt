@@ -58,6 +58,7 @@ module _ {T U G C : Type 0} (s : ServerState T U G C) where
   abbrev pub object_of : IdParts → Option (Object (Kept U))
   object_of id = and_then (client_of id.client) (λ p. named p.store id)
 
+  -- number, interface and version of the object that the id names
   abbrev pub object_info_of : IdParts → Option ObjectInfo
   object_info_of id = option_map (info_at id.number) (object_of id)
 

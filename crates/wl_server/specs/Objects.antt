@@ -83,6 +83,7 @@ module _ {T U C : Type 0} where
   abbrev pub destroyable : Part T U C → IdParts → Option (Object (Kept U))
   destroyable p id = if id.number == 1 then None else named p.store id
 
+  -- the program destroys an object
   abbrev pub Destroys : (T → Queue → Result ℕ IoFault → T → Type 0) → ClientParts → Part T U C → IdParts → Result (Unit {0}) DestroyError
       → Bool → List (Deed U) → Part T U C → Type 0
   Destroys sends client before id answer refused did after =

@@ -36,6 +36,7 @@ last_possible_serial = 0xFFFFFFFFFFFFFFFF
 abbrev pub id_of : IdParts → Id
 id_of id = record { number = id.number; serial = id.serial }
 
+-- the client's null id, which names no object
 abbrev pub null_id : ClientParts → IdParts
 null_id client = record { number = 0; serial = 0; client = client; interface = anonymous_id }
 

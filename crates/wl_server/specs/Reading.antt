@@ -177,10 +177,12 @@ module _ {U G C : Type 0} (a : Around G C) where
       then display_request c m.opcode m.args
       else (if receiver.interface.0 == registry_id.0 then registry_request c m.args else other_request c m receiver row)
 
+  -- what a request does
   abbrev pub request : Core U C → WireMessage → Option (Object (Kept U)) → Option MessageRow → Verdict (Core U C) (Told U)
   request c m (Some receiver) (Some row) = request_to c m receiver row
   request c m _ _ = garbled c
 
+  -- a client of the server as a reader
   abbrev pub server : Reader (Core U C) (Told U) (Finish U)
   server = record {
     reads_on = reads_on;
@@ -207,6 +209,7 @@ module _ {U : Type 0} where
   action_in (_ ∷ gave) = action_in gave
   action_in [] = Err (Io fault.Pipe)
 
+  -- the answer of a reading that ended so and gave this
   abbrev pub answered : Option IoFault → List (Given (Told U)) → Result Handed ActionError
   answered None gave = action_in gave
   answered (Some f) gave = Err (Io f)

@@ -40,6 +40,7 @@ module _ {T U C : Type 0} where
   abbrev pub LacksSlot : ℕ → List (Option (Stored T U C)) → Type 0
   LacksSlot last clients = ((k : ℕ) → k < 0x100000000 → IsSome (stored_at k clients)) ⊎ (last ≡ last_possible_serial)
 
+  -- the id of the next client: the least free slot, and the next serial
   abbrev pub IsNextClient : ℕ → List (Option (Stored T U C)) → ClientParts → Type 0
   IsNextClient last clients id = IsLeastFree clients id.slot × (last < last_possible_serial) × (id.serial ≡ last + 1)
 

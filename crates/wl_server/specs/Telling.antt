@@ -106,6 +106,7 @@ module _ {U C : Type 0} where
   abbrev pub killed : Core U C → DisconnectReason → Core U C
   killed c reason = record c { is_killed = true; ended = if c.is_killed then c.ended else Some reason }
 
+  -- the client is killed as one whose connection is closed
   abbrev pub closed_down : Core U C → Core U C
   closed_down c = killed c ConnectionClosed
 
@@ -139,6 +140,7 @@ module _ {U C : Type 0} where
   deeds_of exchanges gave c = exchanges ++ (deeds_in gave ++ end_deeds c.ended)
 
 module _ {T U C : Type 0} where
+  -- what is held of the client but its link, before a call
   abbrev pub core_of : Part T U C → Core U C
   core_of p = record {
     info = p.info;
