@@ -27,7 +27,7 @@ fn ended(error: EventError) -> Result<(), EventError>
 ///
 /// - `EventOpen`: the last event that was appended could not be finished, for instance because it makes an object. Or an
 ///   event was open before the call.
-/// - `OutOfMemory`: memory ran out.
+/// - `OutOfMemory`: memory was refused.
 /// - Any other error of `next_event`, except `WouldBlock`: if no more events are there, the call returns `Ok`.
 pub fn hand_on<T: Transport + Drop, U: Drop>(
     client: &mut Backend<T, U>,

@@ -24,7 +24,7 @@ module _ {U : Type 0} where
   data_given store n None u = store
   data_given store n (Some x) u = rewritten store n (with_user_data u x)
 
-  -- why an event is not finished with these data, if not for want of memory: there have to be data exactly if the event made
+  -- why an event is not finished with these data, if memory is not refused: there have to be data exactly if the event made
   -- an object
   abbrev pub refusal : Option IdParts → Option U → Option FinishError
   refusal created u =

@@ -138,7 +138,7 @@ impl<T: Drop, U: Drop> Backend<T, U> {
         self.socket.transport_mut()
     }
 
-    /// Whether memory ran out in the last call that took `&mut self`, in the session or in its transport. A call of
+    /// Whether memory was refused in the last call that took `&mut self`, in the session or in its transport. A call of
     /// `transport_mut` does not count as one.
     pub fn memory_refused(&self) -> bool
         ensures { result ≡ self.now.refused }

@@ -18,7 +18,7 @@ use Rattle.wl_server.specs.Objects.{unless_refused, without}
 use Rattle.wl_server.specs.Part.{Part, id_of, named, note_of_end, with_user_data}
 use Rattle.wl_server.specs.Telling.{Core, Did, Finish, OfBind, OfRequest, Tells, Told, core_of, deletions, tells}
 
--- why a request is not finished with these data, if not for want of memory: there have to be data exactly if the request
+-- why a request is not finished with these data, if memory is not refused: there have to be data exactly if the request
 -- made an object; for a killed client they may be missing
 abbrev pub refusal : {U : Type 0} → Bool → Option IdParts → Option U → Option FinishError
 refusal killed created u =

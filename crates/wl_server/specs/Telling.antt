@@ -110,7 +110,7 @@ module _ {U C : Type 0} where
   abbrev pub closed_down : Core U C → Core U C
   closed_down c = killed c ConnectionClosed
 
-  -- A client is told these messages. If one cannot be put, also for want of memory, the client is killed as closed.
+  -- A client is told these messages. If one cannot be put, also because memory is refused, the client is killed as closed.
   abbrev pub tells : Core U C → List Said → Verdict (Core U C) (Told U)
   tells c puts = record {
     core = c;

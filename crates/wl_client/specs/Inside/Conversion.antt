@@ -26,7 +26,7 @@ module _ {U : Type 0} where
     created = progress.created;
   }
 
-  -- there is room for the object that the event may yet make
+  -- the map has capacity for the object that the event may yet make
   abbrev pub CanMake : Progress → MapState (Kept U) → Type 0
   CanMake progress map = progress.child ≢ None → map.reserved ≡ true
 

@@ -133,7 +133,7 @@ abbrev pub AddsFlag : ℕ → List (List ℕ) → List (List ℕ) → Type 0
 AddsFlag count before after =
     (flag : ℕ → Bool) → ((j : ℕ) → count ≤ j → flag j ≡ false) → IsTree flag count before → IsTree flag (count + 1) after
 
--- ---- room
+-- ---- capacity
 
 -- whether a vector has capacity for one item more
 abbrev pub has_room : {A Z : Type 0} → Vec A Z → Bool

@@ -25,7 +25,7 @@ const DONE: u16 = 0;
 /// The opcode of `wl_display.delete_id`.
 const DELETE_ID: u16 = 1;
 
-/// Whether a write or a flush that was answered so ran out of memory.
+/// Whether memory was refused to a write or a flush that was answered so.
 pub fn is_out_of_memory(answer: Result<(), IoFault>) -> bool
     ensures { result ≡ lacked_memory answer }
 {

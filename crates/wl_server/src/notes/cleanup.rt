@@ -203,7 +203,7 @@ fn gather_all<T, U, C>(
 }
 
 /// Flushes the killed clients, gathers all notes, and takes the killed clients out. If no client was killed, it only
-/// gathers. Returns whether a flush ran out of memory.
+/// gathers. Returns whether memory was refused in a flush.
 fn clean_up<T: Transport + Drop, U: Drop, C: Drop>(
     clients: &mut Vec<Option<Client<T, U, C>>>,
     notes: &mut Vec<Note<U>>,

@@ -42,7 +42,7 @@ fn arrived(answer: Result<(), ArriveError>) -> Result<(), ScriptError>
     }
 }
 
-/// What a call returned that fails only if memory runs out, as the server's program gets it.
+/// What a call returned that fails only if memory is refused, as the server's program gets it.
 fn scripted(answer: Result<(), OutOfMemory>) -> Result<(), ScriptError>
     ensures { result ≡ scripted_as answer }
 {
@@ -64,7 +64,7 @@ fn make_move(script: &mut Memory, call: ScriptCall) -> Result<(), ScriptError>
     }
 }
 
-/// Whether a call of a script that was answered so ran out of memory.
+/// Whether memory was refused to a call of a script that was answered so.
 fn lacks_memory(answer: &Result<(), ScriptError>) -> bool
     ensures { result ≡ lacks_move (done answer.now) }
 {
