@@ -94,7 +94,7 @@ fn bind_line(alloc: Global, global: GlobalId, object: ObjectId) -> Result<String
     Ok(line)
 }
 
-/// The line of what a client asks for.
+/// The line of an action: a request or a bind.
 fn action_line(alloc: Global, action: &Action) -> Result<String, AllocError>
     ensures { IfOk result (λ line. string_bytes line ≡ action_text (handed action.now)) }
 {
@@ -116,7 +116,7 @@ fn action_line(alloc: Global, action: &Action) -> Result<String, AllocError>
     }
 }
 
-/// The name of what a reading came to.
+/// The name of the reason for which a reading handed out no action.
 fn fault_name(fault: ActionError) -> &'static str
     ensures { result.now ≡ name_of_fault fault }
 {
@@ -132,7 +132,7 @@ fn fault_name(fault: ActionError) -> &'static str
     }
 }
 
-/// Why no client was inserted.
+/// The name of the reason for which no client was inserted.
 fn insert_refusal(reason: InsertClientError) -> &'static str
     ensures { result.now ≡ insert_name reason }
 {
@@ -142,7 +142,7 @@ fn insert_refusal(reason: InsertClientError) -> &'static str
     }
 }
 
-/// Why no global was created.
+/// The name of the reason for which no global was created.
 fn global_refusal(reason: GlobalError) -> &'static str
     ensures { result.now ≡ global_name reason }
 {
@@ -154,7 +154,7 @@ fn global_refusal(reason: GlobalError) -> &'static str
     }
 }
 
-/// Why a client's script was given nothing.
+/// The name of the reason for which nothing was added to a client's script.
 fn script_refusal(reason: ScriptError) -> &'static str
     ensures { result.now ≡ script_name reason }
 {
@@ -165,7 +165,7 @@ fn script_refusal(reason: ScriptError) -> &'static str
     }
 }
 
-/// Why the open action stays open, or that there is none.
+/// The name of the reason for which no action was finished.
 fn finish_refusal(reason: FinishError) -> &'static str
     ensures { result.now ≡ finish_name reason }
 {
@@ -299,7 +299,7 @@ fn global_line(alloc: Global, id: GlobalId) -> Result<String, AllocError>
     Ok(line)
 }
 
-/// The line of what a reading came to.
+/// The line of a reading's answer.
 fn fault_line(alloc: Global, fault: ActionError) -> Result<String, AllocError>
     ensures { IfOk result (λ line. string_bytes line ≡ fault_text fault) }
 {
@@ -384,7 +384,7 @@ fn sent_line(alloc: Global, slot: u32, sends: &[Sent]) -> Result<String, AllocEr
     Ok(line)
 }
 
-/// Appends the line of what the client of a slot was sent to the lines; none if it was sent nothing.
+/// Appends to the lines what the client of a slot was sent; no line if it was sent nothing.
 fn push_sends(
     alloc: Global,
     lines: &mut Vec<String>,
@@ -399,7 +399,7 @@ fn push_sends(
     Ok(lines.push(sent_line(alloc, slot, sends)?)?)
 }
 
-/// Appends the lines of what the clients had been sent that a command took out to the lines.
+/// Appends to the lines what the clients that a command took out had been sent.
 pub fn push_taken_out(
     alloc: Global,
     lines: &mut Vec<String>,
@@ -416,7 +416,7 @@ pub fn push_taken_out(
     Ok(())
 }
 
-/// Appends the line of what a client was sent to the lines, by the reply to the step that took the record of it.
+/// Appends to the lines what a client was sent, by the reply to the step that took the record of it.
 fn push_record(
     alloc: Global,
     lines: &mut Vec<String>,
@@ -431,8 +431,7 @@ fn push_record(
     }
 }
 
-/// Appends the lines of what these clients were sent to the lines, by the replies to the steps that took the records of
-/// it.
+/// Appends to the lines what these clients were sent, by the replies to the steps that took the records of it.
 pub fn push_records(
     alloc: Global,
     lines: &mut Vec<String>,

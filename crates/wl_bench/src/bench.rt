@@ -25,12 +25,12 @@ pub type Server = Backend<Memory, u64, ShownToAll, ()>;
 /// A step of the server.
 pub type Made = Step<Memory, u64, ShownToAll, ()>;
 
-/// An action that was handed out and not finished yet.
+/// What is kept of an action that was handed out and not finished yet.
 #[derive(Clone, Copy)]
 pub enum Open {
-    /// A request, which made an object or did not.
+    /// A request.
     Request {
-        /// Whether it made one.
+        /// Whether it made an object.
         made: bool,
     },
     /// A bind.
@@ -85,8 +85,8 @@ impl Bench {
         })
     }
 
-    /// Carries out a command under its number, and answers the lines that it prints; none if it names a slot at which no
-    /// client was inserted, and nothing is done then. `Failed` if memory was refused.
+    /// Carries out a command under its number, and returns the lines that it prints. If the command names a slot at which no
+    /// client was inserted, nothing is done, and the answer is `None`. The error is `Failed` if memory was refused.
     pub fn carry_out(
         &mut self,
         alloc: Global,
@@ -131,7 +131,7 @@ impl Bench {
         self.conclude_for(alloc, slot, seat, replies.as_slice())
     }
 
-    /// The lines of the replies to a command about the client of a slot; what they leave of the slot is kept.
+    /// The lines of the replies to a command about the client of a slot. What the command leaves open is kept.
     fn conclude_for(
         &mut self,
         alloc: Global,
@@ -155,8 +155,8 @@ impl Bench {
         Ok(lines)
     }
 
-    /// Makes the calls of a command about a client, and takes the record of what that was sent. It answers the reply to the
-    /// last call, and that to the step after it.
+    /// Makes the calls of a command about a client, and takes the record of what the client was sent. Returns the reply to
+    /// the last call, and that to the step after it.
     fn drive(
         &mut self,
         alloc: Global,
@@ -177,8 +177,8 @@ impl Bench {
         self.perform(alloc, step, &[client])
     }
 
-    /// Carries out a command that is one step, and about no one client. After a command that clients may feel, the transports
-    /// of all clients are looked at; a cleanup hands out those over which it sent.
+    /// Carries out a command that is one step, and about all clients. After a command that may send something, the
+    /// transports of all clients are looked at; a cleanup hands out those over which it sent.
     fn carry_out_for_all(&mut self, alloc: Global, command: Command) -> Result<Vec<String>, Stop>
         requires { IsShared command }
         ensures done { IfOk result (λ lines. DoesForAll self.old command (map string_bytes lines.items) self.new) }
@@ -190,7 +190,7 @@ impl Bench {
         self.conclude_for_all(alloc, heard.as_slice(), replies.as_slice())
     }
 
-    /// The lines of the replies to a command about no one client; what it made is kept.
+    /// The lines of the replies to a command about all clients. The client or global that it made is kept.
     fn conclude_for_all(
         &mut self,
         alloc: Global,
@@ -223,7 +223,7 @@ impl Bench {
         Ok(clients)
     }
 
-    /// The clients whose transports are looked at after a command about no one client.
+    /// The clients whose transports are looked at after a command about all clients.
     fn heard(&self, alloc: Global, command: &Command) -> Result<Vec<ClientId>, AllocError>
         ensures { IfOk result (λ clients. clients.items ≡ heard_by self.now command.now) }
     {
@@ -249,7 +249,7 @@ impl Bench {
         }
     }
 
-    /// The step of a command about no one client.
+    /// The step of a command about all clients.
     fn shared_step(&self, alloc: Global, command: Command) -> Result<Made, Stop>
         requires { IsShared command }
         ensures step { IfOk result (λ step. shared_call self.now command ≡ Some step) }
@@ -286,8 +286,8 @@ impl Bench {
         }
     }
 
-    /// Lets the next sends to the client take so many bytes each, and takes the record of what it was sent. The counts may
-    /// be millions, so each is a run of its own. It answers the reply to the last of them, and that to the step after it.
+    /// Lets the next sends to the client take so many bytes each, and takes the record of what it was sent. There may be
+    /// millions of counts, so each is a run of its own. Returns the reply to the last one, and that to the step after it.
     fn accept(&mut self, alloc: Global, client: ClientId, counts: &[u32]) -> Result<Vec<Told>, Stop>
         ensures made { IfOk result (λ replies. Replies self.old.server (map (accept_step client) counts.now) (client ∷ []) replies.items self.new.server) }
         ensures clients { self.new.clients ≡ self.old.clients }
@@ -303,7 +303,7 @@ impl Bench {
         self.perform(alloc, Step::Accept(client, *last as usize), &[client])
     }
 
-    /// Keeps the client or the global that a command about no one client made.
+    /// Keeps the client or the global that a command about all clients made.
     fn keep(&mut self, reply: &Told) -> Result<(), AllocError>
         ensures clients { OnOk result (self.new.clients ≡ clients_after reply.now self.old.clients) }
         ensures globals { OnOk result (self.new.globals ≡ globals_after reply.now self.old.globals) }
@@ -334,7 +334,7 @@ pub fn push_takes(steps: &mut Vec<Made>, clients: &[ClientId]) -> Result<(), Sto
     Ok(())
 }
 
-/// The step of a command about a client, but of `accept`.
+/// The step of a command about a client that is not `accept`.
 fn client_step(seat: &Seat, command: ClientCommand, number: u64) -> Made
     requires { IsOneCall command }
     ensures { client_calls seat.now number command ≡ result ∷ [] }
@@ -351,7 +351,7 @@ fn client_step(seat: &Seat, command: ClientCommand, number: u64) -> Made
     }
 }
 
-/// The step that ends what is open of a client. If an object was made, it gets the number of the command as its data.
+/// The step that ends the open action of a client. If an object was made, it gets the number of the command as its data.
 fn finish(seat: &Seat, number: u64) -> Made
     ensures { result ≡ finish_step seat.now number }
 {
@@ -362,7 +362,7 @@ fn finish(seat: &Seat, number: u64) -> Made
     }
 }
 
-/// What an action leaves open.
+/// What is kept of an action while it is open.
 fn opened(action: &Action) -> Open
     ensures { result ≡ opened_by (handed action.now) }
 {

@@ -1,7 +1,7 @@
 //! The commands of a bench, and which lines are commands.
 //!
-//! A line is UTF-8 and is cut at its spaces (the byte 32), and its words are those of one command or of none: so a word
-//! is never empty. Numbers are decimal, without a sign or leading zeros, and at most 4294967295.
+//! A line is UTF-8 and is cut into words at its spaces (the byte 32). No command has an empty word. Numbers are decimal,
+//! without a sign or leading zeros, and at most 4294967295.
 
 ghost use Rattle.std.specs.Prelude.{◌∷◌, ◌≢◌, ℕ, [], List, map, codes, IfOk};
 ghost use Rattle.std.specs.Borrow.{Bor};
@@ -19,15 +19,15 @@ pub enum Command {
     Insert,
     /// A command about the client that was inserted last at a slot.
     Client(u32, ClientCommand),
-    /// `dispatch <slots>`: reads of the clients that were inserted last at these slots, and ends each of their actions.
+    /// `dispatch <slots>`: reads the clients that were inserted last at these slots, and ends each of their actions.
     Dispatch(Vec<u32>),
     /// `global <interface> <version>`: creates a global, by its interface's name.
     Create(String, u32),
-    /// `disable <name>`: the global of that name is announced no more.
+    /// `disable <name>`: the global of that name is no longer announced.
     Disable(u32),
     /// `remove <name>`: the global of that name is removed.
     Remove(u32),
-    /// `flush`: sends what waits of all clients.
+    /// `flush`: sends what waits for all clients.
     Flush,
     /// `cleanup`: takes out the clients that were killed.
     Cleanup,
@@ -35,12 +35,12 @@ pub enum Command {
     Notes,
 }
 
-/// What a line asks for of a client.
+/// What a line asks for, about one client.
 #[derive(Drop)]
 pub enum ClientCommand {
-    /// `in <slot> <hex> <tokens>`: these bytes and tokens arrive of it.
+    /// `in <slot> <hex> <tokens>`: these bytes and tokens arrive from it.
     Arrive(Vec<u8>, Vec<Token>),
-    /// `read <slot>`: reads of it, up to an action or a fault.
+    /// `read <slot>`: reads it, up to an action or a fault.
     Read,
     /// `finish <slot>`: ends its open action.
     Finish,
@@ -67,7 +67,7 @@ fn bare(name: &str) -> Option<Command>
     }
 }
 
-/// The command `dispatch`, of this argument.
+/// The command `dispatch` with this argument.
 fn dispatch(alloc: Global, slots: &str) -> Result<Option<Command>, AllocError>
     ensures { IfOk result (Finds IsCommand (codes "dispatch" ∷ slots.now ∷ [])) }
 {
@@ -77,7 +77,7 @@ fn dispatch(alloc: Global, slots: &str) -> Result<Option<Command>, AllocError>
     }
 }
 
-/// The command of a word, but of `dispatch`, and a number.
+/// The command of a word other than `dispatch`, and a number.
 fn numbered(name: &str, word: &str) -> Option<Command>
     requires { name.now ≢ codes "dispatch" }
     ensures { Finds IsCommand (name.now ∷ word.now ∷ []) result }
@@ -93,7 +93,7 @@ fn numbered(name: &str, word: &str) -> Option<Command>
     }
 }
 
-/// The command `global`, of these arguments.
+/// The command `global` with these arguments.
 fn global(alloc: Global, interface: &str, version: &str) -> Result<Option<Command>, AllocError>
     ensures { IfOk result (Finds IsCommand (codes "global" ∷ interface.now ∷ version.now ∷ [])) }
 {
@@ -107,7 +107,7 @@ fn global(alloc: Global, interface: &str, version: &str) -> Result<Option<Comman
     Ok(Some(Command::Create(interface, version)))
 }
 
-/// The command `accept`, of these arguments.
+/// The command `accept` with these arguments.
 fn accept(alloc: Global, slot: &str, counts: &str) -> Result<Option<Command>, AllocError>
     ensures { IfOk result (Finds IsCommand (codes "accept" ∷ slot.now ∷ counts.now ∷ [])) }
 {
@@ -120,7 +120,7 @@ fn accept(alloc: Global, slot: &str, counts: &str) -> Result<Option<Command>, Al
     }
 }
 
-/// The command `fail`, of these arguments.
+/// The command `fail` with these arguments.
 fn fail(slot: &str, side: &str, name: &str) -> Option<Command>
     ensures { Finds IsCommand (codes "fail" ∷ slot.now ∷ side.now ∷ name.now ∷ []) result }
 {
@@ -133,7 +133,7 @@ fn fail(slot: &str, side: &str, name: &str) -> Option<Command>
     }
 }
 
-/// The command `in`, of these arguments.
+/// The command `in` with these arguments.
 fn arrive(
     alloc: Global,
     slot: &str,
@@ -214,7 +214,7 @@ fn command_of(alloc: Global, words: &[&str]) -> Result<Option<Command>, AllocErr
     }
 }
 
-/// The command that a line is, without the line feed at its end; none if it is no command. No line is two commands.
+/// The command that a line is, without the line feed at its end; `None` if it is no command. No line is two commands.
 #[tactic(auto, using(crate::proofs::OneCommand::one_of_line))]
 pub fn parse_line(alloc: Global, line: &[u8]) -> Result<Option<Command>, AllocError>
     ensures found { IfOk result (Finds IsLine line.now) }

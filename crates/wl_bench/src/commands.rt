@@ -85,7 +85,7 @@ fn written(
     Ok(text)
 }
 
-/// Carries out the command that a line is, and writes what is written of it. An empty line is none, and nothing is done.
+/// Carries out the command that a line is, and writes what is written of it. For an empty line nothing is done.
 fn answer_line<W: Write>(
     alloc: Global,
     bench: &mut Bench,
@@ -137,10 +137,10 @@ fn run_lines<R: BufRead, W: Write>(
 /// Carries out the commands of the lines that are read, over a new server, and writes what each prints before the next
 /// line is read; the writer is flushed after each command.
 ///
-/// A line ends in a line feed, which the last may lack. Empty lines are skipped, and counted. At the first bad line, which
-/// is no command or names a slot at which no client was inserted, the run ends with `BadLine` of its number, from 1; the
-/// commands before it were carried out. It ends with `Failed` if memory was refused, or the reader or the writer
-/// failed.
+/// A line ends in a line feed, which the last one may lack. Empty lines are skipped, but count. A line is bad if it is no
+/// command, or names a slot at which no client was inserted. At the first bad line the run ends with `BadLine` and its
+/// number, from 1; the commands before it were carried out. It ends with `Failed` if memory was refused, or the reader or
+/// the writer failed.
 pub fn run_commands<R: BufRead, W: Write>(
     alloc: Global,
     reader: &mut R,
@@ -152,8 +152,8 @@ pub fn run_commands<R: BufRead, W: Write>(
     run_lines(alloc, &mut bench, Form::Answers, reader, writer)
 }
 
-/// Carries out the commands of the lines that are read as `run_commands` does, and writes the record of each: its number,
-/// which is that of its line, a space and the command, and after that line each line that it prints, after `> `.
+/// Carries out the commands of the lines that are read, as `run_commands` does, and writes the record of each: the number
+/// of its line, a space and the command, and then each line that it prints, after `> `.
 pub fn record<R: BufRead, W: Write>(
     alloc: Global,
     reader: &mut R,

@@ -7,8 +7,8 @@ ghost use Rattle.wl_bench.specs.Bench.{BenchState, Does};
 ghost use Rattle.wl_bench.specs.declared.command.ClientCommand.{ClientCommand as OfClient};
 ghost use Rattle.wl_bench.specs.declared.command.Command.TheVariants as command;
 
-/// A command about a client stays with it: no line that it prints says what another client was sent, and all that is held of
-/// another is as before, what that was sent and what waits for it included.
+/// A command about one client concerns only that client. No line that it prints says what another client was sent. All that
+/// is held of another client is as before, also what it was sent and what waits for it.
 pub fn a_command_about_one_client_stays_with_it()
     ensures { (before after : BenchState) (n slot : ℕ) (c : OfClient) (out : List Line) →
         Does before n (command.Client slot c) out after → StaysWith slot before out after }

@@ -17,17 +17,17 @@ use crate::words::number;
 use std::alloc::{AllocError, Global};
 use std::io::{BufRead, Write};
 
-/// What a replay comes to.
+/// The verdict of a replay.
 #[derive(Clone, Copy, Debug, PartialEq, Eq)]
 pub enum Replayed {
-    /// The recording is the record of its own commands, which are so many.
+    /// The recording is the record of its own commands, and there are so many of them.
     Same(u64),
     /// This line, counted from 1, is the first in which it differs from that record. It is one past the last line if
     /// output is missing at the end.
     Differs(u64),
 }
 
-/// A comparison that has come to some line.
+/// A comparison up to some line of the recording.
 #[derive(Drop)]
 struct Comparison {
     bench: Bench,
@@ -95,7 +95,7 @@ fn is_quoted(line: &[u8], output: &str) -> bool
 }
 
 impl Comparison {
-    /// A comparison that has come to no line.
+    /// A comparison before the first line.
     fn new(alloc: Global) -> Result<Self, Stop>
         ensures new { IfOk result (λ c. (c.bench ≡ new_bench bench_rows) × (c.last ≡ 0) × (c.count ≡ 0) × (missing_in c ≡ [])) }
         ensures failed { IfErr result (λ stop. stop ≡ Failed) }
@@ -109,7 +109,7 @@ impl Comparison {
         })
     }
 
-    /// Carries out the command of a line, in whose place no output is missing. It answers whether there was one.
+    /// Carries out the command of a line at which no output is missing. Returns `false` if the line is no command.
     fn command(&mut self, alloc: Global, line: &[u8]) -> Result<bool, Stop>
         ensures carries { IfOk result (λ is. MatchBool is ((t : Told) × CarriesOut self.old line.now t self.new) (IsNoCommand self.old.last self.old.bench line.now)) }
         ensures failed { IfErr result (λ stop. stop ≡ Failed) }
@@ -133,7 +133,7 @@ impl Comparison {
         Ok(true)
     }
 
-    /// Looks at a line of this place. It answers whether the recording is the same so far.
+    /// Looks at a line, which has this number. Returns whether the recording is the same so far.
     fn line(&mut self, alloc: Global, line: &[u8], place: u64) -> Result<bool, Stop>
         ensures goes { IfOk result (λ same. MatchBool same (GoesOn self.old line.now self.new) (IsAnother (missing_in self.old) line.now)) }
         ensures stops { IfErr result (IsBadAt self.old line.now place) }
@@ -153,7 +153,7 @@ impl Comparison {
         }
     }
 
-    /// What the replay comes to at the end of the recording, the place after its last line.
+    /// The verdict at the end of the recording. The given number is the one after that of the last line.
     fn end(&self, place: u64) -> Replayed
         ensures { EndsWith self.now place result }
     {
@@ -191,13 +191,15 @@ fn replay_lines<R: BufRead>(alloc: Global, reader: &mut R) -> Result<Replayed, S
     comparison.read(alloc, reader)
 }
 
-/// Replays the recording that is read, over a new server, writes what it comes to as a line, and answers it.
+/// Replays the recording that is read, over a new server, writes the verdict as a line, and returns it.
 ///
-/// A line that begins with `> ` is output. Any other is a number from 1, without leading zeros and greater than the one
-/// before, a space, and a command, which is carried out under that number. The lines are looked at in order. The first in
-/// which the recording differs from the record of its own commands is answered with `Differs`, and the first that is no
-/// command, or names a slot at which no client was inserted, is `BadLine`, and nothing is written then; if output is due in
-/// its place, it is a difference. `Failed` if memory was refused, or the reader or the writer failed.
+/// A line that begins with `> ` is output. Any other line has a number from 1, without leading zeros and greater than the
+/// one before, a space, and a command, which is carried out under that number. The lines are looked at in order:
+///
+/// - At the first line in which the recording differs from the record of its own commands, the verdict is `Differs`.
+/// - At the first line that is no command, or names a slot at which no client was inserted, the error is `BadLine`, and
+///   nothing is written. If output is missing there, it is a difference instead.
+/// - The error is `Failed` if memory was refused, or the reader or the writer failed.
 pub fn replay<R: BufRead, W: Write>(
     alloc: Global,
     reader: &mut R,

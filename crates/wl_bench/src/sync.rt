@@ -56,7 +56,7 @@ fn fresh_client(alloc: Global) -> Result<Client, Stop>
     Ok(client)
 }
 
-/// All bytes that a session has sent once it sent a `wl_display.sync`, which is its first if it is fresh.
+/// All bytes that a session has sent after it sent a `wl_display.sync`, which is its first request if it is fresh.
 fn sync_bytes(alloc: Global, client: &mut Client) -> Result<Vec<u8>, Stop>
     ensures { IsFresh client.old.session → IfOk result (λ v. v.items ≡ request_bytes) }
 {
@@ -91,7 +91,7 @@ fn fresh_server(alloc: Global) -> Result<Server, Stop>
     Ok(Server::new(alloc, Protocol::new(alloc, Vec::new(alloc))?))
 }
 
-/// Takes a client from which these bytes come.
+/// Inserts a client from which these bytes come.
 fn insert(alloc: Global, server: &mut Server, request: &[u8]) -> Result<ClientId, Stop>
     ensures { server.old.server ≡ new_server fixed_rows → request.now ≡ request_bytes → IfOk result (HasAsked server.new.server) }
 {
@@ -99,7 +99,7 @@ fn insert(alloc: Global, server: &mut Server, request: &[u8]) -> Result<ClientId
     Ok(server.insert_client(transport, ())?)
 }
 
-/// Reads and handles what came of a client, for which the server hands nothing out, and sends the answer.
+/// Reads and handles what came from a client, and sends the answer. No action may come of it.
 fn serve(server: &mut Server, client: &ClientId) -> Result<(), Stop>
     ensures { OnOk result (HasAsked server.old.server client.now → WasSent server.new.server client.now answer_bytes) }
 {
@@ -113,7 +113,7 @@ fn serve(server: &mut Server, client: &ClientId) -> Result<(), Stop>
     Ok(server.flush(Some(*client))?)
 }
 
-/// All bytes that a server sends to a new client of which these come.
+/// All bytes that a server sends to a new client from which these come.
 fn answer_to(alloc: Global, server: &mut Server, request: &[u8]) -> Result<Vec<u8>, Stop>
     ensures { server.old.server ≡ new_server fixed_rows → request.now ≡ request_bytes → IfOk result (λ v. v.items ≡ answer_bytes) }
 {

@@ -14,7 +14,7 @@ use wl_wire::{AllowNull, ArgumentType, Interface, InterfaceId, MessageDesc, Prot
 /// The interface `quad`, the first of the program's own.
 pub const QUAD: InterfaceId = InterfaceId(4);
 
-/// What a message does to objects beside its arguments.
+/// What a message does to objects, apart from its arguments.
 #[derive(Clone, Copy)]
 pub enum Kind {
     /// It neither makes nor ends an object.
@@ -186,8 +186,8 @@ pub fn bench_table(alloc: Global) -> Result<Protocol, Stop>
     Ok(Protocol::new(alloc, interfaces)?)
 }
 
-/// The first interface of that name, and one outside the table if none has it. `Failed` if the table has more
-/// interfaces than can be counted.
+/// The first interface of that name; one outside the table if none has it. `Failed` if the table has more interfaces than
+/// can be counted.
 pub fn interface_named(table: &Protocol, name: &str) -> Result<InterfaceId, Stop>
     ensures named { IfOk result (λ id. id ≡ interface_of name.now table.now) }
     ensures failed { IfErr result (λ stop. stop ≡ Failed) }

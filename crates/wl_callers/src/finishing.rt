@@ -1,4 +1,4 @@
-//! The sender of a destructor request is found no more once the request has ended.
+//! The sender of a destructor request is no longer found after the request has ended.
 
 ghost use Rattle.std.specs.Prelude.{◌≡◌, None, OnOk, Option, Some, true};
 ghost use Rattle.wl_server.specs.Ids.{IdParts};

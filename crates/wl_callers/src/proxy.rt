@@ -7,7 +7,7 @@ use wl_client::{Backend, EventError, ObjectId};
 use wl_link::Transport;
 use wl_wire::{Message, Token};
 
-/// What a reading without an event makes of the loop: that it would block is no error.
+/// The answer of the loop if a reading gives no event. `WouldBlock` is no error here.
 fn ended(error: EventError) -> Result<(), EventError>
     ensures { result ≡ ended error }
 {

@@ -54,7 +54,7 @@ impl Handler<Memory, u64, ShownToAll, ()> for LineHandler {
     }
 }
 
-/// The line of a dispatch that read so many requests.
+/// The line of a dispatch in which so many requests were read.
 fn dispatched_line(alloc: Global, count: usize) -> Result<String, AllocError>
     ensures { IfOk result (λ line. string_bytes line ≡ dispatched_text count) }
 {
@@ -107,7 +107,7 @@ impl Bench {
         Ok(clients)
     }
 
-    /// Dispatches the clients, and answers how many requests were read.
+    /// Dispatches the clients, and returns how many requests were read.
     fn dispatch_clients(&mut self, clients: &[ClientId], number: u64) -> Result<usize, Stop>
         ensures done { IfOk result (λ count. Dispatches self.old.server number clients.now count self.new.server) }
         ensures clients { self.new.clients ≡ self.old.clients }
@@ -140,7 +140,7 @@ impl Bench {
         }
     }
 
-    /// Dispatches the clients that were inserted last at the slots, under the number of the command, and answers the lines
+    /// Dispatches the clients that were inserted last at the slots, under the number of the command, and returns the lines
     /// that this prints.
     fn dispatch(&mut self, alloc: Global, slots: &[u32], number: u64) -> Result<Vec<String>, Stop>
         requires { ¬ (LacksClient self.old slots.now) }
@@ -155,7 +155,7 @@ impl Bench {
         Ok(lines)
     }
 
-    /// The same, if a client was inserted at each of the slots; else there is no answer, and nothing is done.
+    /// The same, if a client was inserted at each of the slots. Else nothing is done, and the answer is `None`.
     pub fn carry_out_dispatch(
         &mut self,
         alloc: Global,

@@ -1,9 +1,9 @@
 //! Each receive and each send of each client's transport fails in turn, over the runs of the drills.
 //!
-//! A failed receive is answered by the reading that makes it, and kills the client. A failed send is answered by a flush of
-//! the client, and is dropped by a flush of all, by the flush behind an error, and by a cleanup. In any other call it is a
-//! write that failed, which kills the client, and the call answers as ever, but a reading answers that the client is killed.
-//! What the others are told, noted and sent is the same as in the run in which nothing fails.
+//! A receive that fails kills the client, and is the answer of the reading that makes it. A send that fails is the answer
+//! of a flush of the client; it is dropped in a flush of all, in the flush after an error, and in a cleanup. In any other
+//! call it is a write that failed, which kills the client; the call answers as ever, only a reading answers that the client
+//! is killed. All that concerns the other clients is the same as in the run in which nothing fails.
 
 use super::drill::{Entry, Run, Server, client_of, drill, made};
 use super::steps::{Call, Made, step};
@@ -412,7 +412,7 @@ fn met_by_receive(who: Who, entries: &[Entry], texts: &[String]) -> Met {
     }
 }
 
-/// The place behind the step that inserts the client.
+/// The place after the step that inserts the client.
 fn behind_insertion(entries: &[Entry], who: Who) -> usize {
     let mut slot = 0u32;
     for (at, entry) in entries.iter().enumerate() {

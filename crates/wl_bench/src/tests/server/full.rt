@@ -145,7 +145,7 @@ fn answers_of_a_reading(rt: HostRuntime) -> Result<(), Fail> {
     full(&rt, "another registry", &back, 2)
 }
 
-/// Two syncs, if 4060 bytes wait: the second `done` fills the buffer, and the `delete_id` behind it has no room.
+/// Two syncs, if 4060 bytes wait: the second `done` fills the buffer, and the `delete_id` after it has no room.
 #[test]
 fn number_of_a_callback(rt: HostRuntime) -> Result<(), Fail> {
     let back = [
@@ -173,7 +173,7 @@ fn number_of_a_callback(rt: HostRuntime) -> Result<(), Fail> {
     fails_for_first(&rt, &run, entries.len().saturating_sub(back.len()))
 }
 
-/// Errors: the first of the two sends is that of the write, and the second the flush behind it.
+/// Errors: the first of the two sends is that of the write, and the second that of the flush after it.
 #[test]
 fn posted_errors(rt: HostRuntime) -> Result<(), Fail> {
     let back = [
