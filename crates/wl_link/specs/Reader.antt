@@ -188,7 +188,7 @@ module _ {T Core Event Finish : Type 0} (sends : T → Queue → Result ℕ IoFa
       ⊎ ((FrontAsks p × (out ≡ stops (Some fault.OutOfMemory) true left))
       ⊎ (Lacks p × ((n : ℕ) × (left ≡ suc n) × (out ≡ stops (Some fault.OutOfMemory) true n))))
 
-  -- the reading ends here: the core reads on no more, or it has to (`Halts`)
+  -- the reading ends here: the core no longer reads on, or the reading has to stop (`Halts`)
   abbrev pub Stops : ℕ → ReaderState T Core → Gives Event → Type 0
   Stops left p out = MatchBool (reader.reads_on p.core) (Halts left p out) (out ≡ stops None false left)
 

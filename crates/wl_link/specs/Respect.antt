@@ -15,7 +15,7 @@ pub record Keeps {Core Event Finish : Type 0} (reader : Reader Core Event Finish
       → R c (put_and_gave put (v.events (came_to reader v wrote))) (came_to reader v wrote)
   pub starved : v.asks ≡ true → R c (map HandedOut (v.events v.starved)) v.starved
 
--- each entry of a reading keeps the relation; none is made once the core reads on no more
+-- each entry of a reading keeps the relation; there are entries only as long as the core reads on
 pub record RespectsReading {Core Event Finish : Type 0} (reader : Reader Core Event Finish) (R : Core → List (Given Event) → Core → Type 0) : Type 0 where
   pub same : (c : Core) → R c [] c
   pub joins : (c d e : Core) (g h : List (Given Event)) → R c g d → R d h e → R c (g ++ h) e

@@ -117,7 +117,7 @@ module _ {Core Event Finish : Type 0} (reader : Reader Core Event Finish) where
   abbrev pub NotFull : ReaderState Script Core → Type 0
   NotFull after = (core : Core) → MayEndFrom core after → HasByteFree after.link ⊎ MayCome core after.link
 
-  -- the reader reads on no more, and nothing is open that could be ended
+  -- the reader no longer reads on, and nothing is open that could be ended
   abbrev pub IsOver : Core → Type 0
   IsOver core = (reader.reads_on core ≡ false) × ((u : Finish) → reader.takes core u ≡ None)
 
@@ -126,7 +126,7 @@ module _ {Core Event Finish : Type 0} (reader : Reader Core Event Finish) where
     pub blocks : (core : Core) → reader.faulted core fault.WouldBlock ≡ core
     pub over : (core : Core) → IsOver (reader.faulted core fault.Pipe)
 
-  -- The acts lead from `before` to `after`. At their end the reader reads on no more, or the last act is a reading that
+  -- The acts lead from `before` to `after`. At their end the reader no longer reads on, or the last act is a reading that
   -- would block, and no arrival is left.
   pub record Spans (before : ReaderState Script Core) (acts : List (Act Event Finish)) (after : ReaderState Script Core) : Type 0 where
     pub does : DoesAll before acts after

@@ -132,7 +132,7 @@ pub fn each_id_names_its_own_object<T: Transport, U, G: GlobalHandler<C>, C>()
         Performs (over_scripts G.views) (new_server table) steps after → HaveOwnIds (over_scripts G.views) table steps after }
 {}
 
-/// The identity law of any id, however it came to be, for instance by `object_for_protocol_id` or `with_all_objects_for`.
+/// The identity law of any id, no matter where it comes from, for instance from `object_for_protocol_id`.
 ///
 /// If an id names an object of a client at some point of a run, it names that very object as long as that is there and
 /// its client is stored, and afterwards none (clause `named`). The changes of objects that show this are the same as

@@ -1,7 +1,7 @@
 //! What follows from the definition of a reader alone. Each function does nothing; its contract states a law.
 //!
-//! A *reader* is how a session reads: it takes messages off a link, and decides what each one comes to. Its *core* is all
-//! that it holds beside the link. A *verdict* is what it decides for a message, for malformed bytes, or for the end of what
+//! A *reader* is how a session reads: it takes messages off a link, and decides what each one does. Its *core* is all that
+//! it holds beside the link. A *verdict* is what it decides for a message, for malformed bytes, or for the end of what
 //! is open: the new core, the messages that are *put* (written, one after another, up to the first that fails), and the
 //! events that are handed out. A *reading* is a list of receives and of verdicts that were carried out. A *finish* ends
 //! what is open. A reader *serves* bytes and tokens: it handles them as if they had all come at once.
