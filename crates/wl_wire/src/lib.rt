@@ -15,9 +15,9 @@
 //! | `WEnum`, `WaylandEnum` | `enums` | `Enum` |
 //!
 //! The `requires` and `ensures` lines of a function are its *contract*: what the caller has to see to, and what is proved
-//! of each call. Lines that begin with `ghost` are for the checker alone. `ghost use Rattle.wl_wire.specs.Message.{size}`
-//! says that the word `size` of a contract is defined in `specs/Message.antt`. The names in `specs.declared` are those of
-//! the crate's Rust types.
+//! of each call. Lines that begin with `ghost` are for the checker alone. The `ghost` imports at the top of a file name the
+//! files in which the words of its contracts are defined: `Rattle.wl_wire.specs.Message` is `specs/Message.antt`. The names
+//! in `specs.declared` are those of the crate's Rust types.
 //!
 //! The functions of [`laws`] do nothing. Their contracts state what follows from the definitions alone: `Message`,
 //! `Parse`, and `Stream` (messages one after another).
