@@ -9,8 +9,8 @@ ghost use Rattle.wl_server.specs.declared.reading.action.OpenAction.TheVariants 
 use wl_link::Transport;
 use wl_server::{Backend, FinishRefused, GlobalHandler, ObjectId};
 
-/// Ends the open request of this sender. If that succeeds, and the request was one that ends its sender, the sender's id names
-/// no object any more, whatever else the request made.
+/// Ends the open request of this sender. If that succeeds, and the request was one that ends its sender, the sender's id
+/// no longer names an object, whatever else the request made.
 pub fn finish_destruction<T: Transport + Drop, U: Drop, G: GlobalHandler<C> + Drop, C: Drop>(
     server: &mut Backend<T, U, G, C>,
     sender: &ObjectId,

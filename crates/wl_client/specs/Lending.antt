@@ -9,7 +9,7 @@ use Rattle.wl_client.specs.contracts.backend.Backend.{the_row}
 abbrev pub over_transport : {T U : Type 0} → SessionState T U → T → SessionState T U
 over_transport s transport = record s { link = with_transport s.link transport }
 
--- the same of a client
+-- the same for a client
 abbrev pub client_over : {T U : Type 0} → ClientState T U → T → ClientState T U
 client_over c transport = record c { session = over_transport c.session transport }
 

@@ -93,11 +93,11 @@ module _ {T U G C : Type 0} (w : World T G C) (before : ServerState T U G C) (e 
   IsCut _ = Unit {0}
 
 module _ {T U G C : Type 0} (w : World T G C) where
-  -- so it is of each history that such a call may have
+  -- the same for each history of deeds that such a call may have
   abbrev pub HistoriesAreCut : ServerState T U G C → Call T U G C → ServerState T U G C → Type 0
   HistoriesAreCut before call after = (e : Entry T U G C) → e.call ≡ call → OneStep w before e after → IsCut w before e after call
 
-  -- The call was made, and each history that it may have is cut so: what is served is what was put, done and noted in that very
-  -- history, and so in the one of which its log and its announcements are told.
+  -- The call was made, and it does not matter how bytes are cut in any history of deeds that it may have. So this holds of
+  -- the history of which `Calls` speaks, too.
   abbrev pub CallIsCut : ServerState T U G C → Call T U G C → Bool → ServerState T U G C → Type 0
   CallIsCut before call refused after = Makes w before call refused after × HistoriesAreCut before call after

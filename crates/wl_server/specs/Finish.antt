@@ -48,7 +48,7 @@ module _ {U : Type 0} where
 module _ {U C : Type 0} where
   -- ---- an end that is accepted
 
-  -- no action is open any more
+  -- no action is open any longer
   abbrev pub closed : Core U C → Option IdParts → Option U → Core U C
   closed c created u = record c { action = None; store = store_with_data c.store created u }
 

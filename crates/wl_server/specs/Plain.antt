@@ -161,8 +161,8 @@ module _ {T U G C : Type 0} where
   abbrev pub object_of_client : BackendState T U G C → ClientParts → IdParts → Option (Object (Kept U))
   object_of_client b client id = and_then (client_in b client) (λ p. named p.store id)
 
-  -- A bind is ended: no action is open any more, and the object that it made has the data, if it is still kept. Or the data are
-  -- given back, and nothing has changed.
+  -- A bind is ended: no action is open any longer, and the object that it made has the data, if it is still kept. Or the
+  -- data are given back, and nothing has changed.
   abbrev pub BindEndedAs : BackendState T U G C → ClientParts → U → Result (Unit {0}) (FinishRefused U) → BackendState T U G C → Type 0
   BindEndedAs before client u (Ok _) after =
       (object : IdParts) × (action_in before client ≡ Some (opened.Bind object)) × (action_in after client ≡ None)
@@ -200,8 +200,8 @@ module _ {T U G C : Type 0} where
       × (notes_made_in after client
       ≡ notes_made_in before client ++ (sender_notes before client sender is_destructor ++ end_note_of (client_in before client) ConnectionClosed)))
 
-  -- No action is open any more. The sender of a request that ends it is gone, the object that the request made has the data, if
-  -- it is still kept, and each other id of the client names what it named.
+  -- No action is open any longer. The sender of a request that ends it is gone, the object that the request made has the
+  -- data, if it is still kept, and each other id of the client names what it named.
   pub record RequestIsEnded (before : BackendState T U G C) (client : ClientParts) (sender : IdParts) (is_destructor : Bool) (created : Option IdParts) (u : Option U)
       (after : BackendState T U G C) : Type 0 where
     pub was_open : action_in before client ≡ Some (opened.Request sender is_destructor created)
