@@ -137,7 +137,7 @@ module _ {T G C : Type 0} where
       Alone w id offer before run after → Alone w id offer before run' after' → SameRun id run run' × (after ≡ after')
 
   -- Two runs of a new server lead to the same offer, if the shared calls, and those that name some one client id, are the
-  -- same steps.
+  -- same steps, and memory is not refused to a shared call for what belongs to no client.
   abbrev pub OffersHaveOneOutcome : Type 0 → World T G C → Type 0
   OffersHaveOneOutcome U w =
       (table : List InterfaceRow) (id : ClientParts) (run run' : List (Entry T U G C)) (after after' : ServerState T U G C) →
@@ -149,8 +149,8 @@ module _ {T G C : Type 0} where
   InsertsAs id transport info e = e.call ≡ Asked (step.InsertClient transport info) (reply.InsertClient (Ok id))
 
   -- In each of two runs of a new server a client was inserted, with the same id, transport and data, and at the same offer.
-  -- If its own calls and the shared ones are the same steps from then on, they have one outcome. What other clients do may
-  -- differ, and whether memory is refused to them.
+  -- If its own calls and the shared ones are the same steps from then on, and memory is not refused to these, they have one
+  -- outcome. What other clients do may differ, and whether memory is refused to them.
   abbrev pub ClientsHaveOneOutcome : Type 0 → World T G C → Type 0
   ClientsHaveOneOutcome U w =
       (table : List InterfaceRow) (id : ClientParts) (transport : T) (info : C) (earlier later earlier' later' : List (Entry T U G C)) (e e' : Entry T U G C)

@@ -111,7 +111,7 @@ module _ {U G C : Type 0} (a : Around G C) where
   with_registry c n =
       record (with_objects c (with_made (objects_in c) n registry_id 1)) { registries = c.registries ++ new_at c n ∷ [] }
 
-  -- a new registry is told of each global that the client is shown, and from then on of new ones
+  -- a new registry is told of each global that the client is shown, and from then on of each change
   abbrev pub registers : Core U C → ℕ → Verdict (Core U C) (Told U)
   registers c n =
       replies (with_registry c n) (map (global_message a.table (new_at c n)) (shown a.views a.globals a.client c.info))

@@ -11,7 +11,7 @@ use Rattle.wl_server.specs.declared.objects.Kept.{Kept}
 use Rattle.wl_server.specs.Events.{SessionMessage, argument_faults}
 use Rattle.wl_server.specs.Ids.{ClientParts}
 
--- why an id is refused: the look-up found none, or its object has the wrong interface
+-- why an id is refused: its look-up failed, or its object has the wrong interface
 abbrev pub fault_of : (InterfaceId → Bool) → Result InterfaceId EventError → Option EventError
 fault_of is_asked (Ok i) = when (not (is_asked i)) refused.WrongInterface
 fault_of is_asked (Err e) = Some e
