@@ -13,30 +13,11 @@ pub mod stored;
 pub mod transport;
 
 use crate::notes::queues::{MadeNotes, WaitingNotes};
-use crate::objects::Kept;
+use crate::objects::ClientObjects;
 use crate::reading::action::OpenAction;
 use std::alloc::Global;
 use std::marker::Model;
-use wl_link::{BufferedSocket, ObjectMap};
-
-/// A `wl_registry` that was made for a client, by the number and the serial in its id.
-#[derive(Drop)]
-pub struct Registry {
-    /// The number of the object in the protocol.
-    pub number: u32,
-    /// The serial of the object.
-    pub serial: u64,
-}
-
-impl Model for Registry {
-    ghost use Rattle.wl_link.specs.Identity.{Id};
-
-    ghost Value = { Id };
-
-    ghost view = { λ r. record { number = r.number; serial = r.serial } };
-
-    ghost inverse = { λ r. record { number = r.number; serial = r.serial } };
-}
+use wl_link::BufferedSocket;
 
 /// What is kept of a client.
 #[derive(Drop)]
@@ -47,16 +28,12 @@ pub struct Client<T, U, C> {
     pub socket: BufferedSocket<T>,
     /// The program's data of the client.
     pub info: C,
-    /// Its objects by number.
-    pub objects: ObjectMap<Kept<U>>,
-    /// The serial of the object that was made last; 0 if none was.
-    pub last_serial: u64,
+    /// Its objects.
+    pub objects: ClientObjects<U>,
     /// Whether it was killed. It is then kept until the next cleanup.
     pub is_killed: bool,
     /// The action that was handed out and is not finished yet.
     pub action: Option<OpenAction>,
-    /// The registries that were made for it and are still there, in the order in which they were made.
-    pub registries: Vec<Registry>,
     /// The notes that the next cleanup hands on. A *note* tells the program what happened to a client or to an object
     /// (`Note`).
     pub waiting: WaitingNotes<U>,
@@ -81,11 +58,11 @@ impl<T, U, C> Model for Client<T, U, C> {
       part = record {
         link = c.socket;
         info = c.info;
-        store = c.objects.store;
-        last_serial = c.last_serial;
+        store = c.objects.map.store;
+        last_serial = c.objects.last_serial;
         is_killed = c.is_killed;
         action = c.action;
-        registries = c.registries.items;
+        registries = c.objects.registries.items;
         waiting = map (λ w. w.1) c.waiting.queue.items;
       };
       made = map (λ m. m.1) c.made.queue.items;
@@ -97,6 +74,6 @@ impl<T, U, C> Model for Client<T, U, C> {
 impl<T, U, C> Client<T, U, C> {
     /// The allocator of all that is kept of the client.
     pub fn alloc(&self) -> Global {
-        *self.registries.allocator()
+        *self.objects.registries.allocator()
     }
 }

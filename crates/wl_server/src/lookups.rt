@@ -43,7 +43,7 @@ impl<T: Drop, U: Drop, G: Drop, C: Drop> Backend<T, U, G, C> {
         let Some(client) = self.client(&id.client()) else {
             return Err(InvalidId);
         };
-        match named_in(&client.objects, id) {
+        match named_in(&client.objects.map, id) {
             Some(object) => Ok(ObjectInfo {
                 id: id.protocol_id(),
                 interface: object.interface,
@@ -92,7 +92,7 @@ impl<T: Drop, U: Drop, G: Drop, C: Drop> Backend<T, U, G, C> {
         let Some(client) = self.client(&id.client()) else {
             return Err(InvalidId);
         };
-        let Some(object) = named_in(&client.objects, id) else {
+        let Some(object) = named_in(&client.objects.map, id) else {
             return Err(InvalidId);
         };
         match &object.value.user_data {
@@ -128,7 +128,7 @@ impl<T: Drop, U: Drop, G: Drop, C: Drop> Backend<T, U, G, C> {
         let Some(stored) = self.client(client) else {
             return Err(InvalidId);
         };
-        match stored.objects.find(number) {
+        match stored.objects.map.find(number) {
             Some(object) if object.interface == interface => Ok(id_at(client, number, object)),
             _ => Err(InvalidId),
         }

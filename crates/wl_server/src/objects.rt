@@ -12,11 +12,11 @@ pub mod create;
 pub mod data;
 pub mod destroy;
 
-use crate::client::Registry;
 use crate::ids::client_id::ClientId;
 use crate::ids::object_id::ObjectId;
 use crate::notes::Happening;
 use crate::notes::queues::{NoteNumbers, WaitingNotes};
+use std::marker::Model;
 use wl_link::{Object, ObjectMap};
 use wl_wire::{InterfaceId, OutOfMemory, WL_REGISTRY_INTERFACE};
 
@@ -27,6 +27,36 @@ pub struct Kept<U> {
     pub serial: u64,
     /// The program's data of the object.
     pub user_data: Option<U>,
+}
+
+/// A `wl_registry` that was made for a client, by the number and the serial in its id.
+#[derive(Drop)]
+pub struct Registry {
+    /// The number of the object in the protocol.
+    pub number: u32,
+    /// The serial of the object.
+    pub serial: u64,
+}
+
+impl Model for Registry {
+    ghost use Rattle.wl_link.specs.Identity.{Id};
+
+    ghost Value = { Id };
+
+    ghost view = { λ r. record { number = r.number; serial = r.serial } };
+
+    ghost inverse = { λ r. record { number = r.number; serial = r.serial } };
+}
+
+/// The objects of a client.
+#[derive(Drop)]
+pub struct ClientObjects<U> {
+    /// The objects by number.
+    pub map: ObjectMap<Kept<U>>,
+    /// The serial of the object that was made last; 0 if none was.
+    pub last_serial: u64,
+    /// The registries that were made for the client and are still there, in the order in which they were made.
+    pub registries: Vec<Registry>,
 }
 
 /// A new object with these values.
@@ -77,19 +107,16 @@ fn forget(registries: &mut Vec<Registry>, number: u32, serial: u64)
 
 /// Takes the object of this number out of the map, and out of the list of registries if it is one. It allocates no
 /// memory.
-pub fn take_out<U: Drop>(
-    objects: &mut ObjectMap<Kept<U>>,
-    registries: &mut Vec<Registry>,
-    number: u32,
-) -> Option<Object<Kept<U>>>
-    ensures found { result ≡ held objects.old.store number }
-    ensures removed { objects.new.store ≡ removed objects.old.store number }
-    ensures registries { MatchOption result (registries.new.items ≡ registries.old.items)
-        (λ x. registries.new.items ≡ registries_without registries.old.items number x) }
+pub fn take_out<U: Drop>(objects: &mut ClientObjects<U>, number: u32) -> Option<Object<Kept<U>>>
+    ensures found { result ≡ held objects.old.map.store number }
+    ensures removed { objects.new.map.store ≡ removed objects.old.map.store number }
+    ensures registries { MatchOption result (objects.new.registries.items ≡ objects.old.registries.items)
+        (λ x. objects.new.registries.items ≡ registries_without objects.old.registries.items number x) }
+    ensures serial { objects.new.last_serial ≡ objects.old.last_serial }
 {
-    let object = objects.remove(number)?;
+    let object = objects.map.remove(number)?;
     if object.interface == WL_REGISTRY_INTERFACE {
-        forget(registries, number, object.value.serial);
+        forget(&mut objects.registries, number, object.value.serial);
     }
     Some(object)
 }
@@ -112,22 +139,22 @@ pub fn reserve_note<U>(
 /// Takes the object with the number of the id out. If it had user data, a note of its end waits for the next cleanup.
 /// There is room for that note.
 pub fn take_out_noted<U: Drop>(
-    objects: &mut ObjectMap<Kept<U>>,
-    registries: &mut Vec<Registry>,
+    objects: &mut ClientObjects<U>,
     waiting: &mut WaitingNotes<U>,
     numbers: &mut NoteNumbers,
     id: &ObjectId,
 )
-    requires { IfSome (held objects.old.store id.now.number)
+    requires { IfSome (held objects.old.map.store id.now.number)
         (λ x. IsSome x.value.user_data → deque_len waiting.old.queue < deque_capacity waiting.old.queue) }
-    ensures removed { objects.new.store ≡ removed objects.old.store id.now.number }
-    ensures registries { IfSome (held objects.old.store id.now.number)
-        (λ x. registries.new.items ≡ registries_without registries.old.items id.now.number x) }
-    ensures noted { IfSome (held objects.old.store id.now.number)
+    ensures removed { objects.new.map.store ≡ removed objects.old.map.store id.now.number }
+    ensures registries { IfSome (held objects.old.map.store id.now.number)
+        (λ x. objects.new.registries.items ≡ registries_without objects.old.registries.items id.now.number x) }
+    ensures serial { objects.new.last_serial ≡ objects.old.last_serial }
+    ensures noted { IfSome (held objects.old.map.store id.now.number)
         (λ x. map (λ w. w.1) waiting.new.queue.items ≡ map (λ w. w.1) waiting.old.queue.items ++ note_of_end id.now.client id.now.number x) }
 {
     let number = id.protocol_id();
-    let Some(object) = take_out(objects, registries, number) else {
+    let Some(object) = take_out(objects, number) else {
         return;
     };
     let gone = id_at(&id.client(), number, &object);

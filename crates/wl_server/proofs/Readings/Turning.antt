@@ -15,7 +15,6 @@ use Rattle.wl_link.specs.Link.{Filled, FindsRoom, LinkState, grown_capacity}
 use Rattle.wl_link.proofs.Readings.ReaderLoops.{room_found}
 use Rattle.wl_link.specs.Puts.{lacked_memory}
 use Rattle.wl_link.specs.Reader.{CarriesOut, FrontAsks, Given, Gives, Halts, Handled, Leaves, Reads, Received, Takes, Turn, Unread, Verdict, behind, handled_in, stops, ReaderState}
-use Rattle.wl_link.specs.Identity.{Id}
 use Rattle.wl_link.specs.declared.object.Object.{Object}
 use Rattle.wl_link.specs.Store.{Store, held}
 use Rattle.wl_wire.specs.Table.{MessageRow}
@@ -26,7 +25,9 @@ use Rattle.wl_server.specs.declared.error.ActionError.TheVariants.{ActionOpen, I
 use Rattle.wl_server.specs.declared.notes.DisconnectReason.{DisconnectReason}
 use Rattle.wl_server.specs.declared.notes.Happening.{Happening}
 use Rattle.wl_server.specs.declared.notes.DisconnectReason.TheVariants.{ConnectionClosed}
+use Rattle.wl_server.specs.declared.reading.action.Found.{Found}
 use Rattle.wl_server.specs.declared.reading.action.NoAction.{NoAction}
+use Rattle.wl_server.specs.declared.objects.ClientObjects.{ClientObjects}
 use Rattle.wl_server.specs.declared.objects.Kept.{Kept}
 use Rattle.wl_server.specs.declared.reading.response.Response.{Response}
 use Rattle.wl_server.specs.Inside.Client.{Does}
@@ -280,38 +281,37 @@ module _ {T U G C : Type 0} (sends : T → Queue → Result ℕ IoFault → T �
 
   -- ---- a message was taken
 
-  -- the client as its objects are once the request was gone through
-  abbrev pub gone_through : Stored T U C → LinkState T → Store (Kept U) → ℕ → List Id → Stored T U C
-  gone_through s link store last_serial registries = record {
+  -- the client with these objects, once the request was gone through
+  abbrev pub gone_through : Stored T U C → LinkState T → ClientObjects U → Stored T U C
+  gone_through s link objects = record {
     serial = s.serial;
-    part = record s.part { link = link; store = store; last_serial = last_serial; registries = registries };
+    part = record s.part { link = link; store = objects.map.store; last_serial = objects.last_serial; registries = objects.registries.items };
     made = s.made;
   }
 
-  abbrev pub Responds : Stored T U C → Store (Kept U) → List Id → WireMessage → MessageRow → Store (Kept U) → ℕ → List Id → Response → List (Argument IdParts Token) → Type 0
-  Responds s store registries m row store' last_serial registries' response args =
-      (x : Object (Kept U)) (c : Core U C) → held store m.sender ≡ Some x
-      → request_to a (core_with c s.part.info store s.part.last_serial registries) m x row ≡ response_to a (core_with c s.part.info store' last_serial registries') response args
+  abbrev pub Responds : Stored T U C → ClientObjects U → WireMessage → MessageRow → ClientObjects U → Response → Found → List (Argument IdParts Token) → Type 0
+  Responds s objects m row objects' response f args =
+      (x : Object (Kept U)) (c : Core U C) → held objects.map.store m.sender ≡ Some x
+      → request_to a (core_with c s.part.info objects) m x row ≡ response_to a (core_with c s.part.info objects') response f args
 
   known : (m : WireMessage) (row : MessageRow) (o : Option (Object (Kept U))) → row_in a.table o m.opcode ≡ Some row → (x : Object (Kept U)) × (o ≡ Some x)
   known m row None is = cc
   known m row (Some x) is = (x, refl)
 
-  pub turn_taken : (s : Stored T U C) (r r' : Reading) (link : LinkState T) (m : WireMessage) (row : MessageRow) (store : Store (Kept U)) (registries : List Id)
-      (store' : Store (Kept U)) (last_serial : ℕ) (registries' : List Id) (response : Response) (args : List (Argument IdParts Token)) (to : Turned) (after : Stored T U C)
+  pub turn_taken : (s : Stored T U C) (r r' : Reading) (link : LinkState T) (m : WireMessage) (row : MessageRow) (objects objects' : ClientObjects U)
+      (response : Response) (f : Found) (args : List (Argument IdParts Token)) (to : Turned) (after : Stored T U C)
       → Live s.part → ReadsIn a.table s.part.store s.part.link (Ok m) link → row_in a.table (held s.part.store m.sender) m.opcode ≡ Some row
-      → store ≡ s.part.store → registries ≡ s.part.registries → Responds s store registries m row store' last_serial registries' response args
-      → IsHandled sends (response_to a (core_of (gone_through s link store' last_serial registries').part) response args) (gone_through s link store' last_serial registries') to after
+      → core_with (core_of s.part) s.part.info objects ≡ core_of s.part → Responds s objects m row objects' response f args
+      → IsHandled sends (response_to a (core_of (gone_through s link objects').part) response f args) (gone_through s link objects') to after
       → length link.incoming.bytes < length s.part.link.incoming.bytes → r'.receives_left ≡ r.receives_left → r'.read ≡ counted r.read 1
       → Turns sends receives a s r to after r'
-  turn_taken s r r' link m row store registries store' last_serial registries' response args to after live read is same-store same-registries responds handled fewer left count =
+  turn_taken s r r' link m row objects objects' response f args to after live read is same responds handled fewer left count =
       let k = known m row (held s.part.store m.sender) is in
-      let mid = gone_through s link store' last_serial registries' in
-      let v = response_to a (core_of mid.part) response args in
+      let mid = gone_through s link objects' in
+      let v = response_to a (core_of mid.part) response f args in
       let verdict : request_to a (core_of s.part) m k.0 row ≡ v
-      = subst (λ (g : List Id). request_to a (core_with (core_of s.part) s.part.info s.part.store s.part.last_serial g) m k.0 row ≡ v) same-registries
-      (subst (λ (t : Store (Kept U)). request_to a (core_with (core_of s.part) s.part.info t s.part.last_serial registries) m k.0 row ≡ v) same-store
-      (responds k.0 (core_of s.part) (ap (λ (t : Store (Kept U)). held t m.sender) same-store ∙ k.1))) in
+      = subst (λ (core : Core U C). request_to a core m k.0 row ≡ v) same
+      (responds k.0 (core_of s.part) (ap (λ (core : Core U C). held core.store m.sender) same ∙ k.1)) in
       let found : v ≡ (server a).handles (core_of s.part) m = sym verdict ∙ sym (ap₂ (request a (core_of s.part) m) k.1 is) in
       turn_handled s r r' live v link to after (m, read, found)
       (from_there sends v (linked s link) mid after to refl refl refl handled) fewer left count

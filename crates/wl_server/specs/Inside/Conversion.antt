@@ -8,8 +8,8 @@ use Rattle.wl_wire.specs.declared.interface.InterfaceId.{InterfaceId}
 use Rattle.wl_wire.specs.Argument.{WireArgument, kind_of, type_of}
 use Rattle.wl_wire.specs.Table.{is_new_id}
 use Rattle.wl_link.specs.Identity.{Objects}
-use Rattle.wl_link.specs.ObjectMap.{MapState}
 use Rattle.wl_server.specs.declared.reading.arguments.Progress.{Progress}
+use Rattle.wl_server.specs.declared.objects.ClientObjects.{ClientObjects}
 use Rattle.wl_server.specs.declared.objects.Kept.{Kept}
 use Rattle.wl_server.specs.declared.reading.response.RequestFault.{RequestFault}
 use Rattle.wl_server.specs.Ids.{ClientParts, IdParts}
@@ -21,12 +21,12 @@ IsNextKind [] a = ⊥
 IsNextKind (k ∷ _) a = kind_of k ≡ type_of a
 
 module _ {U : Type 0} where
-  abbrev pub objects_of_map : MapState (Kept U) → ℕ → Objects (Kept U)
-  objects_of_map map last_serial = record { store = map.store; last_serial = last_serial }
+  abbrev pub objects_of : ClientObjects U → Objects (Kept U)
+  objects_of objects = record { store = objects.map.store; last_serial = objects.last_serial }
 
-  abbrev pub state : MapState (Kept U) → ℕ → Progress → Converting U
-  state map last_serial progress = record {
-    objects = objects_of_map map last_serial;
+  abbrev pub state : ClientObjects U → Progress → Converting U
+  state objects progress = record {
+    objects = objects_of objects;
     kinds = progress.kinds.now;
     asked = progress.asked.now;
     child = progress.child;
@@ -34,8 +34,9 @@ module _ {U : Type 0} where
   }
 
   -- there is room for the object that the request may yet make
-  abbrev pub CanMake : Progress → MapState (Kept U) → Type 0
-  CanMake progress map = progress.child ≢ None → list_any is_new_id progress.kinds.now ≡ true → map.reserved ≡ true
+  abbrev pub CanMake : Progress → ClientObjects U → Type 0
+  CanMake progress objects =
+      progress.child ≢ None → list_any is_new_id progress.kinds.now ≡ true → objects.map.reserved ≡ true
 
   -- an object is made at that number, or none may be made there and nothing is changed
   abbrev pub Makes : ClientParts → Objects (Kept U) → InterfaceId → ℕ → ℕ → Option IdParts → Objects (Kept U) → Type 0

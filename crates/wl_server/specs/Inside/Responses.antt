@@ -10,12 +10,12 @@ use Rattle.wl_wire.specs.declared.error.MessageParseError.{MessageParseError}
 use Rattle.wl_wire.specs.Message.{WireMessage}
 use Rattle.wl_wire.specs.Table.{InterfaceRow, MessageRow, holds_zero, message_row, name_of}
 use Rattle.wl_link.specs.declared.object.Object.{Object}
-use Rattle.wl_link.specs.Identity.{Id}
 use Rattle.wl_link.specs.Link.{LinkState}
 use Rattle.wl_link.specs.Reader.{Verdict}
-use Rattle.wl_link.specs.Store.{Store, held}
+use Rattle.wl_link.specs.Store.{held}
 use Rattle.wl_server.specs.declared.reading.action.OpenAction.{OpenAction}
 use Rattle.wl_server.specs.declared.reading.action.OpenAction.TheVariants as opened
+use Rattle.wl_server.specs.declared.objects.ClientObjects.{ClientObjects}
 use Rattle.wl_server.specs.declared.objects.Kept.{Kept}
 use Rattle.wl_server.specs.declared.globals.KeptGlobal.{KeptGlobal}
 use Rattle.wl_server.specs.declared.reading.registry.Bind.{Bind}
@@ -80,27 +80,30 @@ opened_of (found.Request sender opcode is_destructor created) = opened.Request s
 opened_of (found.Bind global object) = opened.Bind object
 
 module _ {U G C : Type 0} (a : Around G C) where
-  -- what is yet to be done, as a verdict; an action is handed out with these arguments
-  abbrev pub response_to : Core U C → Response → List (Argument IdParts Token) → Verdict (Core U C) (Told U)
-  response_to c response.Garbled args = garbled c
-  response_to c (response.Breaks b) args = breaks a c (code_of b) (text_of a.table b)
-  response_to c (response.Syncs id) args = replies c (done_message (id_of id) ∷ deletions id.number) []
-  response_to c (response.Registers id) args =
+  -- what is yet to be done, as a verdict; an action that is handed out was found so, with these arguments
+  abbrev pub response_to : Core U C → Response → Found → List (Argument IdParts Token) → Verdict (Core U C) (Told U)
+  response_to c response.Garbled f args = garbled c
+  response_to c (response.Breaks b) f args = breaks a c (code_of b) (text_of a.table b)
+  response_to c (response.Syncs id) f args = replies c (done_message (id_of id) ∷ deletions id.number) []
+  response_to c (response.Registers id) f args =
       replies c (map (global_message a.table (id_of id)) (shown a.views a.globals a.client c.info)) (Remembered (id_of id) ∷ [])
-  response_to c (response.HandsOut f) args = hands_out c (opened_of f) (found_with f args)
+  response_to c response.HandsOut f args = hands_out c (opened_of f) (found_with f args)
 
 module _ {U C : Type 0} where
-  -- a client's core with these objects and registries
-  abbrev pub core_with : Core U C → C → Store (Kept U) → ℕ → List Id → Core U C
-  core_with c info store last_serial registries = record c { info = info; store = store; last_serial = last_serial; registries = registries }
+  -- a client's core with these data and objects
+  abbrev pub core_with : Core U C → C → ClientObjects U → Core U C
+  core_with c info objects =
+      record c { info = info; store = objects.map.store; last_serial = objects.last_serial; registries = objects.registries.items }
 
 module _ {T U G C : Type 0} (a : Around G C) (info : C) where
   -- a message was taken, and gone through; or none was taken
-  abbrev pub TookRequest : Store (Kept U) → ℕ → List Id → LinkState T → Result Response MessageParseError → List (Argument IdParts Token)
-      → Store (Kept U) → ℕ → List Id → LinkState T → Type 0
-  TookRequest store last_serial registries before (Ok response) args store' last_serial' registries' after =
-      (m : WireMessage) × (row : MessageRow) × ReadsIn a.table store before (Ok m) after × (row_in a.table (held store m.sender) m.opcode ≡ Some row)
-      × ((x : Object (Kept U)) (c : Core U C) → held store m.sender ≡ Some x
-      → request_to a (core_with c info store last_serial registries) m x row ≡ response_to a (core_with c info store' last_serial' registries') response args)
-  TookRequest store last_serial registries before (Err e) args store' last_serial' registries' after =
-      (after ≡ before) × (store' ≡ store) × (last_serial' ≡ last_serial) × (registries' ≡ registries) × NotTaken a.table store before e
+  abbrev pub TookRequest : ClientObjects U → LinkState T → Result Response MessageParseError → Found → List (Argument IdParts Token)
+      → ClientObjects U → LinkState T → Type 0
+  TookRequest objects before (Ok response) f args objects' after =
+      (m : WireMessage) × (row : MessageRow) × ReadsIn a.table objects.map.store before (Ok m) after
+      × (row_in a.table (held objects.map.store m.sender) m.opcode ≡ Some row)
+      × ((x : Object (Kept U)) (c : Core U C) → held objects.map.store m.sender ≡ Some x
+      → request_to a (core_with c info objects) m x row ≡ response_to a (core_with c info objects') response f args)
+  TookRequest objects before (Err e) f args objects' after =
+      (after ≡ before) × (objects'.map.store ≡ objects.map.store) × (objects'.last_serial ≡ objects.last_serial)
+      × (objects'.registries.items ≡ objects.registries.items) × NotTaken a.table objects.map.store before e

@@ -26,7 +26,7 @@ use crate::globals::handler::GlobalHandler;
 use crate::ids::client_id::ClientId;
 use crate::notes::Happening;
 use crate::notes::queues::{MadeNotes, NoteNumbers, WaitingNotes};
-use crate::objects::{Kept, fresh_object};
+use crate::objects::{ClientObjects, Kept, fresh_object};
 use std::alloc::Global;
 use wl_link::{BufferedSocket, ObjectMap, Transport};
 use wl_wire::{OutOfMemory, WL_DISPLAY_INTERFACE};
@@ -81,16 +81,18 @@ impl<T: Drop, U: Drop, C: Drop> Client<T, U, C> {
     ) -> Result<Self, OutOfMemory>
         ensures { IfOk result (IsInserted serial transport (Some max_buffer_size) info) }
     {
-        let (socket, objects, made) = first_parts(alloc, transport, max_buffer_size, numbers)?;
+        let (socket, map, made) = first_parts(alloc, transport, max_buffer_size, numbers)?;
         Ok(Client {
             serial,
             socket,
             info,
-            objects,
-            last_serial: 0,
+            objects: ClientObjects {
+                map,
+                last_serial: 0,
+                registries: Vec::new(alloc),
+            },
             is_killed: false,
             action: None,
-            registries: Vec::new(alloc),
             waiting: WaitingNotes::new(alloc),
             made,
         })

@@ -92,7 +92,7 @@ impl<T: Transport + Drop, U: Drop, C: Drop> Client<T, U, C> {
         ensures rest { self.new ≡ record self.old { part = with_link self.old.part self.new.part.link } }
     {
         let alloc = self.alloc();
-        if named_in(&self.objects, id).is_none() {
+        if named_in(&self.objects.map, id).is_none() {
             return Ok(());
         }
         put_error(alloc, &mut self.socket, id.protocol_id(), code, text)

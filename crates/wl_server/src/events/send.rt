@@ -14,17 +14,17 @@ ghost use Rattle.wl_server.specs.Events.{AsksForMemory, SendsEvent, session_cont
 ghost use Rattle.wl_server.specs.PartStep.{over};
 
 use crate::backend::Backend;
+use crate::client::Client;
 use crate::client::stored::stored_mut;
-use crate::client::{Client, Registry};
 use crate::error::EventError;
 use crate::events::check::check_event;
 use crate::events::display::{is_out_of_memory, put_delete_id};
 use crate::globals::handler::GlobalHandler;
 use crate::ids::object_id::ObjectId;
 use crate::notes::queues::{NoteNumbers, WaitingNotes};
-use crate::objects::{Kept, reserve_note, take_out_noted};
+use crate::objects::{ClientObjects, Kept, reserve_note, take_out_noted};
 use std::alloc::Global;
-use wl_link::{BufferedSocket, Object, ObjectMap, Transport};
+use wl_link::{BufferedSocket, Object, Transport};
 use wl_wire::{IoFault, Message, OutOfMemory, OwnNumbers, Protocol, Token};
 
 /// Makes room for the note of the sender's end, if the event ends it and it has user data.
@@ -45,22 +45,22 @@ fn make_room<U: Drop>(
 
 /// Takes the sender out, if the event ends it. If it had user data, a note of its end waits for the next cleanup.
 fn end_sender<U: Drop>(
-    objects: &mut ObjectMap<Kept<U>>,
-    registries: &mut Vec<Registry>,
+    objects: &mut ClientObjects<U>,
     waiting: &mut WaitingNotes<U>,
     numbers: &mut NoteNumbers,
     sender: &ObjectId,
     ends: bool,
 )
-    requires { IfSome (held objects.old.store sender.now.number) (λ x. AsksForMemory x ends → deque_len waiting.old.queue < deque_capacity waiting.old.queue) }
-    ensures store { objects.new.store ≡ store_ending ends objects.old.store sender.now.number }
-    ensures registries { IfSome (held objects.old.store sender.now.number)
-        (λ x. registries.new.items ≡ registries_ending ends registries.old.items sender.now.number x) }
-    ensures waiting { IfSome (held objects.old.store sender.now.number)
+    requires { IfSome (held objects.old.map.store sender.now.number) (λ x. AsksForMemory x ends → deque_len waiting.old.queue < deque_capacity waiting.old.queue) }
+    ensures store { objects.new.map.store ≡ store_ending ends objects.old.map.store sender.now.number }
+    ensures registries { IfSome (held objects.old.map.store sender.now.number)
+        (λ x. objects.new.registries.items ≡ registries_ending ends objects.old.registries.items sender.now.number x) }
+    ensures serial { objects.new.last_serial ≡ objects.old.last_serial }
+    ensures waiting { IfSome (held objects.old.map.store sender.now.number)
         (λ x. map (λ w. w.1) waiting.new.queue.items ≡ map (λ w. w.1) waiting.old.queue.items ++ notes_ending ends sender.now.client sender.now.number x) }
 {
     if ends {
-        take_out_noted(objects, registries, waiting, numbers, sender);
+        take_out_noted(objects, waiting, numbers, sender);
     }
 }
 
@@ -118,7 +118,7 @@ impl<T: Transport + Drop, U: Drop, C: Drop> Client<T, U, C> {
             return (Ok(()), false);
         }
         let id = &message.sender_id;
-        let (sender, ends) = match check_event(protocol, &id.client(), &self.objects, message) {
+        let (sender, ends) = match check_event(protocol, &id.client(), &self.objects.map, message) {
             Ok(granted) => granted,
             Err(error) => return (Err(error), false),
         };
@@ -129,14 +129,7 @@ impl<T: Transport + Drop, U: Drop, C: Drop> Client<T, U, C> {
         if is_out_of_memory(written) {
             return (Err(EventError::OutOfMemory), true);
         }
-        end_sender(
-            &mut self.objects,
-            &mut self.registries,
-            &mut self.waiting,
-            numbers,
-            id,
-            ends,
-        );
+        end_sender(&mut self.objects, &mut self.waiting, numbers, id, ends);
         (
             Ok(()),
             self.tell_end(numbers, id.protocol_id(), ends, written),

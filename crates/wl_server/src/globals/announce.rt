@@ -7,8 +7,8 @@ ghost use Rattle.wl_server.specs.Inside.News.{IsNews};
 ghost use Rattle.wl_server.specs.Inside.Puts.{Puts};
 ghost use Rattle.wl_server.specs.Telling.{by_object, global_message};
 
-use crate::client::Registry;
 use crate::globals::KeptGlobal;
+use crate::objects::Registry;
 use crate::reading::texts::c_string;
 use smallvec::SmallVec;
 use std::alloc::Global;

@@ -45,7 +45,7 @@ fn tell_new_at<T: Transport + Drop, U: Drop, G: GlobalHandler<C>, C: Drop>(
                 return false;
             }
             let alloc = client.alloc();
-            let answer = announcement.tell(alloc, &mut client.socket, &client.registries);
+            let answer = announcement.tell(alloc, &mut client.socket, &client.objects.registries);
             client.kill_unless_written(numbers, answer)
         }
         _ => false,

@@ -7,12 +7,12 @@ ghost use Rattle.wl_server.specs.Inside.Puts.{Puts};
 ghost use Rattle.wl_server.specs.Telling.{global_message};
 ghost use Rattle.wl_server.specs.Inside.Turns.{around_of};
 
-use crate::client::Registry;
 use crate::globals::KeptGlobal;
 use crate::globals::announce::Announcement;
 use crate::globals::handler::GlobalHandler;
 use crate::ids::global_id::GlobalId;
 use crate::ids::object_id::ObjectId;
+use crate::objects::Registry;
 use crate::reading::Surroundings;
 use std::alloc::Global;
 use wl_link::{BufferedSocket, Object, Transport};

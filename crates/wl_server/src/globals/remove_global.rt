@@ -49,7 +49,7 @@ fn tell_loss_at<T: Transport + Drop, U: Drop, C: Drop>(
         Some(client) if !client.is_killed => {
             let alloc = client.alloc();
             let mut message = message_of_number(alloc, 0, GLOBAL_REMOVE, name);
-            let answer = put_to_each(&mut client.socket, &client.registries, &mut message);
+            let answer = put_to_each(&mut client.socket, &client.objects.registries, &mut message);
             client.kill_unless_written(numbers, answer)
         }
         _ => false,

@@ -85,7 +85,7 @@ impl<T: Drop, U: Drop, G: Drop, C: Drop> Backend<T, U, G, C> {
         let Some(stored) = self.client(client) else {
             return Err(InvalidId);
         };
-        visit_objects(client, &stored.objects, &mut f);
+        visit_objects(client, &stored.objects.map, &mut f);
         Ok(())
     }
 }

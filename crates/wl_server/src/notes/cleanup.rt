@@ -81,7 +81,7 @@ fn count_ends_at<T: Drop, U: Drop, C: Drop>(client: &Option<Client<T, U, C>>) ->
     ensures { (slot : ℕ) → result < 0xFFFFFFFFFFFFFFFF → length (ends_at slot client.now) ≤ result }
 {
     match client {
-        Some(client) if client.is_killed => count_ending(&client.objects),
+        Some(client) if client.is_killed => count_ending(&client.objects.map),
         _ => 0,
     }
 }

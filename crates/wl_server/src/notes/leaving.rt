@@ -11,7 +11,7 @@ ghost use Rattle.wl_server.specs.Server.{note_of};
 
 use crate::ids::client_id::ClientId;
 use crate::notes::Note;
-use crate::objects::{Kept, id_at};
+use crate::objects::{ClientObjects, Kept, id_at};
 use wl_link::{Object, ObjectMap};
 
 /// How many objects have user data. `usize::MAX` stands for any larger number.
@@ -47,16 +47,12 @@ fn end_object<U: Drop>(
 
 /// Goes through the objects of a client that is taken out, by ascending number, moving each out of the map. Makes a note
 /// of each that has user data.
-pub fn end_objects<U: Drop>(
-    objects: ObjectMap<Kept<U>>,
-    client: &ClientId,
-    notes: &mut Vec<Note<U>>,
-)
-    requires { vec_len notes.old + length (ending (entries objects.store.objects)) ≤ vec_capacity notes.old }
-    ensures noted { notes.new.items ≡ notes.old.items ++ map (note_of client.now) (ends_of client.now (entries objects.store.objects)) }
+pub fn end_objects<U: Drop>(objects: ClientObjects<U>, client: &ClientId, notes: &mut Vec<Note<U>>)
+    requires { vec_len notes.old + length (ending (entries objects.map.store.objects)) ≤ vec_capacity notes.old }
+    ensures noted { notes.new.items ≡ notes.old.items ++ map (note_of client.now) (ends_of client.now (entries objects.map.store.objects)) }
     ensures capacity { vec_capacity notes.new ≡ vec_capacity notes.old }
 {
-    let mut all = objects.into_objects();
+    let mut all = objects.map.into_objects();
     while let Some((number, object)) = all.next() {
         end_object(client, number, object, notes);
     }

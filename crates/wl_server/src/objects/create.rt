@@ -58,13 +58,13 @@ impl<T: Drop, U: Drop, C: Drop> Client<T, U, C> {
         if protocol.get(interface).is_none() {
             return Err(CreateError::UnknownInterface);
         }
-        let Some(serial) = self.last_serial.checked_add(1) else {
-            return Err(without_serial(&self.objects));
+        let Some(serial) = self.objects.last_serial.checked_add(1) else {
+            return Err(without_serial(&self.objects.map));
         };
         let object = fresh_object(interface, version, serial, Some(user_data));
-        match self.objects.server_insert_new(object) {
+        match self.objects.map.server_insert_new(object) {
             Ok(number) => {
-                self.last_serial = serial;
+                self.objects.last_serial = serial;
                 Ok(ObjectId::from_parts(number, serial, *id, interface))
             }
             Err(NewError::IdsExhausted) => Err(CreateError::IdsExhausted),

@@ -51,6 +51,6 @@ impl<T: Transport + Drop, U: Drop, G: GlobalHandler<C> + Drop, C: Drop> Backend<
         let Some(stored) = stored_mut(&mut self.clients, &client) else {
             return Err(InvalidId);
         };
-        give_data(&mut stored.objects, id, user_data)
+        give_data(&mut stored.objects.map, id, user_data)
     }
 }

@@ -49,7 +49,7 @@ impl<T: Transport + Drop, U: Drop, C: Drop> Client<T, U, C> {
         ensures { Does self.old (λ p did q. Destroys T.sends id.now.client p id.now result (lacks_destroy result) did q) self.new }
     {
         let alloc = self.alloc();
-        let Some(object) = destroyable(&self.objects, id) else {
+        let Some(object) = destroyable(&self.objects.map, id) else {
             return Err(DestroyError::InvalidId);
         };
         if let Err(OutOfMemory) = reserve_note(&mut self.waiting, object) {
@@ -59,13 +59,7 @@ impl<T: Transport + Drop, U: Drop, C: Drop> Client<T, U, C> {
         if is_out_of_memory(wrote) {
             return Err(DestroyError::OutOfMemory);
         }
-        take_out_noted(
-            &mut self.objects,
-            &mut self.registries,
-            &mut self.waiting,
-            numbers,
-            id,
-        );
+        take_out_noted(&mut self.objects, &mut self.waiting, numbers, id);
         let _ = self.kill_unless_written(numbers, wrote);
         Ok(())
     }

@@ -5,11 +5,11 @@ ghost use Rattle.smallvec.specs.SmallVec.{HasRoomFor};
 ghost use Rattle.wl_wire.specs.Argument.{Matches};
 ghost use Rattle.wl_wire.specs.Asked.{next_interface, rest_of};
 ghost use Rattle.wl_server.specs.Requests.{Wrong, allows_null as null_allowed, convert, kinds_after, object_argument};
-ghost use Rattle.wl_server.specs.Inside.Conversion.{CanMake, Converts, EndsWhole, IsNextKind, Makes, MakesNew, objects_of_map, state};
+ghost use Rattle.wl_server.specs.Inside.Conversion.{CanMake, Converts, EndsWhole, IsNextKind, Makes, MakesNew, objects_of, state};
 
 use crate::ids::client_id::ClientId;
 use crate::ids::object_id::ObjectId;
-use crate::objects::{Kept, fresh_object, id_at};
+use crate::objects::{ClientObjects, Kept, fresh_object, id_at};
 use crate::reading::response::RequestFault;
 use smallvec::SmallVec;
 use wl_link::{InsertError, ObjectMap, SERVER_ID_LIMIT};
@@ -60,23 +60,25 @@ fn object_argument<U: Drop>(
 /// for a new object, or if no serial is left. Then nothing is changed.
 pub fn make_object<U: Drop>(
     client: ClientId,
-    objects: &mut ObjectMap<Kept<U>>,
-    last_serial: &mut u64,
+    objects: &mut ClientObjects<U>,
     interface: InterfaceId,
     version: u32,
     number: u32,
 ) -> Option<ObjectId>
-    requires { objects.old.reserved ≡ true }
-    ensures { Makes client (objects_of_map objects.old last_serial.old) interface version number result
-        (objects_of_map objects.new last_serial.new) }
+    requires { objects.old.map.reserved ≡ true }
+    ensures made { Makes client (objects_of objects.old) interface version number result (objects_of objects.new) }
+    ensures registries { objects.new.registries ≡ objects.old.registries }
 {
-    if number >= SERVER_ID_LIMIT || *last_serial == u64::MAX {
+    if number >= SERVER_ID_LIMIT || objects.last_serial == u64::MAX {
         return None;
     }
-    let serial = *last_serial + 1;
-    match objects.insert_at(number, fresh_object(interface, version, serial, None)) {
+    let serial = objects.last_serial + 1;
+    match objects
+        .map
+        .insert_at(number, fresh_object(interface, version, serial, None))
+    {
         Ok(()) => {
-            *last_serial = serial;
+            objects.last_serial = serial;
             Some(ObjectId::from_parts(number, serial, client, interface))
         }
         Err(InsertError::NotFree) => None,
@@ -122,21 +124,20 @@ fn take_asked(progress: &mut Progress<'_>) -> InterfaceId
 fn new_id_argument<U: Drop>(
     client: ClientId,
     version: u32,
-    objects: &mut ObjectMap<Kept<U>>,
-    last_serial: &mut u64,
+    objects: &mut ClientObjects<U>,
     progress: &mut Progress<'_>,
     number: u32,
 ) -> Result<Argument<ObjectId, Token>, RequestFault>
-    requires { progress.old.child ≢ None → objects.old.reserved ≡ true }
-    ensures made { MakesNew client version (state objects.old last_serial.old progress.old) number result
-        (state objects.new last_serial.new progress.new) }
+    requires { progress.old.child ≢ None → objects.old.map.reserved ≡ true }
+    ensures made { MakesNew client version (state objects.old progress.old) number result (state objects.new progress.new) }
+    ensures registries { objects.new.registries ≡ objects.old.registries }
     ensures child { IfOk result (λ _. progress.new.child ≡ None) }
     ensures kinds { progress.new.kinds.now ≡ progress.old.kinds.now }
 {
     let Some(interface) = progress.child else {
         return Err(RequestFault::InvalidNewId(number));
     };
-    match make_object(client, objects, last_serial, interface, version, number) {
+    match make_object(client, objects, interface, version, number) {
         Some(id) => {
             progress.child = None;
             progress.created = Some(id);
@@ -150,15 +151,14 @@ fn new_id_argument<U: Drop>(
 fn convert_one<U: Drop>(
     client: ClientId,
     version: u32,
-    objects: &mut ObjectMap<Kept<U>>,
-    last_serial: &mut u64,
+    objects: &mut ClientObjects<U>,
     progress: &mut Progress<'_>,
     arg: Argument<u32, Token>,
 ) -> Result<Argument<ObjectId, Token>, RequestFault>
     requires can_make { CanMake progress.old objects.old }
     requires kind { IsNextKind progress.old.kinds.now arg }
-    ensures converts { Converts client version (state objects.old last_serial.old progress.old) arg result
-        (state objects.new last_serial.new progress.new) }
+    ensures converts { Converts client version (state objects.old progress.old) arg result (state objects.new progress.new) }
+    ensures registries { objects.new.registries ≡ objects.old.registries }
     ensures can_make { IfOk result (λ _. CanMake progress.new objects.new) }
     ensures kinds { progress.new.kinds.now ≡ kinds_after progress.old.kinds.now }
 {
@@ -172,12 +172,10 @@ fn convert_one<U: Drop>(
         Argument::Fd(token) => Ok(Argument::Fd(token)),
         Argument::Object(number) => {
             let asked = take_asked(progress);
-            let id = object_argument(client, objects, allows_null, asked, number)?;
+            let id = object_argument(client, &objects.map, allows_null, asked, number)?;
             Ok(Argument::Object(id))
         }
-        Argument::NewId(number) => {
-            new_id_argument(client, version, objects, last_serial, progress, number)
-        }
+        Argument::NewId(number) => { new_id_argument(client, version, objects, progress, number) }
     }
 }
 
@@ -186,8 +184,7 @@ fn convert_one<U: Drop>(
 pub fn convert<U: Drop>(
     client: ClientId,
     version: u32,
-    objects: &mut ObjectMap<Kept<U>>,
-    last_serial: &mut u64,
+    objects: &mut ClientObjects<U>,
     progress: &mut Progress<'_>,
     args: &mut SmallVec<Argument<u32, Token>, INLINE_ARGS>,
     converted: &mut SmallVec<Argument<ObjectId, Token>, INLINE_ARGS>,
@@ -196,15 +193,16 @@ pub fn convert<U: Drop>(
     requires kinds { Matches progress.old.kinds.now (reverse args.old.items) }
     requires room { HasRoomFor converted.old (length args.old.items) }
     ensures capacity { converted.new.capacity ≡ converted.old.capacity }
+    ensures registries { objects.new.registries ≡ objects.old.registries }
     ensures converts { MatchResult result
         (λ created. EndsWhole
-        (convert client version (state objects.old last_serial.old progress.old) converted.old.items (reverse args.old.items))
-        (objects_of_map objects.new last_serial.new) created converted.new.items)
-        (λ wrong. convert client version (state objects.old last_serial.old progress.old) converted.old.items (reverse args.old.items)
-        ≡ Wrong wrong (objects_of_map objects.new last_serial.new)) }
+        (convert client version (state objects.old progress.old) converted.old.items (reverse args.old.items))
+        (objects_of objects.new) created converted.new.items)
+        (λ wrong. convert client version (state objects.old progress.old) converted.old.items (reverse args.old.items)
+        ≡ Wrong wrong (objects_of objects.new)) }
 {
     while let Some(arg) = args.pop() {
-        let converted_arg = convert_one(client, version, objects, last_serial, progress, arg)?;
+        let converted_arg = convert_one(client, version, objects, progress, arg)?;
         converted.push_reserved(converted_arg);
     }
     Ok(progress.created)

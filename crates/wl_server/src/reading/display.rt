@@ -6,20 +6,18 @@ ghost use Rattle.wl_wire.specs.Argument.{type_of};
 ghost use Rattle.wl_wire.specs.Table.{is_new_id};
 ghost use Rattle.wl_wire.specs.declared.argument.Argument.{Argument as Arg};
 ghost use Rattle.wl_wire.specs.declared.argument.Token.{Token as TokenParts};
-ghost use Rattle.wl_link.specs.Identity.{Id};
+ghost use Rattle.wl_server.specs.declared.reading.action.Found.{Found as FoundOf};
 ghost use Rattle.wl_server.specs.Ids.{IdParts};
 ghost use Rattle.wl_server.specs.Reading.{display_request as request_verdict, made_at, registers, syncs};
 ghost use Rattle.wl_server.specs.Inside.Responses.{HasNames, core_with, only_new_id, response_to};
 ghost use Rattle.wl_server.specs.Telling.{Core};
 ghost use Rattle.wl_server.specs.Inside.Turns.{around_of};
 
-use crate::client::Registry;
 use crate::globals::handler::GlobalHandler;
-use crate::objects::Kept;
+use crate::objects::{ClientObjects, Registry};
 use crate::reading::Surroundings;
 use crate::reading::arguments::make_object;
 use crate::reading::response::{Breach, Response};
-use wl_link::ObjectMap;
 use wl_wire::{Argument, Message, Token, WL_CALLBACK_INTERFACE, WL_REGISTRY_INTERFACE};
 
 /// The opcode of `wl_display.sync`.
@@ -29,25 +27,23 @@ const SYNC: u16 = 0;
 pub fn display_request<'m, U: Drop, G: GlobalHandler<C>, C>(
     around: &Surroundings<'_, G>,
     info: &C,
-    objects: &mut ObjectMap<Kept<U>>,
-    last_serial: &mut u64,
-    registries: &mut Vec<Registry>,
+    objects: &mut ClientObjects<U>,
     message: &'m Message<u32, Token>,
 ) -> Response<'m>
-    requires can_make { list_any (λ x. is_new_id (type_of x)) message.now.args.items ≡ true → objects.old.reserved ≡ true }
-    requires can_register { list_any (λ x. is_new_id (type_of x)) message.now.args.items ≡ true → vec_len registries.old < vec_capacity registries.old }
+    requires can_make { list_any (λ x. is_new_id (type_of x)) message.now.args.items ≡ true → objects.old.map.reserved ≡ true }
+    requires can_register { list_any (λ x. is_new_id (type_of x)) message.now.args.items ≡ true → vec_len objects.old.registries < vec_capacity objects.old.registries }
     ensures names { HasNames result }
-    ensures responds { (c : Core U C) (args : List (Arg IdParts TokenParts))
-        → request_verdict (around_of G.views around.now) (core_with c info.now objects.old.store last_serial.old registries.old.items) message.now.opcode message.now.args.items
-        ≡ response_to (around_of G.views around.now) (core_with c info.now objects.new.store last_serial.new registries.new.items) result args }
+    ensures responds { (c : Core U C) (f : FoundOf) (args : List (Arg IdParts TokenParts))
+        → request_verdict (around_of G.views around.now) (core_with c info.now objects.old) message.now.opcode message.now.args.items
+        ≡ response_to (around_of G.views around.now) (core_with c info.now objects.new) result f args }
 {
     let Some(number) = new_id_in(message) else {
         return Response::Garbled;
     };
     if message.opcode == SYNC {
-        return sync(around, info, objects, last_serial, number);
+        return sync(around, info, objects, number);
     }
-    get_registry(around, info, objects, last_serial, registries, number)
+    get_registry(around, info, objects, number)
 }
 
 /// The number of the message's new id, if that is its only argument.
@@ -64,27 +60,19 @@ fn new_id_in(message: &Message<u32, Token>) -> Option<u32>
 fn sync<'m, U: Drop, G: GlobalHandler<C>, C>(
     around: &Surroundings<'_, G>,
     info: &C,
-    objects: &mut ObjectMap<Kept<U>>,
-    last_serial: &mut u64,
+    objects: &mut ClientObjects<U>,
     number: u32,
 ) -> Response<'m>
-    requires { objects.old.reserved ≡ true }
+    requires { objects.old.map.reserved ≡ true }
     ensures names { HasNames result }
-    ensures responds { (c : Core U C) (registries : List Id) (args : List (Arg IdParts TokenParts))
-        → (let before : Core U C = core_with c info.now objects.old.store last_serial.old registries in
+    ensures responds { (c : Core U C) (f : FoundOf) (args : List (Arg IdParts TokenParts))
+        → (let before : Core U C = core_with c info.now objects.old in
         made_at (around_of G.views around.now) before number (syncs (around_of G.views around.now) before number))
-        ≡ response_to (around_of G.views around.now) (core_with c info.now objects.new.store last_serial.new registries) result args }
+        ≡ response_to (around_of G.views around.now) (core_with c info.now objects.new) result f args }
 {
-    match make_object(
-        around.client,
-        objects,
-        last_serial,
-        WL_CALLBACK_INTERFACE,
-        1,
-        number,
-    ) {
+    match make_object(around.client, objects, WL_CALLBACK_INTERFACE, 1, number) {
         Some(id) => {
-            objects.remove(number);
+            objects.map.remove(number);
             Response::Syncs(id)
         }
         None => Response::Breaks(Breach::InvalidNewId(number)),
@@ -95,30 +83,23 @@ fn sync<'m, U: Drop, G: GlobalHandler<C>, C>(
 fn get_registry<'m, U: Drop, G: GlobalHandler<C>, C>(
     around: &Surroundings<'_, G>,
     info: &C,
-    objects: &mut ObjectMap<Kept<U>>,
-    last_serial: &mut u64,
-    registries: &mut Vec<Registry>,
+    objects: &mut ClientObjects<U>,
     number: u32,
 ) -> Response<'m>
-    requires can_make { objects.old.reserved ≡ true }
-    requires can_register { vec_len registries.old < vec_capacity registries.old }
+    requires can_make { objects.old.map.reserved ≡ true }
+    requires can_register { vec_len objects.old.registries < vec_capacity objects.old.registries }
     ensures names { HasNames result }
-    ensures responds { (c : Core U C) (args : List (Arg IdParts TokenParts))
-        → (let before : Core U C = core_with c info.now objects.old.store last_serial.old registries.old.items in
+    ensures responds { (c : Core U C) (f : FoundOf) (args : List (Arg IdParts TokenParts))
+        → (let before : Core U C = core_with c info.now objects.old in
         made_at (around_of G.views around.now) before number (registers (around_of G.views around.now) before number))
-        ≡ response_to (around_of G.views around.now) (core_with c info.now objects.new.store last_serial.new registries.new.items) result args }
+        ≡ response_to (around_of G.views around.now) (core_with c info.now objects.new) result f args }
 {
-    match make_object(
-        around.client,
-        objects,
-        last_serial,
-        WL_REGISTRY_INTERFACE,
-        1,
-        number,
-    ) {
+    match make_object(around.client, objects, WL_REGISTRY_INTERFACE, 1, number) {
         Some(id) => {
             let serial = id.serial();
-            registries.push_reserved(Registry { number, serial });
+            objects
+                .registries
+                .push_reserved(Registry { number, serial });
             Response::Registers(id)
         }
         None => Response::Breaks(Breach::InvalidNewId(number)),

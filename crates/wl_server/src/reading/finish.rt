@@ -21,8 +21,8 @@ ghost use Rattle.wl_server.specs.declared.runs.step.Reply.TheVariants as reply;
 ghost use Rattle.wl_server.specs.declared.runs.step.Step.TheVariants as step;
 
 use crate::backend::Backend;
+use crate::client::Client;
 use crate::client::stored::stored_mut;
-use crate::client::{Client, Registry};
 use crate::error::{FinishError, FinishRefused};
 use crate::events::display::{is_out_of_memory, put_delete_id};
 use crate::globals::handler::GlobalHandler;
@@ -31,7 +31,7 @@ use crate::ids::object_id::ObjectId;
 use crate::notes::Happening;
 use crate::notes::queues::{MadeNotes, NoteNumbers};
 use crate::objects::data::give_data;
-use crate::objects::{Kept, id_at, named_in, take_out};
+use crate::objects::{ClientObjects, Kept, id_at, named_in, take_out};
 use crate::reading::action::OpenAction;
 use std::alloc::Global;
 use wl_link::{Object, ObjectMap, Transport};
@@ -86,21 +86,21 @@ fn reserve_end<U: Drop>(
 
 /// Takes the object of this number out, and makes a note of that if it had user data. There is room for the note.
 fn take_out_made<U: Drop>(
-    objects: &mut ObjectMap<Kept<U>>,
-    registries: &mut Vec<Registry>,
+    objects: &mut ClientObjects<U>,
     made: &mut MadeNotes<U>,
     numbers: &mut NoteNumbers,
     client: &ClientId,
     number: u32,
 )
-    requires { (x : Object (Kept U)) → held objects.old.store number ≡ Some x → IsSome x.value.user_data → deque_len made.old.queue + 2 ≤ deque_capacity made.old.queue }
-    ensures removed { objects.new.store ≡ removed objects.old.store number }
-    ensures left { (x : Object (Kept U)) → held objects.old.store number ≡ Some x
-        → (registries.new.items ≡ registries_without registries.old.items number x)
+    requires { (x : Object (Kept U)) → held objects.old.map.store number ≡ Some x → IsSome x.value.user_data → deque_len made.old.queue + 2 ≤ deque_capacity made.old.queue }
+    ensures removed { objects.new.map.store ≡ removed objects.old.map.store number }
+    ensures serial { objects.new.last_serial ≡ objects.old.last_serial }
+    ensures left { (x : Object (Kept U)) → held objects.old.map.store number ≡ Some x
+        → (objects.new.registries.items ≡ registries_without objects.old.registries.items number x)
         × (map (λ m. m.1) made.new.queue.items ≡ map (λ m. m.1) made.old.queue.items ++ note_of_end client.now number x) }
     ensures room { deque_len made.old.queue < deque_capacity made.old.queue → deque_len made.new.queue < deque_capacity made.new.queue }
 {
-    let Some(object) = take_out(objects, registries, number) else {
+    let Some(object) = take_out(objects, number) else {
         return;
     };
     let id = id_at(client, number, &object);
@@ -123,7 +123,7 @@ impl<T: Transport + Drop, U: Drop, C: Drop> Client<T, U, C> {
     ) -> Result<Result<(), IoFault>, OutOfMemory>
         ensures { EndsSender T.sends id.now self.old sender.now is_destructor result self.new }
     {
-        let Some(object) = ended_in(&self.objects, sender, is_destructor) else {
+        let Some(object) = ended_in(&self.objects.map, sender, is_destructor) else {
             return Ok(Ok(()));
         };
         reserve_end(&mut self.made, object)?;
@@ -132,14 +132,7 @@ impl<T: Transport + Drop, U: Drop, C: Drop> Client<T, U, C> {
         if is_out_of_memory(wrote) {
             return Err(OutOfMemory);
         }
-        take_out_made(
-            &mut self.objects,
-            &mut self.registries,
-            &mut self.made,
-            numbers,
-            id,
-            number,
-        );
+        take_out_made(&mut self.objects, &mut self.made, numbers, id, number);
         Ok(wrote)
     }
 
@@ -149,7 +142,7 @@ impl<T: Transport + Drop, U: Drop, C: Drop> Client<T, U, C> {
     {
         self.action = None;
         if let (Some(id), Some(user_data)) = (created, user_data) {
-            let _ = give_data(&mut self.objects, &id, user_data);
+            let _ = give_data(&mut self.objects.map, &id, user_data);
         }
     }
 

@@ -17,11 +17,11 @@ ghost use Rattle.wl_server.specs.Ids.{IdParts};
 ghost use Rattle.wl_server.specs.Inside.Responses.{HasNames, TookRequest};
 ghost use Rattle.wl_server.specs.Inside.Turns.{IsHeader, Live, NotTaken, TookWith, Turns, around_of, turned};
 
-use crate::client::{Client, Registry};
+use crate::client::Client;
 use crate::globals::handler::GlobalHandler;
 use crate::ids::object_id::ObjectId;
 use crate::notes::queues::NoteNumbers;
-use crate::objects::Kept;
+use crate::objects::{ClientObjects, Kept};
 use crate::reading::Surroundings;
 use crate::reading::action::{Found, NoAction, Reading, TurnEnd};
 use crate::reading::request::request;
@@ -51,24 +51,24 @@ fn request_desc<'p, U: Drop>(
 /// Makes room for what becomes of the message at the front, if that is there whole: for its arguments, and for the object
 /// that it may make, which may be a registry. If the message is not there, it allocates nothing.
 fn make_room<T: Drop, U: Drop>(
-    objects: &mut ObjectMap<Kept<U>>,
-    registries: &mut Vec<Registry>,
+    objects: &mut ClientObjects<U>,
     converted: &mut SmallVec<Argument<ObjectId, Token>, INLINE_ARGS>,
     socket: &BufferedSocket<T>,
     desc: &MessageDesc,
 ) -> Result<(), OutOfMemory>
     requires empty { converted.old.items ≡ [] }
     requires inline { INLINE_ARGS ≤ converted.old.capacity }
-    ensures store { objects.new.store ≡ objects.old.store }
-    ensures registries { registries.new.items ≡ registries.old.items }
+    ensures store { objects.new.map.store ≡ objects.old.map.store }
+    ensures registries { objects.new.registries.items ≡ objects.old.registries.items }
+    ensures serial { objects.new.last_serial ≡ objects.old.last_serial }
     ensures empty { converted.new.items ≡ [] }
     ensures inline { INLINE_ARGS ≤ converted.new.capacity }
     ensures room { OnOk result (IsThere socket.now.incoming.bytes desc.now.signature.items socket.now.incoming.tokens
         → length desc.now.signature.items ≤ converted.new.capacity) }
     ensures can_make { OnOk result (IsThere socket.now.incoming.bytes desc.now.signature.items socket.now.incoming.tokens
-        → creates (message_row desc.now) ≡ true → objects.new.reserved ≡ true) }
+        → creates (message_row desc.now) ≡ true → objects.new.map.reserved ≡ true) }
     ensures can_register { OnOk result (IsThere socket.now.incoming.bytes desc.now.signature.items socket.now.incoming.tokens
-        → creates (message_row desc.now) ≡ true → vec_len registries.new < vec_capacity registries.new) }
+        → creates (message_row desc.now) ≡ true → vec_len objects.new.registries < vec_capacity objects.new.registries) }
     ensures asked { OnErr result ((row_asks (Some (message_row desc.now)) ≡ true)
         × IsThere socket.now.incoming.bytes desc.now.signature.items socket.now.incoming.tokens) }
 {
@@ -79,8 +79,8 @@ fn make_room<T: Drop, U: Drop>(
     }
     converted.reserve(desc.signature.len())?;
     if creates {
-        registries.reserve(1)?;
-        objects.reserve()?;
+        objects.registries.reserve(1)?;
+        objects.map.reserve()?;
     }
     Ok(())
 }
@@ -92,8 +92,7 @@ fn make_room<T: Drop, U: Drop>(
 /// it may make in the map and among the registries.
 fn take<'p, T: Drop, U: Drop>(
     protocol: &'p Protocol,
-    objects: &mut ObjectMap<Kept<U>>,
-    registries: &mut Vec<Registry>,
+    objects: &mut ClientObjects<U>,
     socket: &mut BufferedSocket<T>,
     header: (u32, u16),
     message: &mut Message<u32, Token>,
@@ -102,25 +101,26 @@ fn take<'p, T: Drop, U: Drop>(
     requires header { IsHeader socket.old header }
     requires inline { INLINE_ARGS ≤ converted.old.capacity }
     requires place { INLINE_ARGS ≤ message.old.args.capacity }
-    ensures took { TookWith protocol.now objects.old.store socket.old result (content message.new) socket.new }
+    ensures took { TookWith protocol.now objects.old.map.store socket.old result (content message.new) socket.new }
     ensures matches { IfOk result (λ desc. Matches desc.now.signature.items message.new.args.items) }
     ensures name { IfOk result (λ desc. holds_zero (message_row desc.now).name ≡ false) }
     ensures fewer { OnOk result (length socket.new.incoming.bytes < length socket.old.incoming.bytes) }
-    ensures store { objects.new.store ≡ objects.old.store }
-    ensures registries { registries.new.items ≡ registries.old.items }
+    ensures store { objects.new.map.store ≡ objects.old.map.store }
+    ensures registries { objects.new.registries.items ≡ objects.old.registries.items }
+    ensures serial { objects.new.last_serial ≡ objects.old.last_serial }
     ensures room { OnOk result (HasRoomFor converted.new (length message.new.args.items)) }
     ensures inline { INLINE_ARGS ≤ converted.new.capacity }
     ensures empty { converted.new.items ≡ [] }
-    ensures can_make { IfOk result (λ desc. creates (message_row desc.now) ≡ true → objects.new.reserved ≡ true) }
-    ensures can_register { IfOk result (λ desc. creates (message_row desc.now) ≡ true → vec_len registries.new < vec_capacity registries.new) }
+    ensures can_make { IfOk result (λ desc. creates (message_row desc.now) ≡ true → objects.new.map.reserved ≡ true) }
+    ensures can_register { IfOk result (λ desc. creates (message_row desc.now) ≡ true → vec_len objects.new.registries < vec_capacity objects.new.registries) }
 {
     converted.clear();
     let (sender, opcode) = header;
-    let Some(desc) = request_desc(protocol, objects, sender, opcode) else {
+    let Some(desc) = request_desc(protocol, &objects.map, sender, opcode) else {
         return Err(MessageParseError::Malformed);
     };
     let signature = desc.signature.as_slice();
-    let Ok(()) = make_room(objects, registries, converted, socket, desc) else {
+    let Ok(()) = make_room(objects, converted, socket, desc) else {
         return Err(MessageParseError::OutOfMemory);
     };
     socket.read_with_signature(signature, message)?;
@@ -128,7 +128,7 @@ fn take<'p, T: Drop, U: Drop>(
 }
 
 /// Takes the message at the front off the incoming buffer, and handles it. Its sender and its opcode are those of the
-/// header. If it is handed out, its arguments are in `args` then.
+/// header. If it is handed out, it is in `found` then, and its arguments are in `args`.
 ///
 /// `message` is the place that the message is read into. `protocol` is the table of interfaces. It is a parameter of its
 /// own because it need not be borrowed as long as `around`.
@@ -136,39 +136,28 @@ fn take_request<'m, T: Drop, U: Drop, G: GlobalHandler<C> + Drop, C>(
     protocol: &'m Protocol,
     around: &Surroundings<'_, G>,
     info: &C,
-    objects: &mut ObjectMap<Kept<U>>,
-    last_serial: &mut u64,
-    registries: &mut Vec<Registry>,
+    objects: &mut ClientObjects<U>,
     socket: &mut BufferedSocket<T>,
     header: (u32, u16),
     message: &'m mut Message<u32, Token>,
+    found: &mut Found,
     args: &mut SmallVec<Argument<ObjectId, Token>, INLINE_ARGS>,
 ) -> Result<Response<'m>, MessageParseError>
     requires protocol { protocol.now ≡ around.now.protocol.now }
     requires header { IsHeader socket.old header }
     requires inline { INLINE_ARGS ≤ args.old.capacity }
     requires place { INLINE_ARGS ≤ message.old.args.capacity }
-    ensures took { TookRequest (around_of G.views around.now) info.now objects.old.store last_serial.old registries.old.items socket.old result args.new.items
-        objects.new.store last_serial.new registries.new.items socket.new }
+    ensures took { TookRequest (around_of G.views around.now) info.now objects.old socket.old result found.new args.new.items objects.new socket.new }
     ensures names { IfOk result HasNames }
     ensures fewer { OnOk result (length socket.new.incoming.bytes < length socket.old.incoming.bytes) }
     ensures inline { INLINE_ARGS ≤ args.new.capacity }
 {
-    let taken = take(protocol, objects, registries, socket, header, message, args);
+    let taken = take(protocol, objects, socket, header, message, args);
     let desc = match taken {
         Ok(desc) => desc,
         Err(error) => return Err(error),
     };
-    Ok(request(
-        around,
-        info,
-        objects,
-        last_serial,
-        registries,
-        desc,
-        message,
-        args,
-    ))
+    Ok(request(around, info, objects, desc, message, found, args))
 }
 
 /// Drops what is left of a message in its place, and the place's memory if it has more than the arguments that need no
@@ -234,11 +223,10 @@ impl<T: Transport + Drop, U: Drop, C: Drop> Client<T, U, C> {
             around,
             &self.info,
             &mut self.objects,
-            &mut self.last_serial,
-            &mut self.registries,
             &mut self.socket,
             header,
             message,
+            found,
             args,
         ) {
             Ok(response) => {

@@ -1,16 +1,15 @@
 //! The requests to objects that are neither displays nor registries.
 
-ghost use Rattle.std.specs.Prelude.{◌≡◌, List, [], true, false, Some, MatchResult, length};
+ghost use Rattle.std.specs.Prelude.{◌≡◌, [], true, false, Some, MatchResult, length};
 ghost use Rattle.smallvec.specs.SmallVec.{HasRoomFor};
 ghost use Rattle.wl_wire.specs.Argument.{Matches};
 ghost use Rattle.wl_wire.specs.Asked.{creates as row_creates};
 ghost use Rattle.wl_wire.specs.Message.{content};
 ghost use Rattle.wl_wire.specs.Table.{holds_zero, message_row};
 ghost use Rattle.wl_link.specs.declared.object.Object.{Object as ObjectOf};
-ghost use Rattle.wl_link.specs.Identity.{Id};
 ghost use Rattle.wl_link.specs.Store.{held};
 ghost use Rattle.wl_server.specs.declared.objects.Kept.{Kept as KeptOf};
-ghost use Rattle.wl_server.specs.Inside.Conversion.{EndsWhole, objects_of_map};
+ghost use Rattle.wl_server.specs.Inside.Conversion.{EndsWhole, objects_of};
 ghost use Rattle.wl_server.specs.Reading.{other_request as request_verdict};
 ghost use Rattle.wl_server.specs.Requests.{Wrong, convert as outcome_of, start};
 ghost use Rattle.wl_server.specs.Inside.Responses.{HasNames, core_with, response_to};
@@ -20,13 +19,12 @@ ghost use Rattle.wl_server.specs.Inside.Turns.{around_of};
 use crate::globals::handler::GlobalHandler;
 use crate::ids::client_id::ClientId;
 use crate::ids::object_id::ObjectId;
-use crate::objects::{Kept, id_at};
+use crate::objects::{ClientObjects, id_at};
 use crate::reading::Surroundings;
 use crate::reading::action::Found;
 use crate::reading::arguments::{Progress, convert};
 use crate::reading::response::{Breach, RequestFault, Response};
 use smallvec::SmallVec;
-use wl_link::ObjectMap;
 use wl_wire::{Argument, INLINE_ARGS, Message, MessageDesc, Token};
 
 /// Converts the arguments of a request, and returns the object that the request makes. `version` is the version of the
@@ -35,22 +33,22 @@ fn convert_request<U: Drop>(
     client: ClientId,
     version: u32,
     desc: &MessageDesc,
-    objects: &mut ObjectMap<Kept<U>>,
-    last_serial: &mut u64,
+    objects: &mut ClientObjects<U>,
     message: &mut Message<u32, Token>,
     args: &mut SmallVec<Argument<ObjectId, Token>, INLINE_ARGS>,
 ) -> Result<Option<ObjectId>, RequestFault>
-    requires can_make { row_creates (message_row desc.now) ≡ true → objects.old.reserved ≡ true }
+    requires can_make { row_creates (message_row desc.now) ≡ true → objects.old.map.reserved ≡ true }
     requires kinds { Matches desc.now.signature.items message.old.args.items }
     requires empty { args.old.items ≡ [] }
     requires room { HasRoomFor args.old (length message.old.args.items) }
     ensures capacity { args.new.capacity ≡ args.old.capacity }
+    ensures registries { objects.new.registries ≡ objects.old.registries }
     ensures header { (message.new.sender_id ≡ message.old.sender_id) × (message.new.opcode ≡ message.old.opcode) }
     ensures converts { MatchResult result
-        (λ created. EndsWhole (outcome_of client version (start (objects_of_map objects.old last_serial.old) (message_row desc.now)) [] message.old.args.items)
-        (objects_of_map objects.new last_serial.new) created args.new.items)
-        (λ wrong. outcome_of client version (start (objects_of_map objects.old last_serial.old) (message_row desc.now)) [] message.old.args.items
-        ≡ Wrong wrong (objects_of_map objects.new last_serial.new)) }
+        (λ created. EndsWhole (outcome_of client version (start (objects_of objects.old) (message_row desc.now)) [] message.old.args.items)
+        (objects_of objects.new) created args.new.items)
+        (λ wrong. outcome_of client version (start (objects_of objects.old) (message_row desc.now)) [] message.old.args.items
+        ≡ Wrong wrong (objects_of objects.new)) }
 {
     let mut progress = Progress {
         kinds: desc.signature.as_slice(),
@@ -64,7 +62,6 @@ fn convert_request<U: Drop>(
         client,
         version,
         objects,
-        last_serial,
         &mut progress,
         &mut message.args,
         args,
@@ -72,30 +69,31 @@ fn convert_request<U: Drop>(
 }
 
 /// Handles a request to an object that is neither a display nor a registry, and returns what is still to be done for it.
-/// Its arguments are taken out of the message. If it is handed out, they are in `args` then, converted.
+/// Its arguments are taken out of the message. If it is handed out, it is in `found` then, and its arguments are in
+/// `args`, converted.
 pub fn other_request<'m, U: Drop, G: GlobalHandler<C>, C>(
     around: &Surroundings<'_, G>,
     info: &C,
-    objects: &mut ObjectMap<Kept<U>>,
-    last_serial: &mut u64,
+    objects: &mut ClientObjects<U>,
     desc: &'m MessageDesc,
     message: &mut Message<u32, Token>,
+    found: &mut Found,
     args: &mut SmallVec<Argument<ObjectId, Token>, INLINE_ARGS>,
 ) -> Response<'m>
-    requires can_make { row_creates (message_row desc.now) ≡ true → objects.old.reserved ≡ true }
+    requires can_make { row_creates (message_row desc.now) ≡ true → objects.old.map.reserved ≡ true }
     requires kinds { Matches desc.now.signature.items message.old.args.items }
     requires empty { args.old.items ≡ [] }
     requires room { HasRoomFor args.old (length message.old.args.items) }
     requires name { holds_zero (message_row desc.now).name ≡ false }
     ensures capacity { args.new.capacity ≡ args.old.capacity }
     ensures names { HasNames result }
-    ensures responds { (x : ObjectOf (KeptOf U)) (c : Core U C) (registries : List Id) → held objects.old.store message.old.sender_id ≡ Some x
-        → request_verdict (around_of G.views around.now) (core_with c info.now objects.old.store last_serial.old registries) (content message.old) x (message_row desc.now)
-        ≡ response_to (around_of G.views around.now) (core_with c info.now objects.new.store last_serial.new registries) result args.new.items }
+    ensures responds { (x : ObjectOf (KeptOf U)) (c : Core U C) → held objects.old.map.store message.old.sender_id ≡ Some x
+        → request_verdict (around_of G.views around.now) (core_with c info.now objects.old) (content message.old) x (message_row desc.now)
+        ≡ response_to (around_of G.views around.now) (core_with c info.now objects.new) result found.new args.new.items }
 {
     let number = message.sender_id;
     let opcode = message.opcode;
-    let Some(object) = objects.find(number) else {
+    let Some(object) = objects.map.find(number) else {
         return Response::Garbled;
     };
     let sender = id_at(&around.client, number, object);
@@ -105,17 +103,10 @@ pub fn other_request<'m, U: Drop, G: GlobalHandler<C>, C>(
         return Response::Breaks(Breach::SinceLater(opcode, version, desc.since, interface, number));
     }
     let is_destructor = desc.is_destructor;
-    match convert_request(
-        around.client,
-        version,
-        desc,
-        objects,
-        last_serial,
-        message,
-        args,
-    ) {
+    match convert_request(around.client, version, desc, objects, message, args) {
         Ok(created) => {
-            Response::HandsOut(Found::Request(sender, opcode, is_destructor, created))
+            *found = Found::Request(sender, opcode, is_destructor, created);
+            Response::HandsOut
         }
         Err(wrong) => Response::Breaks(Breach::WrongArgument(interface, desc, wrong)),
     }

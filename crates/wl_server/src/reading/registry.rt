@@ -6,7 +6,6 @@ ghost use Rattle.wl_wire.specs.declared.argument.Argument.{Argument as Arg};
 ghost use Rattle.wl_wire.specs.declared.argument.Token.{Token as TokenParts};
 ghost use Rattle.wl_wire.specs.Argument.{type_of};
 ghost use Rattle.wl_wire.specs.Table.{is_new_id};
-ghost use Rattle.wl_link.specs.Identity.{Id};
 ghost use Rattle.wl_link.specs.Store.{held};
 ghost use Rattle.wl_server.specs.Ids.{IdParts};
 ghost use Rattle.wl_server.specs.Reading.{binds, binds_to, made_at, registry_request as request_verdict};
@@ -17,12 +16,12 @@ ghost use Rattle.wl_server.specs.Inside.Turns.{around_of};
 use crate::globals::KeptGlobal;
 use crate::globals::handler::GlobalHandler;
 use crate::ids::global_id::GlobalId;
-use crate::objects::Kept;
+use crate::objects::ClientObjects;
 use crate::reading::Surroundings;
 use crate::reading::action::Found;
 use crate::reading::arguments::make_object;
 use crate::reading::response::{Breach, Response};
-use wl_link::{Object, ObjectMap};
+use wl_link::Object;
 use wl_wire::{Argument, CString, Message, Token};
 
 /// What `wl_registry.bind` asks for.
@@ -82,39 +81,40 @@ fn may_bind<G: GlobalHandler<C>, C>(
     global.value.handler.can_view(&around.client, info, &id)
 }
 
-/// Handles a request to a registry, and returns what is still to be done for it.
+/// Handles a request to a registry, and returns what is still to be done for it. A bind that is handed out is in `found`
+/// then.
 pub fn registry_request<'m, U: Drop, G: GlobalHandler<C> + Drop, C>(
     around: &Surroundings<'_, G>,
     info: &C,
-    objects: &mut ObjectMap<Kept<U>>,
-    last_serial: &mut u64,
+    objects: &mut ClientObjects<U>,
     message: &'m Message<u32, Token>,
+    found: &mut Found,
 ) -> Response<'m>
-    requires { list_any (λ x. is_new_id (type_of x)) message.now.args.items ≡ true → objects.old.reserved ≡ true }
+    requires { list_any (λ x. is_new_id (type_of x)) message.now.args.items ≡ true → objects.old.map.reserved ≡ true }
     ensures names { HasNames result }
-    ensures responds { (c : Core U C) (registries : List Id) (args : List (Arg IdParts TokenParts))
-        → request_verdict (around_of G.views around.now) (core_with c info.now objects.old.store last_serial.old registries) message.now.args.items
-        ≡ response_to (around_of G.views around.now) (core_with c info.now objects.new.store last_serial.new registries) result args }
+    ensures responds { (c : Core U C) (args : List (Arg IdParts TokenParts))
+        → request_verdict (around_of G.views around.now) (core_with c info.now objects.old) message.now.args.items
+        ≡ response_to (around_of G.views around.now) (core_with c info.now objects.new) result found.new args }
 {
     let Some(bind) = bind_in(message) else {
         return Response::Garbled;
     };
-    bind_to(around, info, objects, last_serial, &bind)
+    bind_to(around, info, objects, &bind, found)
 }
 
 /// Binds a new object to the global that is asked for, if the client may do so.
 fn bind_to<'m, U: Drop, G: GlobalHandler<C> + Drop, C>(
     around: &Surroundings<'_, G>,
     info: &C,
-    objects: &mut ObjectMap<Kept<U>>,
-    last_serial: &mut u64,
+    objects: &mut ClientObjects<U>,
     bind: &Bind<'m>,
+    found: &mut Found,
 ) -> Response<'m>
-    requires { objects.old.reserved ≡ true }
+    requires { objects.old.map.reserved ≡ true }
     ensures names { HasNames result }
-    ensures responds { (c : Core U C) (registries : List Id) (args : List (Arg IdParts TokenParts))
-        → binds_to (around_of G.views around.now) (core_with c info.now objects.old.store last_serial.old registries) bind.now.global bind.now.interface.now bind.now.version bind.now.number (held around.now.globals.now.store bind.now.global)
-        ≡ response_to (around_of G.views around.now) (core_with c info.now objects.new.store last_serial.new registries) result args }
+    ensures responds { (c : Core U C) (args : List (Arg IdParts TokenParts))
+        → binds_to (around_of G.views around.now) (core_with c info.now objects.old) bind.now.global bind.now.interface.now bind.now.version bind.now.number (held around.now.globals.now.store bind.now.global)
+        ≡ response_to (around_of G.views around.now) (core_with c info.now objects.new) result found.new args }
 {
     let refused = Response::Breaks(Breach::RefusedBind(bind.global, bind.version, bind.interface));
     let Some(global) = around.globals.find(bind.global) else {
@@ -123,37 +123,37 @@ fn bind_to<'m, U: Drop, G: GlobalHandler<C> + Drop, C>(
     if !may_bind(around, info, bind, global) {
         return refused;
     }
-    make_bound(around, info, objects, last_serial, bind, global)
+    make_bound(around, info, objects, bind, global, found)
 }
 
 /// Makes an object that is bound to the global.
 fn make_bound<'m, U: Drop, G: GlobalHandler<C>, C>(
     around: &Surroundings<'_, G>,
     info: &C,
-    objects: &mut ObjectMap<Kept<U>>,
-    last_serial: &mut u64,
+    objects: &mut ClientObjects<U>,
     bind: &Bind<'m>,
     global: &Object<KeptGlobal<G>>,
+    found: &mut Found,
 ) -> Response<'m>
-    requires { objects.old.reserved ≡ true }
+    requires { objects.old.map.reserved ≡ true }
     ensures names { HasNames result }
-    ensures responds { (c : Core U C) (registries : List Id) (args : List (Arg IdParts TokenParts))
-        → (let before : Core U C = core_with c info.now objects.old.store last_serial.old registries in
+    ensures responds { (c : Core U C) (args : List (Arg IdParts TokenParts))
+        → (let before : Core U C = core_with c info.now objects.old in
         made_at (around_of G.views around.now) before bind.now.number (binds (around_of G.views around.now) before bind.now.global bind.now.version bind.now.number global.now))
-        ≡ response_to (around_of G.views around.now) (core_with c info.now objects.new.store last_serial.new registries) result args }
+        ≡ response_to (around_of G.views around.now) (core_with c info.now objects.new) result found.new args }
 {
     let number = bind.number;
     match make_object(
         around.client,
         objects,
-        last_serial,
         global.interface,
         bind.version,
         number,
     ) {
         Some(object) => {
             let id = GlobalId::from_parts(bind.global, global.value.serial);
-            Response::HandsOut(Found::Bind(id, object))
+            *found = Found::Bind(id, object);
+            Response::HandsOut
         }
         None => Response::Breaks(Breach::InvalidNewId(number)),
     }

@@ -14,54 +14,52 @@ ghost use Rattle.wl_server.specs.Inside.Responses.{HasNames, core_with, response
 ghost use Rattle.wl_server.specs.Telling.{Core};
 ghost use Rattle.wl_server.specs.Inside.Turns.{around_of};
 
-use crate::client::Registry;
 use crate::globals::handler::GlobalHandler;
 use crate::ids::object_id::ObjectId;
-use crate::objects::Kept;
+use crate::objects::ClientObjects;
 use crate::reading::Surroundings;
+use crate::reading::action::Found;
 use crate::reading::display::display_request;
 use crate::reading::other::other_request;
 use crate::reading::registry::registry_request;
 use crate::reading::response::Response;
 use smallvec::SmallVec;
-use wl_link::ObjectMap;
 use wl_wire::{
     Argument, INLINE_ARGS, Message, MessageDesc, Token, WL_DISPLAY_INTERFACE, WL_REGISTRY_INTERFACE,
 };
 
-/// Handles a request, by the kind of its object, and returns what is still to be done for it. If it is handed out, its
-/// arguments are taken out of the message, and they are in `args` then, converted.
+/// Handles a request, by the kind of its object, and returns what is still to be done for it. If it is handed out, it is
+/// in `found` then. Its arguments are taken out of the message, and they are in `args` then, converted.
 pub fn request<'m, U: Drop, G: GlobalHandler<C> + Drop, C>(
     around: &Surroundings<'_, G>,
     info: &C,
-    objects: &mut ObjectMap<Kept<U>>,
-    last_serial: &mut u64,
-    registries: &mut Vec<Registry>,
+    objects: &mut ClientObjects<U>,
     desc: &'m MessageDesc,
     message: &'m mut Message<u32, Token>,
+    found: &mut Found,
     args: &mut SmallVec<Argument<ObjectId, Token>, INLINE_ARGS>,
 ) -> Response<'m>
-    requires can_make { row_creates (message_row desc.now) ≡ true → objects.old.reserved ≡ true }
-    requires can_register { row_creates (message_row desc.now) ≡ true → vec_len registries.old < vec_capacity registries.old }
+    requires can_make { row_creates (message_row desc.now) ≡ true → objects.old.map.reserved ≡ true }
+    requires can_register { row_creates (message_row desc.now) ≡ true → vec_len objects.old.registries < vec_capacity objects.old.registries }
     requires kinds { Matches desc.now.signature.items message.old.args.items }
     requires empty { args.old.items ≡ [] }
     requires room { HasRoomFor args.old (length message.old.args.items) }
     requires name { holds_zero (message_row desc.now).name ≡ false }
     ensures capacity { args.new.capacity ≡ args.old.capacity }
     ensures names { HasNames result }
-    ensures responds { (x : ObjectOf (KeptOf U)) (c : Core U C) → held objects.old.store message.old.sender_id ≡ Some x
-        → request_to (around_of G.views around.now) (core_with c info.now objects.old.store last_serial.old registries.old.items) (content message.old) x (message_row desc.now)
-        ≡ response_to (around_of G.views around.now) (core_with c info.now objects.new.store last_serial.new registries.new.items) result args.new.items }
+    ensures responds { (x : ObjectOf (KeptOf U)) (c : Core U C) → held objects.old.map.store message.old.sender_id ≡ Some x
+        → request_to (around_of G.views around.now) (core_with c info.now objects.old) (content message.old) x (message_row desc.now)
+        ≡ response_to (around_of G.views around.now) (core_with c info.now objects.new) result found.new args.new.items }
 {
-    let Some(object) = objects.find(message.sender_id) else {
+    let Some(object) = objects.map.find(message.sender_id) else {
         return Response::Garbled;
     };
     let interface = object.interface;
     if interface == WL_DISPLAY_INTERFACE {
-        return display_request(around, info, objects, last_serial, registries, message);
+        return display_request(around, info, objects, message);
     }
     if interface == WL_REGISTRY_INTERFACE {
-        return registry_request(around, info, objects, last_serial, message);
+        return registry_request(around, info, objects, message, found);
     }
-    other_request(around, info, objects, last_serial, desc, message, args)
+    other_request(around, info, objects, desc, message, found, args)
 }

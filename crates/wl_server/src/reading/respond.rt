@@ -160,17 +160,17 @@ impl<T: Transport + Drop, U: Drop, C: Drop> Client<T, U, C> {
         self.replied(numbers, wrote)
     }
 
-    /// Does what is still to be done for a request of a live client. An action that is handed out is in `place` then.
+    /// Does what is still to be done for a request of a live client. If it is handed out, it was found so.
     pub fn respond<G: GlobalHandler<C> + Drop>(
         &mut self,
         numbers: &mut NoteNumbers,
         around: &Surroundings<'_, G>,
         response: &Response<'_>,
-        place: &mut Found,
+        found: &Found,
     ) -> TurnEnd
         requires live { Live self.old.part }
         requires names { HasNames response.now }
-        ensures { (args : List (Arg IdParts TokenParts)) → IsHandled T.sends (response_to (around_of G.views around.now) (core_of self.old.part) response.now args) self.old (turned result place.new args) self.new }
+        ensures { (args : List (Arg IdParts TokenParts)) → IsHandled T.sends (response_to (around_of G.views around.now) (core_of self.old.part) response.now found.now args) self.old (turned result found.now args) self.new }
     {
         match response {
             Response::Garbled => TurnEnd::Ends(self.garbled(numbers)),
@@ -181,9 +181,8 @@ impl<T: Transport + Drop, U: Drop, C: Drop> Client<T, U, C> {
                 self.replied(numbers, wrote)
             }
             Response::Registers(registry) => self.registered(numbers, around, registry),
-            Response::HandsOut(found) => {
+            Response::HandsOut => {
                 self.action = Some(open_action(found));
-                *place = *found;
                 TurnEnd::Acts
             }
         }

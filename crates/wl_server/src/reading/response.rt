@@ -1,7 +1,6 @@
 //! What is still to be done for a request that was handled.
 
 use crate::ids::object_id::ObjectId;
-use crate::reading::action::Found;
 use wl_wire::{CString, InterfaceId, MessageDesc};
 
 /// Why an argument of a request is wrong. The client is killed for it.
@@ -43,6 +42,6 @@ pub enum Response<'m> {
     Syncs(ObjectId),
     /// A registry was made. It is to be told of the globals.
     Registers(ObjectId),
-    /// An action is handed out. It is open from then on.
-    HandsOut(Found),
+    /// An action was found, and is handed out. It is open from then on.
+    HandsOut,
 }

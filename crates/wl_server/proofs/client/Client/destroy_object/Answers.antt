@@ -25,8 +25,8 @@ returns-then-is_out_of_memory g c = rw (← c.self.view_is)
 pub returns : goal.returns
 returns g c = rw (← c.self.view_is)
     (destroyed g.T.Transport.sends _ c.args.id.now c.in-Some.object.now (sym c.in-Some.ensures)
-    c.put_delete_id-wrote.new.socket c.protocol_id.result c.take_out_noted.new.objects.store c.take_out_noted.new.registries.items
+    c.put_delete_id-wrote.new.socket c.protocol_id.result c.take_out_noted.new.objects.map.store c.take_out_noted.new.objects.registries.items
     (map (λ w. w.1) c.reserve_note.new.waiting.queue.items) (map (λ w. w.1) c.take_out_noted.new.waiting.queue.items) c.put_delete_id-wrote.result c.kill_unless_written.new.self
     c.protocol_id.ensures c.put_delete_id-wrote.ensures (sym c.is_out_of_memory.ensures ∙ c.if-is_out_of_memory.false)
     c.take_out_noted.ensures.removed c.take_out_noted.ensures.registries c.take_out_noted.ensures.noted (ap (map (λ w. w.1)) c.reserve_note.ensures.items)
-    c.kill_unless_written.ensures.closed)
+    (rw c.take_out_noted.ensures.serial at c.kill_unless_written.ensures.closed))

@@ -7,7 +7,7 @@ use Rattle.wl_server.proofs.client.Client.respond.Goals as goal
 pub returns-in-Syncs : goal.returns-in-Syncs
 returns-in-Syncs g c args =
     rw (← c.self.view_is, c.in-Syncs.is)
-    (replied g.T.Transport.sends _ _ c.put_done-wrote.new.socket (done_message (id_of c.in-Syncs.callback) ∷ deletions c.in-Syncs.callback.number) [] c.put_done-wrote.result c.replied.result c.args.place.now args none_quiet
+    (replied g.T.Transport.sends _ _ c.put_done-wrote.new.socket (done_message (id_of c.in-Syncs.callback) ∷ deletions c.in-Syncs.callback.number) [] c.put_done-wrote.result c.replied.result c.args.found.now args none_quiet
     (rw (← c.self.view_is) at c.requires.live) (rw c.protocol_id.ensures at c.put_done-wrote.ensures c.in-Syncs.callback.serial) c.replied.ensures)
 
 pub returns-in-HandsOut : goal.returns-in-HandsOut

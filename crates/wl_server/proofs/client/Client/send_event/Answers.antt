@@ -22,7 +22,7 @@ pub returns-in-Err : goal.returns-in-Err
 returns-in-Err g c =
     was_refused g.T.Transport.sends c.args.message.now.sender_id.client c.args.protocol.now c.args.self.now (session_content c.args.message.now) c.in-Err.error
     (rw (← c.self.view_is) c.if-self.false) (rw (← c.self.view_is)
-    (subst (λ (i : ClientParts). event_check i c.self.inside.objects.store c.args.protocol.now (session_content c.args.message.now) ≡ Err c.in-Err.error) c.client.ensures c.in-Err.ensures.decided))
+    (subst (λ (i : ClientParts). event_check i c.self.inside.objects.map.store c.args.protocol.now (session_content c.args.message.now) ≡ Err c.in-Err.error) c.client.ensures c.in-Err.ensures.decided))
 
 pub returns-then-is_err : goal.returns-then-is_err
 returns-then-is_err g c =
@@ -30,7 +30,7 @@ returns-then-is_err g c =
     let ends = c.in-Ok.granted.1 in
     was_granted g.T.Transport.sends c.args.message.now.sender_id.client c.args.protocol.now c.args.self.now (session_content c.args.message.now) sender ends _ true _
     (rw (← c.self.view_is) c.if-self.false) (rw (← c.self.view_is)
-    (subst (λ (i : ClientParts). event_check i c.self.inside.objects.store c.args.protocol.now (session_content c.args.message.now) ≡ Ok (sender, ends)) c.client.ensures c.in-Ok.ensures.decided))
+    (subst (λ (i : ClientParts). event_check i c.self.inside.objects.map.store c.args.protocol.now (session_content c.args.message.now) ≡ Ok (sender, ends)) c.client.ensures c.in-Ok.ensures.decided))
     (no_room c.args.message.now.sender_id.client (session_content c.args.message.now) sender g.T.Transport.sends c.args.self.now _ ends
     (on_err c.make_room.result (sym c.is_err.ensures.value ∙ c.if-is_err.true) c.make_room.ensures.asked)
     (rw (← c.self.view_is, c.make_room.ensures.items) refl))
@@ -41,7 +41,7 @@ returns-then-is_out_of_memory g c =
     let ends = c.in-Ok.granted.1 in
     was_granted g.T.Transport.sends c.args.message.now.sender_id.client c.args.protocol.now c.args.self.now (session_content c.args.message.now) sender ends _ true _
     (rw (← c.self.view_is) c.if-self.false) (rw (← c.self.view_is)
-    (subst (λ (i : ClientParts). event_check i c.self.inside.objects.store c.args.protocol.now (session_content c.args.message.now) ≡ Ok (sender, ends)) c.client.ensures c.in-Ok.ensures.decided))
+    (subst (λ (i : ClientParts). event_check i c.self.inside.objects.map.store c.args.protocol.now (session_content c.args.message.now) ≡ Ok (sender, ends)) c.client.ensures c.in-Ok.ensures.decided))
     (not_written c.args.message.now.sender_id.client (session_content c.args.message.now) sender g.T.Transport.sends c.args.self.now _ ends
     c.write_numbered-written.new.self c.write_numbered-written.result
     (rw (← c.self.view_is)
@@ -54,19 +54,19 @@ pub returns : goal.returns
 returns g c =
     let sender = c.in-Ok.granted.0.now in
     let ends = c.in-Ok.granted.1 in
-    let registries = of_sender c.self.inside.objects.store c.args.message.now.sender_id sender
-    (λ x. c.end_sender.new.registries.items ≡ registries_ending ends c.self.inside.registries.items c.args.message.now.sender_id.number x) c.in-Ok.ensures.sender c.end_sender.ensures.registries in
-    let waiting = of_sender c.self.inside.objects.store c.args.message.now.sender_id sender
+    let registries = of_sender c.self.inside.objects.map.store c.args.message.now.sender_id sender
+    (λ x. c.end_sender.new.objects.registries.items ≡ registries_ending ends c.self.inside.objects.registries.items c.args.message.now.sender_id.number x) c.in-Ok.ensures.sender c.end_sender.ensures.registries in
+    let waiting = of_sender c.self.inside.objects.map.store c.args.message.now.sender_id sender
     (λ x. map (λ w. w.1) c.end_sender.new.waiting.queue.items
     ≡ map (λ w. w.1) c.make_room.new.waiting.queue.items ++ notes_ending ends c.args.message.now.sender_id.client c.args.message.now.sender_id.number x) c.in-Ok.ensures.sender c.end_sender.ensures.waiting in
     was_granted g.T.Transport.sends c.args.message.now.sender_id.client c.args.protocol.now c.args.self.now (session_content c.args.message.now) sender ends _ c.tell_end.result _
     (rw (← c.self.view_is) c.if-self.false) (rw (← c.self.view_is)
-    (subst (λ (i : ClientParts). event_check i c.self.inside.objects.store c.args.protocol.now (session_content c.args.message.now) ≡ Ok (sender, ends)) c.client.ensures c.in-Ok.ensures.decided))
+    (subst (λ (i : ClientParts). event_check i c.self.inside.objects.map.store c.args.protocol.now (session_content c.args.message.now) ≡ Ok (sender, ends)) c.client.ensures c.in-Ok.ensures.decided))
     (sent c.args.message.now.sender_id.client (session_content c.args.message.now) sender g.T.Transport.sends c.args.self.now _ c.tell_end.new.self ends c.protocol_id.result
     c.write_numbered-written.new.self c.write_numbered-written.result c.tell_end.result
     (rw (← c.self.view_is)
     (subst (λ (m : WireMessage). Wrote g.T.Transport.sends c.self.inside.socket m c.write_numbered-written.result c.write_numbered-written.new.self) (event_numbered c.args.message.now)
     c.write_numbered-written.ensures.wrote))
     (sym c.is_out_of_memory.ensures ∙ c.if-is_out_of_memory.false)
-    (rw (← c.self.view_is, waiting, c.end_sender.ensures.store, registries, c.make_room.ensures.items) refl)
+    (rw (← c.self.view_is, waiting, c.end_sender.ensures.store, c.end_sender.ensures.serial, registries, c.make_room.ensures.items) refl)
     c.protocol_id.ensures c.tell_end.ensures)

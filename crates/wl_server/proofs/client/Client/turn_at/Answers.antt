@@ -8,5 +8,5 @@ returns-in-Ok-clause-turns g c =
     let took = c.in-Ok.ensures.took in
     rw (← c.self.view_is)
     (turn_taken g.T.Transport.sends g.T.Transport.receives (around_of g.G.GlobalHandler.views c.args.around.now) _ c.args.reading.now _ c.take_request.new.socket took.0 took.1
-    c.self.inside.objects.store c.self.inside.registries.items c.take_request.new.objects.store c.take_request.new.last_serial c.take_request.new.registries.items c.in-Ok.response c.take_request.new.args.items
-    _ _ (rw (← c.self.view_is) at c.requires.live) took.2 took.3 refl refl took.4 (c.respond.ensures c.take_request.new.args.items) c.in-Ok.ensures.fewer refl c.saturating_add-reading.ensures)
+    c.self.inside.objects c.take_request.new.objects c.in-Ok.response c.take_request.new.found c.take_request.new.args.items
+    _ _ (rw (← c.self.view_is) at c.requires.live) took.2 took.3 refl took.4 (c.respond.ensures c.take_request.new.args.items) c.in-Ok.ensures.fewer refl c.saturating_add-reading.ensures)

@@ -8,7 +8,7 @@ use Rattle.wl_server.proofs.notes.cleanup.count_ends_at.Goals as goal
 pub returns-in-Some : goal.returns-in-Some
 returns-in-Some g c = λ slot below.
     let killed : c.in-Some.client.part.is_killed ≡ true = ap (λ (s : Stored _ _ _). s.part.is_killed) (sym c.client.view_is) ∙ c.if-client.true in
-    let long : length (ends_at slot c.args.client.now) ≡ length (ending (entries c.client.inside.objects.store.objects)) =
+    let long : length (ends_at slot c.args.client.now) ≡ length (ending (entries c.client.inside.objects.map.store.objects)) =
     ends_length slot c.args.client.now c.in-Some.client c.in-Some.is killed ∙ ap (λ (s : Stored _ _ _). length (ending (entries s.part.store.objects))) (sym c.client.view_is)
     in
     let fits = c.count_ending.ensures below in

@@ -28,5 +28,5 @@ returns-clause-can_register g c =
 -- the table is an accepted one
 pub returns-clause-name : goal.returns-clause-name
 returns-clause-name g c =
-    free_looked_up c.args.protocol.now c.in-Some.ensures.accepted (held c.args.objects.now.store c.args.header.0) c.args.header.1
+    free_looked_up c.args.protocol.now c.in-Some.ensures.accepted (held c.args.objects.now.map.store c.args.header.0) c.args.header.1
     (message_row c.in-Some.desc.now) c.in-Some.ensures.row

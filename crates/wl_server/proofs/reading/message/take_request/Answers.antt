@@ -8,5 +8,5 @@ returns-clause-took g c = (
   message_row c.in-Ok.desc.now,
   (rw c.requires.protocol at c.in-Ok.ensures.took).0,
   (rw c.requires.protocol at c.in-Ok.ensures.took).1,
-  rw (c.take-taken.ensures.store, c.take-taken.ensures.registries) at c.request.ensures.responds,
+  rw (c.take-taken.ensures.store, c.take-taken.ensures.registries, c.take-taken.ensures.serial) at c.request.ensures.responds,
 )
