@@ -3,7 +3,7 @@
 //! A method of `Client` is what a call does to the client, after the call has looked the client up. It stands with that
 //! call: in `objects`, `events`, `reading`, or here.
 //!
-//! A client is *live* if it is not killed.
+//! A client is *live* as long as it is stored and not killed.
 
 pub mod flush;
 pub mod insert;
@@ -37,8 +37,8 @@ pub struct Client<T, U, C> {
     /// The notes that the next cleanup hands on. A *note* tells the program what happened to a client or to an object
     /// (`Note`).
     pub waiting: WaitingNotes<U>,
-    /// The notes that were made and are not gathered in the server's list yet. A live client has room for one more here,
-    /// so that it can be killed without memory.
+    /// The notes that were made and are not gathered in the server's list yet. A live client has capacity for one more
+    /// here. So killing it needs no memory.
     pub made: MadeNotes<U>,
 }
 

@@ -33,7 +33,7 @@ module _ {U : Type 0} where
     created = progress.created;
   }
 
-  -- there is room for the object that the request may yet make
+  -- the map has capacity for the object that the request may still make
   abbrev pub CanMake : Progress → ClientObjects U → Type 0
   CanMake progress objects =
       progress.child ≢ None → list_any is_new_id progress.kinds.now ≡ true → objects.map.reserved ≡ true
@@ -44,20 +44,20 @@ module _ {U : Type 0} where
   Makes client before i version n (Some id) after =
       (is_valid_new before n ≡ true) × (after ≡ with_made before n i version) × (id ≡ made_id client before n i)
 
-  -- a new id became this, whose type was taken
+  -- what a new id became; its type was taken off the list before
   abbrev pub MakesNew : ClientParts → ℕ → Converting U → ℕ → Result (Argument IdParts Token) RequestFault → Converting U → Type 0
   MakesNew client version before n (Ok b) after =
       with_new_argument client version before n before.child ≡ Ok (b, record after { kinds = kinds_after before.kinds })
   MakesNew client version before n (Err wrong) after =
       (with_new_argument client version before n before.child ≡ Err wrong) × (after.objects ≡ before.objects)
 
-  -- an argument became this
+  -- what became of an argument, and the state after it
   abbrev pub Converts : ClientParts → ℕ → Converting U → WireArgument → Result (Argument IdParts Token) RequestFault → Converting U → Type 0
   Converts client version before a (Ok b) after = convert_one client version before a ≡ Ok (b, after)
   Converts client version before a (Err wrong) after =
       (convert_one client version before a ≡ Err wrong) × (after.objects ≡ before.objects)
 
-  -- the arguments were gone through to their end, and came to this
+  -- the arguments were gone through to their end, with this outcome
   abbrev pub EndsWhole : Outcome U → Objects (Kept U) → Option IdParts → List (Argument IdParts Token) → Type 0
   EndsWhole (Whole c args) objects created args' = (c.objects ≡ objects) × (c.created ≡ created) × (args ≡ args')
   EndsWhole (Wrong _ _) objects created args' = ⊥

@@ -34,12 +34,12 @@ use Rattle.wl_server.specs.Reading.{Around, breaks, garbled, hands_out, replies,
 use Rattle.wl_server.specs.Telling.{Core, Told, deletions, done_message, global_message}
 use Rattle.wl_server.specs.Inside.Turns.{NotTaken, ReadsIn, found_with}
 
--- the number of the new id, where that is all
+-- the number of the new id, if that is the only argument
 abbrev pub only_new_id : List WireArgument → Option ℕ
 only_new_id (arg.NewId n ∷ []) = Some n
 only_new_id _ = None
 
--- the name of a global, the name of an interface, the version and the number, where these are all
+-- the name of a global, the name of an interface, the version and the number, if these are the arguments
 abbrev pub bind_parts : List WireArgument → Option (ℕ × (Option (List ℕ) × (ℕ × ℕ)))
 bind_parts (arg.Uint g ∷ arg.Str name ∷ arg.Uint version ∷ arg.NewId n ∷ []) = Some (g, (name, (version, n)))
 bind_parts _ = None
@@ -96,7 +96,7 @@ module _ {U C : Type 0} where
       record c { info = info; store = objects.map.store; last_serial = objects.last_serial; registries = objects.registries.items }
 
 module _ {T U G C : Type 0} (a : Around G C) (info : C) where
-  -- a message was taken, and gone through; or none was taken
+  -- a message was taken, and `response` is what is still to be done for it; or none was taken
   abbrev pub TookRequest : ClientObjects U → LinkState T → Result Response MessageParseError → Found → List (Argument IdParts Token)
       → ClientObjects U → LinkState T → Type 0
   TookRequest objects before (Ok response) f args objects' after =

@@ -1,4 +1,4 @@
--- What the functions of a reading say to each other.
+-- What the functions of a reading say to each other. In the code a *turn* is the handling of one message.
 use Rattle.std.specs.Prelude.{◌≡◌, ◌⊎◌, ◌<◌, ◌≤◌, ◌+◌, ℕ, min, length, List, [], ◌++◌, Bool, true, false, Option, None, Some, option_map, Result, Ok, Err}
 use Rattle.std.specs.Borrow.{Bor}
 use Rattle.wl_wire.specs.declared.argument.Argument.{Argument}
@@ -33,7 +33,7 @@ use Rattle.wl_server.specs.Reading.{Around, action_in, answered, faulted, reads_
 use Rattle.wl_server.specs.Server.{Stored}
 use Rattle.wl_server.specs.Telling.{Core, Told, core_of, deeds_in, end_deeds, part_of, reader_part, speaker}
 
--- what a reading asks beside its own client; the last serial of a global is none of that
+-- what a reading looks at beside its own client, without the last serial of a global
 abbrev pub around_of : {G C : Type 0} → (G → ClientParts → C → GlobalParts → Bool) → Surroundings G → Around G C
 around_of views s = record {
   table = s.protocol.now;
@@ -73,14 +73,14 @@ module _ {U : Type 0} where
       × (row_in table (held store m.sender) m.opcode ≡ Some (message_row desc.now))
   TookWith table store before (Err e) m after = (after ≡ before) × NotTaken table store before e
 
--- ---- what a turn comes to
+-- ---- how a turn ends
 
 -- the action that is handed out, with the arguments of a request
 abbrev pub found_with : Found → List (Argument IdParts Token) → Handed
 found_with (found.Request sender opcode is_destructor created) args = Request sender opcode args is_destructor created
 found_with (found.Bind global object) args = Bind global object
 
--- with the action that it hands out
+-- how a turn ended, with the action that it hands out
 pub data Turned : Type 0 where
   Acts : Handed → Turned
   GoesOn : Turned
@@ -113,7 +113,7 @@ abbrev pub counted : ℕ → ℕ → ℕ
 counted read handled = min (read + handled) 0xFFFFFFFFFFFFFFFF
 
 module _ {U : Type 0} where
-  -- no action is among it, nor an end
+  -- neither an action nor the end of the reading is among it
   abbrev pub IsSilent : List (Given (Told U)) → Type 0
   IsSilent gave = (rest : List (Given (Told U))) → action_in (gave ++ rest) ≡ action_in rest
 
@@ -121,7 +121,7 @@ module _ {U : Type 0} where
   HasNoNote gave = notes_in (deeds_in gave) ≡ []
 
 module _ {U C : Type 0} where
-  -- what was given says so much of the turn, and so does what the core came to
+  -- what was given, and the core after it, show that the turn ended so
   abbrev pub Says : Turned → List (Given (Told U)) → Bool → Core U C → Type 0
   Says (Acts h) gave refused c = (refused ≡ false) × (reads_on c ≡ false) × (action_in gave ≡ Ok h)
   Says GoesOn gave refused c = (refused ≡ false) × (c.ended ≡ None) × (c.is_killed ≡ false) × (c.action ≡ None) × IsSilent gave
@@ -135,12 +135,12 @@ module _ {T U C : Type 0} where
   abbrev pub linked : Stored T U C → LinkState T → Stored T U C
   linked s link = record s { part = with_link s.part link }
 
-  -- what is stored of a client that came to this, with the note of its end
+  -- the stored client after a reading that left the reader so, with the note of its end
   abbrev pub stored_as : Stored T U C → ReaderState T (Core U C) → Stored T U C
   stored_as before end =
       record { serial = before.serial; part = part_of end; made = before.made ++ notes_in (end_deeds end.core.ended) }
 
-  -- a verdict was carried out in a turn, which came to this
+  -- a verdict was carried out in a turn, which ended so
   pub record IsHandled (sends : T → Queue → Result ℕ IoFault → T → Type 0) (v : Verdict (Core U C) (Told U)) (before : Stored T U C) (to : Turned)
       (after : Stored T U C) : Type 0 where
     pub es : List Sending
@@ -157,13 +157,14 @@ module _ {T U G C : Type 0} (sends : T → Queue → Result ℕ IoFault → T �
   abbrev pub LacksIn : Part T U C → Type 0
   LacksIn p = Lacks sends (server a) (reader_part p)
 
-  -- where what is left of a reading with so many receives may lead, the whole may, behind these turns and what they gave
+  -- if a reading that begins now, with so many receives left, may end so, then one that began at `start` may, with these
+  -- entries and what they gave before it
   abbrev pub Leads : ℕ → Part T U C → List Turn → List (Given (Told U)) → ℕ → Part T U C → Type 0
   Leads left start first gave left' now =
       (turns : List Turn) (rest : Gives (Told U)) (end : ReaderState T (Core U C)) → Reads sends (server a) receives left' (reader_part now) turns rest end
       → Reads sends (server a) receives left (reader_part start) (first ++ turns) (behind gave false rest) end
 
-  -- a reading came so far, and goes on
+  -- what a reading has done so far; it goes on
   pub record Goes (before : Stored T U C) (r : Reading) (now : Stored T U C) (r' : Reading) : Type 0 where
     pub first : List Turn
     pub gave : List (Given (Told U))
@@ -196,7 +197,7 @@ module _ {T U G C : Type 0} (sends : T → Queue → Result ℕ IoFault → T �
   Turns before r LacksMore after r' = LacksIn before.part × (after ≡ before) × (r' ≡ r)
   Turns before r (Ended end) after r' = EndsAs before r (Err end) after r'
 
-  -- all that waits whole was handled, and that comes to this
+  -- each message that was there whole was handled, and the turns ended so
   abbrev pub Waited : Stored T U C → Reading → Option (Result Handed NoAction) → Stored T U C → Reading → Type 0
   Waited before r None after r' = Goes before r after r' × (r'.receives_left ≡ r.receives_left) × LacksIn after.part
   Waited before r (Some answer) after r' = EndsAs before r answer after r'

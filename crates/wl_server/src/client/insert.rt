@@ -193,7 +193,7 @@ impl<T: Transport + Drop, U: Drop, G: GlobalHandler<C> + Drop, C: Drop> Backend<
     /// # Errors
     ///
     /// - `Full`: each slot has a client, or no serial is left.
-    /// - `OutOfMemory`: memory ran out.
+    /// - `OutOfMemory`: memory was refused.
     ///
     /// After an error nothing is changed, and the transport and the data are dropped.
     pub fn insert_client(&mut self, transport: T, info: C) -> Result<ClientId, InsertClientError>

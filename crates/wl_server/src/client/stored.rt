@@ -25,8 +25,8 @@ fn is_stored<T: Drop, U: Drop, C: Drop>(
     }
 }
 
-/// The client, borrowed mutably, while it is stored. It is asked of the field and not of the whole server, so that a call
-/// can use the server's other fields beside the client.
+/// The client, borrowed mutably, if it is stored. The function takes this field and not the whole server, so a call can
+/// use the server's other fields beside the client.
 pub fn stored_mut<'a, T: Drop, U: Drop, C: Drop>(
     clients: &'a mut Vec<Option<Client<T, U, C>>>,
     id: &ClientId,

@@ -73,7 +73,7 @@ impl<T: Drop, U: Drop, C: Drop> Client<T, U, C> {
     }
 }
 
-/// Whether a creation that was answered so ran out of memory.
+/// Whether memory was refused to a creation that was answered so.
 fn lacks_memory(answer: &Result<ObjectId, CreateError>) -> bool
     ensures { result ≡ lacks_create answer.now }
 {
@@ -93,7 +93,7 @@ impl<T: Transport + Drop, U: Drop, G: GlobalHandler<C> + Drop, C: Drop> Backend<
     /// - `UnknownInterface`: the interface is not in the table.
     /// - `IdsExhausted`: no number is left.
     /// - `SerialsExhausted`: no serial is left.
-    /// - `OutOfMemory`: memory ran out.
+    /// - `OutOfMemory`: memory was refused.
     ///
     /// After an error nothing is changed.
     pub fn create_object(

@@ -65,7 +65,7 @@ impl<T: Transport + Drop, U: Drop, C: Drop> Client<T, U, C> {
     }
 }
 
-/// Whether a destruction that was answered so ran out of memory.
+/// Whether memory was refused to a destruction that was answered so.
 fn lacks_memory(answer: &Result<(), DestroyError>) -> bool
     ensures { result ≡ lacks_destroy answer.now }
 {

@@ -37,7 +37,7 @@ use std::alloc::Global;
 use wl_link::{Object, ObjectMap, Transport};
 use wl_wire::{IoFault, OutOfMemory};
 
-/// The error if a request cannot be finished with this user data, whatever memory there is. For a killed client the data
+/// The error if a request cannot be finished with this user data if memory is not refused. For a killed client the data
 /// may be missing.
 fn refusal_of<U>(
     is_killed: bool,
@@ -222,7 +222,7 @@ impl<T: Transport + Drop, U: Drop, C: Drop> Client<T, U, C> {
     }
 }
 
-/// Whether a call that was answered so ran out of memory.
+/// Whether memory was refused to a call that was answered so.
 fn lacks_memory<D>(answer: &Result<(), FinishRefused<D>>) -> bool
     ensures { result ≡ lacks_finish answer.now }
 {

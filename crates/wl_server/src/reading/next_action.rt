@@ -195,9 +195,9 @@ impl<T: Transport + Drop, U: Drop, G: GlobalHandler<C> + Drop, C: Drop> Backend<
     ///
     /// # What is promised
     ///
-    /// A message always has room in the incoming buffer if it is no longer than the client's limit and 65536 bytes, and
-    /// its tokens come no later than its last byte. A *token* stands for a file descriptor. So such a message never kills
-    /// the client because the buffer is full.
+    /// A message always has room in the incoming buffer if it is no longer than the client's limit or 65536 bytes, whichever
+    /// is less, and its tokens come no later than its last byte. A *token* stands for a file descriptor. So such a message
+    /// never kills the client because the buffer is full.
     ///
     /// If each receive brings a byte or would block, and memory is not refused, it does not matter how bytes and tokens
     /// were cut into receives.

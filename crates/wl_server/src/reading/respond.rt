@@ -1,6 +1,6 @@
 //! What the server does after a request was handled: it writes to the client, kills it, or hands an action out.
 //!
-//! A client is *live* if it is not killed.
+//! A client is *live* as long as it is stored and not killed.
 
 ghost use Rattle.std.specs.Prelude.{◌≡◌, ◌∷◌, map, List, [], false, Err, Some, IfOk, MatchResult};
 ghost use Rattle.wl_wire.specs.declared.argument.Argument.{Argument as Arg};
