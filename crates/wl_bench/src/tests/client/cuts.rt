@@ -79,23 +79,27 @@ fn told_in(alloc: Global, row: &Row, number: usize) -> Result<String, Fail> {
         back: &[],
     };
     let cut = cut_of(number, row.arrives.len());
-    let mut acts = Vec::from_slice(
-        alloc,
-        &[
-            row.before,
-            Act::Script(Cue::ArriveCut(stream, cut)),
-            Act::Serve,
-        ],
-    )?;
+    let front = [
+        row.before,
+        Act::Script(Cue::ArriveCut(stream, cut)),
+        Act::Serve,
+    ];
+    let mut acts = Vec::from_slice(alloc, &front)?;
     acts.extend_from_slice(row.after)?;
     log_of(alloc, acts.as_slice())
 }
 
-/// Fails if the row tells something else in a cutting, and names it.
+/// Fails if the row tells something else in the cutting of that number, and names it.
+fn in_cutting(rt: &(impl Abort + AllocGlobal), row: &Row, number: usize) -> Result<(), Fail> {
+    let told = told_in(rt.alloc(), row, number)?;
+    assert_eq!(rt; told.as_str(), row.told, "{}, cut at {number}", row.name);
+    Ok(())
+}
+
+/// Fails if the row tells something else in a cutting.
 fn in_every_cutting(rt: &(impl Abort + AllocGlobal), row: &Row) -> Result<(), Fail> {
     for number in 0..=row.arrives.len() {
-        let told = told_in(rt.alloc(), row, number)?;
-        assert_eq!(rt; told.as_str(), row.told, "{}, cut at {number}", row.name);
+        in_cutting(rt, row, number)?;
     }
     Ok(())
 }

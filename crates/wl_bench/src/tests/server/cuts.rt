@@ -258,17 +258,28 @@ fn told_in(alloc: Global, row: &Row, number: usize, len: usize) -> Result<String
     log_of(alloc, acts.as_slice())
 }
 
-/// Fails if the row tells something else in a cutting, and names it.
+/// Fails if the row tells something else in the cutting of that number, and names it.
+fn in_cutting(
+    rt: &(impl Abort + AllocGlobal),
+    row: &Row,
+    number: usize,
+    len: usize,
+) -> Result<(), Fail> {
+    let told = told_in(rt.alloc(), row, number, len)?;
+    assert_eq!(rt;
+        told.as_str(),
+        row.told,
+        "{}, cut at {number} of {len}",
+        row.name
+    );
+    Ok(())
+}
+
+/// Fails if the row tells something else in a cutting.
 fn in_every_cutting(rt: &(impl Abort + AllocGlobal), row: &Row) -> Result<(), Fail> {
     let len = row.arrives.bytes(rt.alloc())?.len();
     for number in 0..=len {
-        let told = told_in(rt.alloc(), row, number, len)?;
-        assert_eq!(rt;
-            told.as_str(),
-            row.told,
-            "{}, cut at {number} of {len}",
-            row.name
-        );
+        in_cutting(rt, row, number, len)?;
     }
     Ok(())
 }
