@@ -85,11 +85,16 @@ fn is_fd(arg: &Argument<u32, u32>, number: u32) -> bool {
     }
 }
 
+/// Fails if the argument is not the descriptor of this number.
+fn is_counted(rt: &impl Abort, arg: &Argument<u32, u32>, number: u32, count: usize) {
+    assert!(rt; is_fd(arg, number), "{number} of {count}");
+}
+
 /// Fails if the arguments are not so many descriptors: 0, 1 and so on.
 fn are_counted(rt: &impl Abort, args: &[Argument<u32, u32>], count: usize) {
     assert_eq!(rt; args.len(), count);
     for (arg, number) in args.iter().zip(0u32..) {
-        assert!(rt; is_fd(arg, number), "{number} of {count}");
+        is_counted(rt, arg, number, count);
     }
 }
 
