@@ -84,18 +84,29 @@ fn tell_sends(log: &mut String, sends: &[Parcel]) -> Result<(), Fail> {
 /// What is received: bytes, and the numbers of the descriptors beside them.
 type Receive = (&'static [u8], &'static [i32]);
 
-/// Tells what the server sends when these come, and keeps the descriptors that the program gets.
+/// Tells what the server sends when this comes, and keeps the descriptors that the program gets.
 fn exchange(
+    server: &mut Server,
+    client: &ClientId,
+    (bytes, numbers): Receive,
+    log: &mut String,
+    descriptors: &mut Vec<Token>,
+) -> Result<(), Fail> {
+    let parcel = parcel(*log.allocator(), bytes, numbers)?;
+    let sends = receive_from(server, client, parcel, descriptors)?;
+    tell_sends(log, sends.as_slice())
+}
+
+/// The same of several receives.
+fn exchange_all(
     server: &mut Server,
     client: &ClientId,
     receives: &[Receive],
     log: &mut String,
     descriptors: &mut Vec<Token>,
 ) -> Result<(), Fail> {
-    let alloc = *log.allocator();
-    for (bytes, numbers) in receives {
-        let sends = receive_from(server, client, parcel(alloc, bytes, numbers)?, descriptors)?;
-        tell_sends(log, sends.as_slice())?;
+    for one in receives {
+        exchange(server, client, *one, log, descriptors)?;
     }
     Ok(())
 }
@@ -109,7 +120,7 @@ fn exchange_with_the_first(
     let alloc = *log.allocator();
     let client = server.insert_client(Memory::new(alloc), ())?;
     let mut descriptors = Vec::new(alloc);
-    exchange(server, &client, receives, log, &mut descriptors)?;
+    exchange_all(server, &client, receives, log, &mut descriptors)?;
     tell_bytes(log, &[], descriptors.as_slice())
 }
 
@@ -193,9 +204,10 @@ fn receive(client: &mut Client, (bytes, tokens): Parcel) -> Result<usize, Fail> 
 
 /// Tells what the client sends for a sync, and how many events it is handed when this comes.
 fn sync(client: &mut Client, answer: &[u8], log: &mut String) -> Result<(), Fail> {
-    let alloc = *log.allocator();
-    tell_sends(log, ask(alloc, client)?.as_slice())?;
-    let events = receive(client, parcel(alloc, answer, &[])?)?;
+    let sends = ask(*log.allocator(), client)?;
+    tell_sends(log, sends.as_slice())?;
+    let parcel = parcel(*log.allocator(), answer, &[])?;
+    let events = receive(client, parcel)?;
     Ok(write!(log, "events: {events}")?)
 }
 

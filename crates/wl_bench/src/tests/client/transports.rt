@@ -239,29 +239,47 @@ fn transport_that_would_block_or_lacks_memory(rt: HostRuntime) -> Result<(), Fai
     each_is_made_up_for(&rt, IoFault::OutOfMemory)
 }
 
+/// Whether the call reads or flushes.
+fn is_asked(call: Call) -> bool {
+    matches!(call, Call::Next | Call::Flush)
+}
+
+/// What the call has to tell: what it did, until one has failed; then that the session failed, if it reads or flushes.
+fn has_to_tell<'a>(call: Call, has_failed: bool, (was, is): (&'a str, &'a str)) -> &'a str {
+    if !has_failed {
+        was
+    } else if is_asked(call) {
+        FAILED
+    } else {
+        is
+    }
+}
+
 /// Fails if a call of a run, in which the transport fails, tells something else than it has to: up to the first reading or
 /// flush that answers the fault, what it tells if nothing fails; and from then on each that reads or flushes fails.
 fn fails_for_good(rt: &impl Abort, run: &[Call], clean: &[String], texts: &[String]) {
     let mut has_failed = false;
     for (call, (was, is)) in run.iter().zip(clean.iter().zip(texts)) {
-        let is_asked = matches!(call, Call::Next | Call::Flush);
-        if is_asked && is.as_str() == FAILED {
-            has_failed = true;
-        }
-        if !has_failed {
-            assert_eq!(rt; is.as_str(), was.as_str());
-        } else if is_asked {
-            assert_eq!(rt; is.as_str(), FAILED);
-        }
+        has_failed = has_failed || (is_asked(*call) && is.as_str() == FAILED);
+        tells_this(
+            rt,
+            has_to_tell(*call, has_failed, (was.as_str(), is.as_str())),
+            is.as_str(),
+        );
     }
     assert!(rt; has_failed);
+}
+
+/// Fails if this is told in place of that.
+fn tells_this(rt: &impl Abort, was: &str, is: &str) {
+    assert_eq!(rt; is, was);
 }
 
 /// Fails if the run tells something else than if nothing fails.
 fn tells_the_same(rt: &impl Abort, clean: &[String], texts: &[String]) {
     assert_eq!(rt; texts.len(), clean.len());
     for (was, is) in clean.iter().zip(texts) {
-        assert_eq!(rt; is.as_str(), was.as_str());
+        tells_this(rt, was.as_str(), is.as_str());
     }
 }
 

@@ -15,7 +15,7 @@ use std::process::Abort;
 use std::test::Fail;
 use wl_link::Memory;
 use wl_server::{ActionError, Backend, ClientId, DisconnectReason, Note, Reply, Stopped};
-use wl_wire::IoFault;
+use wl_wire::{IoFault, Token};
 
 /// A server of the runs.
 pub type Server = Backend<Memory, u32, Shown, bool>;
@@ -115,16 +115,26 @@ fn tells(
     Ok(())
 }
 
+/// Whether so many bytes were taken by each send.
+fn has_lengths(parcels: &[(Vec<u8>, Vec<Token>)], lengths: &[usize]) -> bool {
+    if parcels.len() != lengths.len() {
+        return false;
+    }
+    for ((bytes, _), length) in parcels.iter().zip(lengths) {
+        if bytes.len() != *length {
+            return false;
+        }
+    }
+    true
+}
+
 /// Fails if other numbers of bytes were sent.
 fn sends(rt: &impl Abort, run: &Run, told: &Reply<Memory, u32>, lengths: &[usize]) {
-    if let Reply::TakeSent(Ok(parcels)) = told {
-        assert_eq!(rt; parcels.len(), lengths.len(), "{}", run.name);
-        for (parcel, length) in parcels.as_slice().iter().zip(lengths) {
-            assert_eq!(rt; parcel.0.len(), *length, "{}", run.name);
-        }
-    } else {
-        assert!(rt; false, "{}", run.name);
-    }
+    let is_sent = match told {
+        Reply::TakeSent(Ok(parcels)) => has_lengths(parcels.as_slice(), lengths),
+        _ => false,
+    };
+    assert!(rt; is_sent, "{}: other sends than {lengths:?}", run.name);
 }
 
 /// Fails if no global of that name and serial was created.
@@ -335,6 +345,11 @@ fn each_is_noted_once(
     Ok(())
 }
 
+/// Fails if the end of the client is among the notes.
+fn is_not_noted(rt: &impl Abort, run: &Run, who: Who, notes: &[Note<u32>]) {
+    assert_eq!(rt; ends_of(notes, who.id()), (0, 0), "{}", run.name);
+}
+
 /// Fails if the ends of the killed clients are noted again.
 fn none_is_noted_again(
     rt: &impl Abort,
@@ -344,7 +359,7 @@ fn none_is_noted_again(
 ) -> Result<(), Fail> {
     let notes = noted(server)?;
     for who in killed {
-        assert_eq!(rt; ends_of(notes.as_slice(), who.id()), (0, 0), "{}", run.name);
+        is_not_noted(rt, run, *who, notes.as_slice());
     }
     Ok(())
 }

@@ -339,7 +339,6 @@ fn judge_texts(
     entries: &[Entry],
     (clean, heard): (&[String], &[String]),
 ) {
-    assert_eq!(rt; heard.len(), clean.len(), "{}", run.name);
     for (at, (entry, (was, is))) in entries.iter().zip(clean.iter().zip(heard)).enumerate() {
         judge_text(rt, run, met, (at, *entry), (was.as_str(), is.as_str()));
     }
@@ -350,14 +349,22 @@ fn lines_with(text: &str, front: &str) -> usize {
     text.lines().filter(|line| line.starts_with(front)).count()
 }
 
+/// Fails if not one line begins with that.
+fn is_noted_once(rt: &impl Abort, run: &Run, notes: &str, front: &str) {
+    assert_eq!(rt; lines_with(notes, front), 1, "{}: {front}", run.name);
+}
+
+/// Whether the client was noted as closed.
+fn is_closed(notes: &str) -> bool {
+    notes.lines().any(|line| line.starts_with("disconnected") && line.ends_with(": closed"))
+}
+
 /// Fails if the client was not noted as inserted once, as closed once, and taken out once.
 fn is_closed_once(rt: &impl Abort, run: &Run, notes: &str) {
     for front in ["initialized", "disconnected", "out"] {
-        assert_eq!(rt; lines_with(notes, front), 1, "{}: {front}", run.name);
+        is_noted_once(rt, run, notes, front);
     }
-    let is_closed = notes.lines().any(|line| line.starts_with("disconnected")
-        && line.ends_with(": closed"));
-    assert!(rt; is_closed, "{}: {notes}", run.name);
+    assert!(rt; is_closed(notes), "{}: {notes}", run.name);
 }
 
 /// Fails if the client noted something else than it has to.
@@ -462,6 +469,7 @@ fn judge_heard(
     (clean, heard): (&Heard, &Heard),
 ) {
     let texts = (clean.texts.as_slice(), heard.texts.as_slice());
+    assert_eq!(rt; texts.1.len(), texts.0.len(), "{}", run.name);
     judge_texts(rt, run, met, entries, texts);
     judge_rest(rt, run, met, entries, (clean, heard));
 }

@@ -225,6 +225,28 @@ fn arrive_whole(alloc: Global, server: &mut Server, who: Who, bytes: &[u8]) -> R
     made(server, steps)
 }
 
+/// Appends the bytes to what is to arrive, cut so.
+fn arrive_pieces(
+    alloc: Global,
+    server: &mut Server,
+    who: Who,
+    bytes: &[u8],
+    cut: Cut,
+) -> Result<(), Fail> {
+    match cut {
+        Cut::Whole => arrive_whole(alloc, server, who, bytes),
+        Cut::At(place) => {
+            let (front, back) = bytes.split_at(place.min(bytes.len()));
+            arrive_whole(alloc, server, who, front)?;
+            arrive_whole(alloc, server, who, back)
+        }
+        Cut::Bytewise => {
+            let steps = bytewise(alloc, who, bytes)?;
+            made(server, steps)
+        }
+    }
+}
+
 /// Appends the stream to what is to arrive, cut so.
 fn arrive_cut(
     alloc: Global,
@@ -234,18 +256,7 @@ fn arrive_cut(
     cut: Cut,
 ) -> Result<(), Fail> {
     let bytes = stream.bytes(alloc)?;
-    match cut {
-        Cut::Whole => arrive_whole(alloc, server, who, bytes.as_slice()),
-        Cut::At(place) => {
-            let (front, back) = bytes.as_slice().split_at(place.min(bytes.len()));
-            arrive_whole(alloc, server, who, front)?;
-            arrive_whole(alloc, server, who, back)
-        }
-        Cut::Bytewise => {
-            let steps = bytewise(alloc, who, bytes.as_slice())?;
-            made(server, steps)
-        }
-    }
+    arrive_pieces(alloc, server, who, bytes.as_slice(), cut)
 }
 
 /// Ends the action: what a bind made gets 9, and what a request made gets 5.

@@ -329,13 +329,18 @@ fn transport_that_would_block_or_lacks_memory(rt: HostRuntime) -> Result<(), Fai
     each_is_made_up_for(&rt, IoFault::OutOfMemory)
 }
 
+/// Fails if the call may not tell that its send failed, or does not: a flush of the first client does.
+fn is_failed_flush(rt: &impl Abort, call: Call, told: &str) {
+    assert!(rt; matches!(call, Call::Flush(_)) && is_of_first(call));
+    assert_eq!(rt; told, FAILED.1);
+}
+
 /// How many of the texts differ, if they may: at a flush of the first client, which tells that its transport failed.
 fn failed_flushes(rt: &impl Abort, clean: &[String], texts: &[String]) -> usize {
     let mut count = 0usize;
     for (call, (was, is)) in RUN.iter().zip(clean.iter().zip(texts)) {
         if is.as_str() != was.as_str() {
-            assert!(rt; matches!(call, Call::Flush(_)) && is_of_first(*call));
-            assert_eq!(rt; is.as_str(), FAILED.1);
+            is_failed_flush(rt, *call, is.as_str());
             count = count.saturating_add(1);
         }
     }
@@ -396,19 +401,27 @@ fn second_is_the_same(rt: &impl Abort, clean: &[String], alone: &[String]) {
     }
 }
 
+/// Fails if a reading answers something else than it has to, if one has failed before or not; whether one has now.
+fn has_failed_now(rt: &impl Abort, has_failed: bool, (was, is): (&str, &str)) -> bool {
+    let fails = has_failed || is != was;
+    let text = if has_failed {
+        PIPE
+    } else if fails {
+        FAILED.0
+    } else {
+        was
+    };
+    assert_eq!(rt; is, text);
+    fails
+}
+
 /// Fails if, after the first reading of the first client that fails, another answers anything but that it is killed;
 /// whether one fails.
 fn fails_once(rt: &impl Abort, clean: &[String], texts: &[String]) -> bool {
     let mut has_failed = false;
     for (call, (was, is)) in RUN.iter().zip(clean.iter().zip(texts)) {
-        if !matches!(call, Call::Next(_)) || !is_of_first(*call) {
-            continue;
-        }
-        if has_failed {
-            assert_eq!(rt; is.as_str(), PIPE);
-        } else if is.as_str() != was.as_str() {
-            assert_eq!(rt; is.as_str(), FAILED.0);
-            has_failed = true;
+        if matches!(call, Call::Next(_)) && is_of_first(*call) {
+            has_failed = has_failed_now(rt, has_failed, (was.as_str(), is.as_str()));
         }
     }
     has_failed
