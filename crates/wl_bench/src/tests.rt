@@ -24,6 +24,25 @@ fn tells(rt: &impl Abort, log: Result<String, Fail>, text: &str) -> Result<(), F
     Ok(())
 }
 
+/// Names the row if its log is not there.
+fn name_missing(rt: &impl Eprint, name: &str, log: &Result<String, Fail>) {
+    if log.is_err() {
+        let _ = eprintln!(rt; "{name}: no log");
+    }
+}
+
+/// Fails if the log of the row of that name is not there, or is not this text. The row is named either way.
+fn row_tells(
+    rt: &(impl Abort + Eprint),
+    name: &str,
+    log: Result<String, Fail>,
+    text: &str,
+) -> Result<(), Fail> {
+    name_missing(rt, name, &log);
+    assert_eq!(rt; log?.as_str(), text, "{name}");
+    Ok(())
+}
+
 /// Which two of the ids are equal: each to itself alone, if none is there twice.
 fn each_is_itself<T: Eq>(ids: &[T]) -> bool {
     for i in 0..ids.len() {

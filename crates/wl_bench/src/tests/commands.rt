@@ -9,7 +9,9 @@ mod drill;
 
 use crate::commands::run_commands;
 use crate::stop::Stop;
+use crate::tests::row_tells;
 use std::alloc::Global;
+use std::process::Abort;
 use std::test::Fail;
 
 /// The output, and after it how the run ended if that was not at the end of the input.
@@ -30,4 +32,19 @@ fn printed(alloc: Global, lines: &[u8]) -> Result<String, Fail> {
     let mut output = Vec::new(alloc);
     let end = run_commands(alloc, &mut reader, &mut output);
     told(output, end)
+}
+
+/// A row of a table of inputs: what a failing one is named, its lines, and what is printed of them.
+struct Row {
+    name: &'static str,
+    lines: &'static [u8],
+    printed: &'static str,
+}
+
+/// Fails if something else is printed of an input than its row says.
+fn rows_print(rt: &(impl Abort + Eprint + AllocGlobal), rows: &[Row]) -> Result<(), Fail> {
+    for row in rows {
+        row_tells(rt, row.name, printed(rt.alloc(), row.lines), row.printed)?;
+    }
+    Ok(())
 }

@@ -81,35 +81,46 @@ fn tell_sends(log: &mut String, sends: &[Parcel]) -> Result<(), Fail> {
     Ok(())
 }
 
-/// Tells what the server sends when these come, and keeps the descriptors that the program gets.
+/// What is received: bytes, and the numbers of the descriptors beside them.
+type Receive = (&'static [u8], &'static [i32]);
+
+/// Tells what the server sends when this comes, and keeps the descriptors that the program gets.
 fn exchange(
     server: &mut Server,
     client: &ClientId,
-    receives: [Parcel; 2],
+    (bytes, numbers): Receive,
     log: &mut String,
     descriptors: &mut Vec<Token>,
 ) -> Result<(), Fail> {
-    let [first, second] = receives;
-    tell_sends(
-        log,
-        receive_from(server, client, first, descriptors)?.as_slice(),
-    )?;
-    tell_sends(
-        log,
-        receive_from(server, client, second, descriptors)?.as_slice(),
-    )
+    let parcel = parcel(*log.allocator(), bytes, numbers)?;
+    let sends = receive_from(server, client, parcel, descriptors)?;
+    tell_sends(log, sends.as_slice())
+}
+
+/// The same of several receives.
+fn exchange_all(
+    server: &mut Server,
+    client: &ClientId,
+    receives: &[Receive],
+    log: &mut String,
+    descriptors: &mut Vec<Token>,
+) -> Result<(), Fail> {
+    for one in receives {
+        exchange(server, client, *one, log, descriptors)?;
+    }
+    Ok(())
 }
 
 /// Tells what the server sends its first client when these come, and then the descriptors that the program gets.
 fn exchange_with_the_first(
     server: &mut Server,
-    receives: [Parcel; 2],
+    receives: &[Receive],
     log: &mut String,
 ) -> Result<(), Fail> {
     let alloc = *log.allocator();
     let client = server.insert_client(Memory::new(alloc), ())?;
     let mut descriptors = Vec::new(alloc);
-    exchange(server, &client, receives, log, &mut descriptors)?;
+    exchange_all(server, &client, receives, log, &mut descriptors)?;
     tell_bytes(log, &[], descriptors.as_slice())
 }
 
@@ -120,30 +131,39 @@ fn serving(alloc: Global) -> Result<Server, Fail> {
     Ok(server)
 }
 
-/// The log of a new server and its first client.
-fn server_log(alloc: Global, receives: [Parcel; 2]) -> Result<String, Fail> {
-    let mut server = serving(alloc)?;
+/// The log of a server and its first client.
+fn log_of_first(alloc: Global, server: &mut Server, receives: &[Receive]) -> Result<String, Fail> {
     let mut log = String::new(alloc);
-    exchange_with_the_first(&mut server, receives, &mut log)?;
+    exchange_with_the_first(server, receives, &mut log)?;
     Ok(log)
 }
+
+/// The log of a new server and its first client.
+fn server_log(alloc: Global, receives: &[Receive]) -> Result<String, Fail> {
+    let mut server = serving(alloc)?;
+    log_of_first(alloc, &mut server, receives)
+}
+
+/// `get_registry`, with the new id 2, and the front of `bind`, of the global 1.
+const FIRST_BYTES: [u8; 26] = [
+    1, 0, 0, 0, 1, 0, 12, 0, 2, 0, 0, 0, 2, 0, 0, 0, 0, 0, 32, 0, 1, 0, 0, 0, 5, 0,
+];
+
+/// Its back, as `quad` of version 3, with the new id 3; and `give`, of "a", [9] and a descriptor.
+const SECOND_BYTES: [u8; 42] = [
+    0, 0, 113, 117, 97, 100, 0, 0, 0, 0, 3, 0, 0, 0, 3, 0, 0, 0, 3, 0, 0, 0, 4, 0, 24, 0, 2, 0, 0,
+    0, 97, 0, 0, 0, 1, 0, 0, 0, 9, 0, 0, 0,
+];
+
+/// What is received of the client.
+static RECEIVES: [Receive; 2] = [(&FIRST_BYTES, &[]), (&SECOND_BYTES, &[40])];
 
 /// A client asks for its registry, binds `quad`, and gives a descriptor. The second receive begins in the middle of `bind`.
 #[test]
 fn server_behind_a_mailbox(rt: HostRuntime) -> Result<(), Fail> {
-    let alloc = rt.alloc();
-    let first = [
-        1, 0, 0, 0, 1, 0, 12, 0, 2, 0, 0, 0, // `get_registry`, with the new id 2
-        2, 0, 0, 0, 0, 0, 32, 0, 1, 0, 0, 0, 5, 0, // `bind`, of the global 1,
-    ];
-    let second = [
-        0, 0, 113, 117, 97, 100, 0, 0, 0, 0, 3, 0, 0, 0, 3, 0, 0, 0, // as `quad` of version 3, with the new id 3
-        3, 0, 0, 0, 4, 0, 24, 0, 2, 0, 0, 0, 97, 0, 0, 0, 1, 0, 0, 0, 9, 0, 0, 0, // `give`, of "a", [9] and a descriptor
-    ];
-    let receives = [parcel(alloc, &first, &[])?, parcel(alloc, &second, &[40])?];
     tells(
         &rt,
-        server_log(alloc, receives),
+        server_log(rt.alloc(), &RECEIVES),
         "02 00 00 00 00 00 1c 00 01 00 00 00 05 00 00 00 71 75 61 64 00 00 00 00 03 00 00 00\n, fd 40",
     )
 }
@@ -184,9 +204,10 @@ fn receive(client: &mut Client, (bytes, tokens): Parcel) -> Result<usize, Fail> 
 
 /// Tells what the client sends for a sync, and how many events it is handed when this comes.
 fn sync(client: &mut Client, answer: &[u8], log: &mut String) -> Result<(), Fail> {
-    let alloc = *log.allocator();
-    tell_sends(log, ask(alloc, client)?.as_slice())?;
-    let events = receive(client, parcel(alloc, answer, &[])?)?;
+    let sends = ask(*log.allocator(), client)?;
+    tell_sends(log, sends.as_slice())?;
+    let parcel = parcel(*log.allocator(), answer, &[])?;
+    let events = receive(client, parcel)?;
     Ok(write!(log, "events: {events}")?)
 }
 
@@ -196,12 +217,17 @@ fn connected(alloc: Global) -> Result<Client, Fail> {
     Ok(Client::connect(alloc, table, Memory::new(alloc))?)
 }
 
+/// The log of a client.
+fn log_of_sync(alloc: Global, client: &mut Client, answer: &[u8]) -> Result<String, Fail> {
+    let mut log = String::new(alloc);
+    sync(client, answer, &mut log)?;
+    Ok(log)
+}
+
 /// The log of a new client.
 fn client_log(alloc: Global, answer: &[u8]) -> Result<String, Fail> {
     let mut client = connected(alloc)?;
-    let mut log = String::new(alloc);
-    sync(&mut client, answer, &mut log)?;
-    Ok(log)
+    log_of_sync(alloc, &mut client, answer)
 }
 
 /// A client sends a sync, and its answer is one event: `delete_id` is handled by the session.

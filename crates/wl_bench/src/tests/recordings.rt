@@ -9,7 +9,7 @@ mod quads;
 use crate::commands::record;
 use crate::replay::replay;
 use crate::stop::Stop;
-use crate::tests::tells;
+use crate::tests::{row_tells, tells};
 use std::alloc::Global;
 use std::process::Abort;
 use std::test::Fail;
@@ -49,4 +49,24 @@ fn records(rt: &(impl Abort + AllocGlobal), lines: &[u8], recording: &str) -> Re
 /// Fails if the recording does not come to this.
 fn replays(rt: &(impl Abort + AllocGlobal), recording: &[u8], verdict: &str) -> Result<(), Fail> {
     tells(rt, replayed(rt.alloc(), recording), verdict)
+}
+
+/// A row of a table of recordings: what a failing one is named, the recording, and what it comes to.
+struct Row {
+    name: &'static str,
+    recording: &'static [u8],
+    verdict: &'static str,
+}
+
+/// Fails if a recording does not come to what its row says.
+fn rows_replay(rt: &(impl Abort + Eprint + AllocGlobal), rows: &[Row]) -> Result<(), Fail> {
+    for row in rows {
+        row_tells(
+            rt,
+            row.name,
+            replayed(rt.alloc(), row.recording),
+            row.verdict,
+        )?;
+    }
+    Ok(())
 }

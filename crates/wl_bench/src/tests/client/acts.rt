@@ -8,12 +8,14 @@ use super::values::{Child, Object, Request, message};
 use crate::tests::cuts::{Cut, Stream};
 use crate::tests::message::padded;
 use crate::tests::quad::quad_table;
+use crate::tests::row_tells;
 use std::alloc::{AllocError, Global};
 use std::fmt::Write;
+use std::process::Abort;
 use std::test::Fail;
-use wl_client::{Backend, EventError};
+use wl_client::{Backend, EventError, ObjectId};
 use wl_link::Memory;
-use wl_wire::{IoFault, Token};
+use wl_wire::{IoFault, Message, Token};
 
 /// A client whose objects have numbers as their data.
 type Client = Backend<Memory, u32>;
@@ -179,21 +181,53 @@ fn finish(client: &mut Client, log: &mut String, data: Option<u32>) -> Result<()
     told(client, written)
 }
 
-/// Reads once, and finishes the event; whether there may be more to read. Of a reading that would block it tells nothing
-/// if something is still to arrive.
-fn serve_once(client: &mut Client, log: &mut String) -> Result<bool, Fail> {
-    let answer = client.next_event();
-    match answer {
-        Err(EventError::WouldBlock) if client.transport().arrivals_left() > 0 => return Ok(true),
-        _ => {}
+/// What a reading comes to.
+#[derive(Clone, Copy)]
+enum Came {
+    /// An event, which is open now.
+    Event,
+    /// Nothing yet: something is still to arrive.
+    NotYet,
+    /// Nothing more, or a fault.
+    Nothing,
+}
+
+/// Tells the answer to a reading, and what it comes to. Of a reading that would block it tells nothing if something is still to
+/// arrive.
+fn comes_to(
+    client: &Client,
+    log: &mut String,
+    answer: &Result<Message<ObjectId, Token>, EventError>,
+) -> Result<Came, Fail> {
+    let would_block = matches!(answer, Err(EventError::WouldBlock));
+    if would_block && client.transport().arrivals_left() > 0 {
+        return Ok(Came::NotYet);
     }
-    let written = write_read(log, &answer);
+    let written = write_read(log, answer);
     told(client, written)?;
-    if answer.is_err() {
-        return Ok(false);
+    if answer.is_ok() {
+        Ok(Came::Event)
+    } else {
+        Ok(Came::Nothing)
     }
-    finish(client, log, None)?;
-    Ok(true)
+}
+
+/// Reads once.
+fn read_once(client: &mut Client, log: &mut String) -> Result<Came, Fail> {
+    let answer = client.next_event();
+    comes_to(client, log, &answer)
+}
+
+/// Reads once, and finishes the event; whether there may be more to read.
+fn serve_once(client: &mut Client, log: &mut String) -> Result<bool, Fail> {
+    match read_once(client, log)? {
+        Came::Event => {
+            finish(client, log, None)?;
+            Ok(true)
+        }
+        Came::NotYet => Ok(true),
+        Came::Nothing => Ok(false),
+    }
 }
 
 /// Reads, and finishes each event, until nothing more is there or a reading fails.
@@ -425,4 +459,19 @@ fn log_by(alloc: Global, client: &mut Client, acts: &[Act]) -> Result<String, Fa
 pub fn log_of(alloc: Global, acts: &[Act]) -> Result<String, Fail> {
     let mut client = connected(alloc)?;
     log_by(alloc, &mut client, acts)
+}
+
+/// A row of a table of runs: what a failing one is named, its acts, and what they have to tell.
+pub struct Row {
+    pub name: &'static str,
+    pub acts: &'static [Act],
+    pub told: &'static str,
+}
+
+/// Fails if a run of a client in which nothing has happened tells something else than its row says.
+pub fn rows_tell(rt: &(impl Abort + Eprint + AllocGlobal), rows: &[Row]) -> Result<(), Fail> {
+    for row in rows {
+        row_tells(rt, row.name, log_of(rt.alloc(), row.acts), row.told)?;
+    }
+    Ok(())
 }

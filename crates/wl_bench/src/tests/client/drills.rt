@@ -1,6 +1,6 @@
 //! The runs for which each allocation is refused in turn, and in which each receive and each send fails in turn.
 
-use super::drill::{Entry, drill};
+use super::drill::{Run, drill};
 use super::steps::Call;
 use super::transports::fails_in_turn;
 use super::values::{Object, Request};
@@ -8,21 +8,21 @@ use std::process::Abort;
 use std::test::Fail;
 
 /// The end of the callback 2, and of its number.
-static ANSWER: [u8; 24] = [
+const ANSWER: [u8; 24] = [
     2, 0, 0, 0, 0, 0, 12, 0, 0, 0, 0, 0, 1, 0, 0, 0, 1, 0, 12, 0, 2, 0, 0, 0,
 ];
 
 /// `wl_display.delete_id` of 3.
-static DELETED: [u8; 12] = [1, 0, 0, 0, 1, 0, 12, 0, 3, 0, 0, 0];
+const DELETED: [u8; 12] = [1, 0, 0, 0, 1, 0, 12, 0, 3, 0, 0, 0];
 
 /// `quad.made`, by object 3, of the first object of the server's range.
-static MADE: [u8; 12] = [3, 0, 0, 0, 1, 0, 12, 0, 0, 0, 0, 255];
+const MADE: [u8; 12] = [3, 0, 0, 0, 1, 0, 12, 0, 0, 0, 0, 255];
 
 /// The same of the number 5.
-static MADE_AT_5: [u8; 12] = [3, 0, 0, 0, 1, 0, 12, 0, 5, 0, 0, 0];
+const MADE_AT_5: [u8; 12] = [3, 0, 0, 0, 1, 0, 12, 0, 5, 0, 0, 0];
 
 /// `quad.gone`, by object 3.
-static GONE: [u8; 8] = [3, 0, 0, 0, 2, 0, 8, 0];
+const GONE: [u8; 8] = [3, 0, 0, 0, 2, 0, 8, 0];
 
 /// What a run is tried by.
 #[derive(Clone, Copy)]
@@ -33,132 +33,136 @@ enum Trial {
     Transport,
 }
 
-/// Makes the run, and fails if it is not as it has to be, or leaves another error, or has not so many receives and sends.
-fn tried(
-    rt: &(impl Abort + AllocGlobal),
-    trial: Trial,
-    entries: &[Entry],
-    error: &str,
-    counts: (usize, usize),
-) -> Result<(), Fail> {
-    drill(rt, entries, error)?;
+/// The runs.
+static RUNS: [Run; 7] = [
+    // A callback lives and ends.
+    Run {
+        name: "a sync",
+        entries: &[
+            (Call::Send(Request::Sync), "sent: 2, 1\n"),
+            (Call::Arrive(&ANSWER), "done\n"),
+            (Call::Next, "event 0 of 2: 0\n"),
+            (Call::Finish(None), "finished\n"),
+            (Call::Next, "would block\n"),
+            (Call::Send(Request::Sync), "sent: 2, 2\n"),
+            (Call::Flush, "flushed\n"),
+            (
+                Call::TakeSent,
+                "0100000000000c00020000000100000000000c0002000000\n",
+            ),
+            (Call::Notes, "notes: 2, 1\n"),
+        ],
+        error: "no error",
+        counts: (3, 1),
+    },
+    // An object is destroyed and deleted.
+    Run {
+        name: "a destroyed object",
+        entries: &[
+            (Call::Send(Request::GetRegistry), "sent: 2, 1\n"),
+            (Call::Send(Request::Bind), "sent: 3, 2\n"),
+            (Call::Destroy(Object::Quad), "destroyed\n"),
+            (Call::Destroy(Object::Quad), "Invalid ObjectId\n"),
+            (Call::Notes, "notes: 3, 2\n"),
+            (Call::Arrive(&DELETED), "done\n"),
+            (Call::Next, "would block\n"),
+            (Call::SetData(Object::Quad, 8), "Invalid ObjectId\n"),
+            (Call::Send(Request::Sync), "sent: 3, 3\n"),
+            (Call::Flush, "flushed\n"),
+        ],
+        error: "no error",
+        counts: (2, 1),
+    },
+    // The server makes an object.
+    Run {
+        name: "an object of the server's",
+        entries: &[
+            (Call::Send(Request::GetRegistry), "sent: 2, 1\n"),
+            (Call::Send(Request::Bind), "sent: 3, 2\n"),
+            (Call::Arrive(&MADE), "done\n"),
+            (Call::Next, "event 1 of 3: new 4278190080, 3\n"),
+            (Call::Finish(Some(7)), "finished\n"),
+            (Call::Destroy(Object::Child), "destroyed\n"),
+            (Call::Notes, "notes: 4278190080, 3\n"),
+        ],
+        error: "no error",
+        counts: (1, 0),
+    },
+    // A sender is destroyed before the end of its destructor event.
+    Run {
+        name: "a sender destroyed early",
+        entries: &[
+            (Call::Send(Request::GetRegistry), "sent: 2, 1\n"),
+            (Call::Send(Request::Bind), "sent: 3, 2\n"),
+            (Call::Arrive(&GONE), "done\n"),
+            (Call::Next, "event 2 of 3:\n"),
+            (Call::Destroy(Object::Quad), "destroyed\n"),
+            (Call::Finish(None), "finished\n"),
+            (Call::Notes, "notes: 3, 2\n"),
+        ],
+        error: "no error",
+        counts: (1, 0),
+    },
+    // The server makes an object of the client's range.
+    Run {
+        name: "a new id of the client's range",
+        entries: &[
+            (Call::Send(Request::GetRegistry), "sent: 2, 1\n"),
+            (Call::Send(Request::Bind), "sent: 3, 2\n"),
+            (Call::Arrive(&MADE_AT_5), "done\n"),
+            (Call::Next, "the session failed\n"),
+            (Call::Flush, "the session failed\n"),
+            (Call::Next, "the session failed\n"),
+        ],
+        error: "Protocol error 0 on object @0: Protocol error: server tried to create an object \"quad\" with invalid id 5.",
+        counts: (1, 0),
+    },
+    // Requests to a full buffer: 4096 bytes wait, so the next has to wait for a send. A send that fails is stored, and the
+    // request is answered as ever.
+    Run {
+        name: "a request to a full buffer",
+        entries: &[
+            (Call::Limit(Some(4096)), "limit set\n"),
+            (Call::Send(Request::GetRegistry), "sent: 2, 1\n"),
+            (Call::Send(Request::Bind), "sent: 3, 2\n"),
+            (Call::Send(Request::Give(4036)), "sent: 0, 0\n"),
+            (Call::Send(Request::Sync), "sent: 4, 3\n"),
+            (Call::Flush, "flushed\n"),
+        ],
+        error: "no error",
+        counts: (0, 2),
+    },
+    Run {
+        name: "a destructor request to a full buffer",
+        entries: &[
+            (Call::Limit(Some(4096)), "limit set\n"),
+            (Call::Send(Request::GetRegistry), "sent: 2, 1\n"),
+            (Call::Send(Request::Bind), "sent: 3, 2\n"),
+            (Call::Send(Request::Give(4036)), "sent: 0, 0\n"),
+            (Call::Send(Request::Bare(Object::Quad, 2)), "sent: 0, 0\n"),
+            (Call::Notes, "notes: 3, 2\n"),
+            (Call::Flush, "flushed\n"),
+        ],
+        error: "no error",
+        counts: (0, 2),
+    },
+];
+
+/// Makes the run, and fails if it is not as it has to be.
+fn tried(rt: &(impl Abort + AllocGlobal), trial: Trial, run: &Run) -> Result<(), Fail> {
+    drill(rt, run)?;
     match trial {
         Trial::Memory => Ok(()),
-        Trial::Transport => fails_in_turn(rt, entries, counts),
+        Trial::Transport => fails_in_turn(rt, run),
     }
 }
 
-/// A callback lives and ends.
-fn sync(rt: &(impl Abort + AllocGlobal), trial: Trial) -> Result<(), Fail> {
-    let entries = [
-        (Call::Send(Request::Sync), "sent: 2, 1\n"),
-        (Call::Arrive(&ANSWER), "done\n"),
-        (Call::Next, "event 0 of 2: 0\n"),
-        (Call::Finish(None), "finished\n"),
-        (Call::Next, "would block\n"),
-        (Call::Send(Request::Sync), "sent: 2, 2\n"),
-        (Call::Flush, "flushed\n"),
-        (
-            Call::TakeSent,
-            "0100000000000c00020000000100000000000c0002000000\n",
-        ),
-        (Call::Notes, "notes: 2, 1\n"),
-    ];
-    tried(rt, trial, &entries, "no error", (3, 1))
-}
-
-/// An object is destroyed and deleted.
-fn destroyed_object(rt: &(impl Abort + AllocGlobal), trial: Trial) -> Result<(), Fail> {
-    let entries = [
-        (Call::Send(Request::GetRegistry), "sent: 2, 1\n"),
-        (Call::Send(Request::Bind), "sent: 3, 2\n"),
-        (Call::Destroy(Object::Quad), "destroyed\n"),
-        (Call::Destroy(Object::Quad), "Invalid ObjectId\n"),
-        (Call::Notes, "notes: 3, 2\n"),
-        (Call::Arrive(&DELETED), "done\n"),
-        (Call::Next, "would block\n"),
-        (Call::SetData(Object::Quad, 8), "Invalid ObjectId\n"),
-        (Call::Send(Request::Sync), "sent: 3, 3\n"),
-        (Call::Flush, "flushed\n"),
-    ];
-    tried(rt, trial, &entries, "no error", (2, 1))
-}
-
-/// The server makes an object.
-fn made_object(rt: &(impl Abort + AllocGlobal), trial: Trial) -> Result<(), Fail> {
-    let entries = [
-        (Call::Send(Request::GetRegistry), "sent: 2, 1\n"),
-        (Call::Send(Request::Bind), "sent: 3, 2\n"),
-        (Call::Arrive(&MADE), "done\n"),
-        (Call::Next, "event 1 of 3: new 4278190080, 3\n"),
-        (Call::Finish(Some(7)), "finished\n"),
-        (Call::Destroy(Object::Child), "destroyed\n"),
-        (Call::Notes, "notes: 4278190080, 3\n"),
-    ];
-    tried(rt, trial, &entries, "no error", (1, 0))
-}
-
-/// A sender is destroyed before the end of its destructor event.
-fn destroyed_sender(rt: &(impl Abort + AllocGlobal), trial: Trial) -> Result<(), Fail> {
-    let entries = [
-        (Call::Send(Request::GetRegistry), "sent: 2, 1\n"),
-        (Call::Send(Request::Bind), "sent: 3, 2\n"),
-        (Call::Arrive(&GONE), "done\n"),
-        (Call::Next, "event 2 of 3:\n"),
-        (Call::Destroy(Object::Quad), "destroyed\n"),
-        (Call::Finish(None), "finished\n"),
-        (Call::Notes, "notes: 3, 2\n"),
-    ];
-    tried(rt, trial, &entries, "no error", (1, 0))
-}
-
-/// The server makes an object of the client's range.
-fn wrong_new_id(rt: &(impl Abort + AllocGlobal), trial: Trial) -> Result<(), Fail> {
-    let entries = [
-        (Call::Send(Request::GetRegistry), "sent: 2, 1\n"),
-        (Call::Send(Request::Bind), "sent: 3, 2\n"),
-        (Call::Arrive(&MADE_AT_5), "done\n"),
-        (Call::Next, "the session failed\n"),
-        (Call::Flush, "the session failed\n"),
-        (Call::Next, "the session failed\n"),
-    ];
-    let error =
-        "Protocol error 0 on object @0: Protocol error: server tried to create an object \"quad\" with invalid id 5.";
-    tried(rt, trial, &entries, error, (1, 0))
-}
-
-/// Requests to a full buffer: 4096 bytes wait, so the next has to wait for a send. A send that fails is stored, and the
-/// request is answered as ever.
-fn full_buffer(rt: &(impl Abort + AllocGlobal), trial: Trial) -> Result<(), Fail> {
-    let entries = [
-        (Call::Limit(Some(4096)), "limit set\n"),
-        (Call::Send(Request::GetRegistry), "sent: 2, 1\n"),
-        (Call::Send(Request::Bind), "sent: 3, 2\n"),
-        (Call::Send(Request::Give(4036)), "sent: 0, 0\n"),
-        (Call::Send(Request::Sync), "sent: 4, 3\n"),
-        (Call::Flush, "flushed\n"),
-    ];
-    tried(rt, trial, &entries, "no error", (0, 2))?;
-    let entries = [
-        (Call::Limit(Some(4096)), "limit set\n"),
-        (Call::Send(Request::GetRegistry), "sent: 2, 1\n"),
-        (Call::Send(Request::Bind), "sent: 3, 2\n"),
-        (Call::Send(Request::Give(4036)), "sent: 0, 0\n"),
-        (Call::Send(Request::Bare(Object::Quad, 2)), "sent: 0, 0\n"),
-        (Call::Notes, "notes: 3, 2\n"),
-        (Call::Flush, "flushed\n"),
-    ];
-    tried(rt, trial, &entries, "no error", (0, 2))
-}
-
-/// All runs.
+/// Makes all runs.
 fn all(rt: &(impl Abort + AllocGlobal), trial: Trial) -> Result<(), Fail> {
-    sync(rt, trial)?;
-    destroyed_object(rt, trial)?;
-    made_object(rt, trial)?;
-    destroyed_sender(rt, trial)?;
-    wrong_new_id(rt, trial)?;
-    full_buffer(rt, trial)
+    for run in &RUNS {
+        tried(rt, trial, run)?;
+    }
+    Ok(())
 }
 
 #[test]

@@ -9,7 +9,8 @@ use std::test::Fail;
 use wl_client::{Backend, EventError, Note, ObjectId};
 use wl_link::Transport;
 use wl_wire::{
-    Argument, CString, Interface, InterfaceId, IoFault, Message, ObjectInfo, Protocol, Token,
+    Argument, CString, INLINE_ARGS, Interface, InterfaceId, IoFault, Message, ObjectInfo, Protocol,
+    Token,
 };
 
 /// Plays back what a server once sent, and keeps what it is sent. It carries no descriptors.
@@ -139,18 +140,31 @@ fn table(alloc: Global) -> Result<Protocol, Fail> {
     Ok(Protocol::new(alloc, interfaces)?)
 }
 
-/// `wl_registry.bind` of the global of this name as a counter of version 1.
+/// The string `counter`.
+fn counter(alloc: Global) -> Result<CString, Fail> {
+    Ok(CString::new(Vec::from_slice(alloc, b"counter")?)?)
+}
+
+/// Appends the arguments of `wl_registry.bind`, of the global of this name as a counter of version 1, to the others.
+fn push_binding(
+    alloc: Global,
+    args: &mut SmallVec<Argument<ObjectId, Token>, INLINE_ARGS>,
+    name: u32,
+) -> Result<(), Fail> {
+    args.push(Argument::Uint(name))?;
+    args.push(Argument::Str(Some(counter(alloc)?)))?;
+    args.push(Argument::Uint(1))?;
+    Ok(args.push(Argument::NewId(ObjectId::null()))?)
+}
+
+/// `wl_registry.bind` of the global of this name.
 fn binding(alloc: Global, registry: ObjectId, name: u32) -> Result<Message<ObjectId, Token>, Fail> {
     let mut bind = Message {
         sender_id: registry,
         opcode: 0,
         args: SmallVec::new(alloc),
     };
-    bind.args.push(Argument::Uint(name))?;
-    let interface = CString::new(Vec::from_slice(alloc, b"counter")?)?;
-    bind.args.push(Argument::Str(Some(interface)))?;
-    bind.args.push(Argument::Uint(1))?;
-    bind.args.push(Argument::NewId(ObjectId::null()))?;
+    push_binding(alloc, &mut bind.args, name)?;
     Ok(bind)
 }
 
@@ -165,17 +179,33 @@ fn announced(client: &mut Client<'_>) -> Result<u32, Fail> {
     Ok(name)
 }
 
-/// Asks for the registry, and binds the global that is announced first. The table names the registry's interface, but not
-/// that of a bound object: so the session is told it, with the version.
-fn bind(alloc: Global, client: &mut Client<'_>) -> Result<ObjectId, Fail> {
+/// Asks for the registry.
+fn registry(alloc: Global, client: &mut Client<'_>) -> Result<ObjectId, Fail> {
     let get_registry = making(alloc, client.display_id(), 1)?;
     let registry = client.send_request(get_registry, Some(1), None)?;
     client.flush()?;
-    let name = announced(client)?;
+    Ok(registry)
+}
+
+/// Binds the global of this name. The table names the registry's interface, but not that of a bound object: so the session is
+/// told it, with the version.
+fn bind_named(
+    alloc: Global,
+    client: &mut Client<'_>,
+    registry: ObjectId,
+    name: u32,
+) -> Result<ObjectId, Fail> {
     let bind = binding(alloc, registry, name)?;
     let counter = client.send_request(bind, Some(2), Some((COUNTER, 1)))?;
     client.flush()?;
     Ok(counter)
+}
+
+/// Asks for the registry, and binds the global that is announced first.
+fn bind(alloc: Global, client: &mut Client<'_>) -> Result<ObjectId, Fail> {
+    let registry = registry(alloc, client)?;
+    let name = announced(client)?;
+    bind_named(alloc, client, registry, name)
 }
 
 /// A client to which this is played back.

@@ -1,174 +1,138 @@
 //! Faults and wants of memory of the transport, and what is too long for it.
 
-use super::acts::{Act, Cue, Look, log_of};
+use super::acts::{Act, Cue, Look, Row, rows_tell};
 use super::values::Request;
-use crate::tests::tells;
 use std::test::Fail;
 use wl_wire::IoFault;
 
-/// A request fills the buffer of 4096 bytes to its end, after the 44 bytes of the bind. Then the transport fails while
-/// one is sent: it counts as sent, and the fault is the session's error.
-#[test]
-fn fault_of_a_request(rt: HostRuntime) -> Result<(), Fail> {
-    let acts = [
-        Act::Limit(0),
-        Act::Bound,
-        Act::Send(Request::Give(4036)),
-        Act::Script(Cue::AcceptFault(IoFault::Other(5))),
-        Act::Send(Request::Sync),
-        Act::Look(Look::LastError),
-        Act::Flush,
-        Act::Send(Request::Sync),
-        Act::Look(Look::LastError),
-    ];
-    tells(
-        &rt,
-        log_of(rt.alloc(), &acts),
-        "sent: 2, 1\nsent: 3, 2\nsent: 0, 0\nsent: 4, 3\nIo error: os error 5\nthe session failed\nsent: 5, 4\nIo error: os error 5\n",
-    )
-}
+/// The runs, and what they tell.
+static ROWS: [Row; 9] = [
+    // A request fills the buffer of 4096 bytes to its end, after the 44 bytes of the bind. Then the transport fails while
+    // one is sent: it counts as sent, and the fault is the session's error.
+    Row {
+        name: "fault of a request",
+        acts: &[
+            Act::Limit(0),
+            Act::Bound,
+            Act::Send(Request::Give(4036)),
+            Act::Script(Cue::AcceptFault(IoFault::Other(5))),
+            Act::Send(Request::Sync),
+            Act::Look(Look::LastError),
+            Act::Flush,
+            Act::Send(Request::Sync),
+            Act::Look(Look::LastError),
+        ],
+        told: "sent: 2, 1\nsent: 3, 2\nsent: 0, 0\nsent: 4, 3\nIo error: os error 5\nthe session failed\nsent: 5, 4\nIo error: os error 5\n",
+    },
+    // The transport lacks memory while a request is sent: it is refused, and the next one is as if it had not been.
+    Row {
+        name: "request without memory",
+        acts: &[
+            Act::Limit(0),
+            Act::Bound,
+            Act::Send(Request::Give(4036)),
+            Act::Script(Cue::AcceptFault(IoFault::OutOfMemory)),
+            Act::SendInWant(Request::Sync),
+            Act::Send(Request::Sync),
+            Act::Look(Look::LastError),
+        ],
+        told: "sent: 2, 1\nsent: 3, 2\nsent: 0, 0\nout of memory\nsent: 4, 3\nno error\n",
+    },
+    // A request that is longer than the buffer may be.
+    Row {
+        name: "request too long",
+        acts: &[
+            Act::Limit(0),
+            Act::Bound,
+            Act::Send(Request::Give(4084)),
+            Act::Look(Look::LastError),
+        ],
+        told: "sent: 2, 1\nsent: 3, 2\nsent: 0, 0\nIo error: message too big\n",
+    },
+    // A flush that would block, and one that fails.
+    Row {
+        name: "faults of a flush",
+        acts: &[
+            Act::Send(Request::Sync),
+            Act::Script(Cue::AcceptFault(IoFault::WouldBlock)),
+            Act::Script(Cue::AcceptFault(IoFault::Other(5))),
+            Act::Flush,
+            Act::Look(Look::LastError),
+            Act::Flush,
+            Act::Look(Look::LastError),
+            Act::Next,
+            Act::Flush,
+        ],
+        told: "sent: 2, 1\nwould block\nno error\nthe session failed\nIo error: os error 5\nthe session failed\nthe session failed\n",
+    },
+    // A fault of a receive is the session's error.
+    Row {
+        name: "fault of a receive",
+        acts: &[
+            Act::Script(Cue::ArriveFault(IoFault::WouldBlock)),
+            Act::Script(Cue::ArriveFault(IoFault::Other(3))),
+            Act::Next,
+            Act::Next,
+            Act::Look(Look::LastError),
+            Act::Flush,
+            Act::Next,
+        ],
+        told: "would block\nthe session failed\nIo error: os error 3\nthe session failed\nthe session failed\n",
+    },
+    // A hundred receives of a byte each, the beginning of a message of 200 bytes: a reading makes 64 of them.
+    Row {
+        name: "receives of a reading",
+        acts: &[
+            Act::Script(Cue::ArriveBytewise(&[1, 0, 0, 0, 0, 0, 200, 0], 100)),
+            Act::Next,
+            Act::Look(Look::Arrivals),
+            Act::Next,
+            Act::Look(Look::Arrivals),
+        ],
+        told: "would block\n36 arrivals\nwould block\n0 arrivals\n",
+    },
+    Row {
+        name: "message longer than the first storage",
+        acts: &[
+            Act::Send(Request::Sync),
+            ARRIVE_5000,
+            Act::Next,
+            Act::Look(Look::Arrivals),
+            Act::Look(Look::LastError),
+        ],
+        told: "sent: 2, 1\nevent 0 of 2: 0\n0 arrivals\nno error\n",
+    },
+    // The buffer of what was received grows to 65536 bytes, and a reading receives 16 times.
+    Row {
+        name: "message of 65532 bytes",
+        acts: &[
+            Act::Send(Request::Sync),
+            Act::Script(Cue::ArriveInChunks(&[2, 0, 0, 0, 0, 0, 0xfc, 0xff], 65532)),
+            Act::Next,
+            Act::Look(Look::Arrivals),
+            Act::Look(Look::LastError),
+        ],
+        told: "sent: 2, 1\nevent 0 of 2: 0\n0 arrivals\nno error\n",
+    },
+    // A message that is longer than the buffer of what was received may become.
+    Row {
+        name: "message longer than the limit",
+        acts: &[
+            Act::Limit(4096),
+            Act::Send(Request::Sync),
+            ARRIVE_5000,
+            Act::Next,
+            Act::Look(Look::LastError),
+        ],
+        told: "sent: 2, 1\nthe session failed\nIo error: broken pipe\n",
+    },
+];
 
-/// The transport lacks memory while a request is sent: it is refused, and the next one is as if it had not been.
+/// Each run tells what it has to.
 #[test]
-fn request_without_memory(rt: HostRuntime) -> Result<(), Fail> {
-    let acts = [
-        Act::Limit(0),
-        Act::Bound,
-        Act::Send(Request::Give(4036)),
-        Act::Script(Cue::AcceptFault(IoFault::OutOfMemory)),
-        Act::SendInWant(Request::Sync),
-        Act::Send(Request::Sync),
-        Act::Look(Look::LastError),
-    ];
-    tells(
-        &rt,
-        log_of(rt.alloc(), &acts),
-        "sent: 2, 1\nsent: 3, 2\nsent: 0, 0\nout of memory\nsent: 4, 3\nno error\n",
-    )
-}
-
-/// A request that is longer than the buffer may be.
-#[test]
-fn request_too_long(rt: HostRuntime) -> Result<(), Fail> {
-    let acts = [
-        Act::Limit(0),
-        Act::Bound,
-        Act::Send(Request::Give(4084)),
-        Act::Look(Look::LastError),
-    ];
-    tells(
-        &rt,
-        log_of(rt.alloc(), &acts),
-        "sent: 2, 1\nsent: 3, 2\nsent: 0, 0\nIo error: message too big\n",
-    )
-}
-
-/// A flush that would block, and one that fails.
-#[test]
-fn faults_of_a_flush(rt: HostRuntime) -> Result<(), Fail> {
-    let acts = [
-        Act::Send(Request::Sync),
-        Act::Script(Cue::AcceptFault(IoFault::WouldBlock)),
-        Act::Script(Cue::AcceptFault(IoFault::Other(5))),
-        Act::Flush,
-        Act::Look(Look::LastError),
-        Act::Flush,
-        Act::Look(Look::LastError),
-        Act::Next,
-        Act::Flush,
-    ];
-    tells(
-        &rt,
-        log_of(rt.alloc(), &acts),
-        "sent: 2, 1\nwould block\nno error\nthe session failed\nIo error: os error 5\nthe session failed\nthe session failed\n",
-    )
-}
-
-/// A fault of a receive is the session's error.
-#[test]
-fn fault_of_a_receive(rt: HostRuntime) -> Result<(), Fail> {
-    let acts = [
-        Act::Script(Cue::ArriveFault(IoFault::WouldBlock)),
-        Act::Script(Cue::ArriveFault(IoFault::Other(3))),
-        Act::Next,
-        Act::Next,
-        Act::Look(Look::LastError),
-        Act::Flush,
-        Act::Next,
-    ];
-    tells(
-        &rt,
-        log_of(rt.alloc(), &acts),
-        "would block\nthe session failed\nIo error: os error 3\nthe session failed\nthe session failed\n",
-    )
-}
-
-/// A hundred receives of a byte each, the beginning of a message of 200 bytes: a reading makes 64 of them.
-#[test]
-fn receives_of_a_reading(rt: HostRuntime) -> Result<(), Fail> {
-    let acts = [
-        Act::Script(Cue::ArriveBytewise(&[1, 0, 0, 0, 0, 0, 200, 0], 100)),
-        Act::Next,
-        Act::Look(Look::Arrivals),
-        Act::Next,
-        Act::Look(Look::Arrivals),
-    ];
-    tells(
-        &rt,
-        log_of(rt.alloc(), &acts),
-        "would block\n36 arrivals\nwould block\n0 arrivals\n",
-    )
+fn rows(rt: HostRuntime) -> Result<(), Fail> {
+    rows_tell(&rt, &ROWS)
 }
 
 /// The arrivals of a message of 5000 bytes, which is longer than the buffer of what was received is at first.
 const ARRIVE_5000: Act = Act::Script(Cue::ArriveInChunks(&[2, 0, 0, 0, 0, 0, 0x88, 0x13], 5000));
-
-#[test]
-fn message_longer_than_the_first_storage(rt: HostRuntime) -> Result<(), Fail> {
-    let acts = [
-        Act::Send(Request::Sync),
-        ARRIVE_5000,
-        Act::Next,
-        Act::Look(Look::Arrivals),
-        Act::Look(Look::LastError),
-    ];
-    tells(
-        &rt,
-        log_of(rt.alloc(), &acts),
-        "sent: 2, 1\nevent 0 of 2: 0\n0 arrivals\nno error\n",
-    )
-}
-
-/// The buffer of what was received grows to 65536 bytes, and a reading receives 16 times.
-#[test]
-fn message_of_65532_bytes(rt: HostRuntime) -> Result<(), Fail> {
-    let acts = [
-        Act::Send(Request::Sync),
-        Act::Script(Cue::ArriveInChunks(&[2, 0, 0, 0, 0, 0, 0xfc, 0xff], 65532)),
-        Act::Next,
-        Act::Look(Look::Arrivals),
-        Act::Look(Look::LastError),
-    ];
-    tells(
-        &rt,
-        log_of(rt.alloc(), &acts),
-        "sent: 2, 1\nevent 0 of 2: 0\n0 arrivals\nno error\n",
-    )
-}
-
-/// A message that is longer than the buffer of what was received may become.
-#[test]
-fn message_longer_than_the_limit(rt: HostRuntime) -> Result<(), Fail> {
-    let acts = [
-        Act::Limit(4096),
-        Act::Send(Request::Sync),
-        ARRIVE_5000,
-        Act::Next,
-        Act::Look(Look::LastError),
-    ];
-    tells(
-        &rt,
-        log_of(rt.alloc(), &acts),
-        "sent: 2, 1\nthe session failed\nIo error: broken pipe\n",
-    )
-}

@@ -1,187 +1,156 @@
 //! Objects that the server makes, and the ends of objects and of their numbers.
 
-use super::acts::{Act, Cue, Look, log_of};
+use super::acts::{Act, Cue, Look, Row, rows_tell};
 use super::values::{Object, Request};
-use crate::tests::tells;
 use std::test::Fail;
 
 /// `quad.made` of the `quad` 3, with the first number of the server's range.
-static MADE: [u8; 12] = [3, 0, 0, 0, 1, 0, 12, 0, 0, 0, 0, 255];
+const MADE: [u8; 12] = [3, 0, 0, 0, 1, 0, 12, 0, 0, 0, 0, 255];
 
 /// `wl_display.delete_id` of object 3.
-static DELETE_3: [u8; 12] = [1, 0, 0, 0, 1, 0, 12, 0, 3, 0, 0, 0];
+const DELETE_3: [u8; 12] = [1, 0, 0, 0, 1, 0, 12, 0, 3, 0, 0, 0];
 
-/// An object that the server makes, ended and made again.
-#[test]
-fn run_of_made_objects(rt: HostRuntime) -> Result<(), Fail> {
-    let acts = [
-        Act::Bound,
-        Act::Script(Cue::Arrive(&MADE)),
-        Act::Next,
-        Act::Next,
-        Act::Finish(None),
-        Act::Finish(Some(7)),
-        Act::Finish(None),
-        Act::Look(Look::Data(Object::Child)),
-        Act::Destroy(Object::Child),
-        Act::Notes,
-        Act::Script(Cue::Arrive(&MADE)),
-        Act::Next,
-        Act::Finish(Some(8)),
-        Act::Script(Cue::Arrive(&MADE)),
-        Act::Next,
-        Act::Look(Look::LastError),
-        Act::Flush,
-        Act::Next,
-    ];
-    tells(
-        &rt,
-        log_of(rt.alloc(), &acts),
-        "sent: 2, 1\nsent: 3, 2\nevent 1 of 3: new 4278190080, 3\nan event is open\nthe new object gets no user data\nfinished\nno event is open\ndata 7\ndestroyed\nnotes: 4278190080, 3\nevent 1 of 3: new 4278190080, 4\nfinished\nthe session failed\nProtocol error 0 on object @0: Protocol error: server tried to create an object \"quad\" with invalid id 4278190080.\nthe session failed\nthe session failed\n",
-    )
-}
+/// The runs, and what they tell.
+static ROWS: [Row; 8] = [
+    // An object that the server makes, ended and made again.
+    Row {
+        name: "run of made objects",
+        acts: &[
+            Act::Bound,
+            Act::Script(Cue::Arrive(&MADE)),
+            Act::Next,
+            Act::Next,
+            Act::Finish(None),
+            Act::Finish(Some(7)),
+            Act::Finish(None),
+            Act::Look(Look::Data(Object::Child)),
+            Act::Destroy(Object::Child),
+            Act::Notes,
+            Act::Script(Cue::Arrive(&MADE)),
+            Act::Next,
+            Act::Finish(Some(8)),
+            Act::Script(Cue::Arrive(&MADE)),
+            Act::Next,
+            Act::Look(Look::LastError),
+            Act::Flush,
+            Act::Next,
+        ],
+        told: "sent: 2, 1\nsent: 3, 2\nevent 1 of 3: new 4278190080, 3\nan event is open\nthe new object gets no user data\nfinished\nno event is open\ndata 7\ndestroyed\nnotes: 4278190080, 3\nevent 1 of 3: new 4278190080, 4\nfinished\nthe session failed\nProtocol error 0 on object @0: Protocol error: server tried to create an object \"quad\" with invalid id 4278190080.\nthe session failed\nthe session failed\n",
+    },
+    // `quad.made` with the number 5, which is of the client's range.
+    Row {
+        name: "new id of the client",
+        acts: &[
+            Act::Bound,
+            Act::Script(Cue::Arrive(&[3, 0, 0, 0, 1, 0, 12, 0, 5, 0, 0, 0])),
+            Act::Next,
+            Act::Look(Look::LastError),
+        ],
+        told: "sent: 2, 1\nsent: 3, 2\nthe session failed\nProtocol error 0 on object @0: Protocol error: server tried to create an object \"quad\" with invalid id 5.\n",
+    },
+    // A destroyed object makes objects that are destroyed as well, which are replaced.
+    Row {
+        name: "child of a destroyed object",
+        acts: &[
+            Act::Bound,
+            Act::Destroy(Object::Quad),
+            Act::Notes,
+            Act::Script(Cue::Arrive(&MADE)),
+            Act::Next,
+            Act::Look(Look::Info(Object::Child)),
+            Act::SetData(Object::Child, 8),
+            Act::Look(Look::Data(Object::Child)),
+            Act::Script(Cue::Arrive(&MADE)),
+            Act::Next,
+            Act::Look(Look::Data(Object::Child)),
+            Act::Notes,
+        ],
+        told: "sent: 2, 1\nsent: 3, 2\ndestroyed\nnotes: 3, 2\nwould block\nInvalid ObjectId\ndone\ndata 8\nwould block\nInvalid ObjectId\nnotes:\n",
+    },
+    // `wl_callback.done`, with which a callback ends, and `wl_display.delete_id`; its number is used again.
+    Row {
+        name: "life of a callback",
+        acts: &[
+            Act::Send(Request::Sync),
+            Act::Script(Cue::Arrive(&[
+                2, 0, 0, 0, 0, 0, 12, 0, 0, 0, 0, 0, 1, 0, 0, 0, 1, 0, 12, 0, 2, 0, 0, 0,
+            ])),
+            Act::Next,
+            Act::Finish(Some(9)),
+            Act::Finish(None),
+            Act::Notes,
+            Act::Next,
+            Act::Look(Look::Data(Object::Callback)),
+            Act::Send(Request::Sync),
+            Act::Look(Look::Info(Object::Callback)),
+        ],
+        told: "sent: 2, 1\nevent 0 of 2: 0\nthere is no new object for the user data, 9 is back\nfinished\nnotes: 2, 1\nwould block\nInvalid ObjectId\nsent: 2, 2\nInvalid ObjectId\n",
+    },
+    // A destroyed object keeps its data until the server gives up its number; its events, here `quad.moved`, are
+    // swallowed.
+    Row {
+        name: "destroyed object and its number",
+        acts: &[
+            Act::Bound,
+            Act::Destroy(Object::Quad),
+            Act::Destroy(Object::Quad),
+            Act::Look(Look::Info(Object::Quad)),
+            Act::Look(Look::Data(Object::Quad)),
+            Act::Script(Cue::Arrive(&[3, 0, 0, 0, 0, 0, 12, 0, 7, 0, 0, 0])),
+            Act::Next,
+            Act::Script(Cue::Arrive(&DELETE_3)),
+            Act::Next,
+            Act::Look(Look::Data(Object::Quad)),
+            Act::Send(Request::Sync),
+        ],
+        told: "sent: 2, 1\nsent: 3, 2\ndestroyed\nInvalid ObjectId\nInvalid ObjectId\ndata 6\nwould block\nwould block\nInvalid ObjectId\nsent: 3, 3\n",
+    },
+    // `quad.gone`, whose object is destroyed before the event is finished: one note.
+    Row {
+        name: "destructor event of a destroyed object",
+        acts: &[
+            Act::Bound,
+            Act::Script(Cue::Arrive(&[3, 0, 0, 0, 2, 0, 8, 0])),
+            Act::Next,
+            Act::Destroy(Object::Quad),
+            Act::Finish(None),
+            Act::Notes,
+        ],
+        told: "sent: 2, 1\nsent: 3, 2\nevent 2 of 3:\ndestroyed\nfinished\nnotes: 3, 2\n",
+    },
+    // `wl_display.delete_id` of the display and of 99, which holds nothing.
+    Row {
+        name: "numbers not given up",
+        acts: &[
+            Act::Bound,
+            Act::Script(Cue::Arrive(&[
+                1, 0, 0, 0, 1, 0, 12, 0, 1, 0, 0, 0, 1, 0, 0, 0, 1, 0, 12, 0, 99, 0, 0, 0,
+            ])),
+            Act::Next,
+            Act::Look(Look::Info(Object::Display)),
+            Act::Look(Look::Info(Object::Quad)),
+            Act::Send(Request::Sync),
+        ],
+        told: "sent: 2, 1\nsent: 3, 2\nwould block\nversion 1\nversion 3\nsent: 4, 3\n",
+    },
+    // The server gives up a number whose object the client has not destroyed: it is not used again.
+    Row {
+        name: "number given up early",
+        acts: &[
+            Act::Bound,
+            Act::Script(Cue::Arrive(&DELETE_3)),
+            Act::Next,
+            Act::Look(Look::Info(Object::Quad)),
+            Act::Destroy(Object::Quad),
+            Act::Look(Look::Data(Object::Quad)),
+            Act::Send(Request::Sync),
+        ],
+        told: "sent: 2, 1\nsent: 3, 2\nwould block\nversion 3\ndestroyed\ndata 6\nsent: 4, 3\n",
+    },
+];
 
-/// `quad.made` with the number 5, which is of the client's range.
+/// Each run tells what it has to.
 #[test]
-fn new_id_of_the_client(rt: HostRuntime) -> Result<(), Fail> {
-    let acts = [
-        Act::Bound,
-        Act::Script(Cue::Arrive(&[3, 0, 0, 0, 1, 0, 12, 0, 5, 0, 0, 0])),
-        Act::Next,
-        Act::Look(Look::LastError),
-    ];
-    tells(
-        &rt,
-        log_of(rt.alloc(), &acts),
-        "sent: 2, 1\nsent: 3, 2\nthe session failed\nProtocol error 0 on object @0: Protocol error: server tried to create an object \"quad\" with invalid id 5.\n",
-    )
-}
-
-/// A destroyed object makes objects that are destroyed as well, which are replaced.
-#[test]
-fn child_of_a_destroyed_object(rt: HostRuntime) -> Result<(), Fail> {
-    let acts = [
-        Act::Bound,
-        Act::Destroy(Object::Quad),
-        Act::Notes,
-        Act::Script(Cue::Arrive(&MADE)),
-        Act::Next,
-        Act::Look(Look::Info(Object::Child)),
-        Act::SetData(Object::Child, 8),
-        Act::Look(Look::Data(Object::Child)),
-        Act::Script(Cue::Arrive(&MADE)),
-        Act::Next,
-        Act::Look(Look::Data(Object::Child)),
-        Act::Notes,
-    ];
-    tells(
-        &rt,
-        log_of(rt.alloc(), &acts),
-        "sent: 2, 1\nsent: 3, 2\ndestroyed\nnotes: 3, 2\nwould block\nInvalid ObjectId\ndone\ndata 8\nwould block\nInvalid ObjectId\nnotes:\n",
-    )
-}
-
-/// `wl_callback.done`, with which a callback ends, and `wl_display.delete_id`; its number is used again.
-#[test]
-fn life_of_a_callback(rt: HostRuntime) -> Result<(), Fail> {
-    let acts = [
-        Act::Send(Request::Sync),
-        Act::Script(Cue::Arrive(&[
-            2, 0, 0, 0, 0, 0, 12, 0, 0, 0, 0, 0, 1, 0, 0, 0, 1, 0, 12, 0, 2, 0, 0, 0,
-        ])),
-        Act::Next,
-        Act::Finish(Some(9)),
-        Act::Finish(None),
-        Act::Notes,
-        Act::Next,
-        Act::Look(Look::Data(Object::Callback)),
-        Act::Send(Request::Sync),
-        Act::Look(Look::Info(Object::Callback)),
-    ];
-    tells(
-        &rt,
-        log_of(rt.alloc(), &acts),
-        "sent: 2, 1\nevent 0 of 2: 0\nthere is no new object for the user data, 9 is back\nfinished\nnotes: 2, 1\nwould block\nInvalid ObjectId\nsent: 2, 2\nInvalid ObjectId\n",
-    )
-}
-
-/// A destroyed object keeps its data until the server gives up its number; its events, here `quad.moved`, are
-/// swallowed.
-#[test]
-fn destroyed_object_and_its_number(rt: HostRuntime) -> Result<(), Fail> {
-    let acts = [
-        Act::Bound,
-        Act::Destroy(Object::Quad),
-        Act::Destroy(Object::Quad),
-        Act::Look(Look::Info(Object::Quad)),
-        Act::Look(Look::Data(Object::Quad)),
-        Act::Script(Cue::Arrive(&[3, 0, 0, 0, 0, 0, 12, 0, 7, 0, 0, 0])),
-        Act::Next,
-        Act::Script(Cue::Arrive(&DELETE_3)),
-        Act::Next,
-        Act::Look(Look::Data(Object::Quad)),
-        Act::Send(Request::Sync),
-    ];
-    tells(
-        &rt,
-        log_of(rt.alloc(), &acts),
-        "sent: 2, 1\nsent: 3, 2\ndestroyed\nInvalid ObjectId\nInvalid ObjectId\ndata 6\nwould block\nwould block\nInvalid ObjectId\nsent: 3, 3\n",
-    )
-}
-
-/// `quad.gone`, whose object is destroyed before the event is finished: one note.
-#[test]
-fn destructor_event_of_a_destroyed_object(rt: HostRuntime) -> Result<(), Fail> {
-    let acts = [
-        Act::Bound,
-        Act::Script(Cue::Arrive(&[3, 0, 0, 0, 2, 0, 8, 0])),
-        Act::Next,
-        Act::Destroy(Object::Quad),
-        Act::Finish(None),
-        Act::Notes,
-    ];
-    tells(
-        &rt,
-        log_of(rt.alloc(), &acts),
-        "sent: 2, 1\nsent: 3, 2\nevent 2 of 3:\ndestroyed\nfinished\nnotes: 3, 2\n",
-    )
-}
-
-/// `wl_display.delete_id` of the display and of 99, which holds nothing.
-#[test]
-fn numbers_not_given_up(rt: HostRuntime) -> Result<(), Fail> {
-    let acts = [
-        Act::Bound,
-        Act::Script(Cue::Arrive(&[
-            1, 0, 0, 0, 1, 0, 12, 0, 1, 0, 0, 0, 1, 0, 0, 0, 1, 0, 12, 0, 99, 0, 0, 0,
-        ])),
-        Act::Next,
-        Act::Look(Look::Info(Object::Display)),
-        Act::Look(Look::Info(Object::Quad)),
-        Act::Send(Request::Sync),
-    ];
-    tells(
-        &rt,
-        log_of(rt.alloc(), &acts),
-        "sent: 2, 1\nsent: 3, 2\nwould block\nversion 1\nversion 3\nsent: 4, 3\n",
-    )
-}
-
-/// The server gives up a number whose object the client has not destroyed: it is not used again.
-#[test]
-fn number_given_up_early(rt: HostRuntime) -> Result<(), Fail> {
-    let acts = [
-        Act::Bound,
-        Act::Script(Cue::Arrive(&DELETE_3)),
-        Act::Next,
-        Act::Look(Look::Info(Object::Quad)),
-        Act::Destroy(Object::Quad),
-        Act::Look(Look::Data(Object::Quad)),
-        Act::Send(Request::Sync),
-    ];
-    tells(
-        &rt,
-        log_of(rt.alloc(), &acts),
-        "sent: 2, 1\nsent: 3, 2\nwould block\nversion 3\ndestroyed\ndata 6\nsent: 4, 3\n",
-    )
+fn rows(rt: HostRuntime) -> Result<(), Fail> {
+    rows_tell(&rt, &ROWS)
 }

@@ -1,14 +1,13 @@
 //! Runs by `replay`, and wants of memory of the transport.
 
-use super::acts::{Act, log_of};
+use super::acts::{Act, Row, rows_tell};
 use super::steps::Call;
 use super::values::{Object, Request};
-use crate::tests::tells;
 use std::test::Fail;
 use wl_wire::IoFault;
 
 /// A callback's life, in a run that has each step. `wl_callback.done` and `wl_display.delete_id` end it.
-static LIFE: [Call; 19] = [
+const LIFE: [Call; 19] = [
     Call::Send(Request::Sync),
     Call::Accept(5),
     Call::AcceptFault(IoFault::WouldBlock),
@@ -32,17 +31,34 @@ static LIFE: [Call; 19] = [
     Call::Send(Request::Sync),
 ];
 
+/// The runs, and what they tell.
+static ROWS: [Row; 2] = [
+    Row {
+        name: "each step has its reply",
+        acts: &[Act::Replay(&LIFE)],
+        told: "sent: 2, 1\ndone\ndone\nwould block\nflushed\n0100000000\n000c0002000000\ndone\ndone\nevent 0 of 2: 0\ndone\nthere is no new object for the user data, 7 is back\nfinished\nInvalid ObjectId\nnotes: 2, 1\nwould block\nInvalid ObjectId\nlimit set\n0 dispatched\nsent: 2, 2\nrefused: false\n",
+    },
+    // Wants of memory of the transport, a run of no steps after the first, and the next reading after the second.
+    Row {
+        name: "stopped runs",
+        acts: &[
+            Act::Replay(&FLUSH),
+            Act::Replay(&[]),
+            Act::Replay(&READING),
+            Act::Replay(&[Call::Next]),
+        ],
+        told: "sent: 2, 1\ndone\nstopped at 2\nrefused: true\nrefused: false\nflushed\n0100000000000c0002000000\ndone\ndone\nstopped at 4\nrefused: true\nevent 0 of 2: 0\nrefused: false\n",
+    },
+];
+
+/// Each run tells what it has to.
 #[test]
-fn each_step_has_its_reply(rt: HostRuntime) -> Result<(), Fail> {
-    tells(
-        &rt,
-        log_of(rt.alloc(), &[Act::Replay(&LIFE)]),
-        "sent: 2, 1\ndone\ndone\nwould block\nflushed\n0100000000\n000c0002000000\ndone\ndone\nevent 0 of 2: 0\ndone\nthere is no new object for the user data, 7 is back\nfinished\nInvalid ObjectId\nnotes: 2, 1\nwould block\nInvalid ObjectId\nlimit set\n0 dispatched\nsent: 2, 2\nrefused: false\n",
-    )
+fn rows(rt: HostRuntime) -> Result<(), Fail> {
+    rows_tell(&rt, &ROWS)
 }
 
 /// A flush for which the transport lacks memory.
-static FLUSH: [Call; 4] = [
+const FLUSH: [Call; 4] = [
     Call::Send(Request::Sync),
     Call::AcceptFault(IoFault::OutOfMemory),
     Call::Flush,
@@ -50,7 +66,7 @@ static FLUSH: [Call; 4] = [
 ];
 
 /// A reading for which the transport lacks memory.
-static READING: [Call; 5] = [
+const READING: [Call; 5] = [
     Call::Flush,
     Call::TakeSent,
     Call::ArriveFault(IoFault::OutOfMemory),
@@ -59,19 +75,3 @@ static READING: [Call; 5] = [
     ]),
     Call::Next,
 ];
-
-/// Wants of memory of the transport, a run of no steps after the first, and the next reading after the second.
-#[test]
-fn stopped_runs(rt: HostRuntime) -> Result<(), Fail> {
-    let acts = [
-        Act::Replay(&FLUSH),
-        Act::Replay(&[]),
-        Act::Replay(&READING),
-        Act::Replay(&[Call::Next]),
-    ];
-    tells(
-        &rt,
-        log_of(rt.alloc(), &acts),
-        "sent: 2, 1\ndone\nstopped at 2\nrefused: true\nrefused: false\nflushed\n0100000000000c0002000000\ndone\ndone\nstopped at 4\nrefused: true\nevent 0 of 2: 0\nrefused: false\n",
-    )
-}

@@ -1,6 +1,6 @@
 //! The texts of ids and errors, and ids in a set.
 
-use crate::tests::tells;
+use crate::tests::{each_is_itself, tells};
 use std::alloc::{AllocError, Global};
 use std::collections::HashSet;
 use std::fmt::Write;
@@ -86,11 +86,7 @@ fn ids_that_differ_in_one_part(rt: HostRuntime) {
         ObjectId::from_parts(2, 2, WL_CALLBACK_INTERFACE),
         ObjectId::from_parts(2, 1, ANONYMOUS_INTERFACE),
     ];
-    for (i, one) in ids.iter().enumerate() {
-        for (j, other) in ids.iter().enumerate() {
-            assert_eq!(rt; one == other, i == j, "{i} and {j}");
-        }
-    }
+    assert!(rt; each_is_itself(&ids));
 }
 
 /// An id of the number 0 is null, whatever else it holds.

@@ -1,6 +1,6 @@
 //! Each receive and each send of a client's transport fails in turn.
 
-use super::drill::Entry;
+use super::drill::Run;
 use super::steps::{Call, steps};
 use super::told::write_reply;
 use super::values::Request;
@@ -140,12 +140,17 @@ fn make_all(
     Ok(texts.push(last_error(alloc, client)?)?)
 }
 
-/// What the calls tell, of a new client.
+/// What the calls tell.
+fn played_by(alloc: Global, client: &mut Client, calls: &[Call]) -> Result<Vec<String>, Fail> {
+    let mut texts = Vec::new(alloc);
+    make_all(alloc, client, &mut texts, calls)?;
+    Ok(texts)
+}
+
+/// The same of a new client.
 fn played(alloc: Global, calls: &[Call]) -> Result<Vec<String>, Fail> {
     let mut client = Backend::connect(alloc, quad_table(alloc)?, Memory::new(alloc))?;
-    let mut texts = Vec::new(alloc);
-    make_all(alloc, &mut client, &mut texts, calls)?;
-    Ok(texts)
+    played_by(alloc, &mut client, calls)
 }
 
 /// Whether a receive may take what comes at this call: something arrives, or it is read.
@@ -193,22 +198,61 @@ fn is_made_up_for(rt: &(impl Abort + AllocGlobal), calls: &[Call]) -> Result<(),
     tells(rt, whole(rt.alloc(), texts.as_slice()), TOLD)
 }
 
+/// The receive at that call answers the fault, and is made up for.
+fn receive_is_made_up_for(
+    rt: &(impl Abort + AllocGlobal),
+    at: usize,
+    fault: IoFault,
+) -> Result<(), Fail> {
+    let calls = with_receive(rt.alloc(), &RUN, at, fault)?;
+    is_made_up_for(rt, calls.as_slice())
+}
+
+/// That send answers the fault, and is made up for.
+fn send_is_made_up_for(
+    rt: &(impl Abort + AllocGlobal),
+    number: usize,
+    fault: IoFault,
+) -> Result<(), Fail> {
+    let calls = with_send(rt.alloc(), &RUN, number, fault)?;
+    is_made_up_for(rt, calls.as_slice())
+}
+
+/// Each receive, and each send, answers the fault, and is made up for.
+fn each_is_made_up_for(rt: &(impl Abort + AllocGlobal), fault: IoFault) -> Result<(), Fail> {
+    for (at, call) in RUN.iter().enumerate() {
+        if is_receive(*call) {
+            receive_is_made_up_for(rt, at, fault)?;
+        }
+    }
+    for number in 0..3 {
+        send_is_made_up_for(rt, number, fault)?;
+    }
+    Ok(())
+}
+
 /// Nothing fails; and each receive, and each send, would block or lacks memory: the run comes to what it came to without.
 #[test]
 fn transport_that_would_block_or_lacks_memory(rt: HostRuntime) -> Result<(), Fail> {
-    let alloc = rt.alloc();
     is_made_up_for(&rt, &RUN)?;
-    for fault in [IoFault::WouldBlock, IoFault::OutOfMemory] {
-        for (at, call) in RUN.iter().enumerate() {
-            if is_receive(*call) {
-                is_made_up_for(&rt, with_receive(alloc, &RUN, at, fault)?.as_slice())?;
-            }
-        }
-        for number in 0..3 {
-            is_made_up_for(&rt, with_send(alloc, &RUN, number, fault)?.as_slice())?;
-        }
+    each_is_made_up_for(&rt, IoFault::WouldBlock)?;
+    each_is_made_up_for(&rt, IoFault::OutOfMemory)
+}
+
+/// Whether the call reads or flushes.
+fn is_asked(call: Call) -> bool {
+    matches!(call, Call::Next | Call::Flush)
+}
+
+/// What the call has to tell: what it did, until one has failed; then that the session failed, if it reads or flushes.
+fn has_to_tell<'a>(call: Call, has_failed: bool, (was, is): (&'a str, &'a str)) -> &'a str {
+    if !has_failed {
+        was
+    } else if is_asked(call) {
+        FAILED
+    } else {
+        is
     }
-    Ok(())
 }
 
 /// Fails if a call of a run, in which the transport fails, tells something else than it has to: up to the first reading or
@@ -216,24 +260,26 @@ fn transport_that_would_block_or_lacks_memory(rt: HostRuntime) -> Result<(), Fai
 fn fails_for_good(rt: &impl Abort, run: &[Call], clean: &[String], texts: &[String]) {
     let mut has_failed = false;
     for (call, (was, is)) in run.iter().zip(clean.iter().zip(texts)) {
-        let is_asked = matches!(call, Call::Next | Call::Flush);
-        if is_asked && is.as_str() == FAILED {
-            has_failed = true;
-        }
-        if !has_failed {
-            assert_eq!(rt; is.as_str(), was.as_str());
-        } else if is_asked {
-            assert_eq!(rt; is.as_str(), FAILED);
-        }
+        has_failed = has_failed || (is_asked(*call) && is.as_str() == FAILED);
+        tells_this(
+            rt,
+            has_to_tell(*call, has_failed, (was.as_str(), is.as_str())),
+            is.as_str(),
+        );
     }
     assert!(rt; has_failed);
+}
+
+/// Fails if this is told in place of that.
+fn tells_this(rt: &impl Abort, was: &str, is: &str) {
+    assert_eq!(rt; is, was);
 }
 
 /// Fails if the run tells something else than if nothing fails.
 fn tells_the_same(rt: &impl Abort, clean: &[String], texts: &[String]) {
     assert_eq!(rt; texts.len(), clean.len());
     for (was, is) in clean.iter().zip(texts) {
-        assert_eq!(rt; is.as_str(), was.as_str());
+        tells_this(rt, was.as_str(), is.as_str());
     }
 }
 
@@ -256,6 +302,22 @@ fn is_stored(
     Ok(is_met)
 }
 
+/// The receive at that call fails; whether it is met, which it has to be for what arrives.
+fn receive_fails(
+    rt: &(impl Abort + AllocGlobal),
+    run: &[Call],
+    clean: &[String],
+    (at, call): (usize, Call),
+) -> Result<bool, Fail> {
+    let calls = with_receive(rt.alloc(), run, at, IoFault::Other(5))?;
+    let is_met = is_stored(rt, run, clean, calls.as_slice())?;
+    assert!(rt;
+        is_met || matches!(call, Call::Next),
+        "what arrives at {at} is received"
+    );
+    Ok(is_met)
+}
+
 /// Each receive of the run fails; how many are met.
 fn receives_fail(
     rt: &(impl Abort + AllocGlobal),
@@ -264,19 +326,22 @@ fn receives_fail(
 ) -> Result<usize, Fail> {
     let mut count = 0usize;
     for (at, call) in run.iter().enumerate() {
-        if is_receive(*call) {
-            let calls = with_receive(rt.alloc(), run, at, IoFault::Other(5))?;
-            if is_stored(rt, run, clean, calls.as_slice())? {
-                count = count.saturating_add(1);
-            } else {
-                assert!(rt;
-                    matches!(call, Call::Next),
-                    "what arrives at {at} is received"
-                );
-            }
+        if is_receive(*call) && receive_fails(rt, run, clean, (at, *call))? {
+            count = count.saturating_add(1);
         }
     }
     Ok(count)
+}
+
+/// That send of the run fails; whether it is met.
+fn send_fails(
+    rt: &(impl Abort + AllocGlobal),
+    run: &[Call],
+    clean: &[String],
+    number: usize,
+) -> Result<bool, Fail> {
+    let calls = with_send(rt.alloc(), run, number, IoFault::Other(5))?;
+    is_stored(rt, run, clean, calls.as_slice())
 }
 
 /// Each send of the run fails, until none is met; how many are.
@@ -286,12 +351,22 @@ fn sends_fail(
     clean: &[String],
 ) -> Result<usize, Fail> {
     for number in 0..100 {
-        let calls = with_send(rt.alloc(), run, number, IoFault::Other(5))?;
-        if !is_stored(rt, run, clean, calls.as_slice())? {
+        if !send_fails(rt, run, clean, number)? {
             return Ok(number);
         }
     }
     Err(Fail::new("there are more sends"))
+}
+
+/// How many receives of the run, and how many sends, are met if each fails.
+fn met(
+    rt: &(impl Abort + AllocGlobal),
+    run: &[Call],
+    clean: &[String],
+) -> Result<(usize, usize), Fail> {
+    let receives = receives_fail(rt, run, clean)?;
+    let sends = sends_fail(rt, run, clean)?;
+    Ok((receives, sends))
 }
 
 /// Each receive of the run, and each send, fails: it is stored, and answered from then on. Fails if there are not so many.
@@ -301,23 +376,17 @@ fn transport_fails(
     counts: (usize, usize),
 ) -> Result<(), Fail> {
     let clean = played(rt.alloc(), run)?;
-    let receives = receives_fail(rt, run, clean.as_slice())?;
-    let sends = sends_fail(rt, run, clean.as_slice())?;
-    assert_eq!(rt; (receives, sends), counts);
+    assert_eq!(rt; met(rt, run, clean.as_slice())?, counts);
     Ok(())
 }
 
-/// The same of the calls of these entries.
-pub fn fails_in_turn(
-    rt: &(impl Abort + AllocGlobal),
-    entries: &[Entry],
-    counts: (usize, usize),
-) -> Result<(), Fail> {
-    let mut run = Vec::new(rt.alloc());
-    for entry in entries {
-        run.push(entry.0)?;
+/// The same of the calls of a run of the drills.
+pub fn fails_in_turn(rt: &(impl Abort + AllocGlobal), run: &Run) -> Result<(), Fail> {
+    let mut calls = Vec::new(rt.alloc());
+    for entry in run.entries {
+        calls.push(entry.0)?;
     }
-    transport_fails(rt, run.as_slice(), counts)
+    transport_fails(rt, calls.as_slice(), run.counts)
 }
 
 /// Each receive, and each of the two sends, fails. The last receive of the five is that of the last reading, which finds

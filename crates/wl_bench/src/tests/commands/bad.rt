@@ -1,27 +1,33 @@
 //! Lines that are no commands.
 
-use super::printed;
-use crate::tests::tells;
+use super::{Row, printed, rows_print};
+use crate::tests::row_tells;
 use std::process::Abort;
 use std::test::Fail;
 
 /// Fails if one of the lines is a command, after a line that inserts a client.
-fn are_bad(rt: &(impl Abort + AllocGlobal), lines: &[&[u8]]) -> Result<(), Fail> {
-    for line in lines {
+fn are_bad(rt: &(impl Abort + Eprint + AllocGlobal), bad: &Bad) -> Result<(), Fail> {
+    for line in bad.lines {
         let mut input = Vec::from_slice(rt.alloc(), b"client\n")?;
         input.extend_from_slice(line)?;
         let output = printed(rt.alloc(), input.as_slice());
-        tells(rt, output, "client 0 1\nline 2: bad command\n")?;
+        row_tells(rt, bad.name, output, "client 0 1\nline 2: bad command\n")?;
     }
     Ok(())
 }
 
-/// A line with an empty word.
-#[test]
-fn empty_words(rt: HostRuntime) -> Result<(), Fail> {
-    are_bad(
-        &rt,
-        &[
+/// Lines that are no commands, by what is wrong with them.
+struct Bad {
+    name: &'static str,
+    lines: &'static [&'static [u8]],
+}
+
+/// All of them.
+static BAD: [Bad; 10] = [
+    // A line with an empty word.
+    Bad {
+        name: "empty words",
+        lines: &[
             b"global  3",
             b"read  0",
             b"read 0 ",
@@ -39,15 +45,11 @@ fn empty_words(rt: HostRuntime) -> Result<(), Fail> {
             b"dispatch 0 ",
             b"dispatch  0",
         ],
-    )
-}
-
-/// A line with a word that is no command, or in the wrong number.
-#[test]
-fn unknown_words(rt: HostRuntime) -> Result<(), Fail> {
-    are_bad(
-        &rt,
-        &[
+    },
+    // A line with a word that is no command, or in the wrong number.
+    Bad {
+        name: "unknown words",
+        lines: &[
             b"Client",
             b"quit",
             b"client 0",
@@ -77,21 +79,16 @@ fn unknown_words(rt: HostRuntime) -> Result<(), Fail> {
             b"dispatch",
             b"dispatch 0 0",
         ],
-    )
-}
-
-/// A line with a command of another program.
-#[test]
-fn other_programs(rt: HostRuntime) -> Result<(), Fail> {
-    are_bad(&rt, &[b"record", b"replay", b"1 client"])
-}
-
-/// A line with a number, or numbers, written otherwise.
-#[test]
-fn numbers(rt: HostRuntime) -> Result<(), Fail> {
-    are_bad(
-        &rt,
-        &[
+    },
+    // A line with a command of another program.
+    Bad {
+        name: "other programs",
+        lines: &[b"record", b"replay", b"1 client"],
+    },
+    // A line with a number, or numbers, written otherwise.
+    Bad {
+        name: "numbers",
+        lines: &[
             b"read 00",
             b"read +0",
             b"read -0",
@@ -120,15 +117,11 @@ fn numbers(rt: HostRuntime) -> Result<(), Fail> {
             b"dispatch 0,+0",
             b"dispatch 4294967296",
         ],
-    )
-}
-
-/// A line with bytes that are written otherwise.
-#[test]
-fn bytes(rt: HostRuntime) -> Result<(), Fail> {
-    are_bad(
-        &rt,
-        &[
+    },
+    // A line with bytes that are written otherwise.
+    Bad {
+        name: "bytes",
+        lines: &[
             b"in 0 0 -",
             b"in 0 000 -",
             b"in 0 0A -",
@@ -140,15 +133,11 @@ fn bytes(rt: HostRuntime) -> Result<(), Fail> {
             b"in 0 0x00 -",
             b"in 0 00,00 -",
         ],
-    )
-}
-
-/// A line with tokens that are written otherwise.
-#[test]
-fn tokens(rt: HostRuntime) -> Result<(), Fail> {
-    are_bad(
-        &rt,
-        &[
+    },
+    // A line with tokens that are written otherwise.
+    Bad {
+        name: "tokens",
+        lines: &[
             b"in 0 - 2147483648",
             b"in 0 - 4294967296",
             b"in 0 - -1",
@@ -161,15 +150,11 @@ fn tokens(rt: HostRuntime) -> Result<(), Fail> {
             b"in 0 - -,1",
             b"in 0 - 1;2",
         ],
-    )
-}
-
-/// A line with a fault that is none.
-#[test]
-fn faults(rt: HostRuntime) -> Result<(), Fail> {
-    are_bad(
-        &rt,
-        &[
+    },
+    // A line with a fault that is none.
+    Bad {
+        name: "faults",
+        lines: &[
             b"fail 0 in OutOfMemory",
             b"fail 0 in pipe",
             b"fail 0 in Other(5)",
@@ -179,15 +164,11 @@ fn faults(rt: HostRuntime) -> Result<(), Fail> {
             b"fail 0 out",
             b"fail in 0 Pipe",
         ],
-    )
-}
-
-/// A line with another character.
-#[test]
-fn characters(rt: HostRuntime) -> Result<(), Fail> {
-    are_bad(
-        &rt,
-        &[
+    },
+    // A line with another character.
+    Bad {
+        name: "characters",
+        lines: &[
             b"client\r",
             b"client\t",
             b"\tclient",
@@ -200,29 +181,21 @@ fn characters(rt: HostRuntime) -> Result<(), Fail> {
             b"\xef\xbb\xbfclient",
             b"client\xc2\xa0",
         ],
-    )
-}
-
-/// A line with no text.
-#[test]
-fn no_text(rt: HostRuntime) -> Result<(), Fail> {
-    are_bad(
-        &rt,
-        &[
+    },
+    // A line with no text.
+    Bad {
+        name: "no text",
+        lines: &[
             b"global \xff 3",
             b"client\xff",
             b"\xc3",
             b"global \xed\xa0\x80 1",
         ],
-    )
-}
-
-/// A line with a slot at which no client was inserted.
-#[test]
-fn slots(rt: HostRuntime) -> Result<(), Fail> {
-    are_bad(
-        &rt,
-        &[
+    },
+    // A line with a slot at which no client was inserted.
+    Bad {
+        name: "slots",
+        lines: &[
             b"read 1",
             b"finish 1",
             b"kill 1",
@@ -236,21 +209,34 @@ fn slots(rt: HostRuntime) -> Result<(), Fail> {
             b"dispatch 1,0",
             b"dispatch 4294967295",
         ],
-    )
+    },
+];
+
+#[test]
+fn bad_lines(rt: HostRuntime) -> Result<(), Fail> {
+    for bad in &BAD {
+        are_bad(&rt, bad)?;
+    }
+    Ok(())
 }
 
-/// The commands before the first bad line are carried out, and none after it; empty lines count.
+/// Lines, and what is printed of them.
+static ROWS: [Row; 2] = [
+    // The commands before the first bad line are carried out, and none after it; empty lines count.
+    Row {
+        name: "first bad line: no client yet",
+        lines: b"read 0\nclient\n",
+        printed: "line 1: bad command\n",
+    },
+    Row {
+        name: "first bad line: empty lines count",
+        lines: b"\nclient\n\nread 0\nquit\nclient\n",
+        printed: "client 0 1\nfault WouldBlock\nline 5: bad command\n",
+    },
+];
+
+/// Of each input is printed what has to be.
 #[test]
-fn first_bad_line(rt: HostRuntime) -> Result<(), Fail> {
-    let alloc = rt.alloc();
-    tells(
-        &rt,
-        printed(alloc, b"read 0\nclient\n"),
-        "line 1: bad command\n",
-    )?;
-    tells(
-        &rt,
-        printed(alloc, b"\nclient\n\nread 0\nquit\nclient\n"),
-        "client 0 1\nfault WouldBlock\nline 5: bad command\n",
-    )
+fn rows(rt: HostRuntime) -> Result<(), Fail> {
+    rows_print(&rt, &ROWS)
 }

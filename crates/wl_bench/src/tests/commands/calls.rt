@@ -1,19 +1,16 @@
 //! What single commands answer.
 
-use super::printed;
+use super::{Row, rows_print};
 use crate::commands::run_commands;
 use crate::stop::Stop;
-use crate::tests::tells;
 use std::test::Fail;
 
-/// Globals are named by their interface, and disabled and removed by their own name, if one has it.
-#[test]
-fn globals_by_name(rt: HostRuntime) -> Result<(), Fail> {
-    tells(
-        &rt,
-        printed(
-            rt.alloc(),
-            b"global quad 4
+/// Lines, and what is printed of them.
+static ROWS: [Row; 9] = [
+    // Globals are named by their interface, and disabled and removed by their own name, if one has it.
+    Row {
+        name: "globals by name",
+        lines: b"global quad 4
 global nothing 1
 global nothing 4294967295
 global \xc3\xa9 1
@@ -31,8 +28,7 @@ flush
 cleanup
 notes
 ",
-        ),
-        "refused VersionTooHigh
+        printed: "refused VersionTooHigh
 refused UnknownInterface
 refused UnknownInterface
 refused UnknownInterface
@@ -50,17 +46,11 @@ ok
 ok
 none
 ",
-    )
-}
-
-/// What a script is given.
-#[test]
-fn scripts(rt: HostRuntime) -> Result<(), Fail> {
-    tells(
-        &rt,
-        printed(
-            rt.alloc(),
-            b"client
+    },
+    // What a script is given.
+    Row {
+        name: "scripts",
+        lines: b"client
 in 0 - -
 in 0 00 2147483647
 in 0 - 0,1,2,3,4,5,6,7,8,9,10,11,12,13,14,15,16,17,18,19,20,21,22,23,24,25,26,27
@@ -74,8 +64,7 @@ fail 0 out InvalidInput
 fail 0 out Other
 finish 0
 ",
-        ),
-        "client 0 1
+        printed: "client 0 1
 ok
 ok
 ok
@@ -89,17 +78,11 @@ ok
 ok
 refused NoOpenAction
 ",
-    )
-}
-
-/// Each fault of a receive is answered; each but `WouldBlock` kills the client.
-#[test]
-fn faults_of_a_receive(rt: HostRuntime) -> Result<(), Fail> {
-    tells(
-        &rt,
-        printed(
-            rt.alloc(),
-            b"client
+    },
+    // Each fault of a receive is answered; each but `WouldBlock` kills the client.
+    Row {
+        name: "faults of a receive",
+        lines: b"client
 client
 client
 client
@@ -118,8 +101,7 @@ read 3
 read 4
 read 0
 ",
-        ),
-        "client 0 1
+        printed: "client 0 1
 client 1 2
 client 2 3
 client 3 4
@@ -138,41 +120,32 @@ fault Other
 fault Pipe
 fault Pipe
 ",
-    )
-}
-
-/// Nothing is printed of nothing; the last line need not end in a line feed; and empty lines are skipped.
-#[test]
-fn lines_of_an_input(rt: HostRuntime) -> Result<(), Fail> {
-    let alloc = rt.alloc();
-    tells(&rt, printed(alloc, b""), "")?;
-    tells(&rt, printed(alloc, b"\n\n"), "")?;
-    tells(&rt, printed(alloc, b"client"), "client 0 1\n")?;
-    tells(
-        &rt,
-        printed(alloc, b"\nclient\n\nnotes"),
-        "client 0 1\ninitialized 0\n",
-    )
-}
-
-/// An output that fails ends the run.
-#[test]
-fn output_that_fails(rt: HostRuntime) {
-    let mut room = [0; 5];
-    let mut output = room.as_mut_slice();
-    let mut input = b"client\n".as_slice();
-    let end = run_commands(rt.alloc(), &mut input, &mut output);
-    assert_eq!(rt; end, Err(Stop::Failed));
-}
-
-/// What a flush leaves is sent by a later one, after any number of faults; a client that was taken out is sent nothing.
-#[test]
-fn sends_that_stop(rt: HostRuntime) -> Result<(), Fail> {
-    tells(
-        &rt,
-        printed(
-            rt.alloc(),
-            b"client
+    },
+    // Nothing is printed of nothing; the last line need not end in a line feed; and empty lines are skipped.
+    Row {
+        name: "no lines",
+        lines: b"",
+        printed: "",
+    },
+    Row {
+        name: "empty lines alone",
+        lines: b"\n\n",
+        printed: "",
+    },
+    Row {
+        name: "a last line without a line feed",
+        lines: b"client",
+        printed: "client 0 1\n",
+    },
+    Row {
+        name: "empty lines between others",
+        lines: b"\nclient\n\nnotes",
+        printed: "client 0 1\ninitialized 0\n",
+    },
+    // What a flush leaves is sent by a later one, after any number of faults; a client that was taken out is sent nothing.
+    Row {
+        name: "sends that stop",
+        lines: b"client
 client
 in 1 0100000000000c0002000000 -
 read 1
@@ -196,8 +169,7 @@ flush
 client
 flush
 ",
-        ),
-        "client 0 1
+        printed: "client 0 1
 client 1 2
 ok
 fault WouldBlock
@@ -224,17 +196,11 @@ ok
 client 1 3
 ok
 ",
-    )
-}
-
-/// A send that takes nothing ends a flush well; the bytes are sent by the next.
-#[test]
-fn sends_that_take_nothing(rt: HostRuntime) -> Result<(), Fail> {
-    tells(
-        &rt,
-        printed(
-            rt.alloc(),
-            b"client
+    },
+    // A send that takes nothing ends a flush well; the bytes are sent by the next.
+    Row {
+        name: "sends that take nothing",
+        lines: b"client
 in 0 0100000000000c0002000000 -
 read 0
 accept 0 0
@@ -244,8 +210,7 @@ flush
 flush
 flush
 ",
-        ),
-        "client 0 1
+        printed: "client 0 1
 ok
 fault WouldBlock
 ok
@@ -257,5 +222,21 @@ out 0 0200000000 -
 ok
 out 0 000c00000000000100000001000c0002000000 -
 ",
-    )
+    },
+];
+
+/// Of each input is printed what has to be.
+#[test]
+fn rows(rt: HostRuntime) -> Result<(), Fail> {
+    rows_print(&rt, &ROWS)
+}
+
+/// An output that fails ends the run.
+#[test]
+fn output_that_fails(rt: HostRuntime) {
+    let mut room = [0; 5];
+    let mut output = room.as_mut_slice();
+    let mut input = b"client\n".as_slice();
+    let end = run_commands(rt.alloc(), &mut input, &mut output);
+    assert_eq!(rt; end, Err(Stop::Failed));
 }

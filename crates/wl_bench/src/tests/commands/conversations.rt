@@ -1,17 +1,14 @@
 //! Conversations, line by line.
 
-use super::printed;
-use crate::tests::tells;
+use super::{Row, rows_print};
 use std::test::Fail;
 
-/// A client gets its registry, binds a global, and destroys what it bound.
-#[test]
-fn bound_object(rt: HostRuntime) -> Result<(), Fail> {
-    tells(
-        &rt,
-        printed(
-            rt.alloc(),
-            b"client
+/// Lines, and what is printed of them.
+static ROWS: [Row; 5] = [
+    // A client gets its registry, binds a global, and destroys what it bound.
+    Row {
+        name: "bound object",
+        lines: b"client
 in 0 0100000001000c0002000000 -
 read 0
 global quad 3
@@ -26,8 +23,7 @@ finish 0
 flush
 notes
 ",
-        ),
-        "client 0 1
+        printed: "client 0 1
 ok
 fault WouldBlock
 global 1 1
@@ -45,17 +41,11 @@ out 0 0100000001000c0003000000 -
 initialized 0
 destroyed 0 3 9
 ",
-    )
-}
-
-/// A transport that takes a byte, then would block, and then fails to receive.
-#[test]
-fn faults_of_a_transport(rt: HostRuntime) -> Result<(), Fail> {
-    tells(
-        &rt,
-        printed(
-            rt.alloc(),
-            b"client
+    },
+    // A transport that takes a byte, then would block, and then fails to receive.
+    Row {
+        name: "faults of a transport",
+        lines: b"client
 accept 0 1
 fail 0 out WouldBlock
 in 0 0100000000000c0002000000 -
@@ -66,8 +56,7 @@ fail 0 in Other
 read 0
 notes
 ",
-        ),
-        "client 0 1
+        printed: "client 0 1
 ok
 ok
 ok
@@ -81,17 +70,11 @@ fault Other
 initialized 0
 disconnected 0 closed
 ",
-    )
-}
-
-/// Requests with arguments of each kind that `quad` has. Descriptors go to the messages that ask for them.
-#[test]
-fn request_arguments(rt: HostRuntime) -> Result<(), Fail> {
-    tells(
-        &rt,
-        printed(
-            rt.alloc(),
-            b"client
+    },
+    // Requests with arguments of each kind that `quad` has. Descriptors go to the messages that ask for them.
+    Row {
+        name: "request arguments",
+        lines: b"client
 global quad 3
 in 0 0100000001000c0002000000 -
 in 0 0200000000002000010000000500000071756164000000000300000003000000 -
@@ -122,8 +105,7 @@ finish 0
 flush
 notes
 ",
-        ),
-        "client 0 1
+        printed: "client 0 1
 global 1 1
 ok
 ok
@@ -156,17 +138,11 @@ out 0 0200000000001c0001000000050000007175616400000000030000000400000000000c0000
 initialized 0
 destroyed 0 4 22
 ",
-    )
-}
-
-/// Two clients are told of globals; one is killed, taken out with what waited for it, and its slot is used again.
-#[test]
-fn two_clients(rt: HostRuntime) -> Result<(), Fail> {
-    tells(
-        &rt,
-        printed(
-            rt.alloc(),
-            b"client
+    },
+    // Two clients are told of globals; one is killed, taken out with what waited for it, and its slot is used again.
+    Row {
+        name: "two clients",
+        lines: b"client
 client
 in 0 0100000001000c0002000000 -
 in 1 0100000001000c0002000000 -
@@ -194,8 +170,7 @@ cleanup
 notes
 notes
 ",
-        ),
-        "client 0 1
+        printed: "client 0 1
 client 1 2
 ok
 ok
@@ -233,17 +208,11 @@ ok
 initialized 1
 none
 ",
-    )
-}
-
-/// A client breaks the protocol, is told so, and is taken out; its slot is still named, and then used again.
-#[test]
-fn client_that_is_gone(rt: HostRuntime) -> Result<(), Fail> {
-    tells(
-        &rt,
-        printed(
-            rt.alloc(),
-            b"client
+    },
+    // A client breaks the protocol, is told so, and is taken out; its slot is still named, and then used again.
+    Row {
+        name: "client that is gone",
+        lines: b"client
 in 0 0100000000000c0005000000 -
 read 0
 read 0
@@ -261,8 +230,7 @@ client
 finish 0
 read 0
 ",
-        ),
-        "client 0 1
+        printed: "client 0 1
 ok
 fault Pipe
 out 0 0100000000002800010000000000000013000000496e76616c6964206e65775f69643a20352e0000 -
@@ -282,5 +250,11 @@ client 0 2
 refused NoOpenAction
 fault WouldBlock
 ",
-    )
+    },
+];
+
+/// Of each input is printed what has to be.
+#[test]
+fn rows(rt: HostRuntime) -> Result<(), Fail> {
+    rows_print(&rt, &ROWS)
 }

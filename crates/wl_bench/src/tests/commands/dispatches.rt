@@ -1,6 +1,6 @@
 //! Dispatches, line by line.
 
-use super::printed;
+use super::{Row, printed, rows_print};
 use crate::tests::tells;
 use std::alloc::Global;
 use std::test::Fail;
@@ -12,23 +12,20 @@ const DONE: &str = "0200000000000c0000000000";
 
 const DELETE_ID: &str = "0100000001000c0002000000";
 
-/// A client gets its registry, binds a global, and destroys what it bound, in one dispatch. What was bound has the number of
-/// the line.
-#[test]
-fn bound_object(rt: HostRuntime) -> Result<(), Fail> {
-    tells(
-        &rt,
-        printed(
-            rt.alloc(),
-            b"client
+/// Lines, and what is printed of them.
+static ROWS: [Row; 5] = [
+    // A client gets its registry, binds a global, and destroys what it bound, in one dispatch. What was bound has the number of
+    // the line.
+    Row {
+        name: "bound object",
+        lines: b"client
 global quad 3
 in 0 0100000001000c000200000002000000000020000100000005000000717561640000000003000000030000000300000002000800 -
 dispatch 0
 flush
 notes
 ",
-        ),
-        "client 0 1
+        printed: "client 0 1
 global 1 1
 ok
 dispatched 3
@@ -37,17 +34,11 @@ out 0 0200000000001c0001000000050000007175616400000000030000000100000001000c0003
 initialized 0
 destroyed 0 3 4
 ",
-    )
-}
-
-/// A request that makes an object, and one that makes none: the first gives it the number of the line, and the second nothing.
-#[test]
-fn object_of_a_request(rt: HostRuntime) -> Result<(), Fail> {
-    tells(
-        &rt,
-        printed(
-            rt.alloc(),
-            b"client
+    },
+    // A request that makes an object, and one that makes none: the first gives it the number of the line, and the second nothing.
+    Row {
+        name: "object of a request",
+        lines: b"client
 global quad 3
 in 0 0100000001000c00020000000200000000002000010000000500000071756164000000000300000003000000 -
 dispatch 0
@@ -55,8 +46,7 @@ in 0 0300000001000c00040000000300000000000c00070000000400000002000800 -
 dispatch 0
 notes
 ",
-        ),
-        "client 0 1
+        printed: "client 0 1
 global 1 1
 ok
 dispatched 2
@@ -65,17 +55,11 @@ dispatched 3
 initialized 0
 destroyed 0 4 6
 ",
-    )
-}
-
-/// Several clients, one of them twice. One breaks the protocol: it counts nothing, and is taken out with what it was sent.
-#[test]
-fn several_clients(rt: HostRuntime) -> Result<(), Fail> {
-    tells(
-        &rt,
-        printed(
-            rt.alloc(),
-            b"client
+    },
+    // Several clients, one of them twice. One breaks the protocol: it counts nothing, and is taken out with what it was sent.
+    Row {
+        name: "several clients",
+        lines: b"client
 client
 in 0 0100000000000c0002000000 -
 in 1 0100000000000c00020000000100000000000c0005000000 -
@@ -89,8 +73,7 @@ client
 in 1 0100000000000c0002000000 -
 dispatch 1
 ",
-        ),
-        "client 0 1
+        printed: "client 0 1
 client 1 2
 ok
 ok
@@ -107,17 +90,11 @@ client 1 3
 ok
 dispatched 1
 ",
-    )
-}
-
-/// A client that was killed is taken out by a dispatch of another.
-#[test]
-fn killed_client(rt: HostRuntime) -> Result<(), Fail> {
-    tells(
-        &rt,
-        printed(
-            rt.alloc(),
-            b"client
+    },
+    // A client that was killed is taken out by a dispatch of another.
+    Row {
+        name: "killed client",
+        lines: b"client
 client
 kill 1
 read 1
@@ -125,8 +102,7 @@ dispatch 0
 read 1
 notes
 ",
-        ),
-        "client 0 1
+        printed: "client 0 1
 client 1 2
 ok
 fault Pipe
@@ -136,17 +112,11 @@ initialized 0
 initialized 1
 disconnected 1 closed
 ",
-    )
-}
-
-/// An action that was read before stays open; after its end, the client is dispatched.
-#[test]
-fn open_action(rt: HostRuntime) -> Result<(), Fail> {
-    tells(
-        &rt,
-        printed(
-            rt.alloc(),
-            b"client
+    },
+    // An action that was read before stays open; after its end, the client is dispatched.
+    Row {
+        name: "open action",
+        lines: b"client
 global quad 3
 in 0 0100000001000c000200000002000000000020000100000005000000717561640000000003000000030000000300000002000800 -
 read 0
@@ -155,8 +125,7 @@ finish 0
 dispatch 0
 notes
 ",
-        ),
-        "client 0 1
+        printed: "client 0 1
 global 1 1
 ok
 bind 1 3
@@ -166,7 +135,13 @@ dispatched 1
 initialized 0
 destroyed 0 3 6
 ",
-    )
+    },
+];
+
+/// Of each input is printed what has to be.
+#[test]
+fn rows(rt: HostRuntime) -> Result<(), Fail> {
+    rows_print(&rt, &ROWS)
 }
 
 /// What a client is sent in its dispatch stands after the answer. 180 syncs are answered by 4320 bytes, of which 4096 may

@@ -74,16 +74,31 @@ fn run(alloc: Global, lines: &[u8], output: &mut Vec<u8>) -> Result<(), Stop> {
     run_commands(alloc, &mut input, output)
 }
 
-/// If memory is refused the run ends as failed, after whole answers; again, it prints all.
+/// Fails if the run did not end as failed, after whole answers.
+fn failed_between_answers(rt: &impl Abort, stop: Stop, printed: &[u8], output: &[u8]) {
+    assert_eq!(rt; stop, Stop::Failed);
+    assert!(rt; printed.starts_with(output));
+    assert!(rt; matches!(output.last(), None | Some(b'\n')));
+}
+
+/// Runs the lines. If memory is refused the run ends as failed, after whole answers, and is made again.
+fn run_to_the_end(
+    rt: &(impl Abort + AllocGlobal),
+    lines: &[u8],
+    printed: &[u8],
+    output: &mut Vec<u8>,
+) {
+    if let Err(stop) = run(rt.alloc(), lines, output) {
+        failed_between_answers(rt, stop, printed, output.as_slice());
+        output.clear();
+        assert!(rt; run(rt.alloc(), lines, output).is_ok());
+    }
+}
+
+/// Fails if something else is printed, memory refused or not.
 fn drill(rt: &(impl Abort + AllocGlobal), lines: &[u8], printed: &[u8]) {
     let mut output = Vec::new(rt.alloc());
-    if let Err(stop) = run(rt.alloc(), lines, &mut output) {
-        assert_eq!(rt; stop, Stop::Failed);
-        assert!(rt; printed.starts_with(output.as_slice()));
-        assert!(rt; matches!(output.last(), None | Some(b'\n')));
-        output.clear();
-        assert!(rt; run(rt.alloc(), lines, &mut output).is_ok());
-    }
+    run_to_the_end(rt, lines, printed, &mut output);
     assert_eq!(rt; output.as_slice(), printed);
 }
 

@@ -1,6 +1,6 @@
 //! The map of objects: its calls as a list, and what each tells. Numbers of objects are told in hex.
 
-use crate::tests::tells;
+use crate::tests::row_tells;
 use std::alloc::Global;
 use std::test::Fail;
 use wl_link::{InsertError, NewError, Object, ObjectMap};
@@ -200,142 +200,122 @@ fn map_log(alloc: Global, acts: &[Act]) -> Result<String, Fail> {
     Ok(log)
 }
 
-#[test]
-fn numbers_are_taken_freed_and_taken_again(rt: HostRuntime) -> Result<(), Fail> {
-    let acts = [
-        Act::InsertAt(1, 10),
-        Act::InsertAt(3, 30),
-        Act::InsertAt(2, 20),
-        Act::InsertAt(3, 30),
-        Act::InsertAt(0, 0),
-        Act::Remove(2),
-        Act::InsertAt(2, 21),
-        Act::InsertAt(2, 22),
-        Act::Reserve,
-        Act::NextClient,
-        Act::ClientNew(40),
-        Act::ServerNew(50),
-        Act::InsertAt(0xFF00_0002, 60),
-        Act::Remove(4),
-        Act::InsertAt(5, 70),
-        Act::ClientNew(80),
-        Act::With(9, 90),
-        Act::All,
-    ];
-    tells(
-        &rt,
-        map_log(rt.alloc(), &acts),
-        "insert at 1: done\ninsert at 3: the number is not free\ninsert at 2: done\ninsert at 3: done\ninsert at 0: the number is not free\nremove 2: 20\ninsert at 2: done\ninsert at 2: the number is not free\nreserve: done\nnext client: 4\nclient new: 4\nserver new: ff000000\ninsert at ff000002: the number is not free\nremove 4: 40\ninsert at 5: done\nclient new: 4\nnot called with 9: none\nall: 1=10 2=21 3=30 4=80 5=70 ff000000=50\n",
-    )
+/// A row of the table: what a failing one is named, its calls, and what they have to tell.
+struct Row {
+    name: &'static str,
+    acts: &'static [Act],
+    told: &'static str,
 }
 
-#[test]
-fn the_client_range_is_walked_before_the_server_range(rt: HostRuntime) -> Result<(), Fail> {
-    let acts = [
-        Act::All,
-        Act::ServerNew(1),
-        Act::InsertAt(0xFF00_0001, 2),
-        Act::ClientNew(3),
-        Act::ClientNew(4),
-        Act::Remove(0xFF00_0000),
-        Act::All,
-    ];
-    tells(
-        &rt,
-        map_log(rt.alloc(), &acts),
-        "all:\nserver new: ff000000\ninsert at ff000001: done\nclient new: 1\nclient new: 2\nremove ff000000: 1\nall: 1=3 2=4 ff000001=2\n",
-    )
-}
+/// Calls of a new map, and what they tell.
+static ROWS: [Row; 8] = [
+    Row {
+        name: "numbers are taken, freed and taken again",
+        acts: &[
+            Act::InsertAt(1, 10),
+            Act::InsertAt(3, 30),
+            Act::InsertAt(2, 20),
+            Act::InsertAt(3, 30),
+            Act::InsertAt(0, 0),
+            Act::Remove(2),
+            Act::InsertAt(2, 21),
+            Act::InsertAt(2, 22),
+            Act::Reserve,
+            Act::NextClient,
+            Act::ClientNew(40),
+            Act::ServerNew(50),
+            Act::InsertAt(0xFF00_0002, 60),
+            Act::Remove(4),
+            Act::InsertAt(5, 70),
+            Act::ClientNew(80),
+            Act::With(9, 90),
+            Act::All,
+        ],
+        told: "insert at 1: done\ninsert at 3: the number is not free\ninsert at 2: done\ninsert at 3: done\ninsert at 0: the number is not free\nremove 2: 20\ninsert at 2: done\ninsert at 2: the number is not free\nreserve: done\nnext client: 4\nclient new: 4\nserver new: ff000000\ninsert at ff000002: the number is not free\nremove 4: 40\ninsert at 5: done\nclient new: 4\nnot called with 9: none\nall: 1=10 2=21 3=30 4=80 5=70 ff000000=50\n",
+    },
+    Row {
+        name: "the client range is walked before the server range",
+        acts: &[
+            Act::All,
+            Act::ServerNew(1),
+            Act::InsertAt(0xFF00_0001, 2),
+            Act::ClientNew(3),
+            Act::ClientNew(4),
+            Act::Remove(0xFF00_0000),
+            Act::All,
+        ],
+        told: "all:\nserver new: ff000000\ninsert at ff000001: done\nclient new: 1\nclient new: 2\nremove ff000000: 1\nall: 1=3 2=4 ff000001=2\n",
+    },
+    Row {
+        name: "an object is lent and written to",
+        acts: &[
+            Act::ClientNew(7),
+            Act::With(1, 8),
+            Act::Find(1),
+            Act::Find(2),
+            Act::Find(0),
+        ],
+        told: "client new: 1\ncalled with 1: 7\nfind 1: 8\nfind 2: none\nfind 0: none\n",
+    },
+    Row {
+        name: "an insertion after reserve takes no memory",
+        acts: &[Act::ReserveAndNew(1), Act::ReserveAndNew(2)],
+        told: "reserve and new: 1\nreserve and new: 2\n",
+    },
+    Row {
+        name: "the first number is found without a word",
+        acts: &[Act::WordsRead, Act::ClientNew(7), Act::WordsRead],
+        told: "words read: 0\nclient new: 1\nwords read: 0\n",
+    },
+    Row {
+        name: "freed numbers are found from the least by two words",
+        acts: &[
+            Act::Fill(200),
+            Act::Remove(131),
+            Act::Remove(70),
+            Act::Remove(3),
+            Act::ClientNew(7),
+            Act::WordsRead,
+            Act::NextClient,
+            Act::WordsRead,
+            Act::ClientNew(7),
+            Act::WordsRead,
+            Act::ClientNew(7),
+            Act::WordsRead,
+            Act::ClientNew(7),
+            Act::WordsRead,
+            Act::Remove(1),
+            Act::WordsRead,
+        ],
+        told: "insert at c8: done\nremove 83: 130\nremove 46: 69\nremove 3: 2\nclient new: 3\nwords read: 2\nnext client: 46\nwords read: 2\nclient new: 46\nwords read: 2\nclient new: 83\nwords read: 2\nclient new: c9\nwords read: 1\nremove 1: 0\nwords read: 1\n",
+    },
+    Row {
+        name: "the last of 4096 numbers is found by two words",
+        acts: &[
+            Act::Fill(4096),
+            Act::Remove(4096),
+            Act::ClientNew(7),
+            Act::WordsRead,
+        ],
+        told: "insert at 1000: done\nremove 1000: 4095\nclient new: 1000\nwords read: 2\n",
+    },
+    Row {
+        name: "the last of 4097 numbers is found by three words",
+        acts: &[
+            Act::Fill(4097),
+            Act::Remove(4097),
+            Act::ClientNew(7),
+            Act::WordsRead,
+        ],
+        told: "insert at 1001: done\nremove 1001: 4096\nclient new: 1001\nwords read: 3\n",
+    },
+];
 
+/// Each run tells what it has to.
 #[test]
-fn an_object_is_lent_and_written_to(rt: HostRuntime) -> Result<(), Fail> {
-    let acts = [
-        Act::ClientNew(7),
-        Act::With(1, 8),
-        Act::Find(1),
-        Act::Find(2),
-        Act::Find(0),
-    ];
-    tells(
-        &rt,
-        map_log(rt.alloc(), &acts),
-        "client new: 1\ncalled with 1: 7\nfind 1: 8\nfind 2: none\nfind 0: none\n",
-    )
-}
-
-#[test]
-fn an_insertion_after_reserve_takes_no_memory(rt: HostRuntime) -> Result<(), Fail> {
-    let acts = [Act::ReserveAndNew(1), Act::ReserveAndNew(2)];
-    tells(
-        &rt,
-        map_log(rt.alloc(), &acts),
-        "reserve and new: 1\nreserve and new: 2\n",
-    )
-}
-
-#[test]
-fn the_first_number_is_found_without_a_word(rt: HostRuntime) -> Result<(), Fail> {
-    let acts = [Act::WordsRead, Act::ClientNew(7), Act::WordsRead];
-    tells(
-        &rt,
-        map_log(rt.alloc(), &acts),
-        "words read: 0\nclient new: 1\nwords read: 0\n",
-    )
-}
-
-#[test]
-fn freed_numbers_are_found_from_the_least_by_two_words(rt: HostRuntime) -> Result<(), Fail> {
-    let acts = [
-        Act::Fill(200),
-        Act::Remove(131),
-        Act::Remove(70),
-        Act::Remove(3),
-        Act::ClientNew(7),
-        Act::WordsRead,
-        Act::NextClient,
-        Act::WordsRead,
-        Act::ClientNew(7),
-        Act::WordsRead,
-        Act::ClientNew(7),
-        Act::WordsRead,
-        Act::ClientNew(7),
-        Act::WordsRead,
-        Act::Remove(1),
-        Act::WordsRead,
-    ];
-    tells(
-        &rt,
-        map_log(rt.alloc(), &acts),
-        "insert at c8: done\nremove 83: 130\nremove 46: 69\nremove 3: 2\nclient new: 3\nwords read: 2\nnext client: 46\nwords read: 2\nclient new: 46\nwords read: 2\nclient new: 83\nwords read: 2\nclient new: c9\nwords read: 1\nremove 1: 0\nwords read: 1\n",
-    )
-}
-
-#[test]
-fn the_last_of_4096_numbers_is_found_by_two_words(rt: HostRuntime) -> Result<(), Fail> {
-    let acts = [
-        Act::Fill(4096),
-        Act::Remove(4096),
-        Act::ClientNew(7),
-        Act::WordsRead,
-    ];
-    tells(
-        &rt,
-        map_log(rt.alloc(), &acts),
-        "insert at 1000: done\nremove 1000: 4095\nclient new: 1000\nwords read: 2\n",
-    )
-}
-
-#[test]
-fn the_last_of_4097_numbers_is_found_by_three_words(rt: HostRuntime) -> Result<(), Fail> {
-    let acts = [
-        Act::Fill(4097),
-        Act::Remove(4097),
-        Act::ClientNew(7),
-        Act::WordsRead,
-    ];
-    tells(
-        &rt,
-        map_log(rt.alloc(), &acts),
-        "insert at 1001: done\nremove 1001: 4096\nclient new: 1001\nwords read: 3\n",
-    )
+fn rows(rt: HostRuntime) -> Result<(), Fail> {
+    for row in &ROWS {
+        row_tells(&rt, row.name, map_log(rt.alloc(), row.acts), row.told)?;
+    }
+    Ok(())
 }

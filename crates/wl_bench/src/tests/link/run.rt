@@ -3,7 +3,9 @@
 use super::script::{Cue, scripted};
 use super::transports::Record;
 use crate::tests::message::{Arg, message, push, tell_bytes, tell_message};
+use crate::tests::row_tells;
 use std::alloc::Global;
+use std::process::Abort;
 use std::test::Fail;
 use wl_link::{BufferedSocket, Transport};
 use wl_wire::{AllowNull, ArgumentType, IoFault, Message, MessageParseError, Token};
@@ -299,6 +301,18 @@ fn perform<T: Transport + Record>(
     }
 }
 
+/// Makes the calls, and tells their answers.
+fn perform_all<T: Transport + Record>(
+    log: &mut String,
+    link: &mut BufferedSocket<T>,
+    acts: &[Act],
+) -> Result<(), Fail> {
+    for act in acts {
+        perform(log, link, *act)?;
+    }
+    Ok(())
+}
+
 /// Makes the calls of a new link with that limit over the transport, and answers the transport.
 fn linked<T: Transport + Record + Drop>(
     log: &mut String,
@@ -307,9 +321,7 @@ fn linked<T: Transport + Record + Drop>(
     acts: &[Act],
 ) -> Result<T, Fail> {
     let mut link = BufferedSocket::new(*log.allocator(), transport, limit)?;
-    for act in acts {
-        perform(log, &mut link, *act)?;
-    }
+    perform_all(log, &mut link, acts)?;
     Ok(link.into_transport())
 }
 
@@ -336,15 +348,44 @@ pub fn link_log<T: Transport + Record + Drop>(
     Ok(log)
 }
 
+/// Tells the calls of a script, and then those of a link over it as in `link_log`.
+fn tell_script_run(
+    log: &mut String,
+    cues: &[Cue],
+    limit: Option<usize>,
+    acts: &[Act],
+) -> Result<(), Fail> {
+    let memory = scripted(log, cues)?;
+    tell_run(log, memory, limit, acts)
+}
+
 /// What the calls of a script tell, and then those of a link over it as in `link_log`.
-pub fn run_log(
+fn run_log(
     alloc: Global,
     cues: &[Cue],
     limit: Option<usize>,
     acts: &[Act],
 ) -> Result<String, Fail> {
     let mut log = String::new(alloc);
-    let memory = scripted(&mut log, cues)?;
-    tell_run(&mut log, memory, limit, acts)?;
+    tell_script_run(&mut log, cues, limit, acts)?;
     Ok(log)
+}
+
+/// A row of a table of runs: what a failing one is named, the calls of its script, the limit of its link and the calls of
+/// that, and what they have to tell.
+pub struct Row {
+    pub name: &'static str,
+    pub cues: &'static [Cue],
+    pub limit: Option<usize>,
+    pub acts: &'static [Act],
+    pub told: &'static str,
+}
+
+/// Fails if a run tells something else than its row says.
+pub fn rows_tell(rt: &(impl Abort + Eprint + AllocGlobal), rows: &[Row]) -> Result<(), Fail> {
+    for row in rows {
+        let log = run_log(rt.alloc(), row.cues, row.limit, row.acts);
+        row_tells(rt, row.name, log, row.told)?;
+    }
+    Ok(())
 }

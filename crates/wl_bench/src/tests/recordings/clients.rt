@@ -3,15 +3,15 @@
 //! A bridge turned each receive into an `in` line; the output is what a model of the protocol answers, which was written apart
 //! from this server.
 
-use super::replays;
+use super::{Row, rows_replay};
 use std::test::Fail;
 
-/// `grim` lists the globals, and finds none that it needs.
-#[test]
-fn plain_grim(rt: HostRuntime) -> Result<(), Fail> {
-    replays(
-        &rt,
-        b"1 global quad 3
+/// The recordings, and what they come to.
+static ROWS: [Row; 10] = [
+    // `grim` lists the globals, and finds none that it needs.
+    Row {
+        name: "plain grim",
+        recording: b"1 global quad 3
 > global 1 1
 2 disable 4294967295
 > ok
@@ -58,16 +58,12 @@ fn plain_grim(rt: HostRuntime) -> Result<(), Fail> {
 22 disable 4294967295
 > ok
 ",
-        "same 22\n",
-    )
-}
-
-/// `wl-copy` finds no seat.
-#[test]
-fn plain_wl_copy(rt: HostRuntime) -> Result<(), Fail> {
-    replays(
-        &rt,
-        b"1 global quad 3
+        verdict: "same 22\n",
+    },
+    // `wl-copy` finds no seat.
+    Row {
+        name: "plain wl copy",
+        recording: b"1 global quad 3
 > global 1 1
 2 disable 4294967295
 > ok
@@ -127,16 +123,12 @@ fn plain_wl_copy(rt: HostRuntime) -> Result<(), Fail> {
 28 disable 4294967295
 > ok
 ",
-        "same 28\n",
-    )
-}
-
-/// `wayland-info` lists the fixed globals.
-#[test]
-fn info_fixed(rt: HostRuntime) -> Result<(), Fail> {
-    replays(
-        &rt,
-        b"1 global quad 3
+        verdict: "same 28\n",
+    },
+    // `wayland-info` lists the fixed globals.
+    Row {
+        name: "info fixed",
+        recording: b"1 global quad 3
 > global 1 1
 2 disable 4294967295
 > ok
@@ -195,16 +187,12 @@ fn info_fixed(rt: HostRuntime) -> Result<(), Fail> {
 28 disable 4294967295
 > ok
 ",
-        "same 28\n",
-    )
-}
-
-/// The same, with few bytes a receive.
-#[test]
-fn info_dribbled(rt: HostRuntime) -> Result<(), Fail> {
-    replays(
-        &rt,
-        b"1 global quad 3
+        verdict: "same 28\n",
+    },
+    // The same, with few bytes a receive.
+    Row {
+        name: "info dribbled",
+        recording: b"1 global quad 3
 > global 1 1
 2 disable 4294967295
 > ok
@@ -263,16 +251,12 @@ fn info_dribbled(rt: HostRuntime) -> Result<(), Fail> {
 28 disable 4294967295
 > ok
 ",
-        "same 28\n",
-    )
-}
-
-/// `wayland-info` lists twenty globals.
-#[test]
-fn info_twenty_globals(rt: HostRuntime) -> Result<(), Fail> {
-    replays(
-        &rt,
-        b"1 global quad 3
+        verdict: "same 28\n",
+    },
+    // `wayland-info` lists twenty globals.
+    Row {
+        name: "info twenty globals",
+        recording: b"1 global quad 3
 > global 1 1
 2 disable 4294967295
 > ok
@@ -391,16 +375,12 @@ fn info_twenty_globals(rt: HostRuntime) -> Result<(), Fail> {
 58 disable 4294967295
 > ok
 ",
-        "same 58\n",
-    )
-}
-
-/// A bind of a name that no global has.
-#[test]
-fn error_bind_name(rt: HostRuntime) -> Result<(), Fail> {
-    replays(
-        &rt,
-        b"1 global quad 3
+        verdict: "same 58\n",
+    },
+    // A bind of a name that no global has.
+    Row {
+        name: "error bind name",
+        recording: b"1 global quad 3
 > global 1 1
 2 disable 4294967295
 > ok
@@ -457,16 +437,12 @@ fn error_bind_name(rt: HostRuntime) -> Result<(), Fail> {
 26 disable 4294967295
 > ok
 ",
-        "same 26\n",
-    )
-}
-
-/// A request that the version lacks.
-#[test]
-fn error_since(rt: HostRuntime) -> Result<(), Fail> {
-    replays(
-        &rt,
-        b"1 global quad 3
+        verdict: "same 26\n",
+    },
+    // A request that the version lacks.
+    Row {
+        name: "error since",
+        recording: b"1 global quad 3
 > global 1 1
 2 disable 4294967295
 > ok
@@ -527,16 +503,12 @@ fn error_since(rt: HostRuntime) -> Result<(), Fail> {
 28 disable 4294967295
 > ok
 ",
-        "same 28\n",
-    )
-}
-
-/// A descriptor that comes late.
-#[test]
-fn quad_late_fd(rt: HostRuntime) -> Result<(), Fail> {
-    replays(
-        &rt,
-        b"1 global quad 3
+        verdict: "same 28\n",
+    },
+    // A descriptor that comes late.
+    Row {
+        name: "quad late fd",
+        recording: b"1 global quad 3
 > global 1 1
 2 disable 4294967295
 > ok
@@ -641,16 +613,12 @@ fn quad_late_fd(rt: HostRuntime) -> Result<(), Fail> {
 50 disable 4294967295
 > ok
 ",
-        "same 50\n",
-    )
-}
-
-/// Each request of `quad`.
-#[test]
-fn quad_good(rt: HostRuntime) -> Result<(), Fail> {
-    replays(
-        &rt,
-        b"1 global quad 3
+        verdict: "same 50\n",
+    },
+    // Each request of `quad`.
+    Row {
+        name: "quad good",
+        recording: b"1 global quad 3
 > global 1 1
 2 disable 4294967295
 > ok
@@ -943,16 +911,12 @@ fn quad_good(rt: HostRuntime) -> Result<(), Fail> {
 140 disable 4294967295
 > ok
 ",
-        "same 140\n",
-    )
-}
-
-/// Globals come and go while a client does not read.
-#[test]
-fn blocked_globals(rt: HostRuntime) -> Result<(), Fail> {
-    replays(
-        &rt,
-        b"1 global quad 3
+        verdict: "same 140\n",
+    },
+    // Globals come and go while a client does not read.
+    Row {
+        name: "blocked globals",
+        recording: b"1 global quad 3
 > global 1 1
 2 disable 4294967295
 > ok
@@ -1272,6 +1236,12 @@ fn blocked_globals(rt: HostRuntime) -> Result<(), Fail> {
 152 disable 4294967295
 > ok
 ",
-        "same 152\n",
-    )
+        verdict: "same 152\n",
+    },
+];
+
+/// Each recording comes to what it has to.
+#[test]
+fn rows(rt: HostRuntime) -> Result<(), Fail> {
+    rows_replay(&rt, &ROWS)
 }

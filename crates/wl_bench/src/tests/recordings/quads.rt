@@ -3,15 +3,15 @@
 //! A bridge turned each receive into an `in` line; the output is what a model of the protocol answers, which was written apart
 //! from this server.
 
-use super::replays;
+use super::{Row, rows_replay};
 use std::test::Fail;
 
-/// The transport takes seven bytes of the output at a time.
-#[test]
-fn sent_by_sevens(rt: HostRuntime) -> Result<(), Fail> {
-    replays(
-        &rt,
-        b"1 global quad 3
+/// The recordings, and what they come to.
+static ROWS: [Row; 4] = [
+    // The transport takes seven bytes of the output at a time.
+    Row {
+        name: "sent by sevens",
+        recording: b"1 global quad 3
 > global 1 1
 2 disable 4294967295
 > ok
@@ -332,16 +332,12 @@ fn sent_by_sevens(rt: HostRuntime) -> Result<(), Fail> {
 154 disable 4294967295
 > ok
 ",
-        "same 154\n",
-    )
-}
-
-/// Four clients come in turn, and two of them take a slot that is free again.
-#[test]
-fn clients_in_turn(rt: HostRuntime) -> Result<(), Fail> {
-    replays(
-        &rt,
-        b"1 global quad 3
+        verdict: "same 154\n",
+    },
+    // Four clients come in turn, and two of them take a slot that is free again.
+    Row {
+        name: "clients in turn",
+        recording: b"1 global quad 3
 > global 1 1
 2 disable 4294967295
 > ok
@@ -706,16 +702,12 @@ fn clients_in_turn(rt: HostRuntime) -> Result<(), Fail> {
 172 disable 4294967295
 > ok
 ",
-        "same 172\n",
-    )
-}
-
-/// What the client sends comes thirteen bytes at a time.
-#[test]
-fn received_by_thirteens(rt: HostRuntime) -> Result<(), Fail> {
-    replays(
-        &rt,
-        b"1 global quad 3
+        verdict: "same 172\n",
+    },
+    // What the client sends comes thirteen bytes at a time.
+    Row {
+        name: "received by thirteens",
+        recording: b"1 global quad 3
 > global 1 1
 2 disable 4294967295
 > ok
@@ -1396,16 +1388,12 @@ fn received_by_thirteens(rt: HostRuntime) -> Result<(), Fail> {
 332 disable 4294967295
 > ok
 ",
-        "same 332\n",
-    )
-}
-
-/// The client sends a hundred descriptors, up to 28 in one receive.
-#[test]
-fn descriptors(rt: HostRuntime) -> Result<(), Fail> {
-    replays(
-        &rt,
-        b"1 global quad 3
+        verdict: "same 332\n",
+    },
+    // The client sends a hundred descriptors, up to 28 in one receive.
+    Row {
+        name: "descriptors",
+        recording: b"1 global quad 3
 > global 1 1
 2 disable 4294967295
 > ok
@@ -2306,6 +2294,12 @@ fn descriptors(rt: HostRuntime) -> Result<(), Fail> {
 448 disable 4294967295
 > ok
 ",
-        "same 448\n",
-    )
+        verdict: "same 448\n",
+    },
+];
+
+/// Each recording comes to what it has to.
+#[test]
+fn rows(rt: HostRuntime) -> Result<(), Fail> {
+    rows_replay(&rt, &ROWS)
 }

@@ -14,8 +14,8 @@ use std::alloc::Global;
 use std::process::Abort;
 use std::test::Fail;
 use wl_link::Memory;
-use wl_server::{ActionError, Backend, ClientId, DisconnectReason, Note, Reply};
-use wl_wire::IoFault;
+use wl_server::{ActionError, Backend, ClientId, DisconnectReason, Note, Reply, Stopped};
+use wl_wire::{IoFault, Token};
 
 /// A server of the runs.
 pub type Server = Backend<Memory, u32, Shown, bool>;
@@ -115,16 +115,26 @@ fn tells(
     Ok(())
 }
 
+/// Whether so many bytes were taken by each send.
+fn has_lengths(parcels: &[(Vec<u8>, Vec<Token>)], lengths: &[usize]) -> bool {
+    if parcels.len() != lengths.len() {
+        return false;
+    }
+    for ((bytes, _), length) in parcels.iter().zip(lengths) {
+        if bytes.len() != *length {
+            return false;
+        }
+    }
+    true
+}
+
 /// Fails if other numbers of bytes were sent.
 fn sends(rt: &impl Abort, run: &Run, told: &Reply<Memory, u32>, lengths: &[usize]) {
-    if let Reply::TakeSent(Ok(parcels)) = told {
-        assert_eq!(rt; parcels.len(), lengths.len(), "{}", run.name);
-        for (parcel, length) in parcels.as_slice().iter().zip(lengths) {
-            assert_eq!(rt; parcel.0.len(), *length, "{}", run.name);
-        }
-    } else {
-        assert!(rt; false, "{}", run.name);
-    }
+    let is_sent = match told {
+        Reply::TakeSent(Ok(parcels)) => has_lengths(parcels.as_slice(), lengths),
+        _ => false,
+    };
+    assert!(rt; is_sent, "{}: other sends than {lengths:?}", run.name);
 }
 
 /// Fails if no global of that name and serial was created.
@@ -170,6 +180,18 @@ fn judge_all(
     Ok(())
 }
 
+/// Fails if memory was refused, or the replies are not those of all these steps.
+fn judge_whole(
+    rt: &(impl Abort + AllocGlobal),
+    server: &Server,
+    run: &Run,
+    entries: &[Entry],
+    replies: &[Reply<Memory, u32>],
+) -> Result<(), Fail> {
+    assert!(rt; !server.memory_refused(), "{}", run.name);
+    judge_all(rt, run, entries, replies)
+}
+
 /// Makes the steps, for which there is memory now: they answer as ever.
 fn go_on(
     rt: &(impl Abort + AllocGlobal),
@@ -178,10 +200,7 @@ fn go_on(
     entries: &[Entry],
 ) -> Result<(), Fail> {
     match server.replay(steps_of(rt.alloc(), entries)?) {
-        Ok(replies) => {
-            assert!(rt; !server.memory_refused(), "{}", run.name);
-            judge_all(rt, run, entries, replies.as_slice())
-        }
+        Ok(replies) => judge_whole(rt, server, run, entries, replies.as_slice()),
         Err(_) => Err(Fail::new("memory was refused again")),
     }
 }
@@ -311,8 +330,8 @@ fn noted(server: &mut Server) -> Result<Vec<Note<u32>>, Fail> {
     }
 }
 
-/// Fails if the killed clients are not noted once each, and then no more.
-fn are_noted_once(
+/// Fails if the killed clients are not noted once each.
+fn each_is_noted_once(
     rt: &impl Abort,
     server: &mut Server,
     run: &Run,
@@ -323,12 +342,38 @@ fn are_noted_once(
         reads_nothing(rt, server, run, *who);
         is_noted_once(rt, server, run, *who, notes.as_slice());
     }
-    assert!(rt; server.cleanup().is_ok(), "{}", run.name);
-    let later = noted(server)?;
+    Ok(())
+}
+
+/// Fails if the end of the client is among the notes.
+fn is_not_noted(rt: &impl Abort, run: &Run, who: Who, notes: &[Note<u32>]) {
+    assert_eq!(rt; ends_of(notes, who.id()), (0, 0), "{}", run.name);
+}
+
+/// Fails if the ends of the killed clients are noted again.
+fn none_is_noted_again(
+    rt: &impl Abort,
+    server: &mut Server,
+    run: &Run,
+    killed: &[Who],
+) -> Result<(), Fail> {
+    let notes = noted(server)?;
     for who in killed {
-        assert_eq!(rt; ends_of(later.as_slice(), who.id()), (0, 0), "{}", run.name);
+        is_not_noted(rt, run, *who, notes.as_slice());
     }
     Ok(())
+}
+
+/// Fails if the killed clients are not noted once each, and then no more.
+fn are_noted_once(
+    rt: &impl Abort,
+    server: &mut Server,
+    run: &Run,
+    killed: &[Who],
+) -> Result<(), Fail> {
+    each_is_noted_once(rt, server, run, killed)?;
+    assert!(rt; server.cleanup().is_ok(), "{}", run.name);
+    none_is_noted_again(rt, server, run, killed)
 }
 
 /// Fails if the step killed more than one client that it does not kill with ample memory. If it killed one, it is told,
@@ -345,6 +390,19 @@ fn at_most_one(rt: &(impl Abort + Print), run: &Run, at: usize, killed: &[Who]) 
     assert!(rt; count <= 1, "{}: {count} clients were killed", run.name);
 }
 
+/// Fails if anything is not as it has to be for the other clients if these were killed in that step.
+fn judge_others(
+    rt: &(impl Abort + Print + AllocGlobal),
+    server: &mut Server,
+    run: &Run,
+    at: usize,
+    killed: &[Who],
+) -> Result<(), Fail> {
+    at_most_one(rt, run, at, killed);
+    let others = of_others(rt.alloc(), run, at, killed)?;
+    go_on(rt, server, run, others.as_slice())
+}
+
 /// Fails if anything is not as it has to be after the step for which memory was refused.
 fn judge_rest(
     rt: &(impl Abort + Print + AllocGlobal),
@@ -356,10 +414,20 @@ fn judge_rest(
     if killed.is_empty() {
         return go_on(rt, server, run, run.entries.get(at..).unwrap_or(&[]));
     }
-    at_most_one(rt, run, at, killed.as_slice());
-    let others = of_others(rt.alloc(), run, at, killed.as_slice())?;
-    go_on(rt, server, run, others.as_slice())?;
+    judge_others(rt, server, run, at, killed.as_slice())?;
     are_noted_once(rt, server, run, killed.as_slice())
+}
+
+/// Fails if the run was not stopped by a want of memory, or anything is not as it has to be then.
+fn judge_stopped(
+    rt: &(impl Abort + Print + AllocGlobal),
+    server: &mut Server,
+    run: &Run,
+    stopped: &Stopped<Memory, u32>,
+) -> Result<(), Fail> {
+    assert!(rt; server.memory_refused(), "{}", run.name);
+    judge_all(rt, run, run.entries, stopped.replies.as_slice())?;
+    judge_rest(rt, server, run, stopped.step)
 }
 
 /// Makes the run, and fails if it is not as it has to be.
@@ -369,15 +437,8 @@ fn play(
     run: &Run,
 ) -> Result<(), Fail> {
     match server.replay(steps_of(rt.alloc(), run.entries)?) {
-        Ok(replies) => {
-            assert!(rt; !server.memory_refused(), "{}", run.name);
-            judge_all(rt, run, run.entries, replies.as_slice())
-        }
-        Err(stopped) => {
-            assert!(rt; server.memory_refused(), "{}", run.name);
-            judge_all(rt, run, run.entries, stopped.replies.as_slice())?;
-            judge_rest(rt, server, run, stopped.step)
-        }
+        Ok(replies) => judge_whole(rt, server, run, run.entries, replies.as_slice()),
+        Err(stopped) => judge_stopped(rt, server, run, &stopped),
     }
 }
 

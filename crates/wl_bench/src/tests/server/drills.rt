@@ -45,446 +45,383 @@ fn tried(rt: &(impl Abort + Print + AllocGlobal), trial: Trial, run: &Run) -> Re
     }
 }
 
-/// A registry is told.
-fn registry(rt: &(impl Abort + Print + AllocGlobal), trial: Trial) -> Result<(), Fail> {
-    let entries = [
-        Entry::Do(Call::Insert(true), "client 0, 1\n"),
-        Entry::Do(Call::Global(QUAD, 3), "global 1, 1\n"),
-        Entry::Do(Call::Arrive(FIRST, &GET_REGISTRY), ""),
-        Entry::Do(Call::Next(FIRST), "Io error: would block\n"),
-        Entry::Do(Call::FlushAll, "done\n"),
-        Entry::Do(
-            Call::TakeSent(FIRST),
-            "02 00 00 00 00 00 1c 00 01 00 00 00 05 00 00 00 71 75 61 64 00 00 00 00 03 00 00 00\n",
-        ),
-        Entry::Do(Call::Disable(Named(1, 1)), ""),
-        Entry::Do(Call::FlushAll, "done\n"),
-        Entry::Do(
-            Call::TakeSent(FIRST),
-            "02 00 00 00 01 00 0c 00 01 00 00 00\n",
-        ),
-        Entry::Do(Call::Disable(Named(1, 1)), ""),
-        Entry::Do(Call::FlushAll, "done\n"),
-        Entry::Do(Call::TakeSent(FIRST), ""),
-        Entry::Do(Call::Remove(Named(1, 1)), ""),
-        Entry::Do(Call::Global(QUAD, 3), "global 1, 2\n"),
-        Entry::Do(Call::FlushAll, "done\n"),
-        Entry::Do(
-            Call::TakeSent(FIRST),
-            "02 00 00 00 00 00 1c 00 01 00 00 00 05 00 00 00 71 75 61 64 00 00 00 00 03 00 00 00\n",
-        ),
-        Entry::Do(Call::Notes, "initialized 0, 1\n"),
-    ];
-    let run = Run {
+/// Registries and binds.
+static REGISTRIES_AND_BINDS: [Run; 3] = [
+    // A registry is told.
+    Run {
         name: "a registry is told",
-        entries: &entries,
+        entries: &[
+            Entry::Do(Call::Insert(true), "client 0, 1\n"),
+            Entry::Do(Call::Global(QUAD, 3), "global 1, 1\n"),
+            Entry::Do(Call::Arrive(FIRST, &GET_REGISTRY), ""),
+            Entry::Do(Call::Next(FIRST), "Io error: would block\n"),
+            Entry::Do(Call::FlushAll, "done\n"),
+            Entry::Do(
+                Call::TakeSent(FIRST),
+                "02 00 00 00 00 00 1c 00 01 00 00 00 05 00 00 00 71 75 61 64 00 00 00 00 03 00 00 00\n",
+            ),
+            Entry::Do(Call::Disable(Named(1, 1)), ""),
+            Entry::Do(Call::FlushAll, "done\n"),
+            Entry::Do(
+                Call::TakeSent(FIRST),
+                "02 00 00 00 01 00 0c 00 01 00 00 00\n",
+            ),
+            Entry::Do(Call::Disable(Named(1, 1)), ""),
+            Entry::Do(Call::FlushAll, "done\n"),
+            Entry::Do(Call::TakeSent(FIRST), ""),
+            Entry::Do(Call::Remove(Named(1, 1)), ""),
+            Entry::Do(Call::Global(QUAD, 3), "global 1, 2\n"),
+            Entry::Do(Call::FlushAll, "done\n"),
+            Entry::Do(
+                Call::TakeSent(FIRST),
+                "02 00 00 00 00 00 1c 00 01 00 00 00 05 00 00 00 71 75 61 64 00 00 00 00 03 00 00 00\n",
+            ),
+            Entry::Do(Call::Notes, "initialized 0, 1\n"),
+        ],
         dies: None,
         error_bytes: 0,
         sends: 3,
-    };
-    tried(rt, trial, &run)
-}
-
-/// An object is bound.
-fn bound_object(rt: &(impl Abort + Print + AllocGlobal), trial: Trial) -> Result<(), Fail> {
-    let entries = [
-        Entry::Do(Call::Insert(true), "client 0, 1\n"),
-        Entry::Do(Call::Global(QUAD, 3), "global 1, 1\n"),
-        Entry::Do(Call::Arrive(FIRST, &GET_REGISTRY), ""),
-        Entry::Do(Call::Arrive(FIRST, &BIND), ""),
-        Entry::Do(Call::Next(FIRST), "global 1, 1 bound as 3, 2, 4 of 0\n"),
-        Entry::Do(Call::FinishBind(FIRST, 9), "finished\n"),
-        Entry::Do(Call::Arrive(FIRST, &MAKE), ""),
-        Entry::Do(
-            Call::Next(FIRST),
-            "request 1 to 3, 2, 4 of 0: new 4, 3, 4 of 0, which makes 4, 3, 4 of 0\n",
-        ),
-        Entry::Do(Call::Finish(FIRST, Some(5)), "finished\n"),
-        Entry::Do(Call::ArriveWith(FIRST, &GIVE, 7), ""),
-        Entry::Do(
-            Call::Next(FIRST),
-            "request 4 to 3, 2, 4 of 0: no string: 1 bytes: fd 7\n",
-        ),
-        Entry::Do(Call::Finish(FIRST, None), "finished\n"),
-        Entry::Do(Call::Arrive(FIRST, &DESTROY), ""),
-        Entry::Do(
-            Call::Next(FIRST),
-            "request 2 to 3, 2, 4 of 0, which ends it\n",
-        ),
-        Entry::Do(Call::Finish(FIRST, None), "finished\n"),
-        Entry::Do(Call::Flush(FIRST), "done\n"),
-        Entry::Do(
-            Call::TakeSent(FIRST),
-            "02 00 00 00 00 00 1c 00 01 00 00 00 05 00 00 00 71 75 61 64 00 00 00 00 03 00 00 00 01 00 00 00 01 00 0c 00 03 00 00 00\n",
-        ),
-        Entry::Do(
-            Call::Notes,
-            "initialized 0, 1\ndestroyed 3, 2, 4 of 0 with 9\n",
-        ),
-    ];
-    let run = Run {
+    },
+    // An object is bound.
+    Run {
         name: "an object is bound",
-        entries: &entries,
+        entries: &[
+            Entry::Do(Call::Insert(true), "client 0, 1\n"),
+            Entry::Do(Call::Global(QUAD, 3), "global 1, 1\n"),
+            Entry::Do(Call::Arrive(FIRST, &GET_REGISTRY), ""),
+            Entry::Do(Call::Arrive(FIRST, &BIND), ""),
+            Entry::Do(Call::Next(FIRST), "global 1, 1 bound as 3, 2, 4 of 0\n"),
+            Entry::Do(Call::FinishBind(FIRST, 9), "finished\n"),
+            Entry::Do(Call::Arrive(FIRST, &MAKE), ""),
+            Entry::Do(
+                Call::Next(FIRST),
+                "request 1 to 3, 2, 4 of 0: new 4, 3, 4 of 0, which makes 4, 3, 4 of 0\n",
+            ),
+            Entry::Do(Call::Finish(FIRST, Some(5)), "finished\n"),
+            Entry::Do(Call::ArriveWith(FIRST, &GIVE, 7), ""),
+            Entry::Do(
+                Call::Next(FIRST),
+                "request 4 to 3, 2, 4 of 0: no string: 1 bytes: fd 7\n",
+            ),
+            Entry::Do(Call::Finish(FIRST, None), "finished\n"),
+            Entry::Do(Call::Arrive(FIRST, &DESTROY), ""),
+            Entry::Do(
+                Call::Next(FIRST),
+                "request 2 to 3, 2, 4 of 0, which ends it\n",
+            ),
+            Entry::Do(Call::Finish(FIRST, None), "finished\n"),
+            Entry::Do(Call::Flush(FIRST), "done\n"),
+            Entry::Do(
+                Call::TakeSent(FIRST),
+                "02 00 00 00 00 00 1c 00 01 00 00 00 05 00 00 00 71 75 61 64 00 00 00 00 03 00 00 00 01 00 00 00 01 00 0c 00 03 00 00 00\n",
+            ),
+            Entry::Do(
+                Call::Notes,
+                "initialized 0, 1\ndestroyed 3, 2, 4 of 0 with 9\n",
+            ),
+        ],
         dies: None,
         error_bytes: 0,
         sends: 1,
-    };
-    tried(rt, trial, &run)
-}
-
-/// A sync is answered.
-fn sync(rt: &(impl Abort + Print + AllocGlobal), trial: Trial) -> Result<(), Fail> {
-    let entries = [
-        Entry::Do(Call::Insert(true), "client 0, 1\n"),
-        Entry::Do(Call::Arrive(FIRST, &SYNC), ""),
-        Entry::Do(Call::Next(FIRST), "Io error: would block\n"),
-        Entry::Do(Call::Flush(FIRST), "done\n"),
-        Entry::Do(
-            Call::TakeSent(FIRST),
-            "02 00 00 00 00 00 0c 00 00 00 00 00 01 00 00 00 01 00 0c 00 02 00 00 00\n",
-        ),
-        Entry::Do(Call::Notes, "initialized 0, 1\n"),
-    ];
-    let run = Run {
+    },
+    // A sync is answered.
+    Run {
         name: "a sync is answered",
-        entries: &entries,
+        entries: &[
+            Entry::Do(Call::Insert(true), "client 0, 1\n"),
+            Entry::Do(Call::Arrive(FIRST, &SYNC), ""),
+            Entry::Do(Call::Next(FIRST), "Io error: would block\n"),
+            Entry::Do(Call::Flush(FIRST), "done\n"),
+            Entry::Do(
+                Call::TakeSent(FIRST),
+                "02 00 00 00 00 00 0c 00 00 00 00 00 01 00 00 00 01 00 0c 00 02 00 00 00\n",
+            ),
+            Entry::Do(Call::Notes, "initialized 0, 1\n"),
+        ],
         dies: None,
         error_bytes: 0,
         sends: 1,
-    };
-    tried(rt, trial, &run)
-}
+    },
+];
 
-/// A new id that is not the next.
-fn wrong_new_id(rt: &(impl Abort + Print + AllocGlobal), trial: Trial) -> Result<(), Fail> {
-    let entries = [
-        Entry::Do(Call::Insert(true), "client 0, 1\n"),
-        Entry::Do(Call::Arrive(FIRST, &SYNC_AT_5), ""),
-        Entry::Do(Call::Next(FIRST), "Io error: broken pipe\n"),
-        Entry::Do(
-            Call::TakeSent(FIRST),
-            "01 00 00 00 00 00 28 00 01 00 00 00 00 00 00 00 13 00 00 00 49 6e 76 61 6c 69 64 20 6e 65 77 5f 69 64 3a 20 35 2e 00 00\n",
-        ),
-        Entry::Do(
-            Call::Notes,
-            "initialized 0, 1\ndisconnected 0, 1: error 0 on wl_display 1: Invalid new_id: 5.\n",
-        ),
-        Entry::Do(Call::Next(FIRST), "Io error: broken pipe\n"),
-    ];
-    let run = Run {
+/// Errors.
+static ERRORS: [Run; 6] = [
+    // A new id that is not the next.
+    Run {
         name: "a new id that is not the next",
-        entries: &entries,
+        entries: &[
+            Entry::Do(Call::Insert(true), "client 0, 1\n"),
+            Entry::Do(Call::Arrive(FIRST, &SYNC_AT_5), ""),
+            Entry::Do(Call::Next(FIRST), "Io error: broken pipe\n"),
+            Entry::Do(
+                Call::TakeSent(FIRST),
+                "01 00 00 00 00 00 28 00 01 00 00 00 00 00 00 00 13 00 00 00 49 6e 76 61 6c 69 64 20 6e 65 77 5f 69 64 3a 20 35 2e 00 00\n",
+            ),
+            Entry::Do(
+                Call::Notes,
+                "initialized 0, 1\ndisconnected 0, 1: error 0 on wl_display 1: Invalid new_id: 5.\n",
+            ),
+            Entry::Do(Call::Next(FIRST), "Io error: broken pipe\n"),
+        ],
         dies: Some(2),
         error_bytes: 40,
         sends: 1,
-    };
-    tried(rt, trial, &run)
-}
-
-/// A new id of the server's range.
-fn new_id_of_the_server(rt: &(impl Abort + Print + AllocGlobal), trial: Trial) -> Result<(), Fail> {
-    let entries = [
-        Entry::Do(Call::Insert(true), "client 0, 1\n"),
-        Entry::Do(Call::Arrive(FIRST, &SYNC_AT_SERVER), ""),
-        Entry::Do(Call::Next(FIRST), "Io error: broken pipe\n"),
-        Entry::Do(
-            Call::TakeSent(FIRST),
-            "01 00 00 00 00 00 30 00 01 00 00 00 00 00 00 00 1c 00 00 00 49 6e 76 61 6c 69 64 20 6e 65 77 5f 69 64 3a 20 34 32 37 38 31 39 30 30 38 30 2e 00\n",
-        ),
-        Entry::Do(
-            Call::Notes,
-            "initialized 0, 1\ndisconnected 0, 1: error 0 on wl_display 1: Invalid new_id: 4278190080.\n",
-        ),
-    ];
-    let run = Run {
+    },
+    // A new id of the server's range.
+    Run {
         name: "a new id of the server's range",
-        entries: &entries,
+        entries: &[
+            Entry::Do(Call::Insert(true), "client 0, 1\n"),
+            Entry::Do(Call::Arrive(FIRST, &SYNC_AT_SERVER), ""),
+            Entry::Do(Call::Next(FIRST), "Io error: broken pipe\n"),
+            Entry::Do(
+                Call::TakeSent(FIRST),
+                "01 00 00 00 00 00 30 00 01 00 00 00 00 00 00 00 1c 00 00 00 49 6e 76 61 6c 69 64 20 6e 65 77 5f 69 64 3a 20 34 32 37 38 31 39 30 30 38 30 2e 00\n",
+            ),
+            Entry::Do(
+                Call::Notes,
+                "initialized 0, 1\ndisconnected 0, 1: error 0 on wl_display 1: Invalid new_id: 4278190080.\n",
+            ),
+        ],
         dies: Some(2),
         error_bytes: 48,
         sends: 1,
-    };
-    tried(rt, trial, &run)
-}
-
-/// A bind without a name.
-fn bind_without_a_name(rt: &(impl Abort + Print + AllocGlobal), trial: Trial) -> Result<(), Fail> {
-    let entries = [
-        Entry::Do(Call::Insert(true), "client 0, 1\n"),
-        Entry::Do(Call::Global(QUAD, 3), "global 1, 1\n"),
-        Entry::Do(Call::Arrive(FIRST, &GET_REGISTRY), ""),
-        Entry::Do(Call::Next(FIRST), "Io error: would block\n"),
-        Entry::Do(Call::FlushAll, "done\n"),
-        Entry::Do(
-            Call::TakeSent(FIRST),
-            "02 00 00 00 00 00 1c 00 01 00 00 00 05 00 00 00 71 75 61 64 00 00 00 00 03 00 00 00\n",
-        ),
-        Entry::Do(Call::Arrive(FIRST, &BIND_NULL), ""),
-        Entry::Do(Call::Next(FIRST), "Io error: broken pipe\n"),
-        Entry::Do(
-            Call::TakeSent(FIRST),
-            "01 00 00 00 00 00 40 00 01 00 00 00 00 00 00 00 2c 00 00 00 49 6e 76 61 6c 69 64 20 62 69 6e 64 69 6e 67 20 6f 66 20 20 76 65 72 73 69 6f 6e 20 31 20 66 6f 72 20 67 6c 6f 62 61 6c 20 31 2e 00\n",
-        ),
-        Entry::Do(
-            Call::Notes,
-            "initialized 0, 1\ndisconnected 0, 1: error 0 on wl_display 1: Invalid binding of  version 1 for global 1.\n",
-        ),
-    ];
-    let run = Run {
+    },
+    // A bind without a name.
+    Run {
         name: "a bind without a name",
-        entries: &entries,
+        entries: &[
+            Entry::Do(Call::Insert(true), "client 0, 1\n"),
+            Entry::Do(Call::Global(QUAD, 3), "global 1, 1\n"),
+            Entry::Do(Call::Arrive(FIRST, &GET_REGISTRY), ""),
+            Entry::Do(Call::Next(FIRST), "Io error: would block\n"),
+            Entry::Do(Call::FlushAll, "done\n"),
+            Entry::Do(
+                Call::TakeSent(FIRST),
+                "02 00 00 00 00 00 1c 00 01 00 00 00 05 00 00 00 71 75 61 64 00 00 00 00 03 00 00 00\n",
+            ),
+            Entry::Do(Call::Arrive(FIRST, &BIND_NULL), ""),
+            Entry::Do(Call::Next(FIRST), "Io error: broken pipe\n"),
+            Entry::Do(
+                Call::TakeSent(FIRST),
+                "01 00 00 00 00 00 40 00 01 00 00 00 00 00 00 00 2c 00 00 00 49 6e 76 61 6c 69 64 20 62 69 6e 64 69 6e 67 20 6f 66 20 20 76 65 72 73 69 6f 6e 20 31 20 66 6f 72 20 67 6c 6f 62 61 6c 20 31 2e 00\n",
+            ),
+            Entry::Do(
+                Call::Notes,
+                "initialized 0, 1\ndisconnected 0, 1: error 0 on wl_display 1: Invalid binding of  version 1 for global 1.\n",
+            ),
+        ],
         dies: Some(7),
         error_bytes: 64,
         sends: 2,
-    };
-    tried(rt, trial, &run)
-}
-
-/// A bind with a long name.
-fn bind_with_a_long_name(
-    rt: &(impl Abort + Print + AllocGlobal),
-    trial: Trial,
-) -> Result<(), Fail> {
-    let entries = [
-        Entry::Do(Call::Insert(true), "client 0, 1\n"),
-        Entry::Do(Call::Global(QUAD, 3), "global 1, 1\n"),
-        Entry::Do(Call::Disable(Named(1, 1)), ""),
-        Entry::Do(Call::Arrive(FIRST, &GET_REGISTRY), ""),
-        Entry::Arrive(LONG_BIND),
-        Entry::Do(Call::Next(FIRST), "Io error: broken pipe\n"),
-        Entry::Do(Call::TakeSent(FIRST), ""),
-        Entry::Do(Call::Notes, "initialized 0, 1\ndisconnected 0, 1: closed\n"),
-    ];
-    let run = Run {
+    },
+    // A bind with a long name.
+    Run {
         name: "a bind with a long name",
-        entries: &entries,
+        entries: &[
+            Entry::Do(Call::Insert(true), "client 0, 1\n"),
+            Entry::Do(Call::Global(QUAD, 3), "global 1, 1\n"),
+            Entry::Do(Call::Disable(Named(1, 1)), ""),
+            Entry::Do(Call::Arrive(FIRST, &GET_REGISTRY), ""),
+            Entry::Arrive(LONG_BIND),
+            Entry::Do(Call::Next(FIRST), "Io error: broken pipe\n"),
+            Entry::Do(Call::TakeSent(FIRST), ""),
+            Entry::Do(Call::Notes, "initialized 0, 1\ndisconnected 0, 1: closed\n"),
+        ],
         dies: Some(5),
         error_bytes: 0,
         sends: 0,
-    };
-    tried(rt, trial, &run)
-}
-
-/// A request of a later version.
-fn later_version(rt: &(impl Abort + Print + AllocGlobal), trial: Trial) -> Result<(), Fail> {
-    let entries = [
-        Entry::Do(Call::Insert(true), "client 0, 1\n"),
-        Entry::Do(Call::Global(QUAD, 3), "global 1, 1\n"),
-        Entry::Do(Call::Arrive(FIRST, &GET_REGISTRY), ""),
-        Entry::Do(Call::Arrive(FIRST, &BIND_VERSION_1), ""),
-        Entry::Do(Call::Next(FIRST), "global 1, 1 bound as 3, 2, 4 of 0\n"),
-        Entry::Do(Call::FinishBind(FIRST, 9), "finished\n"),
-        Entry::Do(Call::Flush(FIRST), "done\n"),
-        Entry::Do(
-            Call::TakeSent(FIRST),
-            "02 00 00 00 00 00 1c 00 01 00 00 00 05 00 00 00 71 75 61 64 00 00 00 00 03 00 00 00\n",
-        ),
-        Entry::Do(Call::Arrive(FIRST, &MAKE), ""),
-        Entry::Do(Call::Next(FIRST), "Io error: broken pipe\n"),
-        Entry::Do(
-            Call::TakeSent(FIRST),
-            "01 00 00 00 00 00 44 00 01 00 00 00 01 00 00 00 2e 00 00 00 69 6e 76 61 6c 69 64 20 6d 65 74 68 6f 64 20 31 20 28 73 69 6e 63 65 20 31 20 3c 20 32 29 2c 20 6f 62 6a 65 63 74 20 71 75 61 64 23 33 00 00 00\n",
-        ),
-        Entry::Do(
-            Call::Notes,
-            "initialized 0, 1\ndisconnected 0, 1: error 1 on wl_display 1: invalid method 1 (since 1 < 2), object quad#3\n",
-        ),
-    ];
-    let run = Run {
+    },
+    // A request of a later version.
+    Run {
         name: "a request of a later version",
-        entries: &entries,
+        entries: &[
+            Entry::Do(Call::Insert(true), "client 0, 1\n"),
+            Entry::Do(Call::Global(QUAD, 3), "global 1, 1\n"),
+            Entry::Do(Call::Arrive(FIRST, &GET_REGISTRY), ""),
+            Entry::Do(Call::Arrive(FIRST, &BIND_VERSION_1), ""),
+            Entry::Do(Call::Next(FIRST), "global 1, 1 bound as 3, 2, 4 of 0\n"),
+            Entry::Do(Call::FinishBind(FIRST, 9), "finished\n"),
+            Entry::Do(Call::Flush(FIRST), "done\n"),
+            Entry::Do(
+                Call::TakeSent(FIRST),
+                "02 00 00 00 00 00 1c 00 01 00 00 00 05 00 00 00 71 75 61 64 00 00 00 00 03 00 00 00\n",
+            ),
+            Entry::Do(Call::Arrive(FIRST, &MAKE), ""),
+            Entry::Do(Call::Next(FIRST), "Io error: broken pipe\n"),
+            Entry::Do(
+                Call::TakeSent(FIRST),
+                "01 00 00 00 00 00 44 00 01 00 00 00 01 00 00 00 2e 00 00 00 69 6e 76 61 6c 69 64 20 6d 65 74 68 6f 64 20 31 20 28 73 69 6e 63 65 20 31 20 3c 20 32 29 2c 20 6f 62 6a 65 63 74 20 71 75 61 64 23 33 00 00 00\n",
+            ),
+            Entry::Do(
+                Call::Notes,
+                "initialized 0, 1\ndisconnected 0, 1: error 1 on wl_display 1: invalid method 1 (since 1 < 2), object quad#3\n",
+            ),
+        ],
         dies: Some(9),
         error_bytes: 68,
         sends: 2,
-    };
-    tried(rt, trial, &run)
-}
-
-/// An error is posted.
-fn posted_error(rt: &(impl Abort + Print + AllocGlobal), trial: Trial) -> Result<(), Fail> {
-    let entries = [
-        Entry::Do(Call::Insert(true), "client 0, 1\n"),
-        Entry::Do(
-            Call::Create(FIRST, QUAD, 3, 9),
-            "created 4278190080, 1, 4 of 0\n",
-        ),
-        Entry::Do(Call::PostError(MADE, 7, "no"), ""),
-        Entry::Do(
-            Call::TakeSent(FIRST),
-            "01 00 00 00 00 00 18 00 00 00 00 ff 07 00 00 00 03 00 00 00 6e 6f 00 00\n",
-        ),
-        Entry::Do(
-            Call::Notes,
-            "initialized 0, 1\ndisconnected 0, 1: error 7 on quad 4278190080: no\n",
-        ),
-    ];
-    let run = Run {
+    },
+    // An error is posted.
+    Run {
         name: "an error is posted",
-        entries: &entries,
+        entries: &[
+            Entry::Do(Call::Insert(true), "client 0, 1\n"),
+            Entry::Do(
+                Call::Create(FIRST, QUAD, 3, 9),
+                "created 4278190080, 1, 4 of 0\n",
+            ),
+            Entry::Do(Call::PostError(MADE, 7, "no"), ""),
+            Entry::Do(
+                Call::TakeSent(FIRST),
+                "01 00 00 00 00 00 18 00 00 00 00 ff 07 00 00 00 03 00 00 00 6e 6f 00 00\n",
+            ),
+            Entry::Do(
+                Call::Notes,
+                "initialized 0, 1\ndisconnected 0, 1: error 7 on quad 4278190080: no\n",
+            ),
+        ],
         dies: Some(2),
         error_bytes: 24,
         sends: 1,
-    };
-    tried(rt, trial, &run)
-}
+    },
+];
 
-/// Objects are created.
-fn created_objects(rt: &(impl Abort + Print + AllocGlobal), trial: Trial) -> Result<(), Fail> {
-    let entries = [
-        Entry::Do(Call::Insert(true), "client 0, 1\n"),
-        Entry::Do(
-            Call::Create(FIRST, QUAD, 3, 9),
-            "created 4278190080, 1, 4 of 0\n",
-        ),
-        Entry::Do(
-            Call::Create(FIRST, QUAD, 3, 8),
-            "created 4278190081, 2, 4 of 0\n",
-        ),
-        Entry::Do(Call::Send(Event::Moved(MADE, 7)), "done\n"),
-        Entry::Do(Call::Send(Event::Made(MADE, SECOND_MADE)), "done\n"),
-        Entry::Do(Call::Flush(FIRST), "done\n"),
-        Entry::Do(
-            Call::TakeSent(FIRST),
-            "00 00 00 ff 00 00 0c 00 07 00 00 00 00 00 00 ff 01 00 0c 00 01 00 00 ff\n",
-        ),
-        Entry::Do(Call::Send(Event::Bare(MADE, 2)), "done\n"),
-        Entry::Do(Call::Destroy(SECOND_MADE), "done\n"),
-        Entry::Do(Call::Flush(FIRST), "done\n"),
-        Entry::Do(Call::TakeSent(FIRST), "00 00 00 ff 02 00 08 00\n"),
-        Entry::Do(Call::Cleanup, "out:\n"),
-        Entry::Do(
-            Call::Notes,
-            "initialized 0, 1\ndestroyed 4278190080, 1, 4 of 0 with 9\ndestroyed 4278190081, 2, 4 of 0 with 8\n",
-        ),
-    ];
-    let run = Run {
+/// Objects and clients.
+static OBJECTS_AND_CLIENTS: [Run; 3] = [
+    // Objects are created.
+    Run {
         name: "objects are created",
-        entries: &entries,
+        entries: &[
+            Entry::Do(Call::Insert(true), "client 0, 1\n"),
+            Entry::Do(
+                Call::Create(FIRST, QUAD, 3, 9),
+                "created 4278190080, 1, 4 of 0\n",
+            ),
+            Entry::Do(
+                Call::Create(FIRST, QUAD, 3, 8),
+                "created 4278190081, 2, 4 of 0\n",
+            ),
+            Entry::Do(Call::Send(Event::Moved(MADE, 7)), "done\n"),
+            Entry::Do(Call::Send(Event::Made(MADE, SECOND_MADE)), "done\n"),
+            Entry::Do(Call::Flush(FIRST), "done\n"),
+            Entry::Do(
+                Call::TakeSent(FIRST),
+                "00 00 00 ff 00 00 0c 00 07 00 00 00 00 00 00 ff 01 00 0c 00 01 00 00 ff\n",
+            ),
+            Entry::Do(Call::Send(Event::Bare(MADE, 2)), "done\n"),
+            Entry::Do(Call::Destroy(SECOND_MADE), "done\n"),
+            Entry::Do(Call::Flush(FIRST), "done\n"),
+            Entry::Do(Call::TakeSent(FIRST), "00 00 00 ff 02 00 08 00\n"),
+            Entry::Do(Call::Cleanup, "out:\n"),
+            Entry::Do(
+                Call::Notes,
+                "initialized 0, 1\ndestroyed 4278190080, 1, 4 of 0 with 9\ndestroyed 4278190081, 2, 4 of 0 with 8\n",
+            ),
+        ],
         dies: None,
         error_bytes: 0,
         sends: 2,
-    };
-    tried(rt, trial, &run)
-}
-
-/// The program destroys a sender.
-fn destroyed_sender(rt: &(impl Abort + Print + AllocGlobal), trial: Trial) -> Result<(), Fail> {
-    let entries = [
-        Entry::Do(Call::Insert(true), "client 0, 1\n"),
-        Entry::Do(Call::Global(QUAD, 3), "global 1, 1\n"),
-        Entry::Do(Call::Arrive(FIRST, &GET_REGISTRY), ""),
-        Entry::Do(Call::Arrive(FIRST, &BIND), ""),
-        Entry::Do(Call::Next(FIRST), "global 1, 1 bound as 3, 2, 4 of 0\n"),
-        Entry::Do(Call::FinishBind(FIRST, 9), "finished\n"),
-        Entry::Do(Call::Flush(FIRST), "done\n"),
-        Entry::Do(
-            Call::TakeSent(FIRST),
-            "02 00 00 00 00 00 1c 00 01 00 00 00 05 00 00 00 71 75 61 64 00 00 00 00 03 00 00 00\n",
-        ),
-        Entry::Do(Call::Arrive(FIRST, &DESTROY), ""),
-        Entry::Do(
-            Call::Next(FIRST),
-            "request 2 to 3, 2, 4 of 0, which ends it\n",
-        ),
-        Entry::Do(Call::Destroy(BOUND), "done\n"),
-        Entry::Do(Call::Finish(FIRST, None), "finished\n"),
-        Entry::Do(Call::Flush(FIRST), "done\n"),
-        Entry::Do(
-            Call::TakeSent(FIRST),
-            "01 00 00 00 01 00 0c 00 03 00 00 00\n",
-        ),
-        Entry::Do(Call::Notes, "initialized 0, 1\n"),
-        Entry::Do(Call::Cleanup, "out:\n"),
-        Entry::Do(Call::Notes, "destroyed 3, 2, 4 of 0 with 9\n"),
-    ];
-    let run = Run {
+    },
+    // The program destroys a sender.
+    Run {
         name: "the program destroys a sender",
-        entries: &entries,
+        entries: &[
+            Entry::Do(Call::Insert(true), "client 0, 1\n"),
+            Entry::Do(Call::Global(QUAD, 3), "global 1, 1\n"),
+            Entry::Do(Call::Arrive(FIRST, &GET_REGISTRY), ""),
+            Entry::Do(Call::Arrive(FIRST, &BIND), ""),
+            Entry::Do(Call::Next(FIRST), "global 1, 1 bound as 3, 2, 4 of 0\n"),
+            Entry::Do(Call::FinishBind(FIRST, 9), "finished\n"),
+            Entry::Do(Call::Flush(FIRST), "done\n"),
+            Entry::Do(
+                Call::TakeSent(FIRST),
+                "02 00 00 00 00 00 1c 00 01 00 00 00 05 00 00 00 71 75 61 64 00 00 00 00 03 00 00 00\n",
+            ),
+            Entry::Do(Call::Arrive(FIRST, &DESTROY), ""),
+            Entry::Do(
+                Call::Next(FIRST),
+                "request 2 to 3, 2, 4 of 0, which ends it\n",
+            ),
+            Entry::Do(Call::Destroy(BOUND), "done\n"),
+            Entry::Do(Call::Finish(FIRST, None), "finished\n"),
+            Entry::Do(Call::Flush(FIRST), "done\n"),
+            Entry::Do(
+                Call::TakeSent(FIRST),
+                "01 00 00 00 01 00 0c 00 03 00 00 00\n",
+            ),
+            Entry::Do(Call::Notes, "initialized 0, 1\n"),
+            Entry::Do(Call::Cleanup, "out:\n"),
+            Entry::Do(Call::Notes, "destroyed 3, 2, 4 of 0 with 9\n"),
+        ],
         dies: None,
         error_bytes: 0,
         sends: 2,
-    };
-    tried(rt, trial, &run)
-}
-
-/// A slot is used again.
-fn slots(rt: &(impl Abort + Print + AllocGlobal), trial: Trial) -> Result<(), Fail> {
-    let entries = [
-        Entry::Do(Call::Insert(true), "client 0, 1\n"),
-        Entry::Do(Call::Insert(true), "client 1, 2\n"),
-        Entry::Do(
-            Call::Create(FIRST, QUAD, 3, 9),
-            "created 4278190080, 1, 4 of 0\n",
-        ),
-        Entry::Do(Call::Kill(FIRST), ""),
-        Entry::Do(Call::Cleanup, "out: client 0, 1 with 0 sends\n"),
-        Entry::Do(
-            Call::Notes,
-            "initialized 0, 1\ninitialized 1, 2\ndisconnected 0, 1: closed\ndestroyed 4278190080, 1, 4 of 0 with 9\n",
-        ),
-        Entry::Do(Call::Insert(true), "client 0, 3\n"),
-    ];
-    let run = Run {
+    },
+    // A slot is used again.
+    Run {
         name: "a slot is used again",
-        entries: &entries,
+        entries: &[
+            Entry::Do(Call::Insert(true), "client 0, 1\n"),
+            Entry::Do(Call::Insert(true), "client 1, 2\n"),
+            Entry::Do(
+                Call::Create(FIRST, QUAD, 3, 9),
+                "created 4278190080, 1, 4 of 0\n",
+            ),
+            Entry::Do(Call::Kill(FIRST), ""),
+            Entry::Do(Call::Cleanup, "out: client 0, 1 with 0 sends\n"),
+            Entry::Do(
+                Call::Notes,
+                "initialized 0, 1\ninitialized 1, 2\ndisconnected 0, 1: closed\ndestroyed 4278190080, 1, 4 of 0 with 9\n",
+            ),
+            Entry::Do(Call::Insert(true), "client 0, 3\n"),
+        ],
         dies: Some(3),
         error_bytes: 0,
         sends: 0,
-    };
-    tried(rt, trial, &run)
-}
+    },
+];
 
-/// Registries and binds.
-fn registries_and_binds(rt: &(impl Abort + Print + AllocGlobal), trial: Trial) -> Result<(), Fail> {
-    registry(rt, trial)?;
-    bound_object(rt, trial)?;
-    sync(rt, trial)
-}
-
-/// Errors.
-fn errors(rt: &(impl Abort + Print + AllocGlobal), trial: Trial) -> Result<(), Fail> {
-    wrong_new_id(rt, trial)?;
-    new_id_of_the_server(rt, trial)?;
-    bind_without_a_name(rt, trial)?;
-    bind_with_a_long_name(rt, trial)?;
-    later_version(rt, trial)?;
-    posted_error(rt, trial)
-}
-
-/// Objects and clients.
-fn objects_and_clients(rt: &(impl Abort + Print + AllocGlobal), trial: Trial) -> Result<(), Fail> {
-    created_objects(rt, trial)?;
-    destroyed_sender(rt, trial)?;
-    slots(rt, trial)
+/// Makes the runs.
+fn all_tried(
+    rt: &(impl Abort + Print + AllocGlobal),
+    trial: Trial,
+    runs: &[Run],
+) -> Result<(), Fail> {
+    for run in runs {
+        tried(rt, trial, run)?;
+    }
+    Ok(())
 }
 
 #[test]
 fn drill_of_registries_and_binds(rt: HostRuntime) -> Result<(), Fail> {
-    registries_and_binds(&rt, Trial::Memory)
+    all_tried(&rt, Trial::Memory, &REGISTRIES_AND_BINDS)
 }
 
 #[test]
 fn faults_of_registries_and_binds(rt: HostRuntime) -> Result<(), Fail> {
-    registries_and_binds(&rt, Trial::Transport)
+    all_tried(&rt, Trial::Transport, &REGISTRIES_AND_BINDS)
 }
 
 #[test]
 fn drill_of_errors(rt: HostRuntime) -> Result<(), Fail> {
-    errors(&rt, Trial::Memory)
+    all_tried(&rt, Trial::Memory, &ERRORS)
 }
 
 #[test]
 fn faults_of_errors(rt: HostRuntime) -> Result<(), Fail> {
-    errors(&rt, Trial::Transport)
+    all_tried(&rt, Trial::Transport, &ERRORS)
 }
 
 #[test]
 fn drill_of_objects_and_clients(rt: HostRuntime) -> Result<(), Fail> {
-    objects_and_clients(&rt, Trial::Memory)
+    all_tried(&rt, Trial::Memory, &OBJECTS_AND_CLIENTS)
 }
 
 #[test]
 fn faults_of_objects_and_clients(rt: HostRuntime) -> Result<(), Fail> {
-    objects_and_clients(&rt, Trial::Transport)
+    all_tried(&rt, Trial::Transport, &OBJECTS_AND_CLIENTS)
 }
 
 /// Fails if the text of the object's id is not this; if memory is refused, it is the next time.

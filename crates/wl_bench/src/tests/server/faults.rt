@@ -244,12 +244,22 @@ fn perform_all(
     Ok(())
 }
 
-/// What is heard of the run of a new server, in which the client's script gets the fault at that place.
+/// What is heard of the run, in which the client's script gets the fault at that place.
+fn heard_by(
+    alloc: Global,
+    server: &mut Server,
+    fault: (Who, usize, Cue),
+    entries: &[Entry],
+) -> Result<Heard, Fail> {
+    let mut heard = Heard::new(alloc);
+    perform_all(alloc, server, &mut heard, fault, entries)?;
+    Ok(heard)
+}
+
+/// The same of a new server.
 fn heard_of(alloc: Global, fault: (Who, usize, Cue), entries: &[Entry]) -> Result<Heard, Fail> {
     let mut server = Backend::new(alloc, quad_table(alloc)?);
-    let mut heard = Heard::new(alloc);
-    perform_all(alloc, &mut server, &mut heard, fault, entries)?;
-    Ok(heard)
+    heard_by(alloc, &mut server, fault, entries)
 }
 
 /// The run, and then all that waits is sent and taken, and all notes are.
@@ -285,24 +295,39 @@ impl Met {
     }
 }
 
-/// Fails if a step of the client, from that one on in which the fault is met, tells something else than it has to.
-fn judge_own(
+/// What a step of the client has to tell, from that one on in which the fault is met, in place of what it was; nothing in
+/// particular if it is killed then.
+fn own_text(met: Met, (at, entry): (usize, Entry), was: &str) -> Option<&str> {
+    let is_reading = matches!(entry, Entry::Do(Call::Next(_), _));
+    let is_met = at == met.at;
+    match met.end {
+        End::Read if is_met => Some("Io error: os error 5\n"),
+        End::Flushed if is_met => Some("os error 5\n"),
+        End::Read | End::Killed if is_reading => Some("Io error: broken pipe\n"),
+        End::Read | End::Killed if !is_met => None,
+        _ => Some(was),
+    }
+}
+
+/// What the step has to tell in place of what it was.
+fn text_of(met: Met, (at, entry): (usize, Entry), was: &str) -> Option<&str> {
+    if at >= met.at && is_of(entry, met.who) {
+        own_text(met, (at, entry), was)
+    } else {
+        Some(was)
+    }
+}
+
+/// Fails if the step tells something else than it has to.
+fn judge_text(
     rt: &impl Abort,
     run: &Run,
     met: Met,
     (at, entry): (usize, Entry),
     (was, is): (&str, &str),
 ) {
-    let is_reading = matches!(entry, Entry::Do(Call::Next(_), _));
-    let is_met = at == met.at;
-    match met.end {
-        End::Read if is_met => assert_eq!(rt; is, "Io error: os error 5\n", "{}: {at}", run.name),
-        End::Flushed if is_met => assert_eq!(rt; is, "os error 5\n", "{}: {at}", run.name),
-        End::Read | End::Killed if is_reading => {
-            assert_eq!(rt; is, "Io error: broken pipe\n", "{}: {at}", run.name)
-        }
-        End::Read | End::Killed if !is_met => {}
-        _ => assert_eq!(rt; is, was, "{}: {at}", run.name),
+    if let Some(text) = text_of(met, (at, entry), was) {
+        assert_eq!(rt; is, text, "{}: {at}", run.name);
     }
 }
 
@@ -314,13 +339,8 @@ fn judge_texts(
     entries: &[Entry],
     (clean, heard): (&[String], &[String]),
 ) {
-    assert_eq!(rt; heard.len(), clean.len(), "{}", run.name);
     for (at, (entry, (was, is))) in entries.iter().zip(clean.iter().zip(heard)).enumerate() {
-        if at >= met.at && is_of(*entry, met.who) {
-            judge_own(rt, run, met, (at, *entry), (was.as_str(), is.as_str()));
-        } else {
-            assert_eq!(rt; is.as_str(), was.as_str(), "{}: {at}", run.name);
-        }
+        judge_text(rt, run, met, (at, *entry), (was.as_str(), is.as_str()));
     }
 }
 
@@ -329,18 +349,40 @@ fn lines_with(text: &str, front: &str) -> usize {
     text.lines().filter(|line| line.starts_with(front)).count()
 }
 
+/// Fails if not one line begins with that.
+fn is_noted_once(rt: &impl Abort, run: &Run, notes: &str, front: &str) {
+    assert_eq!(rt; lines_with(notes, front), 1, "{}: {front}", run.name);
+}
+
+/// Whether the client was noted as closed.
+fn is_closed(notes: &str) -> bool {
+    notes.lines().any(|line| line.starts_with("disconnected") && line.ends_with(": closed"))
+}
+
 /// Fails if the client was not noted as inserted once, as closed once, and taken out once.
 fn is_closed_once(rt: &impl Abort, run: &Run, notes: &str) {
     for front in ["initialized", "disconnected", "out"] {
-        assert_eq!(rt; lines_with(notes, front), 1, "{}: {front}", run.name);
+        is_noted_once(rt, run, notes, front);
     }
-    let is_closed = notes.lines().any(|line| line.starts_with("disconnected")
-        && line.ends_with(": closed"));
-    assert!(rt; is_closed, "{}: {notes}", run.name);
+    assert!(rt; is_closed(notes), "{}: {notes}", run.name);
 }
 
-/// Fails if the client was sent, or noted, something else than it has to. What is not sent until a client is taken out is
-/// lost; and a killed one is sent the front of what it was to be sent.
+/// Fails if the client noted something else than it has to.
+fn judge_notes(rt: &impl Abort, run: &Run, met: Met, was: &str, is: &str) {
+    if met.kills() {
+        is_closed_once(rt, run, is);
+    } else {
+        assert_eq!(rt; is, was, "{}", run.name);
+    }
+}
+
+/// Whether the client was sent what it has to be, or the front of that, if it may be no more: what is not sent until a
+/// client is taken out is lost, and a killed one is sent no more.
+fn is_sent(may_be_a_front: bool, was: &[u8], is: &[u8]) -> bool {
+    was.starts_with(is) && (may_be_a_front || was.len() == is.len())
+}
+
+/// Fails if the client was sent, or noted, something else than it has to.
 fn judge_rest(
     rt: &impl Abort,
     run: &Run,
@@ -349,21 +391,13 @@ fn judge_rest(
     (clean, heard): (&Heard, &Heard),
 ) {
     let is_cleanup = matches!(entries.get(met.at), Some(Entry::Do(Call::Cleanup, _)));
-    if met.kills() {
-        is_closed_once(rt, run, heard.notes.as_str());
-    } else {
-        assert_eq!(rt; heard.notes.as_str(), clean.notes.as_str(), "{}", run.name);
-    }
-    if met.kills() || is_cleanup {
-        let is_front = clean.bytes.as_slice().starts_with(heard.bytes.as_slice());
-        assert!(rt; is_front, "{}", run.name);
-    } else {
-        assert!(rt;
-            heard.bytes.as_slice() == clean.bytes.as_slice(),
-            "{}",
-            run.name
-        );
-    }
+    judge_notes(rt, run, met, clean.notes.as_str(), heard.notes.as_str());
+    let is_right = is_sent(
+        met.kills() || is_cleanup,
+        clean.bytes.as_slice(),
+        heard.bytes.as_slice(),
+    );
+    assert!(rt; is_right, "{}", run.name);
 }
 
 /// Whether the step sends the client an error.
@@ -426,6 +460,35 @@ fn behind_insertion(entries: &[Entry], who: Who) -> usize {
     entries.len()
 }
 
+/// Fails if what is heard of a run with the fault is not what it has to be.
+fn judge_heard(
+    rt: &impl Abort,
+    run: &Run,
+    met: Met,
+    entries: &[Entry],
+    (clean, heard): (&Heard, &Heard),
+) {
+    let texts = (clean.texts.as_slice(), heard.texts.as_slice());
+    assert_eq!(rt; texts.1.len(), texts.0.len(), "{}", run.name);
+    judge_texts(rt, run, met, entries, texts);
+    judge_rest(rt, run, met, entries, (clean, heard));
+}
+
+/// The send to the client after so many others fails; whether there is one.
+fn send_fails(
+    rt: &(impl Abort + AllocGlobal),
+    run: &Run,
+    (who, before): (Who, usize),
+    entries: &[Entry],
+    clean: &Heard,
+) -> Result<bool, Fail> {
+    let place = behind_insertion(entries, who);
+    let met = met_by_send(run, who, entries, clean.sends.as_slice(), before);
+    let heard = heard_of(rt.alloc(), (who, place, Cue::Send(before)), entries)?;
+    judge_heard(rt, run, met, entries, (clean, &heard));
+    Ok(!matches!(met.end, End::Unmet))
+}
+
 /// Each send to the client fails, until none does; how many did.
 fn sends_fail(
     rt: &(impl Abort + AllocGlobal),
@@ -434,14 +497,8 @@ fn sends_fail(
     entries: &[Entry],
     clean: &Heard,
 ) -> Result<usize, Fail> {
-    let place = behind_insertion(entries, who);
     for before in 0..100 {
-        let met = met_by_send(run, who, entries, clean.sends.as_slice(), before);
-        let heard = heard_of(rt.alloc(), (who, place, Cue::Send(before)), entries)?;
-        let texts = (clean.texts.as_slice(), heard.texts.as_slice());
-        judge_texts(rt, run, met, entries, texts);
-        judge_rest(rt, run, met, entries, (clean, &heard));
-        if matches!(met.end, End::Unmet) {
+        if !send_fails(rt, run, (who, before), entries, clean)? {
             return Ok(before);
         }
     }
@@ -466,9 +523,7 @@ fn receive_fails(
 ) -> Result<(), Fail> {
     let heard = heard_of(rt.alloc(), (who, place, Cue::Receive), entries)?;
     let met = met_by_receive(who, entries, heard.texts.as_slice());
-    let texts = (clean.texts.as_slice(), heard.texts.as_slice());
-    judge_texts(rt, run, met, entries, texts);
-    judge_rest(rt, run, met, entries, (clean, &heard));
+    judge_heard(rt, run, met, entries, (clean, &heard));
     let has_to_be_met = entries.get(place).is_some_and(|entry| is_arrival(*entry));
     assert!(rt; met.kills() || !has_to_be_met, "{}: {place}", run.name);
     Ok(())
@@ -492,6 +547,19 @@ fn receives_fail(
 }
 
 /// Each receive from the client, at that step or later, and each send to it, fails; how many sends did.
+fn each_fails(
+    rt: &(impl Abort + AllocGlobal),
+    run: &Run,
+    (who, from): (Who, usize),
+    entries: &[Entry],
+) -> Result<usize, Fail> {
+    let nowhere = (who, entries.len(), Cue::Receive);
+    let clean = heard_of(rt.alloc(), nowhere, entries)?;
+    receives_fail(rt, run, (who, from), entries, &clean)?;
+    sends_fail(rt, run, who, entries, &clean)
+}
+
+/// The same, and what waits in the end is sent.
 fn fails_for(
     rt: &(impl Abort + AllocGlobal),
     run: &Run,
@@ -499,10 +567,7 @@ fn fails_for(
     from: usize,
 ) -> Result<usize, Fail> {
     let entries = with_end(rt.alloc(), run, who)?;
-    let nowhere = (who, entries.len(), Cue::Receive);
-    let clean = heard_of(rt.alloc(), nowhere, entries.as_slice())?;
-    receives_fail(rt, run, (who, from), entries.as_slice(), &clean)?;
-    sends_fail(rt, run, who, entries.as_slice(), &clean)
+    each_fails(rt, run, (who, from), entries.as_slice())
 }
 
 /// Makes the run, in which nothing fails, and then with each fault of each client, and fails if it is not as it has to be.

@@ -2,59 +2,53 @@
 
 use super::arrivals::{GIVE_5000, GIVE_65532};
 use super::hostile::BOUND;
-use super::run::{Act, Look, log_of};
+use super::run::{Act, Look, Row, rows_tell};
 use super::steps::Call;
 use super::values::FIRST;
-use crate::tests::tells;
 use std::test::Fail;
 
-/// The buffer is doubled for a request of 5000 bytes, if the limit allows it.
-#[test]
-fn request_longer_than_the_first_storage(rt: HostRuntime) -> Result<(), Fail> {
-    let acts = [
-        Act::Do(Call::DefaultLimit(8192)),
-        Act::Quietly(&BOUND),
-        Act::ArriveInChunks(FIRST, &GIVE_5000, 5000, 5),
-        Act::Do(Call::NextWithin(FIRST, 64)),
-        Act::Look(Look::Arrivals(FIRST)),
-    ];
-    tells(
-        &rt,
-        log_of(rt.alloc(), &acts),
-        "request 4 to 3, 2, 4 of 0: string of 1: 4980 bytes: fd 5\n62 left, 1 read\n0 arrivals\n",
-    )
-}
+/// The runs, and what they tell.
+static ROWS: [Row; 3] = [
+    // The buffer is doubled for a request of 5000 bytes, if the limit allows it.
+    Row {
+        name: "request longer than the first storage",
+        acts: &[
+            Act::Do(Call::DefaultLimit(8192)),
+            Act::Quietly(&BOUND),
+            Act::ArriveInChunks(FIRST, &GIVE_5000, 5000, 5),
+            Act::Do(Call::NextWithin(FIRST, 64)),
+            Act::Look(Look::Arrivals(FIRST)),
+        ],
+        told: "request 4 to 3, 2, 4 of 0: string of 1: 4980 bytes: fd 5\n62 left, 1 read\n0 arrivals\n",
+    },
+    // It grows up to 65536 bytes, and a reading receives 16 times.
+    Row {
+        name: "request of 65532 bytes",
+        acts: &[
+            Act::Do(Call::DefaultLimit(65536)),
+            Act::Quietly(&BOUND),
+            Act::ArriveInChunks(FIRST, &GIVE_65532, 65532, 5),
+            Act::Do(Call::NextWithin(FIRST, 64)),
+            Act::Look(Look::Arrivals(FIRST)),
+        ],
+        told: "request 4 to 3, 2, 4 of 0: string of 1: 65512 bytes: fd 5\n48 left, 1 read\n0 arrivals\n",
+    },
+    // A request that is longer than the buffer may become: the second receive finds it full, and the client is killed.
+    Row {
+        name: "request longer than the limit",
+        acts: &[
+            Act::Quietly(&BOUND),
+            Act::ArriveInChunks(FIRST, &GIVE_5000, 5000, 5),
+            Act::Do(Call::NextWithin(FIRST, 64)),
+            Act::Look(Look::Arrivals(FIRST)),
+            Act::Do(Call::Notes),
+        ],
+        told: "Io error: broken pipe\n62 left, 0 read\n1 arrivals\ninitialized 0, 1\ndisconnected 0, 1: closed\n",
+    },
+];
 
-/// It grows up to 65536 bytes, and a reading receives 16 times.
+/// Each run tells what it has to.
 #[test]
-fn request_of_65532_bytes(rt: HostRuntime) -> Result<(), Fail> {
-    let acts = [
-        Act::Do(Call::DefaultLimit(65536)),
-        Act::Quietly(&BOUND),
-        Act::ArriveInChunks(FIRST, &GIVE_65532, 65532, 5),
-        Act::Do(Call::NextWithin(FIRST, 64)),
-        Act::Look(Look::Arrivals(FIRST)),
-    ];
-    tells(
-        &rt,
-        log_of(rt.alloc(), &acts),
-        "request 4 to 3, 2, 4 of 0: string of 1: 65512 bytes: fd 5\n48 left, 1 read\n0 arrivals\n",
-    )
-}
-
-/// A request that is longer than the buffer may become: the second receive finds it full, and the client is killed.
-#[test]
-fn request_longer_than_the_limit(rt: HostRuntime) -> Result<(), Fail> {
-    let acts = [
-        Act::Quietly(&BOUND),
-        Act::ArriveInChunks(FIRST, &GIVE_5000, 5000, 5),
-        Act::Do(Call::NextWithin(FIRST, 64)),
-        Act::Look(Look::Arrivals(FIRST)),
-        Act::Do(Call::Notes),
-    ];
-    tells(
-        &rt,
-        log_of(rt.alloc(), &acts),
-        "Io error: broken pipe\n62 left, 0 read\n1 arrivals\ninitialized 0, 1\ndisconnected 0, 1: closed\n",
-    )
+fn rows(rt: HostRuntime) -> Result<(), Fail> {
+    rows_tell(&rt, &ROWS)
 }

@@ -6,8 +6,10 @@ use super::values::{Named, Shown, Thing, Who};
 use crate::tests::cuts::{Cut, Stream};
 use crate::tests::message::padded;
 use crate::tests::quad::{QUAD, quad_table};
+use crate::tests::row_tells;
 use std::alloc::Global;
 use std::fmt::Write;
+use std::process::Abort;
 use std::test::Fail;
 use wl_link::Memory;
 use wl_server::{Action, ActionError, Backend, ClientId, Reply, Step};
@@ -223,6 +225,28 @@ fn arrive_whole(alloc: Global, server: &mut Server, who: Who, bytes: &[u8]) -> R
     made(server, steps)
 }
 
+/// Appends the bytes to what is to arrive, cut so.
+fn arrive_pieces(
+    alloc: Global,
+    server: &mut Server,
+    who: Who,
+    bytes: &[u8],
+    cut: Cut,
+) -> Result<(), Fail> {
+    match cut {
+        Cut::Whole => arrive_whole(alloc, server, who, bytes),
+        Cut::At(place) => {
+            let (front, back) = bytes.split_at(place.min(bytes.len()));
+            arrive_whole(alloc, server, who, front)?;
+            arrive_whole(alloc, server, who, back)
+        }
+        Cut::Bytewise => {
+            let steps = bytewise(alloc, who, bytes)?;
+            made(server, steps)
+        }
+    }
+}
+
 /// Appends the stream to what is to arrive, cut so.
 fn arrive_cut(
     alloc: Global,
@@ -232,18 +256,7 @@ fn arrive_cut(
     cut: Cut,
 ) -> Result<(), Fail> {
     let bytes = stream.bytes(alloc)?;
-    match cut {
-        Cut::Whole => arrive_whole(alloc, server, who, bytes.as_slice()),
-        Cut::At(place) => {
-            let (front, back) = bytes.as_slice().split_at(place.min(bytes.len()));
-            arrive_whole(alloc, server, who, front)?;
-            arrive_whole(alloc, server, who, back)
-        }
-        Cut::Bytewise => {
-            let steps = bytewise(alloc, who, bytes.as_slice())?;
-            made(server, steps)
-        }
-    }
+    arrive_pieces(alloc, server, who, bytes.as_slice(), cut)
 }
 
 /// Ends the action: what a bind made gets 9, and what a request made gets 5.
@@ -264,20 +277,41 @@ fn has_arrivals(server: &Server, who: Who) -> bool {
     }
 }
 
-/// Reads once, and ends the action; whether there may be more to read. Of a reading that would block it tells nothing if
+/// Tells the action, and ends it.
+fn tell_and_end(
+    server: &mut Server,
+    log: &mut String,
+    who: Who,
+    given: &Action,
+) -> Result<(), Fail> {
+    action(log, given)?;
+    end_action(server, who, given)
+}
+
+/// Tells the fault of a reading; whether there may be more to read. Of a reading that would block it tells nothing if
 /// something is still to arrive.
+fn tell_fault(
+    server: &Server,
+    log: &mut String,
+    who: Who,
+    error: ActionError,
+) -> Result<bool, Fail> {
+    let would_block = matches!(error, ActionError::Io(IoFault::WouldBlock));
+    if would_block && has_arrivals(server, who) {
+        return Ok(true);
+    }
+    writeln!(log, "{error}")?;
+    Ok(false)
+}
+
+/// Reads once, and ends the action; whether there may be more to read.
 fn serve_once(server: &mut Server, log: &mut String, who: Who) -> Result<bool, Fail> {
     match server.next_action(&who.id()) {
         Ok(given) => {
-            action(log, &given)?;
-            end_action(server, who, &given)?;
+            tell_and_end(server, log, who, &given)?;
             Ok(true)
         }
-        Err(ActionError::Io(IoFault::WouldBlock)) if has_arrivals(server, who) => Ok(true),
-        Err(error) => {
-            writeln!(log, "{error}")?;
-            Ok(false)
-        }
+        Err(error) => tell_fault(server, log, who, error),
     }
 }
 
@@ -537,11 +571,30 @@ pub fn perform_all(
     Ok(())
 }
 
+/// The log of a run.
+fn log_by(alloc: Global, server: &mut Server, acts: &[Act]) -> Result<String, Fail> {
+    let mut log = String::new(alloc);
+    perform_all(alloc, server, &mut log, acts)?;
+    Ok(log)
+}
+
 /// The log of a run of a new server.
 pub fn log_of(alloc: Global, acts: &[Act]) -> Result<String, Fail> {
-    let mut log = String::new(alloc);
-    let protocol = quad_table(alloc)?;
-    let mut server = Backend::new(alloc, protocol);
-    perform_all(alloc, &mut server, &mut log, acts)?;
-    Ok(log)
+    let mut server = Backend::new(alloc, quad_table(alloc)?);
+    log_by(alloc, &mut server, acts)
+}
+
+/// A row of a table of runs: what a failing one is named, its calls, and what they have to tell.
+pub struct Row {
+    pub name: &'static str,
+    pub acts: &'static [Act],
+    pub told: &'static str,
+}
+
+/// Fails if a run of a new server tells something else than its row says.
+pub fn rows_tell(rt: &(impl Abort + Eprint + AllocGlobal), rows: &[Row]) -> Result<(), Fail> {
+    for row in rows {
+        row_tells(rt, row.name, log_of(rt.alloc(), row.acts), row.told)?;
+    }
+    Ok(())
 }

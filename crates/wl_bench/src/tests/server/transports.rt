@@ -202,12 +202,17 @@ fn make_all(
     Ok(())
 }
 
-/// What the calls tell, of a new server; nothing of those that script a fault.
+/// What the calls tell; nothing of those that script a fault.
+fn played_by(alloc: Global, server: &mut Server, calls: &[Call]) -> Result<Vec<String>, Fail> {
+    let mut texts = Vec::new(alloc);
+    make_all(alloc, server, &mut texts, calls)?;
+    Ok(texts)
+}
+
+/// The same of a new server.
 fn played(alloc: Global, calls: &[Call]) -> Result<Vec<String>, Fail> {
     let mut server = Backend::new(alloc, quad_table(alloc)?);
-    let mut texts = Vec::new(alloc);
-    make_all(alloc, &mut server, &mut texts, calls)?;
-    Ok(texts)
+    played_by(alloc, &mut server, calls)
 }
 
 /// Whether the call names the first client.
@@ -283,22 +288,51 @@ fn is_made_up_for(rt: &(impl Abort + AllocGlobal), calls: &[Call]) -> Result<(),
     tells(rt, whole(rt.alloc(), texts.as_slice()), TOLD)
 }
 
+/// The receive at that call of the first client answers the fault, and is made up for.
+fn receive_is_made_up_for(
+    rt: &(impl Abort + AllocGlobal),
+    at: usize,
+    fault: IoFault,
+) -> Result<(), Fail> {
+    let calls = with_receive(rt.alloc(), at, fault)?;
+    is_made_up_for(rt, calls.as_slice())
+}
+
+/// That send of the first client answers the fault, and is made up for.
+fn send_is_made_up_for(
+    rt: &(impl Abort + AllocGlobal),
+    number: usize,
+    fault: IoFault,
+) -> Result<(), Fail> {
+    let calls = with_send(rt.alloc(), number, fault)?;
+    is_made_up_for(rt, calls.as_slice())
+}
+
+/// Each receive, and each send, answers the fault, and is made up for.
+fn each_is_made_up_for(rt: &(impl Abort + AllocGlobal), fault: IoFault) -> Result<(), Fail> {
+    for (at, call) in RUN.iter().enumerate() {
+        if is_receive(*call) {
+            receive_is_made_up_for(rt, at, fault)?;
+        }
+    }
+    for number in 0..6 {
+        send_is_made_up_for(rt, number, fault)?;
+    }
+    Ok(())
+}
+
 /// Nothing fails; and each receive, and each send, would block or lacks memory: the run comes to what it came to without.
 #[test]
 fn transport_that_would_block_or_lacks_memory(rt: HostRuntime) -> Result<(), Fail> {
-    let alloc = rt.alloc();
     is_made_up_for(&rt, &RUN)?;
-    for fault in [IoFault::WouldBlock, IoFault::OutOfMemory] {
-        for (at, call) in RUN.iter().enumerate() {
-            if is_receive(*call) {
-                is_made_up_for(&rt, with_receive(alloc, at, fault)?.as_slice())?;
-            }
-        }
-        for number in 0..6 {
-            is_made_up_for(&rt, with_send(alloc, number, fault)?.as_slice())?;
-        }
-    }
-    Ok(())
+    each_is_made_up_for(&rt, IoFault::WouldBlock)?;
+    each_is_made_up_for(&rt, IoFault::OutOfMemory)
+}
+
+/// Fails if the call may not tell that its send failed, or does not: a flush of the first client does.
+fn is_failed_flush(rt: &impl Abort, call: Call, told: &str) {
+    assert!(rt; matches!(call, Call::Flush(_)) && is_of_first(call));
+    assert_eq!(rt; told, FAILED.1);
 }
 
 /// How many of the texts differ, if they may: at a flush of the first client, which tells that its transport failed.
@@ -306,27 +340,42 @@ fn failed_flushes(rt: &impl Abort, clean: &[String], texts: &[String]) -> usize 
     let mut count = 0usize;
     for (call, (was, is)) in RUN.iter().zip(clean.iter().zip(texts)) {
         if is.as_str() != was.as_str() {
-            assert!(rt; matches!(call, Call::Flush(_)) && is_of_first(*call));
-            assert_eq!(rt; is.as_str(), FAILED.1);
+            is_failed_flush(rt, *call, is.as_str());
             count = count.saturating_add(1);
         }
     }
     count
 }
 
+/// That send fails; how many flushes answer that.
+fn send_fails(
+    rt: &(impl Abort + AllocGlobal),
+    clean: &[String],
+    number: usize,
+) -> Result<usize, Fail> {
+    let calls = with_send(rt.alloc(), number, IoFault::Other(5))?;
+    let texts = played(rt.alloc(), calls.as_slice())?;
+    Ok(failed_flushes(rt, clean, texts.as_slice()))
+}
+
+/// Each send fails; fails if not so many flushes answer that.
+fn each_send_fails(
+    rt: &(impl Abort + AllocGlobal),
+    clean: &[String],
+    failed: &[usize],
+) -> Result<(), Fail> {
+    for (number, count) in failed.iter().enumerate() {
+        assert_eq!(rt; send_fails(rt, clean, number)?, *count, "send {number}");
+    }
+    Ok(())
+}
+
 /// Each send fails: a flush of the client answers that, and a flush of all, and what sends an error, drop it. Nothing is
 /// lost, and nobody is killed. The first send is by a flush of the client, and the three after it are not.
 #[test]
 fn sends_that_fail(rt: HostRuntime) -> Result<(), Fail> {
-    let alloc = rt.alloc();
-    let clean = played(alloc, &RUN)?;
-    for (number, failed) in [1, 0, 0, 0, 0, 0].iter().enumerate() {
-        let calls = with_send(alloc, number, IoFault::Other(5))?;
-        let texts = played(alloc, calls.as_slice())?;
-        let count = failed_flushes(&rt, clean.as_slice(), texts.as_slice());
-        assert_eq!(rt; count, *failed, "send {number}");
-    }
-    Ok(())
+    let clean = played(rt.alloc(), &RUN)?;
+    each_send_fails(&rt, clean.as_slice(), &[1, 0, 0, 0, 0, 0])
 }
 
 /// Fails if a call that is not the first client's, and tells not of all, tells something else than in the run.
@@ -352,19 +401,27 @@ fn second_is_the_same(rt: &impl Abort, clean: &[String], alone: &[String]) {
     }
 }
 
+/// Fails if a reading answers something else than it has to, if one has failed before or not; whether one has now.
+fn has_failed_now(rt: &impl Abort, has_failed: bool, (was, is): (&str, &str)) -> bool {
+    let fails = has_failed || is != was;
+    let text = if has_failed {
+        PIPE
+    } else if fails {
+        FAILED.0
+    } else {
+        was
+    };
+    assert_eq!(rt; is, text);
+    fails
+}
+
 /// Fails if, after the first reading of the first client that fails, another answers anything but that it is killed;
 /// whether one fails.
 fn fails_once(rt: &impl Abort, clean: &[String], texts: &[String]) -> bool {
     let mut has_failed = false;
     for (call, (was, is)) in RUN.iter().zip(clean.iter().zip(texts)) {
-        if !matches!(call, Call::Next(_)) || !is_of_first(*call) {
-            continue;
-        }
-        if has_failed {
-            assert_eq!(rt; is.as_str(), PIPE);
-        } else if is.as_str() != was.as_str() {
-            assert_eq!(rt; is.as_str(), FAILED.0);
-            has_failed = true;
+        if matches!(call, Call::Next(_)) && is_of_first(*call) {
+            has_failed = has_failed_now(rt, has_failed, (was.as_str(), is.as_str()));
         }
     }
     has_failed
@@ -415,21 +472,32 @@ fn receive_fails(
     Ok(has_failed)
 }
 
+/// Fails if the second client is told otherwise in the run without the first one's calls.
+fn second_is_told_alike(rt: &(impl Abort + AllocGlobal), clean: &[String]) -> Result<(), Fail> {
+    let calls = without_first(rt.alloc())?;
+    let alone = played(rt.alloc(), calls.as_slice())?;
+    second_is_the_same(rt, clean, alone.as_slice());
+    Ok(())
+}
+
+/// Each receive fails; how many are made.
+fn each_receive_fails(rt: &(impl Abort + AllocGlobal), clean: &[String]) -> Result<usize, Fail> {
+    let mut made = 0usize;
+    for (at, call) in RUN.iter().enumerate() {
+        if is_receive(*call) && receive_fails(rt, clean, at)? {
+            made = made.saturating_add(1);
+        }
+    }
+    Ok(made)
+}
+
 /// Each receive fails: the reading that makes it answers that, and its client is closed. The second client is told, noted
 /// and sent the same in all these runs, and in the one without the first client's calls. Only the last of the seven is not
 /// made: what arrives before it breaks the protocol.
 #[test]
 fn receives_that_fail(rt: HostRuntime) -> Result<(), Fail> {
-    let alloc = rt.alloc();
-    let clean = played(alloc, &RUN)?;
-    let alone = played(alloc, without_first(alloc)?.as_slice())?;
-    second_is_the_same(&rt, clean.as_slice(), alone.as_slice());
-    let mut made = 0usize;
-    for (at, call) in RUN.iter().enumerate() {
-        if is_receive(*call) && receive_fails(&rt, clean.as_slice(), at)? {
-            made = made.saturating_add(1);
-        }
-    }
-    assert_eq!(rt; made, 6);
+    let clean = played(rt.alloc(), &RUN)?;
+    second_is_told_alike(&rt, clean.as_slice())?;
+    assert_eq!(rt; each_receive_fails(&rt, clean.as_slice())?, 6);
     Ok(())
 }

@@ -77,14 +77,32 @@ fn up_to_four_arguments_are_mapped(rt: HostRuntime) -> Result<(), Fail> {
     Ok(())
 }
 
+/// Whether the argument is the descriptor of this number.
+fn is_fd(arg: &Argument<u32, u32>, number: u32) -> bool {
+    match arg {
+        Argument::Fd(of) => *of == number,
+        _ => false,
+    }
+}
+
+/// Fails if the argument is not the descriptor of this number.
+fn is_counted(rt: &impl Abort, arg: &Argument<u32, u32>, number: u32, count: usize) {
+    assert!(rt; is_fd(arg, number), "{number} of {count}");
+}
+
+/// Fails if the arguments are not so many descriptors: 0, 1 and so on.
+fn are_counted(rt: &impl Abort, args: &[Argument<u32, u32>], count: usize) {
+    assert_eq!(rt; args.len(), count);
+    for (arg, number) in args.iter().zip(0u32..) {
+        is_counted(rt, arg, number, count);
+    }
+}
+
 /// Fails if so many descriptors do not become 0, 1 and so on.
 fn all_are_mapped(rt: &(impl Abort + AllocGlobal), count: usize) -> Result<(), Fail> {
     let args = Vec::from_elem(rt.alloc(), Arg::Fd(7), count)?;
     let mapped = counted(rt.alloc(), (42, 7), args.as_slice())?;
-    assert_eq!(rt; mapped.args.len(), count);
-    for (arg, number) in mapped.args.as_slice().iter().zip(0u32..) {
-        assert!(rt; *arg == Argument::Fd(number), "{number} of {count}");
-    }
+    are_counted(rt, mapped.args.as_slice(), count);
     Ok(())
 }
 

@@ -5,7 +5,7 @@
 
 use super::written::tell_size;
 use crate::tests::message::{Arg, push, tell_bytes};
-use crate::tests::tells;
+use crate::tests::row_tells;
 use smallvec::SmallVec;
 use std::alloc::Global;
 use std::test::Fail;
@@ -71,40 +71,62 @@ fn tell_room(log: &mut String, message: &Message<u32, Token>, room: usize) -> Re
     tell_written(log, message, &mut buffer)
 }
 
+/// The size of the message, and what comes of its writing into so many bytes.
+fn tell_words(log: &mut String, message: &Message<u32, Token>, room: usize) -> Result<(), Fail> {
+    tell_size(log, message)?;
+    tell_room(log, message, room)
+}
+
 /// The size of the message of so many words, and what comes of its writing into so many bytes.
 fn words_log(alloc: Global, count: u32, room: usize) -> Result<String, Fail> {
     let mut log = String::new(alloc);
     let message = counting(alloc, count)?;
-    tell_size(&mut log, &message)?;
-    tell_room(&mut log, &message, room)?;
+    tell_words(&mut log, &message, room)?;
     Ok(log)
 }
 
-/// The first words are 0 and 1, the last are 16379 and 16380, and four bytes after them are not the message's.
-#[test]
-fn longest_message_of_words_is_written(rt: HostRuntime) -> Result<(), Fail> {
-    tells(
-        &rt,
-        words_log(rt.alloc(), 16381, 65536),
-        "size 65532\nwritten 65532\n03 00 00 00 05 00 fc ff 00 00 00 00 01 00 00 00 .. fb 3f 00 00 fc 3f 00 00 a5 a5 a5 a5, fd 9",
-    )
+/// A row of the table: what a failing one is named, how many words are written into how many bytes, and what is told.
+struct Row {
+    name: &'static str,
+    count: u32,
+    room: usize,
+    told: &'static str,
 }
 
-#[test]
-fn longest_message_of_words_wants_all_its_bytes(rt: HostRuntime) -> Result<(), Fail> {
-    tells(
-        &rt,
-        words_log(rt.alloc(), 16381, 65531),
-        "size 65532\nThe provided buffer is too small to hold message content.\nuntouched, fd 9",
-    )
-}
+/// Messages of so many words, written into so many bytes.
+static ROWS: [Row; 3] = [
+    // The first words are 0 and 1, the last are 16379 and 16380, and four bytes after them are not the message's.
+    Row {
+        name: "longest message of words is written",
+        count: 16381,
+        room: 65536,
+        told: "size 65532\nwritten 65532\n03 00 00 00 05 00 fc ff 00 00 00 00 01 00 00 00 .. fb 3f 00 00 fc 3f 00 00 a5 a5 a5 a5, fd 9",
+    },
+    Row {
+        name: "longest message of words wants all its bytes",
+        count: 16381,
+        room: 65531,
+        told: "size 65532\nThe provided buffer is too small to hold message content.\nuntouched, fd 9",
+    },
+    // Its 65536 bytes would have room, and their number has none in 16 bits.
+    Row {
+        name: "message of a word more is refused",
+        count: 16382,
+        room: 65536,
+        told: "no size\nThe message is longer than 65535 bytes.\nuntouched, fd 9",
+    },
+];
 
-/// Its 65536 bytes would have room, and their number has none in 16 bits.
+/// Each is written, or refused, as it has to be.
 #[test]
-fn message_of_a_word_more_is_refused(rt: HostRuntime) -> Result<(), Fail> {
-    tells(
-        &rt,
-        words_log(rt.alloc(), 16382, 65536),
-        "no size\nThe message is longer than 65535 bytes.\nuntouched, fd 9",
-    )
+fn rows(rt: HostRuntime) -> Result<(), Fail> {
+    for row in &ROWS {
+        row_tells(
+            &rt,
+            row.name,
+            words_log(rt.alloc(), row.count, row.room),
+            row.told,
+        )?;
+    }
+    Ok(())
 }

@@ -1,7 +1,7 @@
 //! Bytes that are no message, or not to its end, and what they leave.
 
 use super::{STR, queue, tell_parsed};
-use crate::tests::tells;
+use crate::tests::row_tells;
 use std::alloc::Global;
 use std::collections::VecDeque;
 use std::test::Fail;
@@ -42,75 +42,93 @@ fn parse_log(
     Ok(log)
 }
 
-#[test]
-fn refusals_in_their_order(rt: HostRuntime) -> Result<(), Fail> {
-    let alloc = rt.alloc();
-    let new_id = [ArgumentType::NewId];
-    let more = [1, 0, 0, 0, 0, 0, 12, 0, 2, 0, 0, 0, 7, 8, 9];
-    tells(
-        &rt,
-        parse_log(alloc, &more, &new_id, &[]),
-        "1, 0: new_id 2; 3 bytes; 0 tokens left",
-    )?;
-    tells(
-        &rt,
-        parse_log(alloc, &more[..11], &new_id, &[]),
-        "More data is needed to deserialize the message; 0 tokens left",
-    )?;
-    tells(
-        &rt,
-        parse_log(alloc, &[1, 0, 0, 0, 0, 0, 8, 0], &new_id, &[]),
-        "The message is malformed and cannot be parsed; 0 tokens left",
-    )
+/// A row of the table: what a failing one is named, the bytes, the signature under which they are read, the tokens that came, and
+/// what is told.
+struct Row {
+    name: &'static str,
+    raw: &'static [u8],
+    signature: &'static [ArgumentType],
+    tokens: &'static [Token],
+    told: &'static str,
 }
 
-#[test]
-fn empty_signature_with_odd_lengths(rt: HostRuntime) -> Result<(), Fail> {
-    let alloc = rt.alloc();
-    let odd = [0x2a, 0, 0, 0, 0, 0, 11, 0, 1, 2, 3];
-    tells(
-        &rt,
-        parse_log(alloc, &odd, &[], &[]),
-        "42, 0; 0 bytes; 0 tokens left",
-    )?;
-    tells(
-        &rt,
-        parse_log(alloc, &odd[..10], &[], &[]),
-        "More data is needed to deserialize the message; 0 tokens left",
-    )?;
-    tells(
-        &rt,
-        parse_log(alloc, &[0x2a, 0, 0, 0, 0, 0, 7, 0], &[], &[]),
-        "The message is malformed and cannot be parsed; 0 tokens left",
-    )
-}
+/// Bytes, and what is read of them.
+static ROWS: [Row; 9] = [
+    Row {
+        name: "more bytes than the message has",
+        raw: &[1, 0, 0, 0, 0, 0, 12, 0, 2, 0, 0, 0, 7, 8, 9],
+        signature: &[ArgumentType::NewId],
+        tokens: &[],
+        told: "1, 0: new_id 2; 3 bytes; 0 tokens left",
+    },
+    Row {
+        name: "a byte less than it has",
+        raw: &[1, 0, 0, 0, 0, 0, 12, 0, 2, 0, 0],
+        signature: &[ArgumentType::NewId],
+        tokens: &[],
+        told: "More data is needed to deserialize the message; 0 tokens left",
+    },
+    Row {
+        name: "a length without its argument",
+        raw: &[1, 0, 0, 0, 0, 0, 8, 0],
+        signature: &[ArgumentType::NewId],
+        tokens: &[],
+        told: "The message is malformed and cannot be parsed; 0 tokens left",
+    },
+    Row {
+        name: "a length that is no multiple of 4",
+        raw: &[0x2a, 0, 0, 0, 0, 0, 11, 0, 1, 2, 3],
+        signature: &[],
+        tokens: &[],
+        told: "42, 0; 0 bytes; 0 tokens left",
+    },
+    Row {
+        name: "a byte less than such a length",
+        raw: &[0x2a, 0, 0, 0, 0, 0, 11, 0, 1, 2],
+        signature: &[],
+        tokens: &[],
+        told: "More data is needed to deserialize the message; 0 tokens left",
+    },
+    Row {
+        name: "a length that is shorter than the header",
+        raw: &[0x2a, 0, 0, 0, 0, 0, 7, 0],
+        signature: &[],
+        tokens: &[],
+        told: "The message is malformed and cannot be parsed; 0 tokens left",
+    },
+    Row {
+        name: "an overrunning string leaves its token",
+        raw: &[
+            0x2a, 0, 0, 0, 0, 0, 16, 0, 100, 0, 0, 0, b'a', b'b', b'c', 0,
+        ],
+        signature: &[STR, ArgumentType::Fd],
+        tokens: &[Token(7)],
+        told: "The message is malformed and cannot be parsed; 1 tokens left",
+    },
+    Row {
+        name: "an overrunning string without a token",
+        raw: &[
+            0x2a, 0, 0, 0, 0, 0, 16, 0, 100, 0, 0, 0, b'a', b'b', b'c', 0,
+        ],
+        signature: &[STR, ArgumentType::Fd],
+        tokens: &[],
+        told: "The message references a FD but the buffer FD is empty.; 0 tokens left",
+    },
+    Row {
+        name: "null string is read beside its token",
+        raw: &[0x2a, 0, 0, 0, 0, 0, 12, 0, 0, 0, 0, 0],
+        signature: &[STR, ArgumentType::Fd],
+        tokens: &[Token(7)],
+        told: "42, 0: string (null): fd 7; 0 bytes; 0 tokens left",
+    },
+];
 
+/// Each is read, or refused, as it has to be.
 #[test]
-fn overrunning_string_leaves_its_token(rt: HostRuntime) -> Result<(), Fail> {
-    let alloc = rt.alloc();
-    let signature = [STR, ArgumentType::Fd];
-    let overrun = [
-        0x2a, 0, 0, 0, 0, 0, 16, 0, 100, 0, 0, 0, b'a', b'b', b'c', 0,
-    ];
-    tells(
-        &rt,
-        parse_log(alloc, &overrun, &signature, &[Token(7)]),
-        "The message is malformed and cannot be parsed; 1 tokens left",
-    )?;
-    tells(
-        &rt,
-        parse_log(alloc, &overrun, &signature, &[]),
-        "The message references a FD but the buffer FD is empty.; 0 tokens left",
-    )
-}
-
-#[test]
-fn null_string_is_read_beside_its_token(rt: HostRuntime) -> Result<(), Fail> {
-    let signature = [STR, ArgumentType::Fd];
-    let null = [0x2a, 0, 0, 0, 0, 0, 12, 0, 0, 0, 0, 0];
-    tells(
-        &rt,
-        parse_log(rt.alloc(), &null, &signature, &[Token(7)]),
-        "42, 0: string (null): fd 7; 0 bytes; 0 tokens left",
-    )
+fn rows(rt: HostRuntime) -> Result<(), Fail> {
+    for row in &ROWS {
+        let log = parse_log(rt.alloc(), row.raw, row.signature, row.tokens);
+        row_tells(&rt, row.name, log, row.told)?;
+    }
+    Ok(())
 }

@@ -78,15 +78,22 @@ fn listed(alloc: Global, plans: &[Plan]) -> Result<Vec<Interface>, Fail> {
     Ok(interfaces)
 }
 
-/// Fails if the fault of the list of these interfaces is another.
-fn faults(
-    rt: &impl Abort,
-    alloc: Global,
-    plans: &[Plan],
+/// A row of the table: what a failing one is named, the interfaces of a list, and its fault, if it has one.
+struct Faulty {
+    name: &'static str,
+    plans: &'static [Plan],
     fault: Option<TableError>,
-) -> Result<(), Fail> {
-    let interfaces = listed(alloc, plans)?;
-    assert_eq!(rt; Protocol::new(alloc, interfaces).err(), fault);
+}
+
+/// Fails if the fault of the row's list is another.
+fn faults(rt: &impl Abort, alloc: Global, row: &Faulty) -> Result<(), Fail> {
+    let interfaces = listed(alloc, row.plans)?;
+    assert_eq!(rt;
+        Protocol::new(alloc, interfaces).err(),
+        row.fault,
+        "{}",
+        row.name
+    );
     Ok(())
 }
 
@@ -144,76 +151,90 @@ fn fixed_interfaces_come_first(rt: HostRuntime) -> Result<(), Fail> {
 }
 
 /// A request with two objects of `quad`.
-static LINKS: [Row; 1] = [Row("link", &[OBJECT, OBJECT], None, &[QUAD, QUAD])];
+const LINKS: [Row; 1] = [Row("link", &[OBJECT, OBJECT], None, &[QUAD, QUAD])];
 
 /// An event without arguments.
-static GONE: [Row; 1] = [Row("gone", &[], None, &[])];
+const GONE: [Row; 1] = [Row("gone", &[], None, &[])];
 
 /// An interface that any list may have at its front.
-fn linked() -> Plan {
-    Plan("quad", &LINKS, &GONE)
-}
-
-#[test]
-fn names_are_taken_once(rt: HostRuntime) -> Result<(), Fail> {
-    let alloc = rt.alloc();
-    let twice = [linked(), linked()];
-    faults(&rt, alloc, &twice, Some(TableError::DuplicateName(1)))?;
-    let fixed = [Plan("wl_display", &[], &[])];
-    faults(&rt, alloc, &fixed, Some(TableError::DuplicateName(0)))
-}
+const LINKED: Plan = Plan("quad", &LINKS, &GONE);
 
 /// It has two new ids, and no child interface.
-static TWO_NEW_IDS: [Row; 1] = [Row("r", &[ArgumentType::NewId, ArgumentType::NewId], None, &[])];
+const TWO_NEW_IDS: [Row; 1] = [Row("r", &[ArgumentType::NewId, ArgumentType::NewId], None, &[])];
 
 /// Its child interface is after the only interface of the list.
-static CHILD_OUTSIDE: [Row; 1] = [Row("r", &[ArgumentType::NewId], Some(InterfaceId(5)), &[])];
+const CHILD_OUTSIDE: [Row; 1] = [Row("r", &[ArgumentType::NewId], Some(InterfaceId(5)), &[])];
 
 /// It has a new id without a child interface, and an object without an argument interface.
-static NO_CHILD: [Row; 1] = [Row("r", &[ArgumentType::NewId, OBJECT], None, &[])];
-
-#[test]
-fn first_fault_is_answered(rt: HostRuntime) -> Result<(), Fail> {
-    let alloc = rt.alloc();
-    let new_ids = [Plan("a", &TWO_NEW_IDS, &[])];
-    faults(&rt, alloc, &new_ids, Some(TableError::TooManyNewIds(0)))?;
-    let outside = [Plan("a", &CHILD_OUTSIDE, &[])];
-    faults(&rt, alloc, &outside, Some(TableError::UnknownInterface(0)))?;
-    let both = [Plan("a", &NO_CHILD, &[])];
-    faults(&rt, alloc, &both, Some(TableError::MissingChild(0)))
-}
+const NO_CHILD: [Row; 1] = [Row("r", &[ArgumentType::NewId, OBJECT], None, &[])];
 
 /// Its child interface is the first interface of the list.
-static OWN_CHILD: [Row; 1] = [Row("r", &[ArgumentType::NewId], Some(InterfaceId(4)), &[])];
+const OWN_CHILD: [Row; 1] = [Row("r", &[ArgumentType::NewId], Some(InterfaceId(4)), &[])];
 
 /// It has a child interface and no new id.
-static CHILD_OF_NOTHING: [Row; 1] = [Row("r", &[], Some(InterfaceId(4)), &[])];
-
-#[test]
-fn interface_may_be_its_own_child(rt: HostRuntime) -> Result<(), Fail> {
-    let alloc = rt.alloc();
-    faults(&rt, alloc, &[Plan("a", &OWN_CHILD, &[])], None)?;
-    faults(&rt, alloc, &[Plan("a", &CHILD_OF_NOTHING, &[])], None)
-}
+const CHILD_OF_NOTHING: [Row; 1] = [Row("r", &[], Some(InterfaceId(4)), &[])];
 
 /// It has an object without an argument interface.
-static NO_OBJECT: [Row; 1] = [Row("e", &[OBJECT], None, &[])];
+const NO_OBJECT: [Row; 1] = [Row("e", &[OBJECT], None, &[])];
 
 /// Its name holds a zero byte.
-static ZERO: [Row; 1] = [Row("\0", &[], None, &[])];
+const ZERO: [Row; 1] = [Row("\0", &[], None, &[])];
+
+/// Lists of interfaces, and their faults.
+static FAULTS: [Faulty; 9] = [
+    Faulty {
+        name: "names are taken once",
+        plans: &[LINKED, LINKED],
+        fault: Some(TableError::DuplicateName(1)),
+    },
+    Faulty {
+        name: "names are taken once: a fixed one",
+        plans: &[Plan("wl_display", &[], &[])],
+        fault: Some(TableError::DuplicateName(0)),
+    },
+    Faulty {
+        name: "first fault: two new ids",
+        plans: &[Plan("a", &TWO_NEW_IDS, &[])],
+        fault: Some(TableError::TooManyNewIds(0)),
+    },
+    Faulty {
+        name: "first fault: a child interface outside",
+        plans: &[Plan("a", &CHILD_OUTSIDE, &[])],
+        fault: Some(TableError::UnknownInterface(0)),
+    },
+    Faulty {
+        name: "first fault: a child interface that is missing",
+        plans: &[Plan("a", &NO_CHILD, &[])],
+        fault: Some(TableError::MissingChild(0)),
+    },
+    Faulty {
+        name: "interface may be its own child",
+        plans: &[Plan("a", &OWN_CHILD, &[])],
+        fault: None,
+    },
+    Faulty {
+        name: "child interface of no new id",
+        plans: &[Plan("a", &CHILD_OF_NOTHING, &[])],
+        fault: None,
+    },
+    Faulty {
+        name: "earlier interface goes first",
+        plans: &[Plan("a", &[], &NO_OBJECT), Plan("\0", &[], &[])],
+        fault: Some(TableError::ArgInterfaces(0)),
+    },
+    Faulty {
+        name: "a zero in a name alone",
+        plans: &[LINKED, Plan("b", &ZERO, &[])],
+        fault: Some(TableError::ZeroInName(1)),
+    },
+];
 
 #[test]
-fn earlier_interface_goes_first(rt: HostRuntime) -> Result<(), Fail> {
-    let alloc = rt.alloc();
-    let objects_first = [Plan("a", &[], &NO_OBJECT), Plan("\0", &[], &[])];
-    faults(
-        &rt,
-        alloc,
-        &objects_first,
-        Some(TableError::ArgInterfaces(0)),
-    )?;
-    let zero_alone = [linked(), Plan("b", &ZERO, &[])];
-    faults(&rt, alloc, &zero_alone, Some(TableError::ZeroInName(1)))
+fn faults_of_lists(rt: HostRuntime) -> Result<(), Fail> {
+    for row in &FAULTS {
+        faults(&rt, rt.alloc(), row)?;
+    }
+    Ok(())
 }
 
 #[test]

@@ -2,7 +2,7 @@
 
 use super::{OBJECT, Parsed, STR, queue, tell_parsed};
 use crate::tests::message::{Arg, message, tell_bytes};
-use crate::tests::tells;
+use crate::tests::row_tells;
 use std::alloc::Global;
 use std::collections::VecDeque;
 use std::test::Fail;
@@ -125,95 +125,119 @@ fn again_log(
     Ok(log)
 }
 
-#[test]
-fn first_sync_bytes(rt: HostRuntime) -> Result<(), Fail> {
-    tells(
-        &rt,
-        written_log(rt.alloc(), (1, 0), &[Arg::NewId(2)], 12),
-        "size 12\n01 00 00 00 00 00 0c 00 02 00 00 00",
-    )
+/// A row of the table: what a failing one is named, a message, how many bytes its buffer has, and what is told.
+struct Row {
+    name: &'static str,
+    header: (u32, u16),
+    args: &'static [Arg],
+    room: usize,
+    told: &'static str,
 }
 
+/// Messages, and their bytes.
+static ROWS: [Row; 4] = [
+    Row {
+        name: "first sync bytes",
+        header: (1, 0),
+        args: &[Arg::NewId(2)],
+        room: 12,
+        told: "size 12\n01 00 00 00 00 00 0c 00 02 00 00 00",
+    },
+    Row {
+        name: "two objects bytes",
+        header: (3, 3),
+        args: &[Arg::Object(0), Arg::Object(3)],
+        room: 100,
+        told: "size 16\n03 00 00 00 03 00 10 00 00 00 00 00 03 00 00 00",
+    },
+    Row {
+        name: "shell bind bytes",
+        header: (2, 0),
+        args: &[Arg::Uint(18), Arg::Str(b"wl_shell"), Arg::Uint(1)],
+        room: 40,
+        told: "size 32\n02 00 00 00 00 00 20 00 12 00 00 00 09 00 00 00 77 6c 5f 73 68 65 6c 6c 00 00 00 00 01 00 00 00",
+    },
+    Row {
+        name: "tokens go beside the bytes",
+        header: (42, 1),
+        args: &[Arg::Fd(1), Arg::Fd(0)],
+        room: 8,
+        told: "size 8\n2a 00 00 00 01 00 08 00, fd 1, fd 0",
+    },
+];
+
+/// Each message has the bytes that it has to.
 #[test]
-fn two_objects_bytes(rt: HostRuntime) -> Result<(), Fail> {
-    let args = [Arg::Object(0), Arg::Object(3)];
-    tells(
-        &rt,
-        written_log(rt.alloc(), (3, 3), &args, 100),
-        "size 16\n03 00 00 00 03 00 10 00 00 00 00 00 03 00 00 00",
-    )
+fn rows(rt: HostRuntime) -> Result<(), Fail> {
+    for row in &ROWS {
+        let log = written_log(rt.alloc(), row.header, row.args, row.room);
+        row_tells(&rt, row.name, log, row.told)?;
+    }
+    Ok(())
 }
 
-#[test]
-fn train_message_and_back(rt: HostRuntime) -> Result<(), Fail> {
-    let args = [
-        Arg::Uint(3),
-        Arg::Fixed(-89),
-        Arg::Str(b"I like trains!"),
-        Arg::Array(&[1, 2, 3, 4, 5, 6, 7, 8, 9]),
-        Arg::Object(88),
-        Arg::NewId(56),
-        Arg::Int(-25),
-    ];
-    let signature = [
-        ArgumentType::Uint,
-        ArgumentType::Fixed,
-        STR,
-        ArgumentType::Array,
-        OBJECT,
-        ArgumentType::NewId,
-        ArgumentType::Int,
-    ];
-    tells(
-        &rt,
-        again_log(rt.alloc(), (42, 7), &args, 64, &signature),
-        "size 64\n42, 7: uint 3: fixed -89: string I like trains!: array 01 02 03 04 05 06 07 08 09: object 88: new_id 56: int -25; 0 bytes; the same; 0 tokens left",
-    )
+/// The same of a message that is read again, under this signature.
+struct Again {
+    name: &'static str,
+    header: (u32, u16),
+    args: &'static [Arg],
+    room: usize,
+    signature: &'static [ArgumentType],
+    told: &'static str,
 }
 
-#[test]
-fn shell_bind_bytes(rt: HostRuntime) -> Result<(), Fail> {
-    let args = [Arg::Uint(18), Arg::Str(b"wl_shell"), Arg::Uint(1)];
-    tells(
-        &rt,
-        written_log(rt.alloc(), (2, 0), &args, 40),
-        "size 32\n02 00 00 00 00 00 20 00 12 00 00 00 09 00 00 00 77 6c 5f 73 68 65 6c 6c 00 00 00 00 01 00 00 00",
-    )
-}
+/// Messages that are written, and read again.
+static AGAIN: [Again; 3] = [
+    Again {
+        name: "train message and back",
+        header: (42, 7),
+        args: &[
+            Arg::Uint(3),
+            Arg::Fixed(-89),
+            Arg::Str(b"I like trains!"),
+            Arg::Array(&[1, 2, 3, 4, 5, 6, 7, 8, 9]),
+            Arg::Object(88),
+            Arg::NewId(56),
+            Arg::Int(-25),
+        ],
+        room: 64,
+        signature: &[
+            ArgumentType::Uint,
+            ArgumentType::Fixed,
+            STR,
+            ArgumentType::Array,
+            OBJECT,
+            ArgumentType::NewId,
+            ArgumentType::Int,
+        ],
+        told: "size 64\n42, 7: uint 3: fixed -89: string I like trains!: array 01 02 03 04 05 06 07 08 09: object 88: new_id 56: int -25; 0 bytes; the same; 0 tokens left",
+    },
+    Again {
+        name: "tokens are read beside the bytes",
+        header: (42, 1),
+        args: &[Arg::Fd(1), Arg::Fd(0)],
+        room: 8,
+        signature: &[ArgumentType::Fd, ArgumentType::Fd],
+        told: "size 8\n42, 1: fd 1: fd 0; 0 bytes; the same; 0 tokens left",
+    },
+    Again {
+        name: "array and back",
+        header: (42, 3),
+        args: &[Arg::Array(&[1, 2, 3])],
+        room: 16,
+        signature: &[ArgumentType::Array],
+        told: "size 16\n42, 3: array 01 02 03; 0 bytes; the same; 0 tokens left",
+    },
+];
 
+/// Each message is read as it was written.
 #[test]
-fn tokens_go_beside_the_bytes(rt: HostRuntime) -> Result<(), Fail> {
-    tells(
-        &rt,
-        written_log(rt.alloc(), (42, 1), &[Arg::Fd(1), Arg::Fd(0)], 8),
-        "size 8\n2a 00 00 00 01 00 08 00, fd 1, fd 0",
-    )
-}
-
-#[test]
-fn tokens_are_read_beside_the_bytes(rt: HostRuntime) -> Result<(), Fail> {
-    let args = [Arg::Fd(1), Arg::Fd(0)];
-    let signature = [ArgumentType::Fd, ArgumentType::Fd];
-    tells(
-        &rt,
-        again_log(rt.alloc(), (42, 1), &args, 8, &signature),
-        "size 8\n42, 1: fd 1: fd 0; 0 bytes; the same; 0 tokens left",
-    )
-}
-
-#[test]
-fn array_and_back(rt: HostRuntime) -> Result<(), Fail> {
-    tells(
-        &rt,
-        again_log(
-            rt.alloc(),
-            (42, 3),
-            &[Arg::Array(&[1, 2, 3])],
-            16,
-            &[ArgumentType::Array],
-        ),
-        "size 16\n42, 3: array 01 02 03; 0 bytes; the same; 0 tokens left",
-    )
+fn rows_that_are_read_again(rt: HostRuntime) -> Result<(), Fail> {
+    for row in &AGAIN {
+        let log = again_log(rt.alloc(), row.header, row.args, row.room, row.signature);
+        row_tells(&rt, row.name, log, row.told)?;
+    }
+    Ok(())
 }
 
 /// What the writer answers for a buffer of so many bytes.
@@ -262,20 +286,40 @@ fn array_log(alloc: Global, len: usize, rooms: &[usize]) -> Result<String, Fail>
     Ok(log)
 }
 
-#[test]
-fn longest_message(rt: HostRuntime) -> Result<(), Fail> {
-    tells(
-        &rt,
-        array_log(rt.alloc(), 65520, &[65531, 65532]),
-        "size 65532\n65531: The provided buffer is too small to hold message content.\n65532 hold 65532\n",
-    )
+/// A message of an array of so many bytes, and the sizes of the buffers that it is written into.
+struct Array {
+    name: &'static str,
+    len: usize,
+    rooms: &'static [usize],
+    told: &'static str,
 }
 
+/// The longest messages.
+static ARRAYS: [Array; 2] = [
+    Array {
+        name: "longest message",
+        len: 65520,
+        rooms: &[65531, 65532],
+        told: "size 65532\n65531: The provided buffer is too small to hold message content.\n65532 hold 65532\n",
+    },
+    Array {
+        name: "longer message is refused",
+        len: 65521,
+        rooms: &[65532],
+        told: "no size\n65532: The message is longer than 65535 bytes.\n",
+    },
+];
+
+/// Each is written, or refused, as it has to be.
 #[test]
-fn longer_message_is_refused(rt: HostRuntime) -> Result<(), Fail> {
-    tells(
-        &rt,
-        array_log(rt.alloc(), 65521, &[65532]),
-        "no size\n65532: The message is longer than 65535 bytes.\n",
-    )
+fn rows_of_arrays(rt: HostRuntime) -> Result<(), Fail> {
+    for row in &ARRAYS {
+        row_tells(
+            &rt,
+            row.name,
+            array_log(rt.alloc(), row.len, row.rooms),
+            row.told,
+        )?;
+    }
+    Ok(())
 }
