@@ -172,8 +172,8 @@ fn convert_one<U: Drop>(
     }
 }
 
-/// Converts the arguments of an event, from left to right, and appends them to `converted`. Returns the object that the
-/// event makes.
+/// Converts the arguments of an event, from left to right, and appends them to `converted`. The object that the event makes
+/// is in `progress` then.
 ///
 /// `args` has the last argument first. The arguments are taken out of it. The error says what is wrong with the first
 /// argument that cannot be converted.
@@ -184,14 +184,14 @@ pub fn convert<U: Drop>(
     progress: &mut Progress<'_>,
     args: &mut SmallVec<Argument<u32, Token>, INLINE_ARGS>,
     converted: &mut SmallVec<Argument<ObjectId, Token>, INLINE_ARGS>,
-) -> Result<Option<ObjectId>, EventFault>
+) -> Result<(), EventFault>
     requires can_make { CanMake progress.old objects.old }
     requires room { HasRoomFor converted.old (length args.old.items) }
     ensures capacity { converted.new.capacity ≡ converted.old.capacity }
     ensures converts { MatchResult result
-        (λ created. EndsWhole
+        (λ _. EndsWhole
         (convert receiver.version receiver.client_destroyed (state objects.old last_serial.old progress.old) converted.old.items (reverse args.old.items))
-        (objects_in objects.new last_serial.new) created converted.new.items)
+        (objects_in objects.new last_serial.new) progress.new.created converted.new.items)
         (λ wrong. convert receiver.version receiver.client_destroyed (state objects.old last_serial.old progress.old) converted.old.items (reverse args.old.items)
         ≡ Wrong wrong (objects_in objects.new last_serial.new)) }
 {
@@ -199,5 +199,5 @@ pub fn convert<U: Drop>(
         let converted_arg = convert_one(objects, last_serial, receiver, progress, arg)?;
         converted.push_reserved(converted_arg);
     }
-    Ok(progress.created)
+    Ok(())
 }

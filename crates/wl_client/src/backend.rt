@@ -12,6 +12,7 @@ use crate::error::WaylandError;
 use crate::event::OpenEvent;
 use crate::object_id::ObjectId;
 use crate::objects::{Kept, Note, fresh_object};
+use crate::place::MessagePlace;
 use std::alloc::Global;
 use std::marker::Model;
 use std::mem;
@@ -46,6 +47,8 @@ pub struct Backend<T, U> {
     pub(crate) notes: Vec<Note>,
     /// Whether memory was refused in the last call that took `&mut self`.
     pub(crate) refused: bool,
+    /// The message that is being read. It is kept here so that its memory is used again.
+    pub(crate) place: MessagePlace,
 }
 
 impl<T, U> Model for Backend<T, U> {
@@ -106,6 +109,7 @@ impl<T: Drop, U: Drop> Backend<T, U> {
             open_event: None,
             notes: Vec::new(alloc),
             refused: false,
+            place: MessagePlace::new(alloc),
         })
     }
 

@@ -28,17 +28,19 @@ pub struct OpenEvent {
     pub created: Option<ObjectId>,
 }
 
-/// Makes an event from a message: converts its arguments, which are taken out of it, and puts them into `event`.
+/// Makes an event from a message: converts its arguments, which are taken out of it, and puts them into `event`. Returns
+/// whether the event is handed out. Then it is open.
 ///
-/// `event` has no arguments yet, and room for these. The map has room for the object that the event may make. `None` if the
-/// event is not handed out, since the client has destroyed its receiver. The error says what is wrong with the event.
+/// `event` has no arguments yet, and room for these. The map has room for the object that the event may make. The event is
+/// not handed out if the client has destroyed its receiver. The error says what is wrong with the event.
 pub fn handle_event<U: Drop>(
     objects: &mut ObjectMap<Kept<U>>,
     last_serial: &mut u64,
+    open_event: &mut Option<OpenEvent>,
     desc: &MessageDesc,
     message: &mut Message<u32, Token>,
     event: &mut Message<ObjectId, Token>,
-) -> Result<Option<OpenEvent>, EventFault>
+) -> Result<bool, EventFault>
     requires receiver { IsSome (held objects.old.store message.old.sender_id) }
     requires can_make { desc.now.child_interface ≢ None → objects.old.reserved ≡ true }
     requires empty { event.old.args.items ≡ [] }
@@ -47,12 +49,13 @@ pub fn handle_event<U: Drop>(
     ensures handled { MatchOption (held objects.old.store message.old.sender_id) ⊥
         (λ x. HandledAs (content message.old) x (message_row desc.now)
         (outcome_of x.version x.value.client_destroyed (start (objects_in objects.old last_serial.old) (message_row desc.now)) [] message.old.args.items)
-        result (session_content event.new) (objects_in objects.new last_serial.new)) }
+        result (session_content event.new) open_event.old open_event.new (objects_in objects.new last_serial.new)) }
 {
     let Some(object) = objects.find(message.sender_id) else {
-        return Ok(None);
+        return Ok(false);
     };
-    let sender = id_at(message.sender_id, object);
+    event.sender_id = id_at(message.sender_id, object);
+    event.opcode = message.opcode;
     let receiver = Receiver {
         version: object.version,
         client_destroyed: object.value.client_destroyed,
@@ -64,7 +67,7 @@ pub fn handle_event<U: Drop>(
     };
     // After this the first argument comes last: it is taken out without moving the others.
     message.args.reverse();
-    let created = convert(
+    convert(
         objects,
         last_serial,
         receiver,
@@ -73,13 +76,12 @@ pub fn handle_event<U: Drop>(
         &mut event.args,
     )?;
     if receiver.client_destroyed {
-        return Ok(None);
+        return Ok(false);
     }
-    event.sender_id = sender;
-    event.opcode = message.opcode;
-    Ok(Some(OpenEvent {
-        sender,
+    *open_event = Some(OpenEvent {
+        sender: event.sender_id,
         is_destructor: desc.is_destructor,
-        created,
-    }))
+        created: progress.created,
+    });
+    Ok(true)
 }

@@ -1,6 +1,6 @@
 //! One *turn* of a reading: takes the first message off what was received, and handles it.
 
-ghost use Rattle.std.specs.Prelude.{◌≡◌, ◌≢◌, ◌≤◌, [], true, false, None, Some, Ok, Err, MatchResult, length, IfOk, OnErr, OnOk, option_copied, option_map};
+ghost use Rattle.std.specs.Prelude.{◌≡◌, ◌≢◌, ◌≤◌, ℕ, Option, [], true, false, None, Some, MatchResult, length, IfOk, OnErr, OnOk, option_copied, option_map};
 ghost use Rattle.smallvec.specs.SmallVec.{HasRoomFor};
 ghost use Rattle.wl_wire.specs.Message.{content};
 ghost use Rattle.wl_wire.specs.Parse.{IsThere};
@@ -10,13 +10,14 @@ ghost use Rattle.wl_wire.specs.declared.error.IoFault.TheVariants as io;
 ghost use Rattle.wl_client.specs.declared.error.EventError.TheVariants as no_event;
 ghost use Rattle.wl_client.specs.declared.error.WaylandError.TheVariants.{Io, Protocol as ProtocolFault};
 ghost use Rattle.wl_client.specs.Events.{error_of};
-ghost use Rattle.wl_client.specs.Handling.{Breaks, handling, row_in};
-ghost use Rattle.wl_client.specs.Reading.{row_asks, with_error};
-ghost use Rattle.wl_client.specs.Session.{objects_of};
+ghost use Rattle.wl_client.specs.Handling.{handling, row_in};
+ghost use Rattle.wl_client.specs.Reading.{row_asks};
+ghost use Rattle.wl_client.specs.Inside.Conversion.{objects_in};
 ghost use Rattle.wl_wire.specs.declared.argument.Token.{Token};
 ghost use Rattle.wl_wire.specs.declared.message.Message.{Message};
+ghost use Rattle.wl_client.specs.declared.event.OpenEvent.{OpenEvent as OpenEventOf};
 ghost use Rattle.wl_client.specs.ObjectId.{IdParts};
-ghost use Rattle.wl_client.specs.Inside.Turns.{CarriedOut, Ended, HandledTo, IsHeader, NotTaken, NotTakenTo, TookWith, Turns, turned};
+ghost use Rattle.wl_client.specs.Inside.Turns.{Carries, IsHeader, NotTaken, NotTakenTo, Stores, TakenTo, TookWith, Turns, turned};
 
 use crate::backend::{Backend, DISPLAY};
 use crate::display::{DisplayMessage, delete_id, display_event};
@@ -26,6 +27,7 @@ use crate::object_id::ObjectId;
 use crate::objects::Kept;
 use crate::protocol_error::{EventFault, fault_text, told_error};
 use smallvec::SmallVec;
+use std::alloc::Global;
 use wl_link::{BufferedSocket, ObjectMap, Transport};
 use wl_wire::{
     Argument, INLINE_ARGS, IoFault, Message, MessageDesc, MessageParseError, OutOfMemory, Protocol,
@@ -137,70 +139,134 @@ fn take<'p, T: Drop, U: Drop>(
     Ok(desc)
 }
 
-impl<T: Transport + Drop, U: Drop> Backend<T, U> {
-    /// Stores the error. If there was no memory for its texts, it stores `OutOfMemory`.
-    #[cold]
-    #[inline(never)]
-    fn fail(&mut self, error: Result<ProtocolError, OutOfMemory>) -> NoEvent
-        ensures { MatchResult error
-            (λ e. (result ≡ record { error = no_event.Failed; refused = false }) × (self.new.session ≡ with_error self.old.session (ProtocolFault e)))
-            (λ _. (result ≡ record { error = no_event.Failed; refused = true }) × (self.new.session ≡ with_error self.old.session (Io io.OutOfMemory))) }
-    {
-        match error {
-            Ok(error) => {
-                self.error = Some(WaylandError::Protocol(error));
-                NoEvent {
-                    error: EventError::Failed,
-                    refused: false,
-                }
+/// Stores the error. If there was no memory for its texts, it stores `OutOfMemory`.
+#[cold]
+#[inline(never)]
+fn fail(stored: &mut Option<WaylandError>, error: Result<ProtocolError, OutOfMemory>) -> NoEvent
+    ensures { MatchResult error
+        (λ e. (result ≡ record { error = no_event.Failed; refused = false }) × (stored.new ≡ Some (ProtocolFault e)))
+        (λ _. (result ≡ record { error = no_event.Failed; refused = true }) × (stored.new ≡ Some (Io io.OutOfMemory))) }
+{
+    match error {
+        Ok(error) => {
+            *stored = Some(WaylandError::Protocol(error));
+            NoEvent {
+                error: EventError::Failed,
+                refused: false,
             }
-            Err(OutOfMemory) => {
-                self.error = Some(WaylandError::Io(IoFault::OutOfMemory));
-                NoEvent {
-                    error: EventError::Failed,
-                    refused: true,
-                }
+        }
+        Err(OutOfMemory) => {
+            *stored = Some(WaylandError::Io(IoFault::OutOfMemory));
+            NoEvent {
+                error: EventError::Failed,
+                refused: true,
             }
         }
     }
+}
 
-    /// Stores an error that says what is wrong with an event: code 0, object 0, no interface, and the text of the fault.
-    #[cold]
-    #[inline(never)]
-    fn fail_by(&mut self, fault: EventFault) -> NoEvent
-        ensures { HandledTo self.old.session (Breaks (error_of self.old.session.table fault) (objects_of self.old.session)) (Ended result) self.new.session }
-    {
-        let alloc = *self.notes.allocator();
-        match fault_text(alloc, &self.protocol, fault) {
-            Ok(text) => self.fail(Ok(ProtocolError {
+/// Stores an error that says what is wrong with an event: code 0, object 0, no interface, and the text of the fault.
+#[cold]
+#[inline(never)]
+fn fail_by(
+    alloc: Global,
+    protocol: &Protocol,
+    stored: &mut Option<WaylandError>,
+    fault: EventFault,
+) -> NoEvent
+    ensures { Stores (error_of protocol.now fault) result stored.new }
+{
+    match fault_text(alloc, protocol, fault) {
+        Ok(text) => {
+            let error = ProtocolError {
                 code: 0,
                 object_id: 0,
                 object_interface: Text::new(String::new(alloc)),
                 message: Text::new(text),
-            })),
-            Err(OutOfMemory) => self.fail(Err(OutOfMemory)),
+            };
+            fail(stored, Ok(error))
+        }
+        Err(OutOfMemory) => fail(stored, Err(OutOfMemory)),
+    }
+}
+
+/// Handles an event of the display.
+fn handle_display<U: Drop>(
+    protocol: &Protocol,
+    objects: &mut ObjectMap<Kept<U>>,
+    stored: &mut Option<WaylandError>,
+    message: &Message<u32, Token>,
+) -> TurnEnd
+    requires { message.now.sender_id ≡ 1 }
+    ensures { (last_serial : ℕ) (event : Message IdParts Token) (open_event : Option OpenEventOf)
+        → Carries (handling protocol.now (objects_in objects.old last_serial) (content message.now)) (turned result event) (objects_in objects.new last_serial)
+        stored.old stored.new open_event open_event }
+{
+    let alloc = *message.args.allocator();
+    match display_event(message) {
+        DisplayMessage::Deletes(number) => {
+            delete_id(objects, number);
+            TurnEnd::GoesOn
+        }
+        DisplayMessage::Fails(code, number, text) => {
+            let error = told_error(alloc, protocol, objects, code, number, text);
+            TurnEnd::Ends(fail(stored, error))
+        }
+        DisplayMessage::Unreadable => {
+            TurnEnd::Ends(fail_by(alloc, protocol, stored, EventFault::Malformed))
         }
     }
+}
 
-    /// Handles an event of the display.
-    fn handle_display(&mut self, message: &Message<u32, Token>) -> TurnEnd
-        requires { message.now.sender_id ≡ 1 }
-        ensures { (event : Message IdParts Token) → HandledTo self.old.session (handling self.old.session.table (objects_of self.old.session) (content message.now)) (turned result event) self.new.session }
-    {
-        match display_event(message) {
-            DisplayMessage::Deletes(number) => {
-                delete_id(&mut self.objects, number);
-                TurnEnd::GoesOn
-            }
-            DisplayMessage::Fails(code, number, text) => {
-                let alloc = *self.notes.allocator();
-                let error = told_error(alloc, &self.protocol, &self.objects, code, number, text);
-                TurnEnd::Ends(self.fail(error))
-            }
-            DisplayMessage::Unreadable => TurnEnd::Ends(self.fail_by(EventFault::Malformed)),
+/// Takes the first message off what was received, and handles it. It has this header. If it makes an event, that is in
+/// `event` then, and open.
+///
+/// `message` is the place that the message is read into. `stored` is the session's error.
+fn take_and_handle<T: Drop, U: Drop>(
+    protocol: &Protocol,
+    objects: &mut ObjectMap<Kept<U>>,
+    last_serial: &mut u64,
+    socket: &mut BufferedSocket<T>,
+    stored: &mut Option<WaylandError>,
+    open_event: &mut Option<OpenEvent>,
+    header: (u32, u16),
+    message: &mut Message<u32, Token>,
+    event: &mut Message<ObjectId, Token>,
+) -> Result<TurnEnd, MessageParseError>
+    requires header { IsHeader socket.old header }
+    requires place { INLINE_ARGS ≤ message.old.args.capacity }
+    requires inline { INLINE_ARGS ≤ event.old.args.capacity }
+    ensures taken { TakenTo protocol.now (objects_in objects.old last_serial.old) socket.old stored.old open_event.old result event.new
+        (objects_in objects.new last_serial.new) socket.new stored.new open_event.new }
+    ensures inline { INLINE_ARGS ≤ event.new.args.capacity }
+{
+    let desc = take(protocol, objects, socket, header, message, &mut event.args)?;
+    if message.sender_id == DISPLAY {
+        return Ok(handle_display(protocol, objects, stored, message));
+    }
+    match handle_event(objects, last_serial, open_event, desc, message, event) {
+        Ok(true) => Ok(TurnEnd::Event),
+        Ok(false) => Ok(TurnEnd::GoesOn),
+        Err(fault) => {
+            let alloc = *message.args.allocator();
+            Ok(TurnEnd::Ends(fail_by(alloc, protocol, stored, fault)))
         }
     }
+}
 
+/// Drops what is left of a message in its place, and the place's memory if it has more than the arguments that need no
+/// allocation.
+fn empty(message: &mut Message<u32, Token>)
+    ensures { INLINE_ARGS ≤ message.new.args.capacity }
+{
+    if message.args.spilled() {
+        message.args = SmallVec::new(*message.args.allocator());
+    } else {
+        message.args.clear();
+    }
+}
+
+impl<T: Transport + Drop, U: Drop> Backend<T, U> {
     /// Takes the first message off what was received, and handles it. If it makes an event, that is in `event` then.
     pub(crate) fn turn(&mut self, event: &mut Message<ObjectId, Token>) -> TurnEnd
         requires { INLINE_ARGS ≤ event.old.args.capacity }
@@ -213,7 +279,7 @@ impl<T: Transport + Drop, U: Drop> Backend<T, U> {
         }
     }
 
-    /// Does the same if this header waits. It is a function of its own, so that room for a message is made only then.
+    /// Does the same if this header waits.
     #[inline(never)]
     fn turn_at_header(
         &mut self,
@@ -225,63 +291,21 @@ impl<T: Transport + Drop, U: Drop> Backend<T, U> {
         ensures turns { Turns self.old.session (turned result event.new) self.new.session }
         ensures inline { INLINE_ARGS ≤ event.new.args.capacity }
     {
-        let mut message = Message {
-            sender_id: 0,
-            opcode: 0,
-            args: SmallVec::new(*self.notes.allocator()),
-        };
-        self.turn_with(header, &mut message, event)
-    }
-
-    /// Does the same, with room for the message that is taken. The message is lent, so that an early return has nothing to
-    /// drop.
-    fn turn_with(
-        &mut self,
-        header: (u32, u16),
-        message: &mut Message<u32, Token>,
-        event: &mut Message<ObjectId, Token>,
-    ) -> TurnEnd
-        requires header { IsHeader self.old.session.link header }
-        requires place { INLINE_ARGS ≤ message.old.args.capacity }
-        requires inline { INLINE_ARGS ≤ event.old.args.capacity }
-        ensures turns { Turns self.old.session (turned result event.new) self.new.session }
-        ensures inline { INLINE_ARGS ≤ event.new.args.capacity }
-    {
-        let desc = match take(
+        let handled = take_and_handle(
             &self.protocol,
             &mut self.objects,
-            &mut self.socket,
-            header,
-            message,
-            &mut event.args,
-        ) {
-            Ok(desc) => desc,
-            Err(error) => return self.not_taken(error),
-        };
-        if message.sender_id == DISPLAY {
-            return self.handle_display(message);
-        }
-        let handled = handle_event(
-            &mut self.objects,
             &mut self.last_serial,
-            desc,
-            message,
+            &mut self.socket,
+            &mut self.error,
+            &mut self.open_event,
+            header,
+            &mut self.place.message,
             event,
         );
-        self.carry_out(handled)
-    }
-
-    /// Opens the event that is to be handed out, or stores the error of a fault.
-    fn carry_out(&mut self, handled: Result<Option<OpenEvent>, EventFault>) -> TurnEnd
-        ensures { CarriedOut self.old.session handled result self.new.session }
-    {
+        empty(&mut self.place.message);
         match handled {
-            Ok(None) => TurnEnd::GoesOn,
-            Ok(Some(open_event)) => {
-                self.open_event = Some(open_event);
-                TurnEnd::Event
-            }
-            Err(fault) => TurnEnd::Ends(self.fail_by(fault)),
+            Ok(end) => end,
+            Err(error) => self.not_taken(error),
         }
     }
 
@@ -290,9 +314,17 @@ impl<T: Transport + Drop, U: Drop> Backend<T, U> {
         requires { NotTaken self.old.session error }
         ensures { (event : Message IdParts Token) → NotTakenTo self.old.session (turned result event) self.new.session }
     {
+        let alloc = *self.notes.allocator();
         match error {
             MessageParseError::MissingData | MessageParseError::MissingFD => TurnEnd::Lacks,
-            MessageParseError::Malformed => TurnEnd::Ends(self.fail_by(EventFault::Malformed)),
+            MessageParseError::Malformed => {
+                TurnEnd::Ends(fail_by(
+                    alloc,
+                    &self.protocol,
+                    &mut self.error,
+                    EventFault::Malformed,
+                ))
+            }
             MessageParseError::OutOfMemory => TurnEnd::Ends(NoEvent {
                 error: EventError::OutOfMemory,
                 refused: true,

@@ -6,6 +6,7 @@ use Rattle.wl_wire.specs.declared.error.IoFault.{IoFault}
 use Rattle.wl_wire.specs.declared.error.IoFault.TheVariants as fault
 use Rattle.wl_wire.specs.declared.error.MessageParseError.{MessageParseError}
 use Rattle.wl_wire.specs.declared.error.MessageParseError.TheVariants as parse
+use Rattle.wl_wire.specs.declared.error.ProtocolError.{ProtocolError}
 use Rattle.wl_wire.specs.declared.interface.MessageDesc.{MessageDesc}
 use Rattle.wl_wire.specs.declared.message.Message.{Message}
 use Rattle.wl_wire.specs.Message.{WireMessage}
@@ -22,6 +23,7 @@ use Rattle.wl_client.specs.declared.display.DisplayMessage.{DisplayMessage}
 use Rattle.wl_client.specs.declared.display.DisplayMessage.TheVariants as told
 use Rattle.wl_client.specs.declared.error.EventError.{EventError}
 use Rattle.wl_client.specs.declared.error.EventError.TheVariants as no_event
+use Rattle.wl_client.specs.declared.error.WaylandError.{WaylandError}
 use Rattle.wl_client.specs.declared.error.WaylandError.TheVariants.{Io, Protocol}
 use Rattle.wl_client.specs.declared.protocol_error.EventFault.TheVariants as wrong
 use Rattle.wl_client.specs.declared.objects.Kept.{Kept}
@@ -49,17 +51,19 @@ IsHeader link header =
     (8 ≤ length link.incoming.bytes) × (header.0 ≡ sender_of link.incoming.bytes) × (header.1 ≡ opcode_of link.incoming.bytes)
 
 module _ {U : Type 0} where
-  -- what becomes of an event whose arguments were gone through: it is open from then on, or not handed out, or has a fault
-  abbrev pub HandledAs : WireMessage → Object (Kept U) → MessageRow → Outcome U → Result (Option OpenEvent) EventFault → SessionMessage → Objects (Kept U) → Type 0
-  HandledAs m receiver row (Whole c args) (Ok None) event after =
-      (receiver.value.client_destroyed ≡ true) × (after ≡ c.objects)
-  HandledAs m receiver row (Whole c args) (Ok (Some opened)) event after =
+  -- What becomes of an event whose arguments were gone through, and which event is open before and after it: this one is open
+  -- from then on, or it is not handed out, or has a fault.
+  abbrev pub HandledAs : WireMessage → Object (Kept U) → MessageRow → Outcome U → Result Bool EventFault → SessionMessage → Option OpenEvent → Option OpenEvent
+      → Objects (Kept U) → Type 0
+  HandledAs m receiver row (Whole c args) (Ok false) event before after objects =
+      (receiver.value.client_destroyed ≡ true) × (after ≡ before) × (objects ≡ c.objects)
+  HandledAs m receiver row (Whole c args) (Ok true) event before after objects =
       (receiver.value.client_destroyed ≡ false)
       × (event ≡ record { sender = id_at m.sender receiver; opcode = m.opcode; args = args })
-      × (opened ≡ record { sender = id_at m.sender receiver; is_destructor = row.is_destructor; created = c.created })
-      × (after ≡ c.objects)
-  HandledAs m receiver row (Wrong w objects) (Err w') event after = (w' ≡ w) × (after ≡ objects)
-  HandledAs m receiver row _ _ event after = ⊥
+      × (after ≡ Some (record { sender = id_at m.sender receiver; is_destructor = row.is_destructor; created = c.created }))
+      × (objects ≡ c.objects)
+  HandledAs m receiver row (Wrong w objects) (Err w') event before after objects' = (w' ≡ w) × (after ≡ before) × (objects' ≡ objects)
+  HandledAs m receiver row _ _ event before after objects = ⊥
 
   -- what the read of the message at the front answers under the session's signatures
   abbrev pub ReadsIn : {T : Type 0} → List InterfaceRow → Store (Kept U) → LinkState T → Result WireMessage MessageParseError → LinkState T → Type 0
@@ -108,6 +112,32 @@ abbrev pub event_refused : Result (Message IdParts Token) NoEvent → Bool
 event_refused (Ok m) = false
 event_refused (Err end) = end.refused
 
+-- this error is stored; or there was no memory for its texts, and that is stored
+abbrev pub Stores : ProtocolError → NoEvent → Option WaylandError → Type 0
+Stores e end after =
+    (end.error ≡ no_event.Failed)
+    × (((end.refused ≡ false) × (after ≡ Some (Protocol e)))
+    ⊎ ((end.refused ≡ true) × (after ≡ Some (Io fault.OutOfMemory))))
+
+module _ {U : Type 0} where
+  -- the handling of a message was carried out: what the objects are then, and the error and the open event before and then
+  abbrev pub Carries : Handling U → Turned → Objects (Kept U) → Option WaylandError → Option WaylandError → Option OpenEvent → Option OpenEvent → Type 0
+  Carries (Swallows o) WentOn objects error error' opened opened' = (objects ≡ o) × (error' ≡ error) × (opened' ≡ opened)
+  Carries (HandsOut m event o) (GaveEvent e) objects error error' opened opened' =
+      (session_content e ≡ m) × (objects ≡ o) × (error' ≡ error) × (opened' ≡ Some event)
+  Carries (Breaks e o) (Ended end) objects error error' opened opened' = (objects ≡ o) × (opened' ≡ opened) × Stores e end error'
+  Carries _ _ objects error error' opened opened' = ⊥
+
+  -- the message at the front was taken and handled; or it was not taken, and all is as before
+  abbrev pub TakenTo : {T : Type 0} → List InterfaceRow → Objects (Kept U) → LinkState T → Option WaylandError → Option OpenEvent
+      → Result TurnEnd MessageParseError → Message IdParts Token → Objects (Kept U) → LinkState T → Option WaylandError → Option OpenEvent → Type 0
+  TakenTo table objects link error opened (Ok end) event objects' link' error' opened' =
+      (m : WireMessage) × ReadsIn table objects.store link (Ok m) link'
+      × Carries (handling table objects m) (turned end event) objects' error error' opened opened'
+  TakenTo table objects link error opened (Err e) event objects' link' error' opened' =
+      (objects' ≡ objects) × (link' ≡ link) × (error' ≡ error) × (opened' ≡ opened)
+      × (ReadsIn table objects.store link (Err e) link ⊎ ((e ≡ parse.OutOfMemory) × EventAsks table objects.store link.incoming))
+
 module _ {T U : Type 0} where
   -- the handling of a message was carried out
   abbrev pub HandledTo : SessionState T U → Handling U → Turned → SessionState T U → Type 0
@@ -119,13 +149,6 @@ module _ {T U : Type 0} where
       × (((end.refused ≡ false) × (after ≡ with_error (with_objects before o) (Protocol e)))
       ⊎ ((end.refused ≡ true) × (after ≡ with_error (with_objects before o) (Io fault.OutOfMemory))))
   HandledTo before _ _ after = ⊥
-
-  -- the same for an event of an object, after its arguments were gone through
-  abbrev pub CarriedOut : SessionState T U → Result (Option OpenEvent) EventFault → TurnEnd → SessionState T U → Type 0
-  CarriedOut before (Ok None) end after = (end ≡ came.GoesOn) × (after ≡ before)
-  CarriedOut before (Ok (Some opened)) end after = (end ≡ came.Event) × (after ≡ record before { open_event = Some opened })
-  CarriedOut before (Err w) end after =
-      (e : NoEvent) × (end ≡ came.Ends e) × HandledTo before (Breaks (error_of before.table w) (objects_of before)) (Ended e) after
 
   abbrev pub malformed : SessionState T U → Handling U
   malformed s = Breaks (error_of s.table wrong.Malformed) (objects_of s)
