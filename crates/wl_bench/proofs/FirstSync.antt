@@ -11,7 +11,7 @@ use Rattle.wl_link.specs.Exchange.{Queue, Sending, nothing, joined}
 use Rattle.wl_link.specs.Identity.{named_in}
 use Rattle.wl_link.specs.Link.{LinkState, Wrote, Flushed, FlushedBy, spelled, with_outgoing, offer_of, left_of}
 use Rattle.wl_link.proofs.Calls.OneLaws.{one_flush_lem, one_write_lem}
-use Rattle.wl_link.specs.Puts.{lacked_memory}
+use Rattle.wl_link.specs.Puts.{lacks_memory}
 use Rattle.wl_link.specs.Script.{Script, ScriptSends, script_after_send}
 use Rattle.wl_link.proofs.Calls.OneScript.{script_sends_function}
 use Rattle.wl_link.specs.Store.{Store, client_range, empty_store, stored, IsLeastAbsent}
@@ -173,7 +173,7 @@ module _ {U : Type 0} where
       → Written ScriptSends fresh_session wire_sync (Some new) None (Ok id) after → (after.error ≡ None) × (after.link ≡ waiting_link)
   sync_written new id after w =
       let P : Result (Unit {0}) IoFault → Type 0
-      = λ r. MatchBool (lacked_memory r)
+      = λ r. MatchBool (lacks_memory r)
       ((◌≡◌ {A = Result IdParts RequestError} (Ok id) (Err refused.OutOfMemory)) × (after ≡ record fresh_session { link = w.1 }))
       ((◌≡◌ {A = Result IdParts RequestError} (Ok id) (Ok (id_of_new (Some new))))
       × (after ≡ with_ended (with_born (record fresh_session { link = w.1; error = error_after None r }) (Some new)) None)) in

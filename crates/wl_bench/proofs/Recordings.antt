@@ -27,7 +27,7 @@ use Rattle.wl_bench.specs.Answers.{Line}
 use Rattle.wl_bench.specs.Bench.{BenchState, NamesNone}
 use Rattle.wl_bench.specs.Commands.{AskSame, IsLine, IsNumber}
 use Rattle.wl_bench.specs.Inside.Comparing.{EndsWith, GoesOn, IsBadAt, IsNumbered, IsWord, missing_in}
-use Rattle.wl_bench.specs.Record.{Ascend, IsAnother, IsNoCommand, IsRecord, Leads, Replays, Told, last_number, lines, quoted, record_of, recording_of}
+use Rattle.wl_bench.specs.Record.{Ascend, IsAnother, IsNoCommand, IsRecord, Leads, Replays, Recorded, last_number, lines, quoted, record_of, recording_of}
 use Rattle.wl_bench.proofs.Numbers.{own}
 use Rattle.wl_bench.proofs.OneCommand.{one_of_line}
 use Rattle.wl_bench.proofs.RunLines.{IsReadOf, is_read, leads_more, same_none}
@@ -159,19 +159,19 @@ compared before after line output false missing bench last count is =
 
 -- ---- recordings, one line after another
 
-ascend_more : (last : ℕ) (told : List Told) (t : Told) → Ascend last told → last_number last told < t.number → t.number ≤ 4294967295
+ascend_more : (last : ℕ) (told : List Recorded) (t : Recorded) → Ascend last told → last_number last told < t.number → t.number ≤ 4294967295
     → Ascend last (told ++ t ∷ [])
 ascend_more last [] t h more few = (more, few, tt)
 ascend_more last (u ∷ told) t h more few = (h.0, h.1, ascend_more u.number told t h.2 more few)
 
-last_more : (last : ℕ) (told : List Told) (t : Told) → last_number last (told ++ t ∷ []) ≡ t.number
+last_more : (last : ℕ) (told : List Recorded) (t : Recorded) → last_number last (told ++ t ∷ []) ≡ t.number
 last_more last [] t = refl
 last_more last (u ∷ told) t = last_more u.number told t
 
 -- a recording that is the same up to the line of a place
 abbrev pub HasCompared : ℕ → Option (List ℕ) → Option (List ℕ) → BenchState → Comparison → Type 0
 HasCompared place whole now begun c = IfSome whole
-    (λ input. (rest : List ℕ) × (now ≡ Some rest) × (front : List Line) × (told : List Told) × (lines input ≡ front ++ lines rest)
+    (λ input. (rest : List ℕ) × (now ≡ Some rest) × (front : List Line) × (told : List Recorded) × (lines input ≡ front ++ lines rest)
     × (place ≡ suc (length front)) × IsRecord begun front told (missing_in c) c.bench × (c.last ≡ last_number 0 told) × (c.count ≡ length told))
 
 pub at_start : (whole : Option (List ℕ)) (begun : BenchState) (c : Comparison) → (c.bench ≡ begun) × (c.last ≡ 0) × (c.count ≡ 0) × (missing_in c ≡ [])

@@ -11,7 +11,7 @@ use Rattle.wl_bench.specs.Answers.{action_text, bind_text, client_text, destroye
 use Rattle.wl_bench.specs.Commands.{AreBytes, AreNumbers, IsByte, IsCommand, words}
 use Rattle.wl_bench.specs.Bench.{BenchState, Does}
 use Rattle.wl_bench.specs.Inside.Comparing.{IsWord}
-use Rattle.wl_bench.specs.Record.{IsOutput, Leads, Replays, Told, lines, recording_of}
+use Rattle.wl_bench.specs.Record.{IsOutput, Leads, Replays, Recorded, lines, recording_of}
 use Rattle.wl_bench.specs.declared.replay.Replayed.TheVariants.{Same, Differs}
 use Rattle.wl_bench.specs.declared.stop.Stop.TheVariants.{BadLine}
 use Rattle.wl_bench.proofs.Recordings.{no_space, number_word, same_cut}
@@ -135,7 +135,7 @@ row_nothing : (b : BenchState) → Replays b (lines []) (Ok (Same 0))
 row_nothing b = ([], b, (refl, tt, refl), refl)
 
 -- the line `1 client`, in a bench where it prints `client 0 1`
-abbrev inserted : Told
+abbrev inserted : Recorded
 inserted = record { number = 1; line = codes "client"; answer = codes "client 0 1" ∷ [] }
 
 abbrev Prints : BenchState → BenchState → Type 0

@@ -13,7 +13,7 @@ use Rattle.wl_bench.specs.declared.stop.Stop.TheVariants.{BadLine, Failed, Usage
 use Rattle.wl_bench.specs.Answers.{Line}
 use Rattle.wl_bench.specs.Bench.{BenchState, Does, LacksClient, NamesNone, latest}
 use Rattle.wl_bench.specs.Commands.{AskSame, IsLine}
-use Rattle.wl_bench.specs.Record.{Answers, AreOf, IsBad, Leads, Runs, StopsAt, Told, fed, lines, text_of, written, written_of}
+use Rattle.wl_bench.specs.Record.{Answers, AreOf, IsBad, Leads, Runs, StopsAt, Recorded, fed, lines, text_of, written, written_of}
 use Rattle.wl_bench.proofs.InputLines.{first_line, is_first, some_input}
 
 -- ---- what a writer holds
@@ -40,23 +40,23 @@ keeps_same (Some xs) = refl
 
 -- ---- commands behind commands
 
-pub leads_more : (before mid after : BenchState) (told others : List Told) → Leads before told mid → Leads mid others after → Leads before (told ++ others) after
+pub leads_more : (before mid after : BenchState) (told others : List Recorded) → Leads before told mid → Leads mid others after → Leads before (told ++ others) after
 leads_more before mid after [] others same k = subst (λ (b : BenchState). Leads b others after) same k
 leads_more before mid after (t ∷ told) others (command, is, next, does, rest) k =
     (command, is, next, does, leads_more next mid after told others rest k)
 
-empty_more : (n : ℕ) (front : List Line) (told : List Told) → AreOf n front told → AreOf n (front ++ [] ∷ []) told
+empty_more : (n : ℕ) (front : List Line) (told : List Recorded) → AreOf n front told → AreOf n (front ++ [] ∷ []) told
 empty_more n [] [] h = tt
 empty_more n [] (t ∷ told) h = absurd h
 empty_more n ([] ∷ front) told h = empty_more (suc n) front told h
 empty_more n ((b ∷ line) ∷ front) [] h = absurd h
 empty_more n ((b ∷ line) ∷ front) (t ∷ told) h = (h.0, h.1, empty_more (suc n) front told h.2)
 
-one_of : (n : ℕ) (line : Line) (t : Told) → t.number ≡ n → t.line ≡ line → line ≢ [] → AreOf n (line ∷ []) (t ∷ [])
+one_of : (n : ℕ) (line : Line) (t : Recorded) → t.number ≡ n → t.line ≡ line → line ≢ [] → AreOf n (line ∷ []) (t ∷ [])
 one_of n [] t number same some = absurd (some refl)
 one_of n (b ∷ line) t number same some = (number, same, tt)
 
-command_more : (n : ℕ) (front : List Line) (told : List Told) (line : Line) (t : Told) → AreOf n front told → t.number ≡ n + length front
+command_more : (n : ℕ) (front : List Line) (told : List Recorded) (line : Line) (t : Recorded) → AreOf n front told → t.number ≡ n + length front
     → t.line ≡ line → line ≢ [] → AreOf n (front ++ line ∷ []) (told ++ t ∷ [])
 command_more n [] [] line t h number same some = one_of n line t (omega (arith, number)) same some
 command_more n [] (u ∷ told) line t h number same some = absurd h
@@ -65,7 +65,7 @@ command_more n ((b ∷ first) ∷ front) [] line t h number same some = absurd h
 command_more n ((b ∷ first) ∷ front) (u ∷ told) line t h number same some =
     (h.0, h.1, command_more (suc n) front told line t h.2 (omega (arith, number)) same some)
 
-written_more : (f : Form) (told : List Told) (t : Told) → text_of (written f (told ++ t ∷ [])) ≡ text_of (written f told) ++ text_of (written_of f t)
+written_more : (f : Form) (told : List Recorded) (t : Recorded) → text_of (written f (told ++ t ∷ [])) ≡ text_of (written f told) ++ text_of (written_of f t)
 written_more f told t =
     ap text_of (flat_map-append (written_of f) told (t ∷ []) ∙ ap (λ (l : List Line). written f told ++ l) (append-nil (written_of f t)))
     ∙ flat_map-append fed (written f told) (written_of f t)
@@ -74,7 +74,7 @@ written_more f told t =
 
 abbrev pub HasRun : Form → ℕ → Option (List ℕ) → Option (List ℕ) → BenchState → BenchState → Option (List ℕ) → Option (List ℕ) → Type 0
 HasRun f n whole now begun bench held held' = IfSome whole
-    (λ input. (rest : List ℕ) × (now ≡ Some rest) × (front : List Line) × (told : List Told) × (lines input ≡ front ++ lines rest)
+    (λ input. (rest : List ℕ) × (now ≡ Some rest) × (front : List Line) × (told : List Recorded) × (lines input ≡ front ++ lines rest)
     × (n ≡ suc (length front)) × AreOf 1 front told × Leads begun told bench × Appends held held' (text_of (written f told)))
 
 pub at_first : (f : Form) (whole : Option (List ℕ)) (bench : BenchState) (held : Option (List ℕ)) → HasRun f 1 whole whole bench bench held held

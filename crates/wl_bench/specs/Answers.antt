@@ -40,13 +40,13 @@ abbrev pub hex : List ℕ → Line
 hex bytes = flat_map hex_digits bytes
 
 -- a text after this character
-abbrev pub behind : {X : Type 0} → ℕ → (X → Line) → X → Line
-behind byte text x = byte ∷ text x
+abbrev pub after_byte : {X : Type 0} → ℕ → (X → Line) → X → Line
+after_byte byte text x = byte ∷ text x
 
 -- the texts with this character between
 abbrev pub joined : {X : Type 0} → ℕ → (X → Line) → List X → Line
 joined byte text [] = []
-joined byte text (x ∷ rest) = text x ++ flat_map (behind byte text) rest
+joined byte text (x ∷ rest) = text x ++ flat_map (after_byte byte text) rest
 
 -- ---- actions
 

@@ -36,7 +36,7 @@ text_of all = flat_map fed all
 -- ---- the record of commands
 
 -- a command that was carried out: its number, the text of its line, and the lines that it printed
-pub record Told : Type 0 where
+pub record Recorded : Type 0 where
   pub number : ℕ
   pub line : Line
   pub answer : List Line
@@ -46,20 +46,20 @@ abbrev pub quoted : Line → Line
 quoted line = 62 ∷ 32 ∷ line
 
 -- the line of a command: its number, a space, and its text
-abbrev pub command_line : Told → Line
+abbrev pub command_line : Recorded → Line
 command_line t = decimal t.number ++ 32 ∷ t.line
 
 -- the record of a command
-abbrev pub record_of : Told → List Line
+abbrev pub record_of : Recorded → List Line
 record_of t = command_line t ∷ map quoted t.answer
 
 -- and of several: the record of numbered commands that printed this
-abbrev pub recording_of : List Told → List Line
+abbrev pub recording_of : List Recorded → List Line
 recording_of all = flat_map record_of all
 
 -- Each is a command under its number, which prints this after the commands before it. The notes of two clients are in the
 -- order in which the run gave them.
-abbrev pub Leads : BenchState → List Told → BenchState → Type 0
+abbrev pub Leads : BenchState → List Recorded → BenchState → Type 0
 Leads before [] after = after ≡ before
 Leads before (t ∷ all) after =
     (command : Command) × IsLine command t.line × (mid : BenchState) × Does before t.number command t.answer mid × Leads mid all after
@@ -67,7 +67,7 @@ Leads before (t ∷ all) after =
 -- ---- runs of lines
 
 -- the commands of lines, of which this is the number of the first: each line that is not empty, under its number
-abbrev pub AreOf : ℕ → List Line → List Told → Type 0
+abbrev pub AreOf : ℕ → List Line → List Recorded → Type 0
 AreOf n [] [] = ⊤
 AreOf n [] (t ∷ all) = ⊥
 AreOf n ([] ∷ rest) all = AreOf (suc n) rest all
@@ -79,11 +79,11 @@ abbrev pub IsBad : BenchState → Line → Type 0
 IsBad b line = (line ≢ []) × ((command : Command) → IsLine command line → NamesNone b command)
 
 -- what is written of a command: the lines that it printed, or its record
-abbrev pub written_of : Form → Told → List Line
+abbrev pub written_of : Form → Recorded → List Line
 written_of form.Answers t = t.answer
 written_of form.Record t = record_of t
 
-abbrev pub written : Form → List Told → List Line
+abbrev pub written : Form → List Recorded → List Line
 written f all = flat_map (written_of f) all
 
 -- How a run over these lines ends, and what it has written after what the writer held, if that is known. The first line has
@@ -91,9 +91,9 @@ written f all = flat_map (written_of f) all
 -- Nothing is said of a run that failed.
 abbrev pub Runs : Form → ℕ → BenchState → List Line → Result (Unit {0}) Stop → Option (List ℕ) → Option (List ℕ) → Type 0
 Runs f n before all (Ok _) held held' =
-    (told : List Told) × (after : BenchState) × AreOf n all told × Leads before told after × Appends held held' (text_of (written f told))
+    (told : List Recorded) × (after : BenchState) × AreOf n all told × Leads before told after × Appends held held' (text_of (written f told))
 Runs f n before all (Err (BadLine m)) held held' =
-    (front rest : List Line) × (line : Line) × (told : List Told) × (after : BenchState)
+    (front rest : List Line) × (line : Line) × (told : List Recorded) × (after : BenchState)
     × (all ≡ front ++ line ∷ rest) × (m ≡ n + length front) × AreOf n front told × Leads before told after
     × IsBad after line × Appends held held' (text_of (written f told))
 Runs f n before all (Err Failed) held held' = ⊤
@@ -104,7 +104,7 @@ Runs f n before all (Err Differs) held held' = ⊥
 abbrev pub Answers : Form → ℕ → BenchState → Line → BenchState → Option (List ℕ) → Option (List ℕ) → Type 0
 Answers f n before line after held held' =
     ((line ≡ []) × (after ≡ before) × Keeps held held')
-    ⊎ ((t : Told) × (t.number ≡ n) × (t.line ≡ line) × (line ≢ []) × Leads before (t ∷ []) after
+    ⊎ ((t : Recorded) × (t.number ≡ n) × (t.line ≡ line) × (line ≢ []) × Leads before (t ∷ []) after
     × Appends held held' (text_of (written_of f t)))
 
 -- a run that does not go on after a line: the line is bad, and has this number; or something failed
@@ -117,19 +117,19 @@ StopsAt n b line Differs held held' = ⊥
 -- ---- recordings
 
 -- the numbers of commands, each greater than the one before; that of the first is greater than this
-abbrev pub Ascend : ℕ → List Told → Type 0
+abbrev pub Ascend : ℕ → List Recorded → Type 0
 Ascend last [] = ⊤
 Ascend last (t ∷ told) = (last < t.number) × (t.number ≤ 4294967295) × Ascend t.number told
 
 -- the number of the last of them, or this number if there is none
-abbrev pub last_number : ℕ → List Told → ℕ
+abbrev pub last_number : ℕ → List Recorded → ℕ
 last_number last [] = last
 last_number last (t ∷ told) = last_number t.number told
 
 -- The lines are the record of these commands, whose numbers ascend from 1 on; only these lines of output are missing at the
 -- end. They belong to the last command, since no line of a command begins with `> `. The notes of two clients are in the
 -- order in which this run gave them.
-abbrev pub IsRecord : BenchState → List Line → List Told → List Line → BenchState → Type 0
+abbrev pub IsRecord : BenchState → List Line → List Recorded → List Line → BenchState → Type 0
 IsRecord before all told missing after =
     (recording_of told ≡ all ++ map quoted missing) × Ascend 0 told × Leads before told after
 
@@ -160,12 +160,12 @@ GoesOff missing (line ∷ rest) = IsAnother missing line
 -- said.
 abbrev pub Replays : BenchState → List Line → Result Replayed Stop → Type 0
 Replays before all (Ok (replayed.Same count)) =
-    (told : List Told) × (after : BenchState) × IsRecord before all told [] after × (count ≡ length told)
+    (told : List Recorded) × (after : BenchState) × IsRecord before all told [] after × (count ≡ length told)
 Replays before all (Ok (replayed.Differs place)) =
-    (front rest : List Line) × (told : List Told) × (missing : List Line) × (after : BenchState)
+    (front rest : List Line) × (told : List Recorded) × (missing : List Line) × (after : BenchState)
     × (all ≡ front ++ rest) × (place ≡ suc (length front)) × IsRecord before front told missing after × GoesOff missing rest
 Replays before all (Err (BadLine place)) =
-    (front rest : List Line) × (line : Line) × (told : List Told) × (after : BenchState)
+    (front rest : List Line) × (line : Line) × (told : List Recorded) × (after : BenchState)
     × (all ≡ front ++ line ∷ rest) × (place ≡ suc (length front)) × IsRecord before front told [] after
     × ¬ (IsOutput line) × IsNoCommand (last_number 0 told) after line
 Replays before all (Err Failed) = ⊤

@@ -22,8 +22,8 @@ plain name signature = record {
 }
 
 -- one that ends its object
-abbrev pub ending : List ℕ → MessageRow
-ending name = record (plain name []) { is_destructor = true }
+abbrev pub destructor : List ℕ → MessageRow
+destructor name = record (plain name []) { is_destructor = true }
 
 -- one that makes a `quad`, since this version
 abbrev pub making : List ℕ → ℕ → MessageRow
@@ -36,14 +36,14 @@ quad_row = record {
   requests =
       plain (codes "poke") (kind.Int ∷ [])
       ∷ making (codes "make") 2
-      ∷ ending (codes "destroy")
+      ∷ destructor (codes "destroy")
       ∷ record (plain (codes "link") (kind.Object null.Yes ∷ kind.Object null.No ∷ [])) { arg_interfaces = quad_id ∷ quad_id ∷ [] }
       ∷ plain (codes "give") (kind.Str null.No ∷ kind.Array ∷ kind.Fd ∷ [])
       ∷ [];
   events =
       plain (codes "moved") (kind.Int ∷ [])
       ∷ making (codes "made") 1
-      ∷ ending (codes "gone")
+      ∷ destructor (codes "gone")
       ∷ [];
 }
 

@@ -16,7 +16,7 @@ use wl_server::{
 use wl_wire::{Argument, IoFault, ProtocolError, Token};
 
 /// The reply to a step of a server.
-pub type Told = Reply<Memory, u64>;
+pub type MemoryReply = Reply<Memory, u64>;
 
 /// What a client took of a send: bytes and tokens.
 pub type Sent = (Vec<u8>, Vec<Token>);
@@ -307,7 +307,7 @@ fn fault_line(alloc: Global, fault: ActionError) -> Result<String, AllocError>
 }
 
 /// The one line that a reply prints, if it is not that to `TakeNotes`.
-fn answer_line(alloc: Global, reply: &Told) -> Result<String, AllocError>
+fn answer_line(alloc: Global, reply: &MemoryReply) -> Result<String, AllocError>
     ensures { IfOk result (λ line. string_bytes line ≡ answer_text reply.now) }
 {
     match reply {
@@ -328,7 +328,11 @@ fn answer_line(alloc: Global, reply: &Told) -> Result<String, AllocError>
 }
 
 /// Appends the lines that a command answers to the lines, by the reply to its first step.
-pub fn push_answer(alloc: Global, lines: &mut Vec<String>, reply: &Told) -> Result<(), AllocError>
+pub fn push_answer(
+    alloc: Global,
+    lines: &mut Vec<String>,
+    reply: &MemoryReply,
+) -> Result<(), AllocError>
     ensures { OnOk result (map string_bytes lines.new.items ≡ map string_bytes lines.old.items ++ answer_lines reply.now) }
 {
     match reply {
@@ -403,7 +407,7 @@ fn push_sends(
 pub fn push_taken_out(
     alloc: Global,
     lines: &mut Vec<String>,
-    reply: &Told,
+    reply: &MemoryReply,
 ) -> Result<(), AllocError>
     ensures { OnOk result (map string_bytes lines.new.items ≡ map string_bytes lines.old.items ++ taken_out_lines reply.now) }
 {
@@ -421,7 +425,7 @@ fn push_record(
     alloc: Global,
     lines: &mut Vec<String>,
     client: ClientId,
-    reply: &Told,
+    reply: &MemoryReply,
 ) -> Result<(), AllocError>
     ensures { OnOk result (map string_bytes lines.new.items ≡ map string_bytes lines.old.items ++ record_lines client reply.now) }
 {
@@ -436,7 +440,7 @@ pub fn push_records(
     alloc: Global,
     lines: &mut Vec<String>,
     clients: &[ClientId],
-    replies: &[Told],
+    replies: &[MemoryReply],
 ) -> Result<(), AllocError>
     ensures { OnOk result (map string_bytes lines.new.items ≡ map string_bytes lines.old.items ++ records_lines clients.now replies.now) }
 {

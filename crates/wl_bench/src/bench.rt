@@ -9,7 +9,7 @@ ghost use Rattle.wl_bench.specs.declared.stop.Stop.TheVariants.{Failed};
 
 mod dispatch;
 
-use crate::answer::{Told, push_answer, push_records, push_taken_out};
+use crate::answer::{MemoryReply, push_answer, push_records, push_taken_out};
 use crate::command::{ClientCommand, Command};
 use crate::latest::Latest;
 use crate::stop::Stop;
@@ -137,7 +137,7 @@ impl Bench {
         alloc: Global,
         slot: u32,
         seat: &Seat,
-        replies: &[Told],
+        replies: &[MemoryReply],
     ) -> Result<Vec<String>, Stop>
         ensures done { IfOk result (λ lines. (answer : BenchReply) × (taken : List BenchReply) × (replies.now ≡ answer ∷ taken)
             × (map string_bytes lines.items ≡ printed (seat.now.client ∷ []) answer taken)
@@ -163,7 +163,7 @@ impl Bench {
         seat: &Seat,
         command: ClientCommand,
         number: u64,
-    ) -> Result<Vec<Told>, Stop>
+    ) -> Result<Vec<MemoryReply>, Stop>
         ensures made { IfOk result (λ replies. Replies self.old.server (client_calls seat.now number command) (seat.now.client ∷ []) replies.items self.new.server) }
         ensures clients { self.new.clients ≡ self.old.clients }
         ensures globals { self.new.globals ≡ self.old.globals }
@@ -195,7 +195,7 @@ impl Bench {
         &mut self,
         alloc: Global,
         heard: &[ClientId],
-        replies: &[Told],
+        replies: &[MemoryReply],
     ) -> Result<Vec<String>, Stop>
         ensures done { IfOk result (λ lines. (answer : BenchReply) × (taken : List BenchReply) × (replies.now ≡ answer ∷ taken)
             × (map string_bytes lines.items ≡ printed heard.now answer taken)
@@ -271,7 +271,12 @@ impl Bench {
     }
 
     /// Makes a step, and takes the records of what these clients were sent.
-    fn perform(&mut self, alloc: Global, step: Made, heard: &[ClientId]) -> Result<Vec<Told>, Stop>
+    fn perform(
+        &mut self,
+        alloc: Global,
+        step: Made,
+        heard: &[ClientId],
+    ) -> Result<Vec<MemoryReply>, Stop>
         ensures made { IfOk result (λ replies. Replies self.old.server (step ∷ []) heard.now replies.items self.new.server) }
         ensures clients { self.new.clients ≡ self.old.clients }
         ensures globals { self.new.globals ≡ self.old.globals }
@@ -288,7 +293,12 @@ impl Bench {
 
     /// Lets the next sends to the client take so many bytes each, and takes the record of what it was sent. There may be
     /// millions of counts, so each is a run of its own. Returns the reply to the last one, and that to the step after it.
-    fn accept(&mut self, alloc: Global, client: ClientId, counts: &[u32]) -> Result<Vec<Told>, Stop>
+    fn accept(
+        &mut self,
+        alloc: Global,
+        client: ClientId,
+        counts: &[u32],
+    ) -> Result<Vec<MemoryReply>, Stop>
         ensures made { IfOk result (λ replies. Replies self.old.server (map (accept_step client) counts.now) (client ∷ []) replies.items self.new.server) }
         ensures clients { self.new.clients ≡ self.old.clients }
         ensures globals { self.new.globals ≡ self.old.globals }
@@ -304,7 +314,7 @@ impl Bench {
     }
 
     /// Keeps the client or the global that a command about all clients made.
-    fn keep(&mut self, reply: &Told) -> Result<(), AllocError>
+    fn keep(&mut self, reply: &MemoryReply) -> Result<(), AllocError>
         ensures clients { OnOk result (self.new.clients ≡ clients_after reply.now self.old.clients) }
         ensures globals { OnOk result (self.new.globals ≡ globals_after reply.now self.old.globals) }
         ensures server { self.new.server ≡ self.old.server }
@@ -375,7 +385,7 @@ fn opened(action: &Action) -> Open
 }
 
 /// The client of a slot after the reply to a command about it.
-fn seat_after(seat: &Seat, reply: &Told) -> Seat
+fn seat_after(seat: &Seat, reply: &MemoryReply) -> Seat
     ensures { result ≡ seat_told seat.now reply.now }
 {
     let client = seat.client;
@@ -398,9 +408,9 @@ fn seat_after(seat: &Seat, reply: &Told) -> Seat
 /// The lines that a command prints: its answer, and what clients were sent.
 fn lines_of(
     alloc: Global,
-    answer: &Told,
+    answer: &MemoryReply,
     heard: &[ClientId],
-    taken: &[Told],
+    taken: &[MemoryReply],
 ) -> Result<Vec<String>, AllocError>
     ensures { IfOk result (λ lines. map string_bytes lines.items ≡ printed heard.now answer.now taken.now) }
 {

@@ -5,7 +5,7 @@ ghost use Rattle.std.specs.Io.KnownBytes.{Appends, Keeps};
 ghost use Rattle.wl_bench.specs.Bench.{new_bench};
 ghost use Rattle.wl_bench.specs.Commands.{Finds, IsNumber};
 ghost use Rattle.wl_bench.specs.Inside.Comparing.{CarriesOut, EndsWith, GoesOn, IsBadAt, IsNumbered, IsWord, missing_in};
-ghost use Rattle.wl_bench.specs.Record.{IsAnother, IsNoCommand, IsOutput, Replays, Told, fed, lines, quoted, verdict_text};
+ghost use Rattle.wl_bench.specs.Record.{IsAnother, IsNoCommand, IsOutput, Replays, Recorded, fed, lines, quoted, verdict_text};
 ghost use Rattle.wl_bench.specs.Table.{bench_rows};
 ghost use Rattle.wl_bench.specs.declared.stop.Stop.TheVariants.{BadLine, Failed};
 
@@ -111,7 +111,7 @@ impl Comparison {
 
     /// Carries out the command of a line at which no output is missing. Returns `false` if the line is no command.
     fn command(&mut self, alloc: Global, line: &[u8]) -> Result<bool, Stop>
-        ensures carries { IfOk result (λ is. MatchBool is ((t : Told) × CarriesOut self.old line.now t self.new) (IsNoCommand self.old.last self.old.bench line.now)) }
+        ensures carries { IfOk result (λ is. MatchBool is ((t : Recorded) × CarriesOut self.old line.now t self.new) (IsNoCommand self.old.last self.old.bench line.now)) }
         ensures failed { IfErr result (λ stop. stop ≡ Failed) }
     {
         let Some((number, command)) = numbered_command(alloc, line)? else {

@@ -7,7 +7,7 @@ use Rattle.wl_client.specs.declared.error.EventError.{EventError}
 use Rattle.wl_client.specs.declared.error.EventError.TheVariants.{EventOpen, OutOfMemory}
 use Rattle.wl_client.specs.declared.error.FinishRefused.{FinishRefused}
 use Rattle.wl_client.specs.Session.{SessionState}
-use Rattle.wl_callers.specs.Proxy.{Event, HandsOn, ended, Reads, ReadsEach, ReadsOne}
+use Rattle.wl_callers.specs.Proxy.{Event, HandsOn, ended, ReadsEvent, ReadsEach, ReadsOne}
 
 module _ {T U : Type 0} (sends : T → Queue → Result ℕ IoFault → T → Type 0) (receives : T → ℕ → Result Queue IoFault → T → Type 0) where
   -- so many were read and finished, and stand after the list
@@ -51,7 +51,7 @@ module _ {T U : Type 0} (sends : T → Queue → Result ℕ IoFault → T → Ty
     pub starved : after ≡ mid → HandsOn sends receives before most listed (Err OutOfMemory) reserved after
     starved kept = (so.events, [], mid, so.reads, listed_are, inr (still, inl (refl, refl, kept)))
 
-    pub no_event : (error : EventError) (answer : Result (Unit {0}) EventError) → answer ≡ ended error → Reads sends receives mid (Err error) after
+    pub no_event : (error : EventError) (answer : Result (Unit {0}) EventError) → answer ≡ ended error → ReadsEvent sends receives mid (Err error) after
         → HandsOn sends receives before most listed answer reserved after
     no_event error answer is ends = (so.events, [], mid, so.reads, listed_are, inr (still, inr (inl (error, is, refl, ends))))
 

@@ -22,12 +22,12 @@ ended error = Err error
 
 module _ {T U : Type 0} (sends : T → Queue → Result ℕ IoFault → T → Type 0) (receives : T → ℕ → Result Queue IoFault → T → Type 0) where
   -- a reading with this answer
-  abbrev pub Reads : SessionState T U → Result Event EventError → SessionState T U → Type 0
-  Reads before answer after = (refused : Bool) × NextEvent sends receives before (event_content answer) refused after
+  abbrev pub ReadsEvent : SessionState T U → Result Event EventError → SessionState T U → Type 0
+  ReadsEvent before answer after = (refused : Bool) × NextEvent sends receives before (event_content answer) refused after
 
   -- an event is read and then finished, with this answer
   abbrev pub ReadsOne : SessionState T U → Event → Result (Unit {0}) (FinishRefused U) → SessionState T U → Type 0
-  ReadsOne before event answer after = (read : SessionState T U) × Reads before (Ok event) read × Finishes read None answer after
+  ReadsOne before event answer after = (read : SessionState T U) × ReadsEvent before (Ok event) read × Finishes read None answer after
 
   -- these events are read and finished, one after another
   abbrev pub ReadsEach : SessionState T U → List Event → SessionState T U → Type 0
@@ -41,7 +41,7 @@ module _ {T U : Type 0} (sends : T → Queue → Result ℕ IoFault → T → Ty
       ((answer ≡ Ok tt) × (count ≡ most) × (left ≡ []) × (after ≡ mid))
       ⊎ (count < most)
       × (((answer ≡ Err OutOfMemory) × (left ≡ []) × (after ≡ mid))
-      ⊎ ((error : EventError) × (answer ≡ ended error) × (left ≡ []) × Reads mid (Err error) after)
+      ⊎ ((error : EventError) × (answer ≡ ended error) × (left ≡ []) × ReadsEvent mid (Err error) after)
       ⊎ ((answer ≡ Err EventOpen) × (event : Event) × (refused : FinishRefused U) × (left ≡ event ∷ []) × ReadsOne mid event (Err refused) after))
 
   -- The events that were read were appended to the list, in order. Each was finished; only the last one may not have been.

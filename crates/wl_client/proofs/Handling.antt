@@ -12,7 +12,7 @@ use Rattle.wl_client.specs.declared.objects.Note.{Note}
 use Rattle.wl_client.specs.Handling.{Handling, Swallows, HandsOut, Breaks, handling}
 use Rattle.wl_client.specs.Reading.{with_link}
 use Rattle.wl_client.specs.Session.{SessionState}
-use Rattle.wl_client.specs.Inside.Turns.{Carries, HandledTo, Turned, GaveEvent, WentOn, LacksMore, Ended, ReadsIn, Turns}
+use Rattle.wl_client.specs.Inside.ReadingLoop.{Carries, HandledTo, MessageResult, GaveEvent, WentOn, LacksMore, Ended, ReadsIn, HandlesMessage}
 
 -- the session of these parts
 abbrev session_of : {T U : Type 0} → List InterfaceRow → LinkState T → Objects (Kept U) → Option WaylandError → Option OpenEvent → List Note → SessionState T U
@@ -34,7 +34,7 @@ module _ {T U : Type 0} (table : List InterfaceRow) (link link' : LinkState T) (
   abbrev after : SessionState T U
   after = session_of table link' objects' error' opened' notes
 
-  carried : (h : Handling U) (turned : Turned) → Carries h turned objects' error error' opened opened' → HandledTo (with_link before link') h turned after
+  carried : (h : Handling U) (message_result : MessageResult) → Carries h message_result objects' error error' opened opened' → HandledTo (with_link before link') h message_result after
   carried (Swallows o) WentOn (same, error_same, opened_same) = λ i. session_of table link' (same i) (error_same i) (opened_same i) notes
   carried (HandsOut m event o) (GaveEvent e) (content, same, error_same, opens) =
       (content, λ i. session_of table link' (same i) (error_same i) (opens i) notes)
@@ -53,6 +53,6 @@ module _ {T U : Type 0} (table : List InterfaceRow) (link link' : LinkState T) (
   carried (Breaks e o) (GaveEvent e') h = absurd h
 
   -- the message was taken off the link
-  pub handled_turns : (m : WireMessage) (turned : Turned) → ReadsIn table objects.store link (Ok m) link'
-      → Carries (handling table objects m) turned objects' error error' opened opened' → Turns before turned after
-  handled_turns m turned read h = inr (m, link', read, carried (handling table objects m) turned h)
+  pub handled_handles : (m : WireMessage) (message_result : MessageResult) → ReadsIn table objects.store link (Ok m) link'
+      → Carries (handling table objects m) message_result objects' error error' opened opened' → HandlesMessage before message_result after
+  handled_handles m message_result read h = inr (m, link', read, carried (handling table objects m) message_result h)

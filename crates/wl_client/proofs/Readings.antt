@@ -13,7 +13,7 @@ use Rattle.wl_wire.specs.Message.{WireMessage}
 use Rattle.wl_wire.specs.Parse.{length_of}
 use Rattle.wl_link.specs.Exchange.{Queue}
 use Rattle.wl_link.specs.Link.{LinkState, Filled, FindsRoom, ReadFound, grown_capacity}
-use Rattle.wl_link.specs.Puts.{lacked_memory}
+use Rattle.wl_link.specs.Puts.{lacks_memory}
 use Rattle.wl_link.specs.Reader.{FrontAsks, CarriesOut, Given, HandedOut, ReaderState}
 use Rattle.wl_link.specs.Inside.ReaderLoops.{EndsSo, LeadsOn, ReceivedTo as PartReceived}
 use Rattle.wl_link.proofs.Readings.ReaderLoops.{SoFar, begins, ends_at, ends_there, leads_on, none_left, one_more, receive_ends, receive_goes_on, received_fault, starves_there}
@@ -29,7 +29,7 @@ use Rattle.wl_client.specs.Handling.{Handling, Swallows, HandsOut, Breaks, handl
 use Rattle.wl_client.specs.Reading.{NextEvent, Lacks, ReadsAs, ReadsTo, answered, by_fault, client, faulted, handed_by, reader_state_of, reads_on, receives_allowed, row_asks, verdict, with_link}
 use Rattle.wl_client.specs.Requests.{SessionMessage, session_content}
 use Rattle.wl_client.specs.Session.{Core, SessionState, core_of, objects_of}
-use Rattle.wl_client.specs.Inside.Turns.{Turned, GaveEvent, WentOn, LacksMore, Ended, EndsAs, HandledTo, Leads, Live, NotTaken, ReceivedTo, Turns, event_answer, event_refused, malformed}
+use Rattle.wl_client.specs.Inside.ReadingLoop.{MessageResult, GaveEvent, WentOn, LacksMore, Ended, EndsAs, HandledTo, ReadSoFar, Live, NotTaken, ReceivedTo, HandlesMessage, event_answer, event_refused, malformed}
 
 abbrev ok_answer : WireMessage → Result WireMessage MessageParseError
 ok_answer m = Ok m
@@ -56,11 +56,11 @@ shorter_at false looks_up before m after (impossible, same) = absurd (ok_err imp
     ok_err e = true≢false (ap is_ok e)
 
 -- what a turn gives, and whether memory was refused in it
-abbrev pub given_by : Turned → List (Given SessionMessage)
+abbrev pub given_by : MessageResult → List (Given SessionMessage)
 given_by (GaveEvent e) = HandedOut (session_content e) ∷ []
 given_by _ = []
 
-abbrev pub refused_by : Turned → Bool
+abbrev pub refused_by : MessageResult → Bool
 refused_by (Ended end) = end.refused
 refused_by _ = false
 
@@ -77,8 +77,8 @@ module _ {T U : Type 0} where
   live_reads s (live, unopened) = ap₂ (λ (e : Option _) (o : Option _). is_none e && is_none o) live unopened
 
   -- what a message came to is a verdict that was carried out
-  pub carried : (sends : T → Queue → Result ℕ IoFault → T → Type 0) (s : SessionState T U) (h : Handling U) (turned : Turned) (after : SessionState T U) → HandledTo s h turned after
-      → CarriesOut sends client (verdict (core_of s) h) s.link [] (given_by turned) (refused_by turned) (reader_state_of after)
+  pub carried : (sends : T → Queue → Result ℕ IoFault → T → Type 0) (s : SessionState T U) (h : Handling U) (message_result : MessageResult) (after : SessionState T U) → HandledTo s h message_result after
+      → CarriesOut sends client (verdict (core_of s) h) s.link [] (given_by message_result) (refused_by message_result) (reader_state_of after)
   carried sends s (Swallows o) WentOn after same =
       inl ([], [], [], Ok tt, s.link, false, (refl, refl, refl, refl), (refl, ap (λ (x : SessionState T U). x.link) same, refl), refl, ap core_of same, refl, refl)
   carried sends s (HandsOut m event o) (GaveEvent e) after (content, same) =
@@ -129,32 +129,32 @@ module _ {T U : Type 0} where
 
   module _ (sends : T → Queue → Result ℕ IoFault → T → Type 0) (receives : T → ℕ → Result Queue IoFault → T → Type 0) where
     -- a message that was taken and handled
-    took : (before after : SessionState T U) (m : WireMessage) (link : LinkState T) (turned : Turned) → ReadsAs before (Ok m) link
-        → HandledTo (with_link before link) (handling before.table (objects_of before) m) turned after
-        → Handles sends client (reader_state_of before) (given_by turned) (refused_by turned) (reader_state_of after)
-    took before after m link turned read h =
+    took : (before after : SessionState T U) (m : WireMessage) (link : LinkState T) (message_result : MessageResult) → ReadsAs before (Ok m) link
+        → HandledTo (with_link before link) (handling before.table (objects_of before) m) message_result after
+        → Handles sends client (reader_state_of before) (given_by message_result) (refused_by message_result) (reader_state_of after)
+    took before after m link message_result read h =
         let came : Handling U = handling before.table (objects_of before) m in
-        (verdict (core_of before) came, link, [], inl (m, read, refl), carried sends (with_link before link) came turned after h)
+        (verdict (core_of before) came, link, [], inl (m, read, refl), carried sends (with_link before link) came message_result after h)
 
-    left_there : (before after : SessionState T U) (turned : Turned) → ReadsAs before (Err parse.Malformed) before.link → HandledTo before (malformed before) turned after
-        → Handles sends client (reader_state_of before) (given_by turned) (refused_by turned) (reader_state_of after)
-    left_there before after turned read h =
-        (verdict (core_of before) (malformed before), before.link, [], inr (read, refl, refl), carried sends before (malformed before) turned after h)
+    left_there : (before after : SessionState T U) (message_result : MessageResult) → ReadsAs before (Err parse.Malformed) before.link → HandledTo before (malformed before) message_result after
+        → Handles sends client (reader_state_of before) (given_by message_result) (refused_by message_result) (reader_state_of after)
+    left_there before after message_result read h =
+        (verdict (core_of before) (malformed before), before.link, [], inr (read, refl, refl), carried sends before (malformed before) message_result after h)
 
-    then : (start before after : SessionState T U) (gave : List (Given SessionMessage)) (refused : Bool) → Leads sends receives start before → Live before
+    then : (start before after : SessionState T U) (gave : List (Given SessionMessage)) (refused : Bool) → ReadSoFar sends receives start before → Live before
         → Handles sends client (reader_state_of before) gave refused (reader_state_of after) → LeadsOn sends receives client (reader_state_of start) gave refused (reader_state_of after)
     then start before after gave refused leads live handles =
         leads_on sends receives client (reader_state_of start) (reader_state_of before) (reader_state_of after) [] gave false refused leads
         (one_more sends receives client (reader_state_of before) (reader_state_of after) gave refused (live_reads before live) handles)
 
-    pub on_more : (start before after : SessionState T U) → Live before → Leads sends receives start before → Turns before WentOn after → Live after × Leads sends receives start after
+    pub on_more : (start before after : SessionState T U) → Live before → ReadSoFar sends receives start before → HandlesMessage before WentOn after → Live after × ReadSoFar sends receives start after
     on_more start before after live leads (inl impossible) = absurd impossible
     on_more start before after live leads (inr (m, link, read, h)) = (
       lives (with_link before link) after (handling before.table (objects_of before) m) live h,
       then start before after [] false leads live (took before after m link WentOn read h),
     )
 
-    pub event_ends : (start before after : SessionState T U) (e : Message IdParts Token) → Live before → Leads sends receives start before → Turns before (GaveEvent e) after
+    pub event_ends : (start before after : SessionState T U) (e : Message IdParts Token) → Live before → ReadSoFar sends receives start before → HandlesMessage before (GaveEvent e) after
         → EndsAs sends receives start (Ok e) after
     event_ends start before after e live leads (inl impossible) = absurd impossible
     event_ends start before after e live leads (inr (m, link, read, h)) =
@@ -170,7 +170,7 @@ module _ {T U : Type 0} where
         }
 
     -- an error was stored
-    stored : (start before after : SessionState T U) (end : NoEvent) → Live before → Leads sends receives start before
+    stored : (start before after : SessionState T U) (end : NoEvent) → Live before → ReadSoFar sends receives start before
         → Handles sends client (reader_state_of before) [] end.refused (reader_state_of after) → (reads_on (core_of after) ≡ false) × (end.error ≡ no_event.Failed)
         → EndsAs sends receives start (Err end) after
     stored start before after end live leads handles (off, failed) =
@@ -183,7 +183,7 @@ module _ {T U : Type 0} where
           refused_is = or_false end.refused;
         }
 
-    pub end_ends : (start before after : SessionState T U) (end : NoEvent) → Live before → Leads sends receives start before → Turns before (Ended end) after
+    pub end_ends : (start before after : SessionState T U) (end : NoEvent) → Live before → ReadSoFar sends receives start before → HandlesMessage before (Ended end) after
         → EndsAs sends receives start (Err end) after
     end_ends start before after end live leads (inr (m, link, read, h)) =
         stored start before after end live leads (took before after m link (Ended end) read h) (fails (with_link before link) after (handling before.table (objects_of before) m) end h)
@@ -205,7 +205,7 @@ module _ {T U : Type 0} where
         asked (inr (same, (row, front, asks, there))) =
             inl (ap row_asks front ∙ asks, (row.signature, ap (option_map (λ r. r.signature)) front, there))
 
-    pub shorter : (before after : SessionState T U) → Turns before WentOn after → length after.link.incoming.bytes < length before.link.incoming.bytes
+    pub shorter : (before after : SessionState T U) → HandlesMessage before WentOn after → length after.link.incoming.bytes < length before.link.incoming.bytes
     shorter before after (inl impossible) = absurd impossible
     shorter before after (inr (m, link, read, h)) =
         subst (λ (l : LinkState T). length l.incoming.bytes < length before.link.incoming.bytes) (sym (link_is (handling before.table (objects_of before) m) h)) (shorter_at _ _ before.link m link read)
@@ -215,10 +215,10 @@ module _ {T U : Type 0} where
         link_is (HandsOut m' event o) f = absurd f
         link_is (Breaks e o) f = absurd f
 
-    pub lacks_waits : (start before after : SessionState T U) → Live before → Leads sends receives start before → Turns before LacksMore after
-        → Live after × Lacks after × Leads sends receives start after
+    pub lacks_waits : (start before after : SessionState T U) → Live before → ReadSoFar sends receives start before → HandlesMessage before LacksMore after
+        → Live after × Lacks after × ReadSoFar sends receives start after
     lacks_waits start before after live leads (inl (lacks, same)) =
-        subst (λ (s : SessionState T U). Live s × Lacks s × Leads sends receives start s) (sym same) (live, lacks, leads)
+        subst (λ (s : SessionState T U). Live s × Lacks s × ReadSoFar sends receives start s) (sym same) (live, lacks, leads)
     lacks_waits start before after live leads (inr (m, link, read, h)) = absurd (nothing (handling before.table (objects_of before) m) h)
       where
         nothing : (h : Handling U) → HandledTo (with_link before link) h LacksMore after → ⊥
@@ -229,7 +229,7 @@ module _ {T U : Type 0} where
     -- ---- receives
 
     pub received : (before : SessionState T U) (link : LinkState T) (f : IoFault) → Filled receives before.link (Err f) link → FindsRoom before.link (grown_capacity before.link)
-        → ReceivedTo sends receives before (Some (record { error = by_fault f; refused = lacked_memory (Err f) })) (record before { link = link; error = (faulted (core_of before) f).error })
+        → ReceivedTo sends receives before (Some (record { error = by_fault f; refused = lacks_memory (Err f) })) (record before { link = link; error = (faulted (core_of before) f).error })
     received before link f filled finds = (f, subst (λ (p : ReaderState T (Core U)). PartReceived sends receives client (reader_state_of before) (Some f) p) (end f) made, refl)
       where
         made : PartReceived sends receives client (reader_state_of before) (Some f) (record { core = faulted (core_of before) f; link = link })
@@ -268,7 +268,7 @@ module _ {T U : Type 0} where
         let at = ends_at sends receives client receives_allowed (reader_state_of start) [] false used (reader_state_of before) so (handed_by (event_answer r)) e.lacked e.stopped e.short (reader_state_of after) within e.ends in
         (at.1.0, _, at.1.1, e.answer_is ∙ ap (answered e.stopped) (sym (append-nil (handed_by (event_answer r)))), append-nil (handed_by (event_answer r)), e.refused_is)
 
-    module _ (start before mid : SessionState T U) (used : ℕ) (so : So start used before) (live : Live mid) (lacks : Lacks mid) (leads : Leads sends receives before mid) where
+    module _ (start before mid : SessionState T U) (used : ℕ) (so : So start used before) (live : Live mid) (lacks : Lacks mid) (leads : ReadSoFar sends receives before mid) where
       pub fault_ends : (end : NoEvent) (after : SessionState T U) → used < receives_allowed → ReceivedTo sends receives mid (Some end) after
           → ReadsTo sends receives start (Err end.error) end.refused after
       fault_ends end after within (f, made, is) =

@@ -17,7 +17,7 @@ use Rattle.wl_link.specs.Identity.{Id, named_in}
 use Rattle.wl_link.specs.Link.{LinkState, Wrote}
 use Rattle.wl_link.specs.Store.{Store, held}
 use Rattle.wl_link.proofs.Ids.StoreLaws.{stored_other}
-use Rattle.wl_link.specs.Puts.{lacked_memory}
+use Rattle.wl_link.specs.Puts.{lacks_memory}
 use Rattle.wl_client.specs.declared.error.RequestError.{RequestError}
 use Rattle.wl_client.specs.declared.error.RequestError.TheVariants as refused
 use Rattle.wl_client.specs.declared.error.WaylandError.{WaylandError}
@@ -26,7 +26,7 @@ use Rattle.wl_client.specs.declared.objects.Note.{Note}
 use Rattle.wl_client.specs.declared.objects.Note.TheVariants.{Destroyed}
 use Rattle.wl_client.specs.ObjectId.{IdParts}
 use Rattle.wl_client.specs.Requests.{SessionMessage, Spec, Numbered, session_content, wire_argument, wire_message, number_of_new, id_of_new, ended_by, error_after, with_born, with_ended, Sent, SentWithChild, new_child}
-use Rattle.wl_client.specs.Inside.Sending.{IsNext, IsNextObject, WrittenTo, store_with, serial_with, ending, given_up_at, store_ending, notes_ending}
+use Rattle.wl_client.specs.Inside.Sending.{IsNext, IsNextObject, WrittenTo, store_with, serial_with, ended_of, given_up_at, store_ending, notes_ending}
 use Rattle.wl_client.specs.Session.{SessionState, serial_of, named, noted, id_at}
 
 -- ---- what a number holds
@@ -100,9 +100,9 @@ module _ {T U : Type 0} where
   -- the session with the new object and without the sender that ends
   abbrev changed : SessionState T U → Option (Numbered U) → Option (Numbered U) → SessionState T U
   changed s new ended = record s {
-    store = store_ending (store_with s.store new) (ending ended);
+    store = store_ending (store_with s.store new) (ended_of ended);
     last_serial = serial_with s.last_serial new;
-    notes = notes_ending s.notes (ending ended);
+    notes = notes_ending s.notes (ended_of ended);
   }
 
   changed_is : (s : SessionState T U) (new ended : Option (Numbered U)) → IfSome ended (λ e. held (store_with s.store new) e.0 ≡ Some e.1)
@@ -110,13 +110,13 @@ module _ {T U : Type 0} where
   changed_is s None None here = refl
   changed_is s (Some new) None here = refl
   changed_is s None (Some e) here =
-      ap (λ (store : Store (Kept U)). record s { store = store; notes = notes_ending s.notes (ending (Some e)) })
+      ap (λ (store : Store (Kept U)). record s { store = store; notes = notes_ending s.notes (ended_of (Some e)) })
       (ap (given_up_at s.store e.0) here)
       ∙ ap (λ (notes : List Note). record s { store = given_up_at s.store e.0 (Some e.1); notes = notes })
       (noted_is s.notes e.1.value.user_data (id_at e.0 e.1))
   changed_is s (Some new) (Some e) here =
       let born = with_born s (Some new) in
-      ap (λ (store : Store (Kept U)). record born { store = store; notes = notes_ending s.notes (ending (Some e)) })
+      ap (λ (store : Store (Kept U)). record born { store = store; notes = notes_ending s.notes (ended_of (Some e)) })
       (ap (given_up_at born.store e.0) here)
       ∙ ap (λ (notes : List Note). record born { store = given_up_at born.store e.0 (Some e.1); notes = notes })
       (noted_is s.notes e.1.value.user_data (id_at e.0 e.1))
@@ -145,7 +145,7 @@ module _ {T U : Type 0} where
     sent_lacking ended store notes store-is notes-is failed =
         rw (store-is, notes-is)
         (inr
-        (wrote.0, link, subst (λ (w : WireMessage). Wrote sends before.link w wrote.0 link) wire-is wrote.1, lacked (lacked_memory wrote.0) ended (error_after before.error wrote.0) wrote.2 failed))
+        (wrote.0, link, subst (λ (w : WireMessage). Wrote sends before.link w wrote.0 link) wire-is wrote.1, lacked (lacks_memory wrote.0) ended (error_after before.error wrote.0) wrote.2 failed))
 
     done : (b : Bool) (ended : Option (Numbered U)) (answer : Option WaylandError) (after : SessionState T U)
         → after ≡ with_ended (with_born (record before { link = link; error = error }) new) ended
@@ -160,19 +160,19 @@ module _ {T U : Type 0} where
     -- the message is written
     pub sent_done : (is_destructor : Bool) (id : IdParts) (last_serial : ℕ) (roomy put store : Store (Kept U)) (room notes : List Note)
         (ended : Option (IdParts × Bool))
-        → IfSome new (IsNext before.store before.last_serial) → ended ≡ ending (ended_by before.store m is_destructor)
+        → IfSome new (IsNext before.store before.last_serial) → ended ≡ ended_of (ended_by before.store m is_destructor)
         → roomy ≡ before.store → put ≡ store_with roomy new → store ≡ store_ending put ended
         → room ≡ before.notes → notes ≡ notes_ending room ended
         → last_serial ≡ serial_with before.last_serial new → id ≡ id_of_new new → is_err written ≡ false
         → Sent sends before m new (ended_by before.store m is_destructor) (Ok id)
         (record before { link = link; error = error; store = store; last_serial = last_serial; notes = notes })
-    sent_done is_destructor id last_serial roomy put store room notes ending-value next ending-is roomy-is put-is store-is room-is notes-is serial-is id-is went =
+    sent_done is_destructor id last_serial roomy put store room notes ended_of-value next ended_of-is roomy-is put-is store-is room-is notes-is serial-is id-is went =
         let ended = ended_by before.store m is_destructor in
         let after : SessionState T U = record before { link = link; error = error } in
         let here = ended_held before.store before.last_serial new m is_destructor next in
-        rw (store-is, put-is, roomy-is, serial-is, notes-is, room-is, ending-is, id-is)
+        rw (store-is, put-is, roomy-is, serial-is, notes-is, room-is, ended_of-is, id-is)
         (inr
-        (wrote.0, link, subst (λ (w : WireMessage). Wrote sends before.link w wrote.0 link) wire-is wrote.1, done (lacked_memory wrote.0) ended (error_after before.error wrote.0) _ (changed_is after new ended here) wrote.2 went))
+        (wrote.0, link, subst (λ (w : WireMessage). Wrote sends before.link w wrote.0 link) wire-is wrote.1, done (lacks_memory wrote.0) ended (error_after before.error wrote.0) _ (changed_is after new ended here) wrote.2 went))
 
   -- a request that creates an object is sent with it
   pub sent_with_child : (sends : T → Queue → Result ℕ IoFault → T → Type 0) (before mid after : SessionState T U) (m : SessionMessage) (child : Spec) (u : U)

@@ -15,7 +15,7 @@ use Rattle.wl_wire.specs.Table.{InterfaceRow, MessageRow, anonymous_id, name_of}
 use Rattle.wl_link.specs.declared.object.Object.{Object}
 use Rattle.wl_link.specs.Identity.{Objects}
 use Rattle.wl_link.specs.Store.{Store, held, is_free, is_server_number, removed, rewritten, stored}
-use Rattle.wl_wire.specs.Asked.{fits, next_interface, rest_of}
+use Rattle.wl_wire.specs.MessageRows.{fits, next_interface, rest_of}
 use Rattle.wl_client.specs.declared.protocol_error.EventFault.{EventFault}
 use Rattle.wl_client.specs.declared.protocol_error.EventFault.TheVariants as wrong
 use Rattle.wl_client.specs.declared.objects.Kept.{Kept}

@@ -1,5 +1,5 @@
 -- What the functions inside promise each other; no public clause names these.
 pub mod Sending
 pub mod Conversion
-pub mod Turns
+pub mod ReadingLoop
 pub mod Performing

@@ -19,5 +19,5 @@ module _ {U : Type 0} where
     pub rest : List (List (Change (Kept U)))
     pub split : ids.changes ≡ first ++ rest
     pub before : Follows begins done first point
-    pub behind : Follows point later rest ends
+    pub after_point : Follows point later rest ends
     pub stays : (id : IdParts) → IsSome (named point.store id) → StaysNamed serial_of first rest (objects_of ends) (id_of id)

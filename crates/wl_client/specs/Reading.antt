@@ -54,15 +54,15 @@ module _ {U : Type 0} where
 
   -- ---- the handling of an event
 
-  abbrev pub came_to : Core U → Handling U → Core U
-  came_to c (Swallows o) = with_objects c o
-  came_to c (HandsOut m event o) = record (with_objects c o) { open_event = Some event }
-  came_to c (Breaks e o) = fails_by (with_objects c o) (Protocol e)
+  abbrev pub core_after : Core U → Handling U → Core U
+  core_after c (Swallows o) = with_objects c o
+  core_after c (HandsOut m event o) = record (with_objects c o) { open_event = Some event }
+  core_after c (Breaks e o) = fails_by (with_objects c o) (Protocol e)
 
   -- if there is no memory for an error's texts, `OutOfMemory` is stored in its place; another message asks for no memory
   abbrev pub starved_to : Core U → Handling U → Core U
   starved_to c (Breaks e o) = fails_by (with_objects c o) (Io fault.OutOfMemory)
-  starved_to c h = came_to c h
+  starved_to c h = core_after c h
 
   abbrev pub breaks : Handling U → Bool
   breaks (Breaks e o) = true
@@ -71,7 +71,7 @@ module _ {U : Type 0} where
   -- a client puts nothing while it reads
   abbrev pub verdict : Core U → Handling U → Verdict (Core U) SessionMessage
   verdict c h = record {
-    core = came_to c h;
+    core = core_after c h;
     puts = [];
     flushes = false;
     last = λ d. d;

@@ -17,10 +17,10 @@ use Rattle.wl_wire.specs.Table.{InterfaceRow, MessageRow}
 use Rattle.wl_link.specs.declared.object.Object.{Object}
 use Rattle.wl_link.specs.Exchange.{Queue}
 use Rattle.wl_link.specs.Link.{LinkState, Wrote}
-use Rattle.wl_link.specs.Puts.{lacked_memory}
+use Rattle.wl_link.specs.Puts.{lacks_memory}
 use Rattle.wl_link.specs.Refusals.{first_refusal, when}
 use Rattle.wl_link.specs.Store.{Store, client_range, stored, IsLeastAbsent, IsFull}
-use Rattle.wl_wire.specs.Asked.{creates, fits, left_after, matches, next_interface, request_row}
+use Rattle.wl_wire.specs.MessageRows.{creates, fits, left_after, matches, next_interface, request_row}
 use Rattle.wl_client.specs.declared.error.RequestError.{RequestError}
 use Rattle.wl_client.specs.declared.error.RequestError.TheVariants as refused
 use Rattle.wl_client.specs.declared.error.WaylandError.{WaylandError}
@@ -206,7 +206,7 @@ module _ {T U : Type 0} where
       → Option (Numbered U) → Result IdParts RequestError → SessionState T U → Type 0
   Written sends before m new ended answer after =
       (written : Result (Unit {0}) IoFault) × (link : LinkState T) × Wrote sends before.link m written link
-      × MatchBool (lacked_memory written)
+      × MatchBool (lacks_memory written)
       ((answer ≡ Err refused.OutOfMemory) × (after ≡ record before { link = link }))
       ((answer ≡ Ok (id_of_new new))
       × (after ≡ with_ended (with_born (record before { link = link; error = error_after before.error written }) new) ended))

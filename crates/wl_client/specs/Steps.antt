@@ -39,13 +39,13 @@ abbrev pub refused_flush : Result (Unit {0}) flush.the_data → Bool
 refused_flush (Err flush.OutOfMemory) = true
 refused_flush _ = false
 
-abbrev pub is_memory : finish.the_data → Bool
-is_memory finish.OutOfMemory = true
-is_memory _ = false
+abbrev pub is_out_of_memory : finish.the_data → Bool
+is_out_of_memory finish.OutOfMemory = true
+is_out_of_memory _ = false
 
 abbrev pub refused_finish : {U : Type 0} → Result (Unit {0}) (FinishRefused U) → Bool
 refused_finish (Ok _) = false
-refused_finish (Err e) = is_memory e.error
+refused_finish (Err e) = is_out_of_memory e.error
 
 abbrev pub refused_arrive : Result (Unit {0}) ArriveError → Bool
 refused_arrive (Err arrive.OutOfMemory) = true

@@ -5,9 +5,9 @@
 ghost use Rattle.std.specs.Prelude.{◌≡◌, ◌+◌, ◌<◌, false, true, Ok, Err, IfOk, MatchResult, length, reverse};
 ghost use Rattle.smallvec.specs.SmallVec.{HasRoomFor};
 ghost use Rattle.wl_link.specs.Store.{is_free};
-ghost use Rattle.wl_wire.specs.Asked.{next_interface, rest_of};
+ghost use Rattle.wl_wire.specs.MessageRows.{next_interface, rest_of};
 ghost use Rattle.wl_client.specs.Events.{Wrong, convert, object_argument, vacated};
-ghost use Rattle.wl_client.specs.Inside.Conversion.{CanMake, Converts, EndsWhole, Makes, objects_in, state};
+ghost use Rattle.wl_client.specs.Inside.Conversion.{CanMake, Converts, EndsWhole, MakesObject, objects_in, state};
 
 use crate::object_id::ObjectId;
 use crate::objects::{Kept, id_at};
@@ -87,7 +87,7 @@ fn make_object<U: Drop>(
     number: u32,
 ) -> Option<ObjectId>
     requires { objects.old.reserved ≡ true }
-    ensures { Makes (objects_in objects.old last_serial.old) receiver.version receiver.client_destroyed interface number result
+    ensures { MakesObject (objects_in objects.old last_serial.old) receiver.version receiver.client_destroyed interface number result
         (objects_in objects.new last_serial.new) }
 {
     if number < SERVER_ID_LIMIT || *last_serial == u64::MAX {

@@ -2,7 +2,7 @@
 
 ghost use Rattle.std.specs.Prelude.{◌≡◌};
 ghost use Rattle.wl_client.specs.Events.{deleted, display_event};
-ghost use Rattle.wl_client.specs.Inside.Turns.{told_by};
+ghost use Rattle.wl_client.specs.Inside.ReadingLoop.{told_by};
 
 use crate::objects::Kept;
 use wl_link::ObjectMap;

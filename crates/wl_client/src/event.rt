@@ -8,7 +8,7 @@ ghost use Rattle.wl_link.specs.Store.{held};
 ghost use Rattle.wl_client.specs.Events.{convert as outcome_of, start};
 ghost use Rattle.wl_client.specs.Inside.Conversion.{objects_in};
 ghost use Rattle.wl_client.specs.Requests.{session_content};
-ghost use Rattle.wl_client.specs.Inside.Turns.{HandledAs};
+ghost use Rattle.wl_client.specs.Inside.ReadingLoop.{HandledAs};
 
 use crate::arguments::{Progress, Receiver, convert};
 use crate::object_id::ObjectId;

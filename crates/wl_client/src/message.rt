@@ -1,4 +1,4 @@
-//! One *turn* of a reading: takes the first message off what was received, and handles it.
+//! Takes the first message off what was received, and handles it.
 
 ghost use Rattle.std.specs.Prelude.{◌≡◌, ◌≢◌, ◌≤◌, ℕ, Option, [], true, false, None, Some, MatchResult, length, IfOk, OnErr, OnOk, option_copied, option_map};
 ghost use Rattle.smallvec.specs.SmallVec.{HasRoomFor};
@@ -17,7 +17,7 @@ ghost use Rattle.wl_wire.specs.declared.argument.Token.{Token};
 ghost use Rattle.wl_wire.specs.declared.message.Message.{Message};
 ghost use Rattle.wl_client.specs.declared.event.OpenEvent.{OpenEvent as OpenEventOf};
 ghost use Rattle.wl_client.specs.ObjectId.{IdParts};
-ghost use Rattle.wl_client.specs.Inside.Turns.{Carries, IsHeader, NotTaken, NotTakenTo, Stores, TakenTo, TookWith, Turns, turned};
+ghost use Rattle.wl_client.specs.Inside.ReadingLoop.{Carries, IsHeader, NotTaken, NotTakenTo, Stores, TakenTo, TookWith, HandlesMessage, message_result};
 
 use crate::backend::{Backend, DISPLAY};
 use crate::display::{DisplayMessage, delete_id, display_event};
@@ -43,13 +43,13 @@ pub struct NoEvent {
     pub refused: bool,
 }
 
-/// How a turn ended.
+/// What the handling of a message came to.
 #[derive(Clone, Copy)]
-pub enum TurnEnd {
+pub enum MessageEnd {
     /// There is an event to hand out.
     Event,
     /// A message was handled, and the reading goes on.
-    GoesOn,
+    Continues,
     /// No message is complete: bytes or tokens are missing.
     Lacks,
     /// The reading ends without an event.
@@ -196,24 +196,24 @@ fn handle_display<U: Drop>(
     objects: &mut ObjectMap<Kept<U>>,
     stored: &mut Option<WaylandError>,
     message: &Message<u32, Token>,
-) -> TurnEnd
+) -> MessageEnd
     requires { message.now.sender_id ≡ 1 }
     ensures { (last_serial : ℕ) (event : Message IdParts Token) (open_event : Option OpenEventOf)
-        → Carries (handling protocol.now (objects_in objects.old last_serial) (content message.now)) (turned result event) (objects_in objects.new last_serial)
+        → Carries (handling protocol.now (objects_in objects.old last_serial) (content message.now)) (message_result result event) (objects_in objects.new last_serial)
         stored.old stored.new open_event open_event }
 {
     let alloc = *message.args.allocator();
     match display_event(message) {
         DisplayMessage::Deletes(number) => {
             delete_id(objects, number);
-            TurnEnd::GoesOn
+            MessageEnd::Continues
         }
         DisplayMessage::Fails(code, number, text) => {
             let error = told_error(alloc, protocol, objects, code, number, text);
-            TurnEnd::Ends(fail(stored, error))
+            MessageEnd::Ends(fail(stored, error))
         }
         DisplayMessage::Unreadable => {
-            TurnEnd::Ends(fail_by(alloc, protocol, stored, EventFault::Malformed))
+            MessageEnd::Ends(fail_by(alloc, protocol, stored, EventFault::Malformed))
         }
     }
 }
@@ -232,7 +232,7 @@ fn take_and_handle<T: Drop, U: Drop>(
     header: (u32, u16),
     message: &mut Message<u32, Token>,
     event: &mut Message<ObjectId, Token>,
-) -> Result<TurnEnd, MessageParseError>
+) -> Result<MessageEnd, MessageParseError>
     requires header { IsHeader socket.old header }
     requires place { INLINE_ARGS ≤ message.old.args.capacity }
     requires inline { INLINE_ARGS ≤ event.old.args.capacity }
@@ -245,11 +245,11 @@ fn take_and_handle<T: Drop, U: Drop>(
         return Ok(handle_display(protocol, objects, stored, message));
     }
     match handle_event(objects, last_serial, open_event, desc, message, event) {
-        Ok(true) => Ok(TurnEnd::Event),
-        Ok(false) => Ok(TurnEnd::GoesOn),
+        Ok(true) => Ok(MessageEnd::Event),
+        Ok(false) => Ok(MessageEnd::Continues),
         Err(fault) => {
             let alloc = *message.args.allocator();
-            Ok(TurnEnd::Ends(fail_by(alloc, protocol, stored, fault)))
+            Ok(MessageEnd::Ends(fail_by(alloc, protocol, stored, fault)))
         }
     }
 }
@@ -268,27 +268,23 @@ fn empty(message: &mut Message<u32, Token>)
 
 impl<T: Transport + Drop, U: Drop> Backend<T, U> {
     /// Takes the first message off what was received, and handles it. If it makes an event, that is in `event` then.
-    pub(crate) fn turn(&mut self, event: &mut Message<ObjectId, Token>) -> TurnEnd
+    pub(crate) fn handle_message(&mut self, event: &mut Message<ObjectId, Token>) -> MessageEnd
         requires { INLINE_ARGS ≤ event.old.args.capacity }
-        ensures turns { Turns self.old.session (turned result event.new) self.new.session }
+        ensures handles { HandlesMessage self.old.session (message_result result event.new) self.new.session }
         ensures inline { INLINE_ARGS ≤ event.new.args.capacity }
     {
         match self.socket.next_header() {
-            Some(header) => self.turn_at_header(header, event),
+            Some(header) => self.handle_at(header, event),
             None => self.not_taken(MessageParseError::MissingData),
         }
     }
 
     /// Does the same if this header waits.
     #[inline(never)]
-    fn turn_at_header(
-        &mut self,
-        header: (u32, u16),
-        event: &mut Message<ObjectId, Token>,
-    ) -> TurnEnd
+    fn handle_at(&mut self, header: (u32, u16), event: &mut Message<ObjectId, Token>) -> MessageEnd
         requires header { IsHeader self.old.session.link header }
         requires inline { INLINE_ARGS ≤ event.old.args.capacity }
-        ensures turns { Turns self.old.session (turned result event.new) self.new.session }
+        ensures handles { HandlesMessage self.old.session (message_result result event.new) self.new.session }
         ensures inline { INLINE_ARGS ≤ event.new.args.capacity }
     {
         let handled = take_and_handle(
@@ -309,23 +305,23 @@ impl<T: Transport + Drop, U: Drop> Backend<T, U> {
         }
     }
 
-    /// How the turn ends if no message was taken.
-    fn not_taken(&mut self, error: MessageParseError) -> TurnEnd
+    /// What it comes to if no message was taken.
+    fn not_taken(&mut self, error: MessageParseError) -> MessageEnd
         requires { NotTaken self.old.session error }
-        ensures { (event : Message IdParts Token) → NotTakenTo self.old.session (turned result event) self.new.session }
+        ensures { (event : Message IdParts Token) → NotTakenTo self.old.session (message_result result event) self.new.session }
     {
         let alloc = *self.notes.allocator();
         match error {
-            MessageParseError::MissingData | MessageParseError::MissingFD => TurnEnd::Lacks,
+            MessageParseError::MissingData | MessageParseError::MissingFD => MessageEnd::Lacks,
             MessageParseError::Malformed => {
-                TurnEnd::Ends(fail_by(
+                MessageEnd::Ends(fail_by(
                     alloc,
                     &self.protocol,
                     &mut self.error,
                     EventFault::Malformed,
                 ))
             }
-            MessageParseError::OutOfMemory => TurnEnd::Ends(NoEvent {
+            MessageParseError::OutOfMemory => MessageEnd::Ends(NoEvent {
                 error: EventError::OutOfMemory,
                 refused: true,
             }),

@@ -3,11 +3,11 @@
 ghost use Rattle.std.specs.Prelude.{◌≤◌, option_map};
 ghost use Rattle.wl_client.specs.Cutting.{CutsReading};
 ghost use Rattle.wl_client.specs.Reading.{EndsWithRoom, NextEvent, ReadsTo, event_content};
-ghost use Rattle.wl_client.specs.Inside.Turns.{Live, ReceivedTo, Waited, event_answer, event_refused, with_event};
+ghost use Rattle.wl_client.specs.Inside.ReadingLoop.{Live, ReceivedTo, Waited, event_answer, event_refused, with_event};
 
 use crate::backend::Backend;
 use crate::error::{EventError, WaylandError};
-use crate::message::{NoEvent, TurnEnd};
+use crate::message::{MessageEnd, NoEvent};
 use crate::object_id::ObjectId;
 use smallvec::SmallVec;
 use wl_link::Transport;
@@ -29,11 +29,11 @@ impl<T: Transport + Drop, U: Drop> Backend<T, U> {
         ensures inline { INLINE_ARGS ≤ event.new.args.capacity }
     {
         loop {
-            match self.turn(event) {
-                TurnEnd::GoesOn => {}
-                TurnEnd::Lacks => return None,
-                TurnEnd::Event => return Some(Ok(())),
-                TurnEnd::Ends(end) => return Some(Err(end)),
+            match self.handle_message(event) {
+                MessageEnd::Continues => {}
+                MessageEnd::Lacks => return None,
+                MessageEnd::Event => return Some(Ok(())),
+                MessageEnd::Ends(end) => return Some(Err(end)),
             }
         }
     }

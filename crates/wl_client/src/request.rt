@@ -3,7 +3,7 @@
 ghost use Rattle.std.specs.Prelude.{◌≡◌};
 ghost use Rattle.std.specs.List.{list_all};
 ghost use Rattle.wl_wire.specs.Table.{message_row};
-ghost use Rattle.wl_wire.specs.Asked.{left_after};
+ghost use Rattle.wl_wire.specs.MessageRows.{left_after};
 ghost use Rattle.wl_link.specs.Refusals.{first_refusal};
 ghost use Rattle.wl_client.specs.Requests.{child_refusals, is_placeholder, argument_fault, argument_faults, refusals, request_check, session_content};
 

@@ -3,7 +3,7 @@
 ghost use Rattle.std.specs.Prelude.{◌≡◌, ◌<◌, ◌⊎◌, true, IfSome, IsSome, IsTrue, OnErr, OnOk, MatchResult, is_some, vec_len, vec_capacity};
 ghost use Rattle.wl_wire.specs.MapIds.{numbered};
 ghost use Rattle.wl_client.specs.Requests.{Requested, Sent, SentAs, SentWithChild, ended_by, id_of_new, number_of_new, session_content};
-ghost use Rattle.wl_client.specs.Inside.Sending.{IsNext, IsNextObject, LacksNext, WrittenTo, ending, is_noted, notes_ending, serial_with, store_ending, store_with};
+ghost use Rattle.wl_client.specs.Inside.Sending.{IsNext, IsNextObject, LacksNext, WrittenTo, ended_of, is_noted, notes_ending, serial_with, store_ending, store_with};
 ghost use Rattle.wl_client.specs.Steps.{refused_request};
 
 use crate::backend::Backend;
@@ -20,7 +20,7 @@ fn ended_sender<U: Drop>(
     message: &Message<ObjectId, Token>,
     is_destructor: bool,
 ) -> Option<(ObjectId, bool)>
-    ensures { result ≡ ending (ended_by objects.now.store (session_content message.now) is_destructor) }
+    ensures { result ≡ ended_of (ended_by objects.now.store (session_content message.now) is_destructor) }
 {
     if !is_destructor {
         return None;

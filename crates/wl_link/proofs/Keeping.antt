@@ -17,7 +17,7 @@ use Rattle.wl_link.specs.declared.object_map.NewError.{NewError}
 use Rattle.wl_link.specs.declared.object_map.NewError.TheVariants as new
 use Rattle.wl_link.specs.ObjectMap.{InsertsAt, InsertsNew, NextNew, InsertionsGive, Lends}
 use Rattle.wl_link.proofs.Ids.StoreLaws.{walk_of_entries}
-use Rattle.wl_link.specs.Inside.PlaceList.{place, put_len, Puts, is_free_place, PutsAt, PutsNew, LendsAt, IsFirstFree, entries_from, store_of, Within}
+use Rattle.wl_link.specs.Inside.PlaceList.{place, put_len, SetsPlace, is_free_place, PutsAt, PutsNew, LendsAt, IsFirstFree, entries_from, store_of, Within}
 
 -- ---- tests on numbers
 
@@ -165,7 +165,7 @@ kept m =
 
 module _ {D : Type 0} (c s : List (Option (Object D))) (w : Within c s) where
   pub changed_client : (c' : List (Option (Object D))) → Within c' s → (at n : ℕ) (x : Option (Object D)) → n ≡ client_range.first + at
-      → n < client_range.end → Puts c at x c' → (m : ℕ) → held (store_of c' s) m ≡ cond (eqb m n) x (held (store_of c s) m)
+      → n < client_range.end → SetsPlace c at x c' → (m : ℕ) → held (store_of c' s) m ≡ cond (eqb m n) x (held (store_of c s) m)
   changed_client c' w' at n x e h puts m =
       elim (kept m) [
         | nowhere d ↦ held_zero c' s w' m d ∙ sym (ap₂ (λ b o. cond b x o) (ne_eqb m n (λ t. omega arith)) (held_zero c s w m d))
@@ -177,7 +177,7 @@ module _ {D : Type 0} (c s : List (Option (Object D))) (w : Within c s) where
       ]
 
   pub changed_server : (s' : List (Option (Object D))) → Within c s' → (at n : ℕ) (x : Option (Object D)) → n ≡ server_range.first + at
-      → Puts s at x s' → (m : ℕ) → held (store_of c s') m ≡ cond (eqb m n) x (held (store_of c s) m)
+      → SetsPlace s at x s' → (m : ℕ) → held (store_of c s') m ≡ cond (eqb m n) x (held (store_of c s) m)
   changed_server s' w' at n x e puts m =
       elim (kept m) [
         | nowhere d ↦ held_zero c s' w' m d ∙ sym (ap₂ (λ b o. cond b x o) (ne_eqb m n (λ t. omega arith)) (held_zero c s w m d))
@@ -240,35 +240,35 @@ module _ {D : Type 0} (c s : List (Option (Object D))) (w : Within c s) where
       unchanged m (inr d) = rw (ne_eqb m n d) refl
 
   pub removed_client : (c' : List (Option (Object D))) (at n : ℕ) → n ≡ client_range.first + at → n < client_range.end
-      → Puts c at None c' → length c' ≡ length c → store_of c' s ≡ removed (store_of c s) n
+      → SetsPlace c at None c' → length c' ≡ length c → store_of c' s ≡ removed (store_of c s) n
   removed_client c' at n e h puts len =
       same_store (store_of c' s) (removed (store_of c s) n)
       (remove_is (store_of c s).objects (store_of c' s).objects n (changed_client c s w c' (within_client c' len) at n None e h puts))
       (ap (λ k. client_range.first + k) len) refl
 
   pub removed_server : (s' : List (Option (Object D))) (at n : ℕ) → n ≡ server_range.first + at
-      → Puts s at None s' → length s' ≡ length s → store_of c s' ≡ removed (store_of c s) n
+      → SetsPlace s at None s' → length s' ≡ length s → store_of c s' ≡ removed (store_of c s) n
   removed_server s' at n e puts len =
       same_store (store_of c s') (removed (store_of c s) n)
       (remove_is (store_of c s).objects (store_of c s').objects n (changed_server c s w s' (within_server s' len) at n None e puts))
       refl (ap (λ k. server_range.first + k) len)
 
   pub rewritten_client : (c' : List (Option (Object D))) (at n : ℕ) (x : Object D) → n ≡ client_range.first + at → n < client_range.end
-      → Puts c at (Some x) c' → length c' ≡ length c → store_of c' s ≡ rewritten (store_of c s) n x
+      → SetsPlace c at (Some x) c' → length c' ≡ length c → store_of c' s ≡ rewritten (store_of c s) n x
   rewritten_client c' at n x e h puts len =
       same_store (store_of c' s) (rewritten (store_of c s) n x)
       (insert_is (store_of c s).objects (store_of c' s).objects n x (changed_client c s w c' (within_client c' len) at n (Some x) e h puts))
       (ap (λ k. client_range.first + k) len) refl
 
   pub rewritten_server : (s' : List (Option (Object D))) (at n : ℕ) (x : Object D) → n ≡ server_range.first + at
-      → Puts s at (Some x) s' → length s' ≡ length s → store_of c s' ≡ rewritten (store_of c s) n x
+      → SetsPlace s at (Some x) s' → length s' ≡ length s → store_of c s' ≡ rewritten (store_of c s) n x
   rewritten_server s' at n x e puts len =
       same_store (store_of c s') (rewritten (store_of c s) n x)
       (insert_is (store_of c s).objects (store_of c s').objects n x (changed_server c s w s' (within_server s' len) at n (Some x) e puts))
       refl (ap (λ k. server_range.first + k) len)
 
   pub stored_client : (c' : List (Option (Object D))) (at n : ℕ) (x : Object D) → n ≡ client_range.first + at → n < client_range.end
-      → Puts c at (Some x) c' → length c' ≡ put_len at (length c) → store_of c' s ≡ stored (store_of c s) n x
+      → SetsPlace c at (Some x) c' → length c' ≡ put_len at (length c) → store_of c' s ≡ stored (store_of c s) n x
   stored_client c' at n x e h puts len =
       same_store (store_of c' s) (stored (store_of c s) n x)
       (insert_is (store_of c s).objects (store_of c' s).objects n x
@@ -277,7 +277,7 @@ module _ {D : Type 0} (c s : List (Option (Object D))) (w : Within c s) where
       (rw (is_client n h) refl)
 
   pub stored_server : (s' : List (Option (Object D))) (at n : ℕ) (x : Object D) → n ≡ server_range.first + at → n < server_range.end
-      → Puts s at (Some x) s' → length s' ≡ put_len at (length s) → store_of c s' ≡ stored (store_of c s) n x
+      → SetsPlace s at (Some x) s' → length s' ≡ put_len at (length s) → store_of c s' ≡ stored (store_of c s) n x
   stored_server s' at n x e h puts len =
       same_store (store_of c s') (stored (store_of c s) n x)
       (insert_is (store_of c s).objects (store_of c s').objects n x
@@ -441,7 +441,7 @@ module _ {D : Type 0} (c s : List (Option (Object D))) (w : Within c s) where
   lends_client call c' at n answer e h len lent = rw (held_client c s w n at e h) (lent_at (place c at) lent)
     where
       lent_at : (o : Option (Object D))
-          → MatchOption o ((answer ≡ None) × (c' ≡ c)) (λ x. (r : _) × (y : Object D) × call x r y × (answer ≡ Some r) × Puts c at (Some y) c')
+          → MatchOption o ((answer ≡ None) × (c' ≡ c)) (λ x. (r : _) × (y : Object D) × call x r y × (answer ≡ Some r) × SetsPlace c at (Some y) c')
           → MatchOption o ((answer ≡ None) × (store_of c' s ≡ store_of c s))
           (λ x. (r : _) × (y : Object D) × call x r y × (answer ≡ Some r) × (store_of c' s ≡ rewritten (store_of c s) n y))
       lent_at None (none, same) = (none, ap (λ k. store_of k s) same)
@@ -453,7 +453,7 @@ module _ {D : Type 0} (c s : List (Option (Object D))) (w : Within c s) where
   lends_server call s' at n answer e len lent = rw (held_server c s w n at e) (lent_at (place s at) lent)
     where
       lent_at : (o : Option (Object D))
-          → MatchOption o ((answer ≡ None) × (s' ≡ s)) (λ x. (r : _) × (y : Object D) × call x r y × (answer ≡ Some r) × Puts s at (Some y) s')
+          → MatchOption o ((answer ≡ None) × (s' ≡ s)) (λ x. (r : _) × (y : Object D) × call x r y × (answer ≡ Some r) × SetsPlace s at (Some y) s')
           → MatchOption o ((answer ≡ None) × (store_of c s' ≡ store_of c s))
           (λ x. (r : _) × (y : Object D) × call x r y × (answer ≡ Some r) × (store_of c s' ≡ rewritten (store_of c s) n y))
       lent_at None (none, same) = (none, ap (λ k. store_of c k) same)

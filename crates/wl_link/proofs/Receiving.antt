@@ -7,7 +7,7 @@ use borrow.Rule.Slice.PartMut.{put_mid, post_of}
 use Rattle.wl_wire.specs.declared.argument.Token.{Token}
 use Rattle.wl_wire.specs.declared.error.IoFault.{IoFault}
 use Rattle.wl_link.specs.Exchange.{Queue, Lands, receipt}
-use Rattle.wl_link.specs.Inside.Storage.{Received, beside, arrived}
+use Rattle.wl_link.specs.Inside.WaitingBytes.{Received, beside, arrived}
 
 pub front_and_part : (front part post : List ℕ) (w n : ℕ) → length front ≡ w → n ≤ length part
     → take (w + n) (front ++ (part ++ post)) ≡ front ++ take n part

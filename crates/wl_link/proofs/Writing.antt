@@ -8,7 +8,7 @@ use Rattle.wl_wire.specs.declared.error.MessageWriteError.{MessageWriteError}
 use Rattle.wl_wire.specs.declared.error.MessageWriteError.TheVariants as errors
 use Rattle.wl_wire.specs.Message.{WireMessage, size, spelling, tokens as tokens_of}
 use Rattle.wl_wire.proofs.Spelling.RoundTrip.{length-spelling}
-use Rattle.wl_link.specs.Inside.Storage.{Appended, waits, arrived}
+use Rattle.wl_link.specs.Inside.WaitingBytes.{Appended, waits, arrived}
 use Rattle.wl_link.proofs.Receiving.{front_and_part}
 
 -- what is put behind all is put behind those that are left

@@ -1,5 +1,5 @@
 -- What the functions inside promise each other; no public clause names these.
 pub mod FreeTree
 pub mod PlaceList
-pub mod Storage
+pub mod WaitingBytes
 pub mod ReaderLoops

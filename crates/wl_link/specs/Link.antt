@@ -50,12 +50,12 @@ with_outgoing l transport outgoing = record {
 }
 
 abbrev pub with_outgoing_capacity : {T : Type 0} → LinkState T → ℕ → LinkState T
-with_outgoing_capacity l storage = record {
+with_outgoing_capacity l capacity = record {
   transport = l.transport;
   incoming = l.incoming;
   incoming_capacity = l.incoming_capacity;
   outgoing = l.outgoing;
-  outgoing_capacity = storage;
+  outgoing_capacity = capacity;
   limit = l.limit;
 }
 
@@ -128,9 +128,9 @@ abbrev pub left_of : ℕ → Queue → Queue
 left_of n q = record { bytes = drop n q.bytes; tokens = drop 28 q.tokens }
 
 -- a fault ends the flush and changes nothing, an answer 0 ends it and drops the tokens, and another count goes on
-abbrev pub Goes : Result ℕ IoFault → Type 0 → Type 0 → Type 0 → Result (Unit {0}) IoFault → (ℕ → Type 0) → Type 0
-Goes (Err fault) last same dropped answer on = last × same × (answer ≡ Err fault)
-Goes (Ok n) last same dropped answer on = MatchBool (n == 0) (last × dropped × (answer ≡ Ok tt)) (on n)
+abbrev pub AfterSend : Result ℕ IoFault → Type 0 → Type 0 → Type 0 → Result (Unit {0}) IoFault → (ℕ → Type 0) → Type 0
+AfterSend (Err fault) last same dropped answer on = last × same × (answer ≡ Err fault)
+AfterSend (Ok n) last same dropped answer on = MatchBool (n == 0) (last × dropped × (answer ≡ Ok tt)) (on n)
 
 -- A flush of the queue makes these sends, gives this answer, and leaves the queue `after`. While bytes wait, the front of
 -- what is left is offered.
@@ -138,7 +138,7 @@ abbrev pub Flushes : Queue → List Sending → Result (Unit {0}) IoFault → Qu
 Flushes q [] answer after = (q.bytes ≡ []) × (after ≡ q) × (answer ≡ Ok tt)
 Flushes q (e ∷ es) answer after =
     (q.bytes ≢ []) × (e.offer ≡ offer_of q)
-    × Goes e.answer (es ≡ []) (after ≡ q) (after ≡ left_of 0 q) answer (λ n. Flushes (left_of n q) es answer after)
+    × AfterSend e.answer (es ≡ []) (after ≡ q) (after ≡ left_of 0 q) answer (λ n. Flushes (left_of n q) es answer after)
 
 -- a flush of the link with these sends
 abbrev pub FlushedBy : {T : Type 0} → (T → Queue → Result ℕ IoFault → T → Type 0)
@@ -281,25 +281,25 @@ abbrev pub FindsRoom : {T : Type 0} → LinkState T → ℕ → Type 0
 FindsRoom l room = LacksBytes l.incoming.bytes → FrontFits l → length l.incoming.bytes < room
 
 -- what is left after n whole messages
-abbrev pub Behind : ℕ → List ℕ → List ℕ → Type 0
-Behind zero bytes rest = rest ≡ bytes
-Behind (suc n) bytes rest = IsWhole bytes × Behind n (drop (length_of bytes) bytes) rest
+abbrev pub IsAfter : ℕ → List ℕ → List ℕ → Type 0
+IsAfter zero bytes rest = rest ≡ bytes
+IsAfter (suc n) bytes rest = IsWhole bytes × IsAfter n (drop (length_of bytes) bytes) rest
 
 -- each message has at most so many bytes; this holds also of one that is not there to its end
 abbrev pub EachWithin : ℕ → List ℕ → Type 0
-EachWithin most bytes = (n : ℕ) (rest : List ℕ) → Behind n bytes rest → 8 ≤ length rest → length_of rest ≤ most
+EachWithin most bytes = (n : ℕ) (rest : List ℕ) → IsAfter n bytes rest → 8 ≤ length rest → length_of rest ≤ most
 
 -- ---- a read
 
 -- what is left after the message at the front was read under this signature
-abbrev pub behind_first : List ArgumentType → Queue → Queue
-behind_first signature q = record { bytes = drop (length_of q.bytes) q.bytes; tokens = drop (fd_count signature) q.tokens }
+abbrev pub after_first : List ArgumentType → Queue → Queue
+after_first signature q = record { bytes = drop (length_of q.bytes) q.bytes; tokens = drop (fd_count signature) q.tokens }
 
 -- the answer under this signature; memory is refused only if the message may need some
 abbrev pub ReadUnder : {T : Type 0} → List ArgumentType → LinkState T → Result WireMessage MessageParseError → LinkState T → Type 0
 ReadUnder signature before (Ok m) after =
     ReadsMessage before.incoming.bytes signature before.incoming.tokens m
-    × (after ≡ with_incoming before before.transport (behind_first signature before.incoming))
+    × (after ≡ with_incoming before before.transport (after_first signature before.incoming))
 ReadUnder signature before (Err e) after =
     RefusesMessage before.incoming.bytes signature before.incoming.tokens e
     × (IsInline signature → e ≢ errors.OutOfMemory) × (after ≡ before)

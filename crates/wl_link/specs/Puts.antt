@@ -17,9 +17,9 @@ is_text _ = false
 abbrev pub has_text : WireMessage → Bool
 has_text m = list_any is_text m.args
 
-abbrev pub lacked_memory : Result (Unit {0}) IoFault → Bool
-lacked_memory (Err fault.OutOfMemory) = true
-lacked_memory _ = false
+abbrev pub lacks_memory : Result (Unit {0}) IoFault → Bool
+lacks_memory (Err fault.OutOfMemory) = true
+lacks_memory _ = false
 
 -- a message that is put, and the serial of the object that sends it, which tells that object from others of its number
 pub record Said : Type 0 where
@@ -47,5 +47,5 @@ module _ {T : Type 0} (sends : T → Queue → Result ℕ IoFault → T → Type
   -- a fault of the flush is dropped
   abbrev pub FlushesOut : Bool → LinkState T → List Sending → Bool → LinkState T → Type 0
   FlushesOut flushes before es lacked after =
-      MatchBool flushes ((answer : Result (Unit {0}) IoFault) × FlushedBy sends before es answer after × (lacked ≡ lacked_memory answer))
+      MatchBool flushes ((answer : Result (Unit {0}) IoFault) × FlushedBy sends before es answer after × (lacked ≡ lacks_memory answer))
       ((es ≡ []) × (after ≡ before) × (lacked ≡ false))

@@ -14,7 +14,7 @@ use Rattle.wl_wire.specs.Message.{WireMessage}
 use Rattle.wl_wire.specs.Parse.{IsThere, opcode_of, sender_of}
 use Rattle.wl_link.specs.Exchange.{Queue, Sending, joined, nothing}
 use Rattle.wl_link.specs.Link.{FilledBy, FindsRoom, LinkState, ReadOne, count_of, counted_answer}
-use Rattle.wl_link.specs.Puts.{FlushesOut, PutsOut, Said, lacked_memory}
+use Rattle.wl_link.specs.Puts.{FlushesOut, PutsOut, Said, lacks_memory}
 
 -- what a message, malformed bytes, or the end of what is open does
 pub record Verdict (Core Event : Type 0) : Type 0 where
@@ -80,8 +80,8 @@ abbrev pub stops : {Event : Type 0} → Option IoFault → Bool → ℕ → Give
 stops stopped refused left = record { gave = []; stopped = stopped; refused = refused; left = left }
 
 -- what was given first, and then the rest
-abbrev pub behind : {Event : Type 0} → List (Given Event) → Bool → Gives Event → Gives Event
-behind first refused rest = record rest { gave = first ++ rest.gave; refused = refused || rest.refused }
+abbrev pub given_first : {Event : Type 0} → List (Given Event) → Bool → Gives Event → Gives Event
+given_first first refused rest = record rest { gave = first ++ rest.gave; refused = refused || rest.refused }
 
 -- how many messages were handled
 abbrev pub handled_in : List Turn → ℕ
@@ -140,7 +140,7 @@ module _ {T Core Event Finish : Type 0} (sends : T → Queue → Result ℕ IoFa
       (first : List Sending) × (others : List Sending) × (put : List Said) × (wrote : Result (Unit {0}) IoFault) × (mid : LinkState T) × (lacked : Bool)
       × PutsOut sends before v.puts first put wrote mid × FlushesOut sends v.flushes mid others lacked after.link
       × (es ≡ first ++ others) × (after.core ≡ came_to reader v wrote) × (gave ≡ put_and_gave put (v.events (came_to reader v wrote)))
-      × (refused ≡ lacked_memory wrote || lacked)
+      × (refused ≡ lacks_memory wrote || lacked)
 
   -- memory is refused, and nothing is put
   abbrev pub Starves : Verdict Core Event → LinkState T → List Sending → List (Given Event) → Bool → ReaderState T Core → Type 0
@@ -198,7 +198,7 @@ module _ {T Core Event Finish : Type 0} (sends : T → Queue → Result ℕ IoFa
   Then Found before es out on =
       (reader.reads_on before.core ≡ true)
       × ((v : Verdict Core Event) × (link : LinkState T) × (first : List (Given Event)) × (lacked : Bool) × (mid : ReaderState T Core) × (rest : Gives Event)
-      × Found before v link × CarriesOut v link es first lacked mid × (out ≡ behind first lacked rest) × on mid rest)
+      × Found before v link × CarriesOut v link es first lacked mid × (out ≡ given_first first lacked rest) × on mid rest)
 
   -- A reading with so many receives left. A receive is made only if bytes or tokens are lacking. If the message at the front
   -- lacks bytes, and is no longer than the incoming buffer may become, the receive finds a byte free.
@@ -210,7 +210,7 @@ module _ {T Core Event Finish : Type 0} (sends : T → Queue → Result ℕ IoFa
       × ((link : LinkState T) × FilledBy receives before.link r (counted_answer (count_of r)) link × FindsRoom before.link link.incoming_capacity
       × MatchResult (counted_answer (count_of r))
       (λ _. Reads receives n (with_link before link) turns out after)
-      (λ f. (turns ≡ []) × (out ≡ stops (Some f) (lacked_memory (Err f)) n) × (after ≡ record { core = reader.faulted before.core f; link = link }))))
+      (λ f. (turns ≡ []) × (out ≡ stops (Some f) (lacks_memory (Err f)) n) × (after ≡ record { core = reader.faulted before.core f; link = link }))))
   Reads receives left before (Handled es ∷ turns) out after =
       Then Takes before es out (λ mid rest. Reads receives left mid turns rest after)
   Reads receives left before (Unread es ∷ turns) out after =

@@ -53,15 +53,15 @@ NoneZero cs = AllByRecursion (λ c. NoZero c.sends) cs
 
 -- a fill, with what it received, if there was memory for it; or a read, with its answer
 pub data ReceiverCall : Type 0 where
-  Filling : Option (Result Queue IoFault) → ReceiverCall
-  Reading : Result WireMessage MessageParseError → ReceiverCall
+  ByFill : Option (Result Queue IoFault) → ReceiverCall
+  ByRead : Result WireMessage MessageParseError → ReceiverCall
 
 abbrev pub ReceiverStep : {T : Type 0} → (T → ℕ → Result Queue IoFault → T → Type 0) → (ℕ → ℕ → Option (List ArgumentType))
     → LinkState T → ReceiverCall → LinkState T → Type 0
-ReceiverStep receives look_up before (Filling None) after = after ≡ before
-ReceiverStep receives look_up before (Filling (Some received)) after =
+ReceiverStep receives look_up before (ByFill None) after = after ≡ before
+ReceiverStep receives look_up before (ByFill (Some received)) after =
     (answer : Result (Unit {0}) IoFault) × FilledBy receives before received answer after
-ReceiverStep receives look_up before (Reading answer) after = ReadOne (λ sender opcode found. found ≡ look_up sender opcode) before answer after
+ReceiverStep receives look_up before (ByRead answer) after = ReadOne (λ sender opcode found. found ≡ look_up sender opcode) before answer after
 
 abbrev pub ReceiverRun : {T : Type 0} → (T → ℕ → Result Queue IoFault → T → Type 0) → (ℕ → ℕ → Option (List ArgumentType))
     → LinkState T → List ReceiverCall → LinkState T → Type 0
@@ -69,21 +69,21 @@ ReceiverRun receives look_up before [] after = after ≡ before
 ReceiverRun {T = T} receives look_up before (c ∷ cs) after =
     (t : T) × (mid : LinkState T) × ReceiverStep receives look_up (with_transport before t) c mid × ReceiverRun receives look_up mid cs after
 
-abbrev pub came_by : ReceiverCall → Queue
-came_by (Filling (Some (Ok came))) = came
-came_by (Filling (Some (Err fault))) = nothing
-came_by (Filling None) = nothing
-came_by (Reading answer) = nothing
+abbrev pub brought_by : ReceiverCall → Queue
+brought_by (ByFill (Some (Ok came))) = came
+brought_by (ByFill (Some (Err fault))) = nothing
+brought_by (ByFill None) = nothing
+brought_by (ByRead answer) = nothing
 
 -- what came in all
 abbrev pub all_came : List ReceiverCall → Queue
 all_came [] = nothing
-all_came (c ∷ cs) = joined (came_by c) (all_came cs)
+all_came (c ∷ cs) = joined (brought_by c) (all_came cs)
 
 abbrev pub read_by : ReceiverCall → List WireMessage
-read_by (Reading (Ok m)) = m ∷ []
-read_by (Reading (Err e)) = []
-read_by (Filling received) = []
+read_by (ByRead (Ok m)) = m ∷ []
+read_by (ByRead (Err e)) = []
+read_by (ByFill received) = []
 
 -- the messages that were read
 abbrev pub messages_read : List ReceiverCall → List WireMessage
@@ -128,7 +128,7 @@ AllReadLaw {S = S} {R = R} sends receives =
     → SenderRun sends start sent end → start.outgoing ≡ nothing → NoneZero sent → AllByRecursion (IsReadable look_up) (written sent)
     → ReceiverRun receives look_up empty got full → empty.incoming ≡ nothing
     → all_came got ≡ all_taken sent → end.outgoing ≡ nothing
-    → ReceiverStep receives look_up full (Reading (Err e)) after → e ≢ errors.OutOfMemory
+    → ReceiverStep receives look_up full (ByRead (Err e)) after → e ≢ errors.OutOfMemory
     → messages_read got ≡ written sent
 
 -- Two receives leave what one receive of both parts would leave, even if a read between them finds no message.
@@ -136,7 +136,7 @@ abbrev pub CuttingLaw : {T : Type 0} → (T → ℕ → Result Queue IoFault →
 CuttingLaw {T = T} receives =
     (look_up : ℕ → ℕ → Option (List ArgumentType)) (start mid between end at_once : LinkState T) (x y : Queue)
     (a b c : Result (Unit {0}) IoFault) (e : MessageParseError)
-    → FilledBy receives start (Ok x) a mid → ReceiverStep receives look_up mid (Reading (Err e)) between → FilledBy receives between (Ok y) b end
+    → FilledBy receives start (Ok x) a mid → ReceiverStep receives look_up mid (ByRead (Err e)) between → FilledBy receives between (Ok y) b end
     → (end.incoming ≡ with_came start.incoming (Ok (joined x y)))
     × (FilledBy receives start (Ok (joined x y)) c at_once → end.incoming ≡ at_once.incoming)
 
@@ -145,17 +145,17 @@ CuttingLaw {T = T} receives =
 -- Each receive is made only if the read before it lacked bytes or tokens. At first nothing waits, and no read is needed.
 abbrev pub InNeed : Bool → List ReceiverCall → Type 0
 InNeed lacking [] = Unit {0}
-InNeed lacking (Filling None ∷ cs) = InNeed lacking cs
-InNeed lacking (Filling (Some received) ∷ cs) = (lacking ≡ true) × InNeed false cs
-InNeed lacking (Reading (Ok m) ∷ cs) = InNeed false cs
-InNeed lacking (Reading (Err errors.MissingData) ∷ cs) = InNeed true cs
-InNeed lacking (Reading (Err errors.MissingFD) ∷ cs) = InNeed true cs
-InNeed lacking (Reading (Err errors.Malformed) ∷ cs) = InNeed false cs
-InNeed lacking (Reading (Err errors.OutOfMemory) ∷ cs) = InNeed false cs
+InNeed lacking (ByFill None ∷ cs) = InNeed lacking cs
+InNeed lacking (ByFill (Some received) ∷ cs) = (lacking ≡ true) × InNeed false cs
+InNeed lacking (ByRead (Ok m) ∷ cs) = InNeed false cs
+InNeed lacking (ByRead (Err errors.MissingData) ∷ cs) = InNeed true cs
+InNeed lacking (ByRead (Err errors.MissingFD) ∷ cs) = InNeed true cs
+InNeed lacking (ByRead (Err errors.Malformed) ∷ cs) = InNeed false cs
+InNeed lacking (ByRead (Err errors.OutOfMemory) ∷ cs) = InNeed false cs
 
 -- tokens come no later than the last byte of their message, so no read lacks them
 abbrev pub InTime : List ReceiverCall → Type 0
-InTime cs = AllByRecursion (λ c. c ≢ Reading (Err errors.MissingFD)) cs
+InTime cs = AllByRecursion (λ c. c ≢ ByRead (Err errors.MissingFD)) cs
 
 -- a receive that is offered at least one byte
 abbrev pub roomy : {T : Type 0} → (T → ℕ → Result Queue IoFault → T → Type 0) → T → ℕ → Result Queue IoFault → T → Type 0

@@ -4,7 +4,7 @@ ghost use Rattle.std.specs.Prelude.{◌≡◌, ◌≢◌, ◌↔◌, ◌+◌, �
 ghost use Rattle.std.specs.VecDeque.{deque_capacity, deque_len};
 ghost use Rattle.wl_wire.specs.MapIds.{numbered};
 ghost use Rattle.wl_wire.specs.Message.{IsMessage, size, tokens};
-ghost use Rattle.wl_link.specs.Inside.Storage.{waits, beside, arrived, Received, Appended};
+ghost use Rattle.wl_link.specs.Inside.WaitingBytes.{waits, beside, arrived, Received, Appended};
 
 use crate::token_queue::TokenQueue;
 use crate::transport::Transport;
@@ -27,7 +27,7 @@ pub struct Buffer {
 impl Model for Buffer {
     ghost use Rattle.std.specs.Prelude.{◌<◌, ◌≤◌, slice_range};
     ghost use Rattle.std.specs.Vec.{vec_len};
-    ghost use Rattle.wl_link.specs.Inside.Storage.{Waiting};
+    ghost use Rattle.wl_link.specs.Inside.WaitingBytes.{Waiting};
 
     ghost Value = { Waiting };
 
@@ -121,7 +121,7 @@ impl Buffer {
         ensures message { OnOk result (IsMessage (numbered (N.object_number numbers.now) (N.new_number numbers.now) message.now)) }
     {
         let end = self.end;
-        let count = write_behind(message, numbers, &mut self.storage, self.start, end, fds)?;
+        let count = write_after(message, numbers, &mut self.storage, self.start, end, fds)?;
         self.end = end + count;
         Ok(())
     }
@@ -209,14 +209,14 @@ fn copy_to_front(storage: &mut [u8], start: usize, count: usize)
     requires within { start + count ≤ length storage.old }
     ensures { take count storage.new ≡ take count (drop start storage.old) }
 {
-    let (front, behind) = storage.split_at_mut(start);
+    let (front, waiting) = storage.split_at_mut(start);
     let (to, _) = front.split_at_mut(count);
-    to.copy_from_slice(&behind[..count]);
+    to.copy_from_slice(&waiting[..count]);
 }
 
 /// Writes the message after the bytes from `start` to `end`, and appends its tokens to the queue. Returns how many bytes
 /// were written.
-fn write_behind<Id, N: Numbering<Id>>(
+fn write_after<Id, N: Numbering<Id>>(
     message: &Message<Id, Token>,
     numbers: &N,
     storage: &mut [u8],
@@ -235,7 +235,7 @@ fn write_behind<Id, N: Numbering<Id>>(
     fds.write(message, numbers, &mut storage[end..])
 }
 
-/// Moves the bytes from `start` to `end` to the front, and writes the message after them, as `write_behind` does.
+/// Moves the bytes from `start` to `end` to the front, and writes the message after them, as `write_after` does.
 fn write_at_front<Id, N: Numbering<Id>>(
     message: &Message<Id, Token>,
     numbers: &N,
@@ -253,7 +253,7 @@ fn write_at_front<Id, N: Numbering<Id>>(
     ensures too_small { result ≡ Err MessageWriteError.BufferTooSmall → length storage.old < end - start + size (numbered (N.object_number numbers.now) (N.new_number numbers.now) message.now) }
 {
     move_to_front(storage, start, end);
-    write_behind(message, numbers, storage, 0, end - start, fds)
+    write_after(message, numbers, storage, 0, end - start, fds)
 }
 
 /// Moves the bytes from `start` to `end` to the front, and receives after them. Returns how many bytes came.

@@ -8,10 +8,10 @@ ghost use Rattle.wl_wire.specs.MapIds.{numbered};
 ghost use Rattle.wl_wire.specs.Message.{IsMessage, content, size};
 ghost use Rattle.wl_wire.specs.declared.error.MessageParseError.TheVariants as parse;
 ghost use Rattle.wl_wire.specs.Parse.{IsInline, IsThere, ReadsMessage, RefusesMessage, sender_of, opcode_of};
-ghost use Rattle.wl_link.specs.Link.{IsFresh, LimitSet, Flushed, Filled, Grown, Wants, Put, Placed, Wrote, ReadOne, looked_up, read_content, read_into, needed, has_room, ignoring, counted_answer, grown_capacity, with_incoming, behind_first, FindsRoom, LacksBytes};
+ghost use Rattle.wl_link.specs.Link.{IsFresh, LimitSet, Flushed, Filled, Grown, Wants, Put, Placed, Wrote, ReadOne, looked_up, read_content, read_into, needed, has_room, ignoring, counted_answer, grown_capacity, with_incoming, after_first, FindsRoom, LacksBytes};
 ghost use Rattle.wl_link.specs.Kept.{FlushKeeps, FlushDrains, WriteKeeps};
 ghost use Rattle.wl_link.specs.Sides.{ReadTakes};
-ghost use Rattle.wl_link.specs.Inside.Storage.{FitsUnder, grown_to, write_answer_of};
+ghost use Rattle.wl_link.specs.Inside.WaitingBytes.{FitsUnder, grown_to, write_answer_of};
 
 use crate::buffer::Buffer;
 use crate::limit::{DEFAULT_MAX_BUFFER_SIZE, grown_size, incoming_limit, rounded};
@@ -42,7 +42,7 @@ pub struct BufferedSocket<T> {
 
 impl<T> Model for BufferedSocket<T> {
     ghost use Rattle.wl_link.specs.Link.{LinkState};
-    ghost use Rattle.wl_link.specs.Inside.Storage.{beside};
+    ghost use Rattle.wl_link.specs.Inside.WaitingBytes.{beside};
 
     ghost Value = { LinkState T };
 
@@ -117,7 +117,7 @@ impl<T> BufferedSocket<T> {
     }
 
     /// The capacity of the incoming and of the outgoing buffer, in bytes.
-    pub fn storage(&self) -> [usize; 2]
+    pub fn capacities(&self) -> [usize; 2]
         ensures { result ≡ self.now.incoming_capacity ∷ self.now.outgoing_capacity ∷ [] }
     {
         [self.incoming.size(), self.outgoing.size()]
@@ -235,7 +235,7 @@ impl<T> BufferedSocket<T> {
     ) -> Result<(), MessageParseError>
         requires inline { INLINE_ARGS ≤ message.old.args.capacity }
         ensures found { OnOk result (ReadsMessage self.old.incoming.bytes signature.now self.old.incoming.tokens (content message.new)) }
-        ensures taken { OnOk result (self.new ≡ with_incoming self.old self.old.transport (behind_first signature.now self.old.incoming)) }
+        ensures taken { OnOk result (self.new ≡ with_incoming self.old self.old.transport (after_first signature.now self.old.incoming)) }
         ensures matches { OnOk result (Matches signature.now message.new.args.items) }
         ensures refused { IfErr result (RefusesMessage self.old.incoming.bytes signature.now self.old.incoming.tokens) }
         ensures small { IsInline signature.now → IfErr result (λ e. e ≢ parse.OutOfMemory) }

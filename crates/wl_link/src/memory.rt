@@ -201,7 +201,7 @@ impl Transport for Memory {
         ensures lands { Lands result buffer.old tokens.old.items buffer.new tokens.new.items }
 
         // The rest of the buffer stays as it was. If the queue has the capacity for 28 more tokens, no memory is needed.
-        ensures behind { IfOk result (λ n. drop n buffer.new ≡ drop n buffer.old) }
+        ensures rest { IfOk result (λ n. drop n buffer.new ≡ drop n buffer.old) }
         ensures room { deque_len tokens.old + 28 ≤ deque_capacity tokens.old
             → receipt result buffer.new tokens.old.items tokens.new.items ≡ script_gives self.old (length buffer.old) }
     {

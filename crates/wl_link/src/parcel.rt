@@ -67,7 +67,7 @@ impl Parcel {
             (λ _. (self.old.tokens ≢ []) × (self.new ≡ self.old) × (buffer.new ≡ buffer.old)
             × (tokens.new.items ≡ tokens.old.items)) }
         ensures few { length self.old.tokens ≤ 28 }
-        ensures behind { IfOk result (λ n. drop n buffer.new ≡ drop n buffer.old) }
+        ensures rest { IfOk result (λ n. drop n buffer.new ≡ drop n buffer.old) }
         ensures room { deque_len tokens.old + 28 ≤ deque_capacity tokens.old → IsOk result }
     {
         append(tokens, &self.tokens)?;

@@ -4,7 +4,7 @@
 
 ghost use Rattle.std.specs.Prelude.{◌≡◌, ◌+◌, ◌<◌, ◌≤◌, [], length, true, false, None, Some, Err, OnOk, OnErr, IsSome, option_copied};
 ghost use Rattle.std.specs.Fn.{FnOnceReturnsAtMut};
-ghost use Rattle.wl_link.specs.Inside.PlaceList.{place, put_len, has_place_room, Puts, PutsAt, PutsNew, LendsAt, IsFirstFree, ShowsFree, WordsReadIn, ReadsFew, entries_from};
+ghost use Rattle.wl_link.specs.Inside.PlaceList.{place, put_len, has_place_room, SetsPlace, PutsAt, PutsNew, LendsAt, IsFirstFree, ShowsFree, WordsReadIn, ReadsFew, entries_from};
 ghost use Rattle.wl_link.specs.declared.object_map.InsertError.TheVariants as insert;
 ghost use Rattle.wl_link.specs.declared.object_map.NewError.TheVariants as new;
 
@@ -66,7 +66,7 @@ impl<Data: Drop> Places<Data> {
         requires { ShowsFree self.old.slots.items self.old.free.levels.items }
         ensures free { ShowsFree self.new.slots.items self.new.free.levels.items }
         ensures found { result ≡ place self.old.slots.items at }
-        ensures places { Puts self.old.slots.items at None self.new.slots.items }
+        ensures places { SetsPlace self.old.slots.items at None self.new.slots.items }
         ensures len { length self.new.slots.items ≡ length self.old.slots.items }
         ensures room { has_place_room self.new.slots self.new.free.levels ≡ has_place_room self.old.slots self.old.free.levels }
     {
@@ -85,7 +85,7 @@ impl<Data: Drop> Places<Data> {
         requires fits { length self.old.slots.items + 1 < 4294967296 }
         requires free { ShowsFree self.old.slots.items self.old.free.levels.items }
         ensures free { ShowsFree self.new.slots.items self.new.free.levels.items }
-        ensures places { OnOk result (Puts self.old.slots.items at (Some object) self.new.slots.items) }
+        ensures places { OnOk result (SetsPlace self.old.slots.items at (Some object) self.new.slots.items) }
         ensures len { OnOk result (length self.new.slots.items ≡ put_len at (length self.old.slots.items)) }
         ensures err { OnErr result (self.new.slots.items ≡ self.old.slots.items) }
         ensures grows { OnErr result (at ≡ length self.old.slots.items) }
@@ -108,7 +108,7 @@ impl<Data: Drop> Places<Data> {
         requires fits { length self.old.slots.items + 1 < 4294967296 }
         requires free { ShowsFree self.old.slots.items self.old.free.levels.items }
         ensures free { ShowsFree self.new.slots.items self.new.free.levels.items }
-        ensures places { OnOk result (Puts self.old.slots.items at (Some object) self.new.slots.items) }
+        ensures places { OnOk result (SetsPlace self.old.slots.items at (Some object) self.new.slots.items) }
         ensures len { OnOk result (length self.new.slots.items ≡ put_len at (length self.old.slots.items)) }
         ensures err { OnErr result (self.new.slots.items ≡ self.old.slots.items) }
         ensures full { OnErr result (has_place_room self.old.slots self.old.free.levels ≡ false) }

@@ -8,4 +8,4 @@ pub mod Finishing
 pub mod Opened
 pub mod Handling
 pub mod Requesting
-pub mod Turning
+pub mod OneMessage

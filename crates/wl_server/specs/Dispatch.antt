@@ -69,12 +69,12 @@ total_with total (Ok count) = min (total + count) 0xFFFFFFFFFFFFFFFF
 total_with total (Err f) = total
 
 -- the answer after the cleanup: if memory was refused to the cleanup, it is `OutOfMemory`, whatever came before
-abbrev pub behind_cleanup : {A E : Type 0} → Result A E → Result ℕ IoFault → Result ℕ IoFault
-behind_cleanup (Ok _) answer = answer
-behind_cleanup (Err _) answer = Err fault.OutOfMemory
+abbrev pub after_cleanup : {A E : Type 0} → Result A E → Result ℕ IoFault → Result ℕ IoFault
+after_cleanup (Ok _) answer = answer
+after_cleanup (Err _) answer = Err fault.OutOfMemory
 
 abbrev pub cleaned : {T U : Type 0} → Reply T U → Result ℕ IoFault → Result ℕ IoFault
-cleaned (reply.Cleanup r) answer = behind_cleanup r answer
+cleaned (reply.Cleanup r) answer = after_cleanup r answer
 cleaned _ answer = answer
 
 module _ {H T U G C : Type 0} (w : World T G C) (answers : Answering H T U G C) (id : ClientParts) where

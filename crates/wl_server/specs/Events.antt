@@ -12,7 +12,7 @@ use Rattle.wl_wire.specs.declared.error.IoFault.TheVariants as fault
 use Rattle.wl_wire.specs.declared.interface.InterfaceId.{InterfaceId}
 use Rattle.wl_wire.specs.declared.message.Message.{Message}
 use Rattle.wl_wire.specs.Argument.{WireArgument}
-use Rattle.wl_wire.specs.Asked.{event_row, fits, left_after, matches, next_interface}
+use Rattle.wl_wire.specs.MessageRows.{event_row, fits, left_after, matches, next_interface}
 use Rattle.wl_wire.specs.Message.{WireMessage}
 use Rattle.wl_wire.specs.Table.{InterfaceRow, MessageRow}
 use Rattle.wl_link.specs.declared.object.Object.{Object}
@@ -27,7 +27,7 @@ use Rattle.wl_server.specs.declared.error.EventError.TheVariants as refused
 use Rattle.wl_server.specs.declared.objects.Kept.{Kept}
 use Rattle.wl_server.specs.Deeds.{Deed, Put, Sent}
 use Rattle.wl_server.specs.Ids.{ClientParts, IdParts, same_client}
-use Rattle.wl_server.specs.Objects.{leaving, without_noted}
+use Rattle.wl_server.specs.Objects.{told_of_removed, without_noted}
 use Rattle.wl_server.specs.Part.{Part, named, with_link}
 use Rattle.wl_server.specs.Telling.{Core, Tells, Told, closed_down, core_of, deletions, tells}
 
@@ -125,7 +125,7 @@ module _ {U C : Type 0} where
   ends_sender client c m sender false = tells c []
   ends_sender client c m sender true =
       record (tells (without_noted client c m.sender.number sender) (deletions m.sender.number)) {
-        events = leaving m.sender sender.value.user_data;
+        events = told_of_removed m.sender sender.value.user_data;
       }
 
   -- If the event could not be put, the client is killed as closed, and is told nothing more.

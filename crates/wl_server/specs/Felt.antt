@@ -6,7 +6,7 @@ use Rattle.wl_wire.specs.Table.{InterfaceRow}
 use Rattle.wl_link.specs.declared.object.Object.{Object}
 use Rattle.wl_link.specs.Exchange.{Queue, Sending}
 use Rattle.wl_link.specs.Link.{LinkState, FlushedBy}
-use Rattle.wl_link.specs.Puts.{Said, lacked_memory}
+use Rattle.wl_link.specs.Puts.{Said, lacks_memory}
 use Rattle.wl_server.specs.declared.objects.Kept.{Kept}
 use Rattle.wl_server.specs.Deeds.{Deed, Noted, Sent, left_if}
 use Rattle.wl_server.specs.Globals.{Shown}
@@ -37,7 +37,7 @@ module _ {T U C : Type 0} (sends : T → Queue → Result ℕ IoFault → T → 
   abbrev pub FlushedTo : Part T U C → Result (Unit {0}) IoFault → Bool → List (Deed U) → Part T U C → Type 0
   FlushedTo before answer lacked did after =
       (es : List Sending) × (link : LinkState T) × FlushedBy sends before.link es answer link
-      × (lacked ≡ lacked_memory answer) × (did ≡ map Sent es) × (after ≡ with_link before link)
+      × (lacked ≡ lacks_memory answer) × (did ≡ map Sent es) × (after ≡ with_link before link)
 
   -- what waits for a live client is flushed; a fault is dropped
   abbrev pub FlushesLive : Part T U C → Bool → List (Deed U) → Part T U C → Type 0

@@ -1,6 +1,6 @@
 -- What the functions inside promise each other; no public clause names these.
 pub mod Conversion
-pub mod Turns
+pub mod ReadingLoop
 pub mod Responses
 pub mod Client
 pub mod Lookup

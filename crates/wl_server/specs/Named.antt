@@ -32,7 +32,7 @@ module _ {T U G C : Type 0} (w : World T G C) (id : ClientParts) where
     pub split : ids.changes ≡ first ++ rest
     pub there : Objects (Kept U)
     pub before : Follows w id offer begins (objects.first_objects display_object) done first point there
-    pub behind : Follows w id (offer_through offer done) point there later rest ends ids.kept
+    pub after_point : Follows w id (offer_through offer done) point there later rest ends ids.kept
     pub stays : (o : IdParts) → IsSome (named_of point o)
         → (birth : Birth) × ((births_of first).of_number o.number ≡ Some birth)
         × (IsSome (named_of ends o) ↔ ((births_of (first ++ rest)).of_number o.number ≡ Some birth))

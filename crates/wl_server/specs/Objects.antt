@@ -62,8 +62,8 @@ module _ {U C : Type 0} where
   without_noted client c n x = record (without c n x) { waiting = c.waiting ++ note_of_end client n x }
 
   -- the deed that an object with user data left, if it is gone
-  abbrev pub leaving : IdParts → Option U → Core U C → List (Told U)
-  leaving id u c = if is_some (named c.store id) then [] else map Did (left_if (id_of id) u)
+  abbrev pub told_of_removed : IdParts → Option U → Core U C → List (Told U)
+  told_of_removed id u c = if is_some (named c.store id) then [] else map Did (left_if (id_of id) u)
 
   -- The client is told that the number is free, and the object leaves. If there is no memory for its note or for the
   -- message, it stays.
@@ -71,7 +71,7 @@ module _ {U C : Type 0} where
   destroys client c id x = record (tells (without_noted client c id.number x) (deletions id.number)) {
     asks = is_some x.value.user_data;
     starved = c;
-    events = leaving id x.value.user_data;
+    events = told_of_removed id x.value.user_data;
   }
 
 -- the answer of a call that can fail by now only because memory is refused

@@ -4,7 +4,7 @@ use Rattle.std.specs.Prelude.{◌≡◌, ◌⊎◌, ℕ, List, Bool, true, false
 use Rattle.wl_wire.specs.declared.error.IoFault.{IoFault}
 use Rattle.wl_link.specs.Exchange.{Queue, Sending}
 use Rattle.wl_link.specs.Link.{LinkState, Wrote}
-use Rattle.wl_link.specs.Puts.{FlushesOut, lacked_memory}
+use Rattle.wl_link.specs.Puts.{FlushesOut, lacks_memory}
 use Rattle.wl_server.specs.Backend.{BackendState}
 use Rattle.wl_server.specs.Ids.{IdParts}
 use Rattle.wl_server.specs.Lookups.{client_of}
@@ -18,7 +18,7 @@ module _ {T : Type 0} (sends : T → Queue → Result ℕ IoFault → T → Type
   TellsError before n code text refused after =
       (wrote : Result (Unit {0}) IoFault) × (mid : LinkState T) × (es : List Sending) × (lacked : Bool)
       × Wrote sends before (error_message n code text).message wrote mid × FlushesOut sends true mid es lacked after
-      × (refused ≡ lacked_memory wrote || lacked)
+      × (refused ≡ lacks_memory wrote || lacked)
 
   -- or memory is refused for the texts of the note, and nothing is written or flushed
   abbrev pub TellsOrLacks : LinkState T → ℕ → ℕ → List ℕ → Bool → LinkState T → Type 0

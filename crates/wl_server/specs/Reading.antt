@@ -6,7 +6,7 @@ use Rattle.wl_wire.specs.declared.argument.Argument.TheVariants as arg
 use Rattle.wl_wire.specs.declared.error.IoFault.{IoFault}
 use Rattle.wl_wire.specs.declared.error.IoFault.TheVariants as fault
 use Rattle.wl_wire.specs.Argument.{WireArgument}
-use Rattle.wl_wire.specs.Asked.{creates, request_row}
+use Rattle.wl_wire.specs.MessageRows.{creates, request_row}
 use Rattle.wl_wire.specs.Message.{WireMessage}
 use Rattle.wl_wire.specs.Table.{InterfaceRow, MessageRow, callback_id, display_id, name_of, registry_id}
 use Rattle.wl_link.specs.declared.object.Object.{Object}

@@ -6,7 +6,7 @@
 //! A client is *stored* from its insertion until `Backend::cleanup` takes it out.
 
 ghost use Rattle.std.specs.Prelude.{◌≡◌, false};
-ghost use Rattle.wl_server.specs.Dispatch.{DispatchesAll, DispatchesClient, answering, behind_cleanup, total_with};
+ghost use Rattle.wl_server.specs.Dispatch.{DispatchesAll, DispatchesClient, answering, after_cleanup, total_with};
 ghost use Rattle.wl_server.specs.Inside.Dispatching.{CleansUp};
 ghost use Rattle.wl_server.specs.PartStep.{over};
 
@@ -32,11 +32,11 @@ fn total_with(total: usize, answer: Result<usize, IoFault>) -> usize
 
 /// What a dispatch returns after its cleanup: the given result, or `OutOfMemory` if the cleanup was refused. The
 /// transports that the cleanup handed out are dropped.
-fn answer_behind<T: Drop>(
+fn answer_after_cleanup<T: Drop>(
     taken_out: Result<Vec<(ClientId, T)>, OutOfMemory>,
     answer: Result<usize, IoFault>,
 ) -> Result<usize, IoFault>
-    ensures { result ≡ behind_cleanup taken_out answer }
+    ensures { result ≡ after_cleanup taken_out answer }
 {
     match taken_out {
         Ok(_) => answer,
@@ -113,7 +113,7 @@ impl<T: Transport + Drop, U: Drop, G: GlobalHandler<C> + Drop, C: Drop> Backend<
         let refused = self.memory_refused();
         let cleaned = self.cleanup();
         self.keep_refused(refused);
-        answer_behind(cleaned, answer)
+        answer_after_cleanup(cleaned, answer)
     }
 
     /// Begins a dispatch: no memory was refused yet.

@@ -1,8 +1,7 @@
 //! Reads the messages of a client up to an action, and finishes actions.
 //!
 //! A *reading* is one call of `next_action` or `next_action_within`. It handles messages, and receives more, until it
-//! finds an action or has nothing left to read. An *action* is a request or a bind that is handed out to the program. One
-//! message that is handled is a *turn* of the reading.
+//! finds an action or has nothing left to read. An *action* is a request or a bind that is handed out to the program.
 
 pub mod action;
 pub mod arguments;

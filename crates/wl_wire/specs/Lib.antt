@@ -7,7 +7,7 @@ pub mod Parse
 pub mod Stream
 -- The table of interfaces, and what a message asks for.
 pub mod Table
-pub mod Asked
+pub mod MessageRows
 pub mod Enum
 -- Descriptors and ids that are replaced.
 pub mod MapFd

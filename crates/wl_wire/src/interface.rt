@@ -1,7 +1,7 @@
 //! Interfaces, with the requests and events that they have.
 
 ghost use Rattle.std.specs.Prelude.{◌≡◌};
-ghost use Rattle.wl_wire.specs.Asked.{creates};
+ghost use Rattle.wl_wire.specs.MessageRows.{creates};
 ghost use Rattle.wl_wire.specs.Table.{message_row};
 
 use crate::argument::ArgumentType;

@@ -10,7 +10,7 @@
 //! |---|---|---|
 //! | `write_to_buffers`, `write_numbered`, `message_size`, `numbered_size` | `write` | `Message`, `MapIds` |
 //! | `parse_message`, `parse_into`, `message_header`, `message_is_there` | `parse` | `Parse`, `Reading`, `Argument` |
-//! | `Protocol`, `check_for_signature`, `same_interface` | `protocol`, `table_check` | `Table`, `Argument`, `Asked` |
+//! | `Protocol`, `check_for_signature`, `same_interface` | `protocol`, `table_check` | `Table`, `Argument`, `MessageRows` |
 //! | `Message::map_ids`, `Message::map_fd` | `map_ids`, `message` | `MapIds`, `MapFd` |
 //! | `WEnum`, `WaylandEnum` | `enums` | `Enum` |
 //!

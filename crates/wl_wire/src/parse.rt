@@ -13,7 +13,7 @@ ghost use Rattle.wl_wire.specs.Argument.{Matches};
 ghost use Rattle.wl_wire.specs.Message.{WireMessage, IsMessage, content, pad_len, spelling, tokens};
 ghost use Rattle.wl_wire.specs.Parse.{fd_count, IsInline, IsSmall, length_of, sender_of, opcode_of, ReadsMessage, RefusesMessage, IsWhole};
 ghost use Rattle.wl_wire.specs.Text.{HasNoZero};
-ghost use Rattle.wl_wire.specs.Inside.Cursor.{IsNumber, text_at, word_at, counted_at, text_of, argument_at, arguments_at, rests, with_front, Gives, RefusesArguments, RefusesHeader};
+ghost use Rattle.wl_wire.specs.Inside.Cursor.{IsNumber, text_at, word_at, counted_at, text_of, argument_at, arguments_at, rests, with_front, ReadsAs, RefusesArguments, RefusesHeader};
 
 use crate::argument::{Argument, ArgumentType, Token};
 use crate::byte_array::ByteArray;
@@ -114,7 +114,7 @@ fn read_number(kind: ArgumentType, payload: &[u8]) -> Option<(Argument<u32, Toke
 
 /// A copy of the string at the front, or null, and the bytes after it.
 fn read_text(alloc: Global, payload: &[u8]) -> Result<(Option<CString>, &[u8]), MessageParseError>
-    ensures { Gives (λ x. (x.0, x.1.now)) result (text_at payload.now) }
+    ensures { ReadsAs (λ x. (x.0, x.1.now)) result (text_at payload.now) }
 {
     let (bytes, rest) = read_counted(payload).ok_or(MessageParseError::Malformed)?;
     match text_in(bytes).ok_or(MessageParseError::Malformed)? {
@@ -125,7 +125,7 @@ fn read_text(alloc: Global, payload: &[u8]) -> Result<(Option<CString>, &[u8]), 
 
 /// A copy of the array at the front, and the bytes after it.
 fn read_array(alloc: Global, payload: &[u8]) -> Result<(ByteArray, &[u8]), MessageParseError>
-    ensures { Gives (λ x. (x.0, x.1.now)) result (counted_at payload.now) }
+    ensures { ReadsAs (λ x. (x.0, x.1.now)) result (counted_at payload.now) }
 {
     let (bytes, rest) = read_counted(payload).ok_or(MessageParseError::Malformed)?;
     let bytes = ByteArray::new(Vec::from_slice(alloc, bytes)?);
@@ -145,7 +145,7 @@ fn read_argument<'b>(
     fds: &VecDeque<Token>,
     used: usize,
 ) -> Result<Read<'b>, MessageParseError>
-    ensures found { Gives (λ x. (x.0, x.1.now, drop x.2 fds.now.items)) result (argument_at kind payload.now (drop used fds.now.items)) }
+    ensures found { ReadsAs (λ x. (x.0, x.1.now, drop x.2 fds.now.items)) result (argument_at kind payload.now (drop used fds.now.items)) }
     ensures small { IsSmall kind → IfErr result (λ e. e ≢ OutOfMemory) }
 {
     match kind {
@@ -198,7 +198,7 @@ fn read_arguments(
     args: &mut SmallVec<Argument<u32, Token>, INLINE_ARGS>,
 ) -> Result<usize, MessageParseError>
     requires { HasRoomFor args.old INLINE_ARGS }
-    ensures found { Gives (λ used. (args.new.items, drop used fds.now.items)) result (with_front args.old.items (arguments_at signature.now payload.now fds.now.items)) }
+    ensures found { ReadsAs (λ used. (args.new.items, drop used fds.now.items)) result (with_front args.old.items (arguments_at signature.now payload.now fds.now.items)) }
     ensures inline { All IsSmall signature.now → HasRoomFor args.old (length signature.now) → IfErr result (λ e. e ≢ OutOfMemory) }
     ensures capacity { args.old.capacity ≤ args.new.capacity }
 {

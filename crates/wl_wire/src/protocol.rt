@@ -4,7 +4,7 @@ ghost use Rattle.std.specs.Prelude.{Some, ◌≡◌, ◌≢◌, ◌↔◌, ◌�
 ghost use Rattle.std.specs.Option.{option_copied};
 ghost use Rattle.wl_wire.specs.Argument.{Matches};
 ghost use Rattle.wl_wire.specs.Table.{anonymous_id, anonymous_row, callback_row, display_row, registry_row, IsAcceptedTable, IsFirstFault, interface_row, name_of, table_of};
-ghost use Rattle.wl_wire.specs.Asked.{matches};
+ghost use Rattle.wl_wire.specs.MessageRows.{matches};
 ghost use Rattle.wl_wire.specs.declared.protocol.TableError.{TableError as Fault};
 ghost use Rattle.wl_wire.specs.declared.protocol.TableError.TheVariants.{OutOfMemory};
 

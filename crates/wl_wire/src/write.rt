@@ -41,29 +41,29 @@ struct Measure {
 /// What is counted of a message's arguments: the bytes that strings and arrays take after their first word, and the tokens.
 #[derive(Clone, Copy)]
 struct Count {
-    behind: usize,
+    tails: usize,
     tokens: usize,
 }
 
 impl Count {
     /// Counts a string or an array of `len` bytes. Returns whether the bytes after first words are at most 65535.
     fn add_counted(&mut self, len: usize) -> bool
-        requires small { self.old.behind ≤ 65535 }
+        requires small { self.old.tails ≤ 65535 }
         requires len { len ≤ 2 ^ 63 }
-        ensures counts { self.new ≡ record self.old { behind = self.old.behind + len + pad_len len } }
-        ensures fits { result ≡ nat_le self.new.behind 65535 }
+        ensures counts { self.new ≡ record self.old { tails = self.old.tails + len + pad_len len } }
+        ensures fits { result ≡ nat_le self.new.tails 65535 }
     {
-        self.behind += len + padding(len);
-        self.behind <= MAX_MESSAGE_SIZE
+        self.tails += len + padding(len);
+        self.tails <= MAX_MESSAGE_SIZE
     }
 
     /// Counts the argument. Returns whether the bytes after first words are at most 65535.
     fn add<Id>(&mut self, arg: &Argument<Id, Token>) -> bool
-        requires small { self.old.behind ≤ 65535 }
+        requires small { self.old.tails ≤ 65535 }
         requires few_tokens { self.old.tokens < usize.MAX }
-        ensures bytes { self.new.behind + 4 + 4 * self.old.tokens ≡ self.old.behind + 4 * self.new.tokens + piece_len arg.now }
+        ensures bytes { self.new.tails + 4 + 4 * self.old.tokens ≡ self.old.tails + 4 * self.new.tokens + piece_len arg.now }
         ensures tokens { self.new.tokens ≡ self.old.tokens + token_count arg.now }
-        ensures fits { result ≡ nat_le self.new.behind 65535 }
+        ensures fits { result ≡ nat_le self.new.tails 65535 }
     {
         match arg {
             Argument::Str(Some(text)) => self.add_counted(text.as_bytes().len() + 1),
@@ -78,15 +78,15 @@ impl Count {
 
     /// What a message takes that has `args` arguments, with these counts; `None` if it takes more than 65535 bytes.
     fn measure(self, args: usize) -> Option<Measure>
-        requires behind { self.behind ≤ 65535 }
+        requires tails { self.tails ≤ 65535 }
         requires tokens { self.tokens ≤ args }
-        ensures { MatchOption result (65535 < 8 + (4 * (args - self.tokens) + self.behind)) (λ m. (m.bytes ≡ 8 + (4 * (args - self.tokens) + self.behind)) × (m.bytes ≤ 65535) × (m.tokens ≡ self.tokens)) }
+        ensures { MatchOption result (65535 < 8 + (4 * (args - self.tokens) + self.tails)) (λ m. (m.bytes ≡ 8 + (4 * (args - self.tokens) + self.tails)) × (m.bytes ≤ 65535) × (m.tokens ≡ self.tokens)) }
     {
         let words = args - self.tokens;
         if words > MAX_WORDS {
             return None;
         }
-        let bytes = 8 + 4 * words + self.behind;
+        let bytes = 8 + 4 * words + self.tails;
         if bytes > MAX_MESSAGE_SIZE {
             return None;
         }
@@ -253,7 +253,7 @@ fn count_of<Id>(args: &[Argument<Id, Token>]) -> Option<Measure>
     ensures { MatchOption result (65535 < 8 + sum_by piece_len args.now) (λ m. (m.bytes ≡ 8 + sum_by piece_len args.now) × (m.bytes ≤ 65535) × (m.tokens ≡ sum_by token_count args.now)) }
 {
     let mut count = Count {
-        behind: 0,
+        tails: 0,
         tokens: 0,
     };
     for arg in args {

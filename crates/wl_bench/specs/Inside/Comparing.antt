@@ -11,7 +11,7 @@ use Rattle.wl_bench.specs.declared.stop.Stop.{Stop}
 use Rattle.wl_bench.specs.declared.stop.Stop.TheVariants.{BadLine, Failed, Usage, Differs}
 use Rattle.wl_bench.specs.Answers.{Line}
 use Rattle.wl_bench.specs.Commands.{IsLine}
-use Rattle.wl_bench.specs.Record.{IsNoCommand, IsOutput, Leads, Told, command_line, quoted}
+use Rattle.wl_bench.specs.Record.{IsNoCommand, IsOutput, Leads, Recorded, command_line, quoted}
 
 -- no byte of it is a space
 abbrev pub IsWord : Line → Type 0
@@ -26,7 +26,7 @@ abbrev pub missing_in : Comparison → List Line
 missing_in c = drop c.found (map string_bytes c.lines.items)
 
 -- the line is that of this command, which is carried out; the output that it prints is missing from then on
-abbrev pub CarriesOut : Comparison → Line → Told → Comparison → Type 0
+abbrev pub CarriesOut : Comparison → Line → Recorded → Comparison → Type 0
 CarriesOut before line t after =
     (line ≡ command_line t) × (before.last < t.number) × (t.number ≤ 4294967295) × Leads before.bench (t ∷ []) after.bench
     × (after.last ≡ t.number) × (after.count ≡ before.count + 1) × (missing_in after ≡ t.answer)
@@ -39,7 +39,7 @@ Finds before line after =
 
 -- the recording is the same with this line
 abbrev pub GoesOn : Comparison → Line → Comparison → Type 0
-GoesOn before line after = Finds before line after ⊎ ((missing_in before ≡ []) × (t : Told) × CarriesOut before line t after)
+GoesOn before line after = Finds before line after ⊎ ((missing_in before ≡ []) × (t : Recorded) × CarriesOut before line t after)
 
 -- the recording is bad at this line, which has this number; or something failed
 abbrev pub IsBadAt : Comparison → Line → ℕ → Stop → Type 0

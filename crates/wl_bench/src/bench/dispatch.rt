@@ -5,7 +5,7 @@ ghost use Rattle.std.specs.String.{string_bytes};
 ghost use Rattle.wl_bench.specs.Answers.{dispatched_text, records_lines};
 ghost use Rattle.wl_bench.specs.declared.stop.Stop.TheVariants.{Failed};
 
-use crate::answer::{Told, push_records};
+use crate::answer::{MemoryReply, push_records};
 use crate::bench::{Bench, push_takes};
 use crate::stop::Stop;
 use smallvec::SmallVec;
@@ -67,7 +67,7 @@ fn lines_of(
     alloc: Global,
     count: usize,
     heard: &[ClientId],
-    taken: &[Told],
+    taken: &[MemoryReply],
 ) -> Result<Vec<String>, AllocError>
     ensures { IfOk result (λ lines. map string_bytes lines.items ≡ dispatched_text count ∷ records_lines heard.now taken.now) }
 {
@@ -126,7 +126,7 @@ impl Bench {
     }
 
     /// Takes the records of what the clients were sent.
-    fn take_records(&mut self, alloc: Global, heard: &[ClientId]) -> Result<Vec<Told>, Stop>
+    fn take_records(&mut self, alloc: Global, heard: &[ClientId]) -> Result<Vec<MemoryReply>, Stop>
         ensures taken { IfOk result (λ taken. TakesRecords self.old.server heard.now taken.items self.new.server) }
         ensures clients { self.new.clients ≡ self.old.clients }
         ensures globals { self.new.globals ≡ self.old.globals }

@@ -5,6 +5,7 @@
 mod announced;
 mod arguments;
 mod arrivals;
+mod buffers;
 mod cuts;
 mod cutting;
 mod dispatches;
@@ -23,7 +24,6 @@ mod notes;
 mod one_client;
 mod run;
 mod steps;
-mod storages;
 mod told;
 mod transports;
 mod values;

@@ -12,7 +12,7 @@ use Rattle.wl_wire.specs.declared.error.IoFault.{IoFault}
 use Rattle.wl_wire.specs.declared.error.IoFault.TheVariants as fault
 use Rattle.wl_wire.specs.declared.interface.InterfaceId.{InterfaceId}
 use Rattle.wl_wire.specs.Argument.{WireArgument}
-use Rattle.wl_wire.specs.Asked.{fits, next_interface}
+use Rattle.wl_wire.specs.MessageRows.{fits, next_interface}
 use Rattle.wl_wire.specs.Message.{WireMessage}
 use Rattle.wl_wire.specs.Table.{InterfaceRow, MessageRow}
 use Rattle.wl_link.specs.declared.memory.ArriveError.TheVariants as arrive
@@ -28,7 +28,7 @@ use Rattle.wl_link.specs.Refusals.{first_refusal, when}
 use Rattle.wl_link.specs.Script.{Script, ScriptSends, ScriptReceives}
 use Rattle.wl_link.specs.Store.{Store, held, is_free, is_server_number, removed, rewritten, stored}
 use Rattle.wl_link.proofs.Ids.StoreLaws.{stored_here, stored_other}
-use Rattle.wl_link.specs.Puts.{lacked_memory}
+use Rattle.wl_link.specs.Puts.{lacks_memory}
 use Rattle.wl_client.specs.declared.error.EventError.{EventError}
 use Rattle.wl_client.specs.declared.error.FlushError.{FlushError}
 use Rattle.wl_client.specs.declared.error.RequestError.{RequestError}
@@ -581,7 +581,7 @@ module _ {T U : Type 0} where
     written : (new o : Option (Numbered U)) → IsNew s new → IsAlive s o → Written sends s (wire_message (number_of_new new) m) new o answer after
         → Moves s (request_ids answer) after
     written new o fresh h (w, link, by, end) =
-        elim (either_bool (lacked_memory w) end) [
+        elim (either_bool (lacks_memory w) end) [
           | inl (is, same) ↦ refuses _ (record s { link = link }) is same (idle s)
           | inr (is, same) ↦
               let now : SessionState T U = record s { link = link; error = error_after s.error w } in

@@ -117,7 +117,7 @@ module _ {U : Type 0} where
         rest = more.changes;
         split = refl;
         before = moves.follows;
-        behind = more.follows;
+        after_point = more.follows;
         stays = λ id named. named_law serial_of display_object refl moves.changes more.changes (objects_of point) (objects_of after)
             (run_leads serial_of (OwnsExactly is_over) (first_objects display_object) (objects_of point) moves.changes ends)
             (run_leads serial_of (OwnsExactly is_over) (objects_of point) (objects_of after) more.changes more.owns) (id_of id) named;

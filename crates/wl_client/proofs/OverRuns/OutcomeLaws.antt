@@ -16,7 +16,7 @@ use Rattle.wl_link.specs.Script.{Script, ScriptSends, ScriptReceives}
 use Rattle.wl_link.proofs.Calls.OneScript.{script_sends_function, script_receives_function}
 use Rattle.wl_link.specs.Store.{client_range}
 use Rattle.wl_link.proofs.Calls.Branches.{both_bool, both_option, both_result}
-use Rattle.wl_link.specs.Puts.{lacked_memory}
+use Rattle.wl_link.specs.Puts.{lacks_memory}
 use Rattle.wl_client.specs.declared.error.FinishRefused.{FinishRefused}
 use Rattle.wl_client.specs.declared.error.FlushError.{FlushError}
 use Rattle.wl_client.specs.declared.error.RequestError.{RequestError}
@@ -67,7 +67,7 @@ module _ {T U : Type 0} where
     -- what a request does once it was written
     abbrev WriteEnds : Option (Numbered U) → Option (Numbered U) → Result IdParts RequestError → SessionState T U → Result (Unit {0}) IoFault → LinkState T → Type 0
     WriteEnds new o answer after w link =
-        MatchBool (lacked_memory w) ((answer ≡ Err request.OutOfMemory) × (after ≡ record s { link = link }))
+        MatchBool (lacks_memory w) ((answer ≡ Err request.OutOfMemory) × (after ≡ record s { link = link }))
         ((answer ≡ Ok (id_of_new new)) × (after ≡ with_ended (with_born (record s { link = link; error = error_after s.error w }) new) o))
 
     write_allowed : (new o : Option (Numbered U)) (answer : Result IdParts RequestError) (after : SessionState T U) (w : Result (Unit {0}) IoFault) (link : LinkState T)
@@ -82,7 +82,7 @@ module _ {T U : Type 0} where
         s.link by by' in
         let answered = subst (λ z. WriteEnds new o b y z link') (sym same.answer) end' in
         let linked = subst (λ l. WriteEnds new o b y w l) (sym same.after) answered in
-        elim (both_bool (lacked_memory w) end linked) [
+        elim (both_bool (lacks_memory w) end linked) [
           | inl ((is, after), (is', after')) ↦ same_end is is' after after'
           | inr ((is, after), (is', after')) ↦ same_end is is' after after'
         ]

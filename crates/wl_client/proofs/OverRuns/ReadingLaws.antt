@@ -9,7 +9,7 @@ use Rattle.wl_wire.specs.Message.{WireMessage}
 use Rattle.wl_link.specs.Exchange.{Queue, Sending, IsFunction, IsReceiveFunction}
 use Rattle.wl_link.specs.Link.{LinkState, counted_answer, count_of}
 use Rattle.wl_link.proofs.Calls.Branches.{both_option}
-use Rattle.wl_link.specs.Puts.{FlushesOut, PutsOut, Said, lacked_memory}
+use Rattle.wl_link.specs.Puts.{FlushesOut, PutsOut, Said, lacks_memory}
 use Rattle.wl_link.specs.Reader.{AllFed, CarriesOut, Ends, Given, Gives, HandedOut, Handled, ReaderState, Reads, Received, Turn, Unread, Verdict, received_in, came_to as comes_to, put_and_gave, sends_in, stops, with_link}
 use Rattle.wl_link.proofs.Readings.ReaderLaws.{reads_one}
 use Rattle.wl_link.specs.Respect.{Keeps, RespectsReading}
@@ -30,7 +30,7 @@ use Rattle.wl_client.specs.Cutting.{CutsFinish, CutsReading, GoesOn, IsServed, n
 use Rattle.wl_client.specs.Events.{error_of}
 use Rattle.wl_client.specs.Handling.{Handling, Swallows, HandsOut, Breaks, handed, handling}
 use Rattle.wl_client.specs.Finish.{Closes, Finishes, closed, refusal}
-use Rattle.wl_client.specs.Reading.{NextEvent, answered, came_to, client, faulted, finish, finished, handed_by, objects_in, reader_state_of, receives_allowed, starved_to, verdict}
+use Rattle.wl_client.specs.Reading.{NextEvent, answered, core_after, client, faulted, finish, finished, handed_by, objects_in, reader_state_of, receives_allowed, starved_to, verdict}
 use Rattle.wl_client.specs.Requests.{SessionMessage}
 use Rattle.wl_client.specs.Session.{Core, SessionState, core_of, with_core}
 use Rattle.wl_link.specs.Identity.{Objects}
@@ -111,7 +111,7 @@ module _ {T U : Type 0} (sends : T → Queue → Result ℕ IoFault → T → Ty
     where
       go : (c : Result (Unit {0}) IoFault)
           → MatchResult c (λ _. Reads sends client receives n (with_link p link) turns out after)
-          (λ f. (turns ≡ []) × (out ≡ stops (Some f) (lacked_memory (Err f)) n) × (after ≡ record { core = client.faulted p.core f; link = link }))
+          (λ f. (turns ≡ []) × (out ≡ stops (Some f) (lacks_memory (Err f)) n) × (after ≡ record { core = client.faulted p.core f; link = link }))
           → (Reads sends client receives n (with_link p link) turns out after → sends_in turns ≡ []) → sends_in turns ≡ []
       go (Ok u) more goes = goes more
       go (Err f) (none, ends, same) goes = ap sends_in none
@@ -173,11 +173,11 @@ module _ {U : Type 0} (R : Core U → List (Given SessionMessage) → Core U →
     pub fails : (c d : Core U) → objects_in d ≡ objects_in c → d.notes ≡ c.notes → R c [] d
 
   -- a message leads to this core, or for want of memory to that
-  pub keeps : (c : Core U) (h : Handling U) → R c (map HandedOut (handed h)) (came_to c h) → R c (map HandedOut (handed h)) (starved_to c h) → Keeps client R c (verdict c h)
+  pub keeps : (c : Core U) (h : Handling U) → R c (map HandedOut (handed h)) (core_after c h) → R c (map HandedOut (handed h)) (starved_to c h) → Keeps client R c (verdict c h)
   keeps c h came starved = record {
     carried = λ put others wrote is written.
         subst (λ (w : Result (Unit {0}) IoFault). R c (put_and_gave put (handed h)) (comes_to client (verdict c h) w)) (sym (written refl))
-        (subst (λ (ms : List Said). R c (put_and_gave ms (handed h)) (came_to c h)) (sym (none_put put others is)) came);
+        (subst (λ (ms : List Said). R c (put_and_gave ms (handed h)) (core_after c h)) (sym (none_put put others is)) came);
     starved = λ asks. starved;
   }
 

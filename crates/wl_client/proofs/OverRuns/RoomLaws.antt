@@ -11,7 +11,7 @@ use Rattle.wl_link.proofs.Readings.CuttingLaws.{byte_came}
 use Rattle.wl_link.specs.Exchange.{Queue, Sending}
 use Rattle.wl_link.proofs.Streams.LengthLaws.{failed_finds}
 use Rattle.wl_link.specs.Link.{FindsRoom, LinkState, counted_answer, count_of}
-use Rattle.wl_link.specs.Puts.{PutsOut, Said, lacked_memory}
+use Rattle.wl_link.specs.Puts.{PutsOut, Said, lacks_memory}
 use Rattle.wl_link.specs.Reader.{AllFed, CarriesOut, Ends, Given, IsFed, Gives, Handled, ReaderState, Reads, Received, Turn, Unread, Verdict, came_to as comes_to, stops, with_link}
 use Rattle.wl_link.specs.Respect.{Keeps}
 use Rattle.wl_link.proofs.Readings.RespectLaws.{carries_respect}
@@ -25,7 +25,7 @@ use Rattle.wl_client.specs.ObjectId.{IdParts}
 use Rattle.wl_client.specs.Events.{error_of}
 use Rattle.wl_client.specs.Finish.{closed, refusal, with_data_for, with_dead}
 use Rattle.wl_client.specs.Handling.{Handling, Swallows, HandsOut, Breaks, handling}
-use Rattle.wl_client.specs.Reading.{EndsWithRoom, NextEvent, came_to, client, finish, finished, objects_in, reader_state_of, starved_to, verdict}
+use Rattle.wl_client.specs.Reading.{EndsWithRoom, NextEvent, core_after, client, finish, finished, objects_in, reader_state_of, starved_to, verdict}
 use Rattle.wl_client.proofs.OverRuns.ReadingLaws.{keeps}
 use Rattle.wl_client.specs.Requests.{SessionMessage}
 use Rattle.wl_client.specs.Session.{Core, SessionState, named}
@@ -81,7 +81,7 @@ module _ {T U : Type 0} (sends : T → Queue → Result ℕ IoFault → T → Ty
   ends_otherwise c (Swallows o) = keeps EndsOtherwise c (Swallows o) (λ none. inl none) (λ none. inl none)
   ends_otherwise c (HandsOut m event o) = keeps EndsOtherwise c (HandsOut m event o) (λ none. inl none) (λ none. inl none)
   ends_otherwise c (Breaks e o) =
-      keeps EndsOtherwise c (Breaks e o) (λ none. broken (came_to c (Breaks e o)) (Protocol e) (λ same. cc) refl)
+      keeps EndsOtherwise c (Breaks e o) (λ none. broken (core_after c (Breaks e o)) (Protocol e) (λ same. cc) refl)
       (λ none. broken (starved_to c (Breaks e o)) (Io fault.OutOfMemory) (λ same. cc) refl)
 
   not_ended : (c : Core U) (h : Handling U) (before : LinkState T) (es : List Sending) (gave : List (Given SessionMessage)) (lacked : Bool) (mid : ReaderState T (Core U))
@@ -116,7 +116,7 @@ module _ {T U : Type 0} (sends : T → Queue → Result ℕ IoFault → T → Ty
     where
       go : (c : Result (Unit {0}) IoFault) → counted_answer (count_of r) ≡ c
           → MatchResult c (λ _. Reads sends client receives n (with_link p link) turns out after)
-          (λ f. (turns ≡ []) × (out ≡ stops (Some f) (lacked_memory (Err f)) n) × (after ≡ record { core = client.faulted p.core f; link = link }))
+          (λ f. (turns ≡ []) × (out ≡ stops (Some f) (lacks_memory (Err f)) n) × (after ≡ record { core = client.faulted p.core f; link = link }))
           → (Reads sends client receives n (with_link p link) turns out after → NoneCame turns after) → NoneCame (Received r ∷ turns) after
       go (Ok u) was more goes = let rest = goes more in (rest.0, λ fed. rest.1 fed.1)
       go (Err f) was (last, ends, same) goes = (

@@ -31,9 +31,9 @@ module _ {U : Type 0} where
   CanMake progress map = progress.child ≢ None → map.reserved ≡ true
 
   -- an object is made at that number, or no object may be made there and nothing is changed
-  abbrev pub Makes : Objects (Kept U) → ℕ → Bool → InterfaceId → ℕ → Option IdParts → Objects (Kept U) → Type 0
-  Makes before version destroyed i n None after = (is_valid_new before n ≡ false) × (after ≡ before)
-  Makes before version destroyed i n (Some id) after =
+  abbrev pub MakesObject : Objects (Kept U) → ℕ → Bool → InterfaceId → ℕ → Option IdParts → Objects (Kept U) → Type 0
+  MakesObject before version destroyed i n None after = (is_valid_new before n ≡ false) × (after ≡ before)
+  MakesObject before version destroyed i n (Some id) after =
       let x : Object (Kept U) = made_object version destroyed i (before.last_serial + 1) in
       (is_valid_new before n ≡ true) × (after ≡ with_made_object before n x) × (id ≡ id_at n x)
 

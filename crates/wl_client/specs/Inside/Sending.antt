@@ -7,7 +7,7 @@ use Rattle.wl_link.specs.declared.object.Object.{Object}
 use Rattle.wl_link.specs.Exchange.{Queue}
 use Rattle.wl_link.specs.Link.{LinkState, Wrote}
 use Rattle.wl_link.specs.Store.{Store, client_range, held, stored, is_free, IsLeastAbsent, IsFull}
-use Rattle.wl_link.specs.Puts.{lacked_memory}
+use Rattle.wl_link.specs.Puts.{lacks_memory}
 use Rattle.wl_client.specs.declared.error.RequestError.{RequestError}
 use Rattle.wl_client.specs.declared.error.RequestError.TheVariants as refused
 use Rattle.wl_client.specs.declared.error.WaylandError.{WaylandError}
@@ -37,8 +37,8 @@ module _ {U : Type 0} where
   serial_with last (Some _) = last + 1
 
   -- of an object that is no longer the client's: its id, and whether it has user data
-  abbrev pub ending : Option (Numbered U) → Option (IdParts × Bool)
-  ending ended = option_map (λ e. (id_at e.0 e.1, is_some e.1.value.user_data)) ended
+  abbrev pub ended_of : Option (Numbered U) → Option (IdParts × Bool)
+  ended_of ended = option_map (λ e. (id_at e.0 e.1, is_some e.1.value.user_data)) ended
 
   -- the object at the number, if there is one, is no longer the client's
   abbrev pub given_up_at : Store (Kept U) → ℕ → Option (Object (Kept U)) → Store (Kept U)
@@ -78,4 +78,4 @@ abbrev pub WrittenTo : {T : Type 0} → (T → Queue → Result ℕ IoFault → 
     → Result (Unit {0}) OutOfMemory → LinkState T → Option WaylandError → Type 0
 WrittenTo sends link error m answer link' error' =
     (written : Result (Unit {0}) IoFault) × Wrote sends link m written link'
-    × MatchBool (lacked_memory written) ((answer ≡ Err _) × (error' ≡ error)) ((answer ≡ Ok tt) × (error' ≡ error_after error written))
+    × MatchBool (lacks_memory written) ((answer ≡ Err _) × (error' ≡ error)) ((answer ≡ Ok tt) × (error' ≡ error_after error written))

@@ -12,7 +12,7 @@ use Rattle.wl_wire.specs.declared.error.MessageParseError.{MessageParseError}
 use Rattle.wl_wire.specs.declared.error.MessageParseError.TheVariants as errors
 use Rattle.wl_wire.specs.Message.{WireMessage}
 use Rattle.wl_wire.specs.Parse.{IsInline, IsWhole, ReadsMessage, RefusesMessage, fd_count, length_of, opcode_of, payload_of, sender_of}
-use Rattle.wl_link.specs.Link.{LinkState, ReadOne, behind_first, with_incoming}
+use Rattle.wl_link.specs.Link.{LinkState, ReadOne, after_first, with_incoming}
 
 module _ {T : Type 0} (look_up : ℕ → ℕ → Option (List ArgumentType)) (l : LinkState T) where
   abbrev Answers : Result WireMessage MessageParseError → LinkState T → Type 0
@@ -40,7 +40,7 @@ module _ {T : Type 0} (look_up : ℕ → ℕ → Option (List ArgumentType)) (l 
         let args = some_read signature (payload_of bytes) fds some in
         let m : WireMessage = record { sender = sender_of bytes; opcode = opcode_of bytes; args = args.0 } in
         let reads : ReadsMessage bytes signature fds m = record { whole = whole; sender = refl; opcode = refl; args = args.1 } in
-        let after : LinkState T = with_incoming l l.transport (behind_first signature l.incoming) in
+        let after : LinkState T = with_incoming l l.transport (after_first signature l.incoming) in
         let read : Answers (Ok m) after = rw (le-leb 8 (length bytes) header) (Some signature, sym looked, (reads, refl)) in
         inr (inr (m, after, read, omega (arith, length-drop (length_of bytes) bytes, whole.counts_header, whole.there)))
     there whole enough false none =

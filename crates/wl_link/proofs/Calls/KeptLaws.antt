@@ -8,7 +8,7 @@ use Rattle.wl_wire.specs.declared.error.IoFault.{IoFault}
 use Rattle.wl_wire.specs.declared.error.IoFault.TheVariants as fault
 use Rattle.wl_wire.specs.Message.{WireMessage, size}
 use Rattle.wl_link.specs.Exchange.{Queue, Sending, Chain, joined, nothing, IsWithinOffer}
-use Rattle.wl_link.specs.Link.{LinkState, offer_size, offer_of, left_of, Goes, Flushes, FlushedBy, Flushed, Put, PlacedBy, WroteBy, Wrote, spelled, has_room, ignoring, needed, Wants, Grown}
+use Rattle.wl_link.specs.Link.{LinkState, offer_size, offer_of, left_of, AfterSend, Flushes, FlushedBy, Flushed, Put, PlacedBy, WroteBy, Wrote, spelled, has_room, ignoring, needed, Wants, Grown}
 use Rattle.wl_link.specs.Kept.{taken_by, taken, gone_by, gone, NoZero, LosesNothing, queued_by, FlushKeeps, FlushDrains, WriteKeeps}
 
 take_within : (n m : ℕ) (xs : List ℕ) → n ≤ length (take m xs) → take n (take m xs) ≡ take n xs
@@ -51,7 +51,7 @@ module _ (q after : Queue) (offer : Queue) (es : List Sending) (answer : Result 
       }
 
   parted_once : (sent : Result ℕ IoFault) → ((n : ℕ) → sent ≡ Ok n → n ≤ length offer.bytes)
-      → Goes sent (es ≡ []) (after ≡ q) (after ≡ left_of 0 q) answer (λ n. Flushes (left_of n q) es answer after)
+      → AfterSend sent (es ≡ []) (after ≡ q) (after ≡ left_of 0 q) answer (λ n. Flushes (left_of n q) es answer after)
       → ((n : ℕ) → Flushes (left_of n q) es answer after → Parted es (left_of n q) after)
       → Parted (record { offer = offer; answer = sent } ∷ es) q after
   parted_once (Err fault) within goes others = rw (goes.0) (rw goes.1 (record { bytes = refl; tokens = refl }))
@@ -201,7 +201,7 @@ drains sends within t t' q after (e ∷ es) chain flushes none =
     flushes.2 (λ n more. drains sends within chain.0 t' (left_of n q) after es chain.2 more none.1)
   where
     once : (sent : Result ℕ IoFault) → sent ≢ Ok 0 → ((n : ℕ) → sent ≡ Ok n → n ≤ length e.offer.bytes)
-        → Goes sent (es ≡ []) (after ≡ q) (after ≡ left_of 0 q) (Ok tt) (λ n. Flushes (left_of n q) es (Ok tt) after)
+        → AfterSend sent (es ≡ []) (after ≡ q) (after ≡ left_of 0 q) (Ok tt) (λ n. Flushes (left_of n q) es (Ok tt) after)
         → ((n : ℕ) → Flushes (left_of n q) es (Ok tt) after → (after.bytes ≡ []) × (after.tokens ≡ drop (28 * length (drop n q.bytes)) (drop 28 q.tokens)))
         → (after.bytes ≡ []) × (after.tokens ≡ drop (28 * length q.bytes) q.tokens)
     once (Err fault) not_zero le goes others = let e = goes.2 in absurd cc

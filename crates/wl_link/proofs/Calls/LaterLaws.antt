@@ -12,7 +12,7 @@ use Rattle.wl_wire.specs.Message.{WireMessage}
 use Rattle.wl_wire.specs.Parse.{ReadsMessage, RefusesMessage, fd_count, length_of, opcode_of, payload_of, sender_of}
 use Rattle.wl_wire.proofs.Spelling.FrontLaws.{behind_front, malformed_front, message_front, opcode_front, sender_front}
 use Rattle.wl_link.specs.Exchange.{Queue, joined}
-use Rattle.wl_link.specs.Link.{LacksBytes, LinkState, ReadFound, ReadOne, behind_first, with_incoming}
+use Rattle.wl_link.specs.Link.{LacksBytes, LinkState, ReadFound, ReadOne, after_first, with_incoming}
 use Rattle.wl_link.proofs.Calls.ReadLaws.{reads_enough}
 
 -- what a read finds, or that it finds it malformed, is so for each link on which more waits behind
@@ -40,13 +40,13 @@ module _ {T S : Type 0} (looks_up : ℕ → ℕ → Option (List ArgumentType) �
   other_reads m after read = at (cases_Bool (nat_le 8 (length before.incoming.bytes)))
     where
       behind : (signature : List ArgumentType) → ReadsMessage before.incoming.bytes signature before.incoming.tokens m
-          → joined (behind_first signature before.incoming) more ≡ behind_first signature other.incoming
+          → joined (after_first signature before.incoming) more ≡ after_first signature other.incoming
       behind signature reads =
           let with_bytes : List ℕ → Queue = λ b. record { bytes = b; tokens = drop (fd_count signature) before.incoming.tokens ++ more.tokens } in
           let with_tokens : List Token → Queue = λ t. record { bytes = drop (length_of (before.incoming.bytes ++ more.bytes)) (before.incoming.bytes ++ more.bytes); tokens = t } in
           ap with_bytes (sym (behind_front before.incoming.bytes more.bytes reads.whole.header reads.whole.there))
           ∙ ap with_tokens (sym (drop-append-le (fd_count signature) before.incoming.tokens more.tokens (reads_enough signature m.args (payload_of before.incoming.bytes) before.incoming.tokens reads.args)))
-          ∙ ap (behind_first signature) (sym is)
+          ∙ ap (after_first signature) (sym is)
 
       found : (f : Option (List ArgumentType)) → 8 ≤ length before.incoming.bytes → looks_up (sender_of before.incoming.bytes) (opcode_of before.incoming.bytes) f
           → ReadFound f before (Ok m) after
@@ -54,10 +54,10 @@ module _ {T S : Type 0} (looks_up : ℕ → ℕ → Option (List ArgumentType) �
           × ReadOne looks_up other (Ok m) (with_incoming other other.transport (joined after.incoming more))
       found None header looked none = let e = none.0 in absurd cc
       found (Some signature) header looked under =
-          let left : after.incoming ≡ behind_first signature before.incoming = ap (λ (l : LinkState T). l.incoming) under.1 in
+          let left : after.incoming ≡ after_first signature before.incoming = ap (λ (l : LinkState T). l.incoming) under.1 in
           let reads = message_front before.incoming.bytes more.bytes signature before.incoming.tokens more.tokens m under.0 in
           let reads' : ReadsMessage other.incoming.bytes signature other.incoming.tokens m = subst (λ (q : Queue). ReadsMessage q.bytes signature q.tokens m) (sym is) reads in
-          let ends : with_incoming other other.transport (joined after.incoming more) ≡ with_incoming other other.transport (behind_first signature other.incoming)
+          let ends : with_incoming other other.transport (joined after.incoming more) ≡ with_incoming other other.transport (after_first signature other.incoming)
           = ap (λ (q : Queue). with_incoming other other.transport (joined q more)) left ∙ ap (with_incoming other other.transport) (behind signature under.0) in (
             under.1 ∙ ap (with_incoming before before.transport) (sym left),
             rw (le-leb 8 (length other.incoming.bytes) (other_header header)) (Some signature, other_found header (Some signature) looked, (reads', ends)),

@@ -8,7 +8,7 @@ use Rattle.wl_wire.specs.declared.error.IoFault.{IoFault}
 use Rattle.wl_wire.specs.declared.error.IoFault.TheVariants as fault
 use Rattle.wl_wire.specs.Message.{WireMessage, size}
 use Rattle.wl_link.specs.Exchange.{Queue, Sending, Chain, IsFunction, IsReceiveFunction}
-use Rattle.wl_link.specs.Link.{LinkState, with_outgoing, with_outgoing_capacity, with_incoming, left_of, Goes, Flushes, FlushedBy, Wants, Grows, Grown, Put, PlacedBy, WroteBy, FilledBy, counted_answer, count_of, grown_capacity, with_came, with_incoming_capacity, has_room, ignoring, needed}
+use Rattle.wl_link.specs.Link.{LinkState, with_outgoing, with_outgoing_capacity, with_incoming, left_of, AfterSend, Flushes, FlushedBy, Wants, Grows, Grown, Put, PlacedBy, WroteBy, FilledBy, counted_answer, count_of, grown_capacity, with_came, with_incoming_capacity, has_room, ignoring, needed}
 use Rattle.wl_link.specs.Outcome.{SameCall, SameFill}
 
 -- ---- a flush
@@ -26,7 +26,7 @@ same_sending e f offers answers =
     ap with_offer offers ∙ ap with_answer answers
 
 not_refused : (sent : Result ℕ IoFault) (last same dropped : Type 0) (answer : Result (Unit {0}) IoFault) (on : ℕ → Type 0)
-    → Goes sent last same dropped answer on → answer ≢ Err fault.OutOfMemory → sent ≢ Err fault.OutOfMemory
+    → AfterSend sent last same dropped answer on → answer ≢ Err fault.OutOfMemory → sent ≢ Err fault.OutOfMemory
 not_refused (Ok n) last same dropped answer on goes allowed is = absurd cc
 not_refused (Err f) last same dropped answer on goes allowed is =
     let e : f ≡ fault.OutOfMemory = cc in
@@ -64,13 +64,13 @@ module _ {T : Type 0} (sends : T → Queue → Result ℕ IoFault → T → Type
       let send' = subst (λ (o : Queue). sends t o f.answer chain'.0) (sym offers) chain'.1 in
       let same = function t e.offer e.answer f.answer chain.0 chain'.0 chain.1 send' allowed allowed' in
       let later = subst (λ (m : T). Chain sends m fs v) (sym same.1) chain'.2 in
-      let goes' = subst (λ (sent : Result ℕ IoFault). Goes sent (fs ≡ []) (y ≡ q) (y ≡ left_of 0 q) b (λ n. Flushes (left_of n q) fs b y)) (sym same.0) flushes'.2 in
+      let goes' = subst (λ (sent : Result ℕ IoFault). AfterSend sent (fs ≡ []) (y ≡ q) (y ≡ left_of 0 q) b (λ n. Flushes (left_of n q) fs b y)) (sym same.0) flushes'.2 in
       once (same_sending e f offers same.0) e.answer flushes.2 goes' later
       (λ n more more'. flush_same chain.0 u v (left_of n q) x y es fs a b chain.2 later more more' ok ok')
     where
       once : e ≡ f → (sent : Result ℕ IoFault)
-          → Goes sent (es ≡ []) (x ≡ q) (x ≡ left_of 0 q) a (λ n. Flushes (left_of n q) es a x)
-          → Goes sent (fs ≡ []) (y ≡ q) (y ≡ left_of 0 q) b (λ n. Flushes (left_of n q) fs b y)
+          → AfterSend sent (es ≡ []) (x ≡ q) (x ≡ left_of 0 q) a (λ n. Flushes (left_of n q) es a x)
+          → AfterSend sent (fs ≡ []) (y ≡ q) (y ≡ left_of 0 q) b (λ n. Flushes (left_of n q) fs b y)
           → Chain sends chain.0 fs v
           → ((n : ℕ) → Flushes (left_of n q) es a x → Flushes (left_of n q) fs b y → OneFlush es fs a b u v x y)
           → OneFlush (e ∷ es) (f ∷ fs) a b u v x y

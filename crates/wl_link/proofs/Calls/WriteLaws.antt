@@ -9,7 +9,7 @@ use Rattle.wl_wire.specs.declared.error.IoFault.{IoFault}
 use Rattle.wl_wire.specs.declared.error.IoFault.TheVariants as fault
 use Rattle.wl_wire.specs.Message.{WireMessage, size}
 use Rattle.wl_link.specs.Exchange.{Queue}
-use Rattle.wl_link.specs.Inside.Storage.{Appended, Waiting, beside, waits, write_answer_of}
+use Rattle.wl_link.specs.Inside.WaitingBytes.{Appended, Waiting, beside, waits, write_answer_of}
 use Rattle.wl_link.specs.Link.{LinkState, Wants, Grows, Grown, Put, Placed, Wrote, Flushed, has_room, ignoring, needed}
 
 not_wanted : (limit : Option ℕ) (needed size : ℕ) → needed ≤ size → ¬ (Wants limit needed size)

@@ -16,7 +16,7 @@ use Rattle.wl_link.proofs.Calls.FlushLaws.{FlushLeads, flush_done, flush_fails, 
 use Rattle.wl_link.proofs.Calls.Growth.{Doubled, doubled_again}
 use Rattle.wl_link.proofs.Calls.LaterLaws.{other_reads}
 use Rattle.wl_link.specs.Link.{Flushed, Grown, Grows, LinkState, Wants, Wrote, has_room, ignoring, left_of, needed, offer_of, spelled, with_outgoing, with_outgoing_capacity}
-use Rattle.wl_link.specs.Puts.{FlushesOut, PutBy, PutsOut, Said, lacked_memory}
+use Rattle.wl_link.specs.Puts.{FlushesOut, PutBy, PutsOut, Said, lacks_memory}
 use Rattle.wl_link.proofs.Calls.QueueLaws.{joined_nothing}
 use Rattle.wl_link.specs.Reader.{Given, ReaderState, Reader, ReadsAs, Verdict, came_to, put_and_gave}
 use Rattle.wl_link.specs.Served.{Answers, Handles, NoneFits, Rests, Served, ServedFrom, Serves, ServesOne, TakesNext, AsTold, link_as, state_as}
@@ -82,11 +82,11 @@ module _ (limit : Option ℕ) (needed size : ℕ) where
 
 -- ---- a write, and the puts and the flush of a verdict
 
-not_lacking : (f : IoFault) → (◌≡◌ {A = Result ℕ IoFault} (Err f) (Err fault.OutOfMemory) → ⊥) → lacked_memory (Err f) ≡ false
+not_lacking : (f : IoFault) → (◌≡◌ {A = Result ℕ IoFault} (Err f) (Err fault.OutOfMemory) → ⊥) → lacks_memory (Err f) ≡ false
 not_lacking fault.OutOfMemory calm = absurd (calm refl)
 not_lacking _ calm = refl
 
-still_ample : (r : Result (Unit {0}) IoFault) → lacked_memory r ≡ false → lacked_memory (ignoring r) ≡ false
+still_ample : (r : Result (Unit {0}) IoFault) → lacks_memory r ≡ false → lacks_memory (ignoring r) ≡ false
 still_ample (Ok u) ample = refl
 still_ample (Err fault.WouldBlock) ample = refl
 still_ample (Err f) ample = ample
@@ -100,14 +100,14 @@ module _ {S : Type 0} (sends : S → Queue → Result ℕ IoFault → S → Type
     answer : Result (Unit {0}) IoFault
     after : LinkState S
     flushed : Flushed sends l answer after
-    ample : lacked_memory answer ≡ false
+    ample : lacks_memory answer ≡ false
     stays : Stays l after
 
   record Written (l : LinkState S) (m : WireMessage) : Type 0 where
     answer : Result (Unit {0}) IoFault
     after : LinkState S
     wrote : Wrote sends l m answer after
-    ample : lacked_memory answer ≡ false
+    ample : lacks_memory answer ≡ false
     waits : after.incoming ≡ l.incoming
     holds : 0 < after.outgoing_capacity
 
@@ -117,7 +117,7 @@ module _ {S : Type 0} (sends : S → Queue → Result ℕ IoFault → S → Type
     answer : Result (Unit {0}) IoFault
     after : LinkState S
     puts : PutsOut sends l ms sent put answer after
-    ample : lacked_memory answer ≡ false
+    ample : lacks_memory answer ≡ false
     waits : after.incoming ≡ l.incoming
     holds : 0 < after.outgoing_capacity
 
@@ -182,7 +182,7 @@ module _ {S : Type 0} (sends : S → Queue → Result ℕ IoFault → S → Type
           answer = Err e;
           after = f.after;
           wrote = wrote_placed sends l f.after m (Err e) grown small grows (placed_failed sends grown f.after f.after m f.answer full f.flushed e (sym is));
-          ample = ap lacked_memory (sym is) ∙ still_ample f.answer f.ample;
+          ample = ap lacks_memory (sym is) ∙ still_ample f.answer f.ample;
           waits = f.stays.0 ∙ waits;
           holds = subst (λ (n : ℕ). 0 < n) (sym f.stays.1) holds;
         }
@@ -260,7 +260,7 @@ module _ {S : Type 0} (sends : S → Queue → Result ℕ IoFault → S → Type
           answer = Err f;
           after = w.after;
           puts = (w.wrote.0, Err f, w.after, by (Err f) is, (refl, refl, refl, refl));
-          ample = ap lacked_memory (sym is) ∙ w.ample;
+          ample = ap lacks_memory (sym is) ∙ w.ample;
           waits = w.waits;
           holds = w.holds;
         }

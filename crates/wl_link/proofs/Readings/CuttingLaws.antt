@@ -8,7 +8,7 @@ use Rattle.wl_wire.specs.declared.error.IoFault.{IoFault}
 use Rattle.wl_wire.specs.declared.error.IoFault.TheVariants as fault
 use Rattle.wl_link.specs.Exchange.{Chain, Queue, Sending, joined, nothing, IsFunction}
 use Rattle.wl_link.specs.Link.{LinkState, count_of, counted_answer, grown_capacity, with_incoming, with_incoming_capacity}
-use Rattle.wl_link.specs.Puts.{lacked_memory}
+use Rattle.wl_link.specs.Puts.{lacks_memory}
 use Rattle.wl_link.specs.Reader.{AllFed, CarriesOut, Ends, Given, Gives, Halts, Handled, Leaves, ReaderState, Reader, Reads, ReadsAs, Received, Stops, Takes, Then, Turn, Unread, Verdict, received_in, sends_in, stops, with_link}
 use Rattle.wl_link.specs.Served.{Finds, GoesOnAs, Handles, Serves, ServesOne, TakesNext, link_as, state_as}
 use Rattle.wl_link.proofs.Calls.LaterLaws.{other_malformed, other_reads}
@@ -123,7 +123,7 @@ module _ {T S Core Event Finish : Type 0} (sends : T → Queue → Result ℕ Io
         (zero, (stopped_nothing left p out stops', ap (λ (x : ReaderState T Core). state_as x rest last) same ∙ ap (λ (t : S). state_as p rest t) chain, refl))
     comes left p (Received (Ok came) ∷ turns) out first (fed, others) ample chain (on, lacks, (n, is, (link, filled, finds, h))) =
         let more = subst (λ (c : Result (Unit {0}) IoFault). MatchResult c (λ _. Reads sends reader receives n (with_link p link) turns out after)
-        (λ f. (turns ≡ []) × (out ≡ stops (Some f) (lacked_memory (Err f)) n) × (after ≡ record { core = reader.faulted p.core f; link = link }))) (byte_came came fed) h in
+        (λ f. (turns ≡ []) × (out ≡ stops (Some f) (lacks_memory (Err f)) n) × (after ≡ record { core = reader.faulted p.core f; link = link }))) (byte_came came fed) h in
         let r = comes n (with_link p link) turns out first others ample chain more in
         (r.0, subst (λ (x : ReaderState S Core). Serves others' reader r.0 x finishes out.gave (state_as after rest last) finishes) (moved p link came (received_in turns) first filled.2) r.1)
     comes left p (Received (Err f) ∷ turns) out first (blocked, others) ample chain (on, lacks, (n, is, (link, filled, finds, (none, ends, same)))) =

@@ -12,8 +12,8 @@ use Rattle.wl_link.specs.Kept.{LosesNothing, gone, gone_by, queued_by, taken, ta
 use Rattle.wl_link.specs.Sides.{spelled_all}
 use Rattle.wl_link.proofs.Streams.StreamLaws.{spelled_all-append}
 use Rattle.wl_link.proofs.Calls.KeptLaws.{flush_kept, write_kept}
-use Rattle.wl_link.specs.Puts.{FlushesOut, PutBy, PutsOut, Said, lacked_memory, messages_of}
-use Rattle.wl_link.specs.Reader.{CarriesOut, Given, Gives, Halts, HandedOut, Handled, ReaderState, Queued, Reader, Reads, Received, Stops, Turn, Unread, Verdict, behind, came_to, put_and_gave, queued_in, sends_in, stops, with_link}
+use Rattle.wl_link.specs.Puts.{FlushesOut, PutBy, PutsOut, Said, lacks_memory, messages_of}
+use Rattle.wl_link.specs.Reader.{CarriesOut, Given, Gives, Halts, HandedOut, Handled, ReaderState, Queued, Reader, Reads, Received, Stops, Turn, Unread, Verdict, given_first, came_to, put_and_gave, queued_in, sends_in, stops, with_link}
 use Rattle.wl_link.specs.Served.{Finds}
 use Rattle.wl_link.proofs.Calls.LaterLaws.{other_reads}
 use Rattle.wl_link.proofs.Calls.Branches.{either_bool}
@@ -144,7 +144,7 @@ module _ {T Core Event Finish : Type 0} (sends : T → Queue → Result ℕ IoFa
 
   -- a verdict that was carried out, and what followed it
   kept_heard : (p after : ReaderState T Core) (link : LinkState T) (v : Verdict Core Event) (es others : List Sending) (first : List (Given Event)) (lacked : Bool) (mid : ReaderState T Core)
-      (out rest : Gives Event) → Finds sends reader p v link → CarriesOut sends reader v link es first lacked mid → out ≡ behind first lacked rest
+      (out rest : Gives Event) → Finds sends reader p v link → CarriesOut sends reader v link es first lacked mid → out ≡ given_first first lacked rest
       → KeptLog mid.link others rest.gave after.link → KeptLog p.link (es ++ others) out.gave after.link
   kept_heard p after link v es others first lacked mid out rest found carried split more =
       let one = subst (λ (q : Queue). LosesNothing es q (spelled_all (messages_of (queued_in first))) mid.link.outgoing) (found_outgoing p v link found) (carries_kept v link mid es first lacked carried) in
@@ -165,7 +165,7 @@ module _ {T Core Event Finish : Type 0} (sends : T → Queue → Result ℕ IoFa
       where
         go : (c : Result (Unit {0}) IoFault)
             → MatchResult c (λ _. Reads sends reader receives n (with_link p link) turns out after)
-            (λ f. (turns ≡ []) × (out ≡ stops (Some f) (lacked_memory (Err f)) n) × (after ≡ record { core = reader.faulted p.core f; link = link }))
+            (λ f. (turns ≡ []) × (out ≡ stops (Some f) (lacks_memory (Err f)) n) × (after ≡ record { core = reader.faulted p.core f; link = link }))
             → (Reads sends reader receives n (with_link p link) turns out after → KeptLog link (sends_in turns) out.gave after.link) → KeptLog link (sends_in turns) out.gave after.link
         go (Ok u) more goes = goes more
         go (Err f) (none, ends, same) goes =

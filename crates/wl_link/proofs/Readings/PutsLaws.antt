@@ -7,7 +7,7 @@ use Rattle.wl_wire.specs.declared.error.IoFault.TheVariants as fault
 use Rattle.wl_wire.specs.Message.{WireMessage, size}
 use Rattle.wl_link.specs.Exchange.{Chain, Queue, Sending, IsFunction}
 use Rattle.wl_link.specs.Link.{FlushedBy, LinkState, PlacedBy, Put, WroteBy, has_room, ignoring}
-use Rattle.wl_link.specs.Puts.{FlushesOut, PutBy, PutsOut, Said, lacked_memory}
+use Rattle.wl_link.specs.Puts.{FlushesOut, PutBy, PutsOut, Said, lacks_memory}
 use Rattle.wl_link.specs.Served.{link_as}
 use Rattle.wl_link.proofs.Calls.OneLaws.{one_flush_lem, one_write_lem}
 use Rattle.wl_link.proofs.Calls.Branches.{both_bool, both_result, map_bool, map_result}
@@ -87,8 +87,8 @@ module _ {T S : Type 0} (sends : T → Queue → Result ℕ IoFault → T → Ty
 
 -- ---- one outcome
 
-pub not_lacked : (r : Result (Unit {0}) IoFault) → lacked_memory r ≡ false → r ≢ Err fault.OutOfMemory
-not_lacked r none is = true≢false (sym (ap lacked_memory is) ∙ none)
+pub not_lacked : (r : Result (Unit {0}) IoFault) → lacks_memory r ≡ false → r ≢ Err fault.OutOfMemory
+not_lacked r none is = true≢false (sym (ap lacks_memory is) ∙ none)
 
 module _ {S : Type 0} (sends : S → Queue → Result ℕ IoFault → S → Type 0) (function : IsFunction sends) where
   pub put_by_one : (m : WireMessage) (before x y : LinkState S) (es fs : List Sending) (a b : Result (Unit {0}) IoFault) → PutBy sends before m es a x → PutBy sends before m fs b y

@@ -5,8 +5,8 @@ use Rattle.wl_wire.specs.declared.error.IoFault.{IoFault}
 use Rattle.wl_wire.specs.declared.error.IoFault.TheVariants as fault
 use Rattle.wl_link.specs.Exchange.{Queue, Sending, IsFunction, IsReceiveFunction}
 use Rattle.wl_link.specs.Link.{LinkState, count_of, counted_answer}
-use Rattle.wl_link.specs.Puts.{lacked_memory}
-use Rattle.wl_link.specs.Reader.{CarriesOut, Given, Gives, Halts, Handled, Lacks, Leaves, ReaderState, Reader, Reads, Received, Stops, Takes, Then, Turn, Unread, Verdict, behind, stops, with_link}
+use Rattle.wl_link.specs.Puts.{lacks_memory}
+use Rattle.wl_link.specs.Reader.{CarriesOut, Given, Gives, Halts, Handled, Lacks, Leaves, ReaderState, Reader, Reads, Received, Stops, Takes, Then, Turn, Unread, Verdict, given_first, stops, with_link}
 use Rattle.wl_link.specs.Served.{Finds}
 use Rattle.wl_link.proofs.Calls.OneLaws.{one_fill_lem}
 use Rattle.wl_link.proofs.Calls.Branches.{both_bool, both_result}
@@ -52,7 +52,7 @@ module _ {T Core Event Finish : Type 0} (sends : T → Queue → Result ℕ IoFa
   abbrev ReceivedThen : ℕ → ReaderState T Core → List Turn → Gives Event → ReaderState T Core → LinkState T → Result (Unit {0}) IoFault → Type 0
   ReceivedThen n p turns out after link c =
       MatchResult c (λ _. Reads sends reader receives n (with_link p link) turns out after)
-      (λ f. (turns ≡ []) × (out ≡ stops (Some f) (lacked_memory (Err f)) n) × (after ≡ record { core = reader.faulted p.core f; link = link }))
+      (λ f. (turns ≡ []) × (out ≡ stops (Some f) (lacks_memory (Err f)) n) × (after ≡ record { core = reader.faulted p.core f; link = link }))
 
   received_allowed : (n : ℕ) (p : ReaderState T Core) (turns : List Turn) (out : Gives Event) (after : ReaderState T Core) (link : LinkState T) (c : Result (Unit {0}) IoFault)
       → out.refused ≡ false → ReceivedThen n p turns out after link c → c ≢ Err fault.OutOfMemory
@@ -77,8 +77,8 @@ module _ {T Core Event Finish : Type 0} (sends : T → Queue → Result ℕ IoFa
       let same = carries_one sends function reader v link mid mid' es fs first first' known known' in
       let r = goes mid rest rest' ok.1 ok'.1 more (subst (λ (z : ReaderState T Core). on' z rest') (sym same.after) more') in
       record {
-        out = split ∙ ap (λ (l : Bool). behind first l rest) (ok.0 ∙ sym ok'.0) ∙ ap (λ (z : List (Given Event)). behind z lacked' rest) same.gave
-            ∙ ap (λ (z : Gives Event). behind first' lacked' z) r.out ∙ sym split';
+        out = split ∙ ap (λ (l : Bool). given_first first l rest) (ok.0 ∙ sym ok'.0) ∙ ap (λ (z : List (Given Event)). given_first z lacked' rest) same.gave
+            ∙ ap (λ (z : Gives Event). given_first first' lacked' z) r.out ∙ sym split';
         after = r.after;
       }
 

@@ -5,7 +5,7 @@ use Rattle.wl_wire.specs.declared.error.IoFault.{IoFault}
 use Rattle.wl_wire.specs.declared.error.IoFault.TheVariants as fault
 use Rattle.wl_link.specs.Exchange.{Queue, Sending}
 use Rattle.wl_link.specs.Link.{LinkState, count_of, counted_answer}
-use Rattle.wl_link.specs.Puts.{PutsOut, Said, lacked_memory}
+use Rattle.wl_link.specs.Puts.{PutsOut, Said, lacks_memory}
 use Rattle.wl_link.specs.Reader.{CarriesOut, Ends, Given, Gives, Halts, Handled, ReaderState, Reader, Reads, Received, Stops, Turn, Unread, Verdict, came_to, stops, with_link}
 use Rattle.wl_link.proofs.Readings.PutsLaws.{puts_front}
 use Rattle.wl_link.specs.Respect.{Keeps, RespectsReading, Respects, KeepsCore, RespectsCores}
@@ -50,7 +50,7 @@ module _ {T Core Event Finish : Type 0} (sends : T → Queue → Result ℕ IoFa
     where
       go : (c : Result (Unit {0}) IoFault)
           → MatchResult c (λ _. Reads sends reader receives n (with_link p link) turns out after)
-          (λ f. (turns ≡ []) × (out ≡ stops (Some f) (lacked_memory (Err f)) n) × (after ≡ record { core = reader.faulted p.core f; link = link }))
+          (λ f. (turns ≡ []) × (out ≡ stops (Some f) (lacks_memory (Err f)) n) × (after ≡ record { core = reader.faulted p.core f; link = link }))
           → (Reads sends reader receives n (with_link p link) turns out after → R p.core out.gave after.core) → R p.core out.gave after.core
       go (Ok u) more goes = goes more
       go (Err f) (none, ends, same) goes =

@@ -7,7 +7,7 @@ use Rattle.wl_wire.specs.declared.error.MessageParseError.TheVariants as parse
 use Rattle.wl_wire.specs.Message.{WireMessage}
 use Rattle.wl_link.specs.Exchange.{Chain, Queue, Sending, IsFunction}
 use Rattle.wl_link.specs.Link.{LinkState}
-use Rattle.wl_link.specs.Puts.{FlushesOut, Said, lacked_memory}
+use Rattle.wl_link.specs.Puts.{FlushesOut, Said, lacks_memory}
 use Rattle.wl_link.specs.Reader.{CarriesOut, Given, Lacks, ReaderState, Reader, ReadsAs, Verdict, came_to, put_and_gave}
 use Rattle.wl_link.specs.Served.{Answers, Finds, NoneFits, Rests, ServedFrom, Serves, ServesOne, TakesNext, AsTold}
 use Rattle.wl_link.specs.Outcome.{SameRead}
@@ -66,8 +66,8 @@ module _ {S Core Event Finish : Type 0} (sends : S → Queue → Result ℕ IoFa
   carries_one v before x y es fs g h (inr (asks, was, none, is, same)) other = absurd (true≢false (sym was))
   carries_one v before x y es fs g h (inl carried) (inr (asks, was, none, is, same)) = absurd (true≢false (sym was))
   carries_one v before x y es fs g h (inl (first, others, put, a, mid, lacked, puts, flushes, split, end, is, was)) (inl (first', others', put', b, mid', lacked', puts', flushes', split', end', is', was')) =
-      let ample = both_false (lacked_memory a) lacked was in
-      let ample' = both_false (lacked_memory b) lacked' was' in
+      let ample = both_false (lacks_memory a) lacked was in
+      let ample' = both_false (lacks_memory b) lacked' was' in
       let s = puts_one sends function v.puts before mid mid' first first' put put' a b (not_lacked a ample.0) (not_lacked b ample'.0) puts puts' in
       let known = subst (λ (l : Bool). FlushesOut sends v.flushes mid others l x.link) ample.1 flushes in
       let known' = subst (λ (l : Bool). FlushesOut sends v.flushes mid' others' l y.link) ample'.1 flushes' in

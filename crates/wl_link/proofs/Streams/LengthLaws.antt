@@ -12,8 +12,8 @@ use Rattle.wl_wire.specs.Message.{WireMessage, size}
 use Rattle.wl_wire.specs.Parse.{IsWhole, length_of}
 use Rattle.wl_link.proofs.Calls.Branches.{either_bool, either_result}
 use Rattle.wl_link.specs.Exchange.{Queue, Sending, joined, nothing}
-use Rattle.wl_link.specs.Link.{Behind, EachWithin, FilledBy, FindsRoom, FlushedBy, FrontFits, LacksBytes, LinkState, PlacedBy, Put, ReadOne, WroteBy, count_of, counted_answer, has_room, ignoring, incoming_limit}
-use Rattle.wl_link.specs.Puts.{FlushesOut, PutBy, PutsOut, Said, lacked_memory}
+use Rattle.wl_link.specs.Link.{IsAfter, EachWithin, FilledBy, FindsRoom, FlushedBy, FrontFits, LacksBytes, LinkState, PlacedBy, Put, ReadOne, WroteBy, count_of, counted_answer, has_room, ignoring, incoming_limit}
+use Rattle.wl_link.specs.Puts.{FlushesOut, PutBy, PutsOut, Said, lacks_memory}
 use Rattle.wl_link.proofs.Readings.PutsLaws.{not_lacked}
 use Rattle.wl_link.proofs.Calls.QueueLaws.{joined_assoc, joined_nothing}
 use Rattle.wl_link.specs.Reader.{CarriesOut, Given, Gives, Handled, ReaderState, Reader, Reads, Received, Turn, Unread, Verdict, came_by, received_in, stops, with_link}
@@ -101,14 +101,14 @@ module _ {T : Type 0} (sends : T → Queue → Result ℕ IoFault → T → Type
 
 -- ---- messages off the front
 
-behind_joins : (n m : ℕ) (a b c : List ℕ) → Behind n a b → Behind m b c → (k : ℕ) × Behind k a c
-behind_joins zero m a b c same rest = (m, subst (λ (x : List ℕ). Behind m x c) same rest)
+behind_joins : (n m : ℕ) (a b c : List ℕ) → IsAfter n a b → IsAfter m b c → (k : ℕ) × IsAfter k a c
+behind_joins zero m a b c same rest = (m, subst (λ (x : List ℕ). IsAfter m x c) same rest)
 behind_joins (suc n) m a b c (whole, more) rest =
     let r = behind_joins n m (drop (length_of a) a) b c more rest in
     (suc r.0, (whole, r.1))
 
 -- what is behind messages that are so long
-pub each_later : {most : ℕ} (n : ℕ) (a b : List ℕ) → EachWithin most a → Behind n a b → EachWithin most b
+pub each_later : {most : ℕ} (n : ℕ) (a b : List ℕ) → EachWithin most a → IsAfter n a b → EachWithin most b
 each_later n a b each behind m rest further = let j = behind_joins n m a b rest behind further in each j.0 rest j.1
 
 pub each_fits : {T : Type 0} (l : LinkState T) (limit : Option ℕ) (more : List ℕ) → l.limit ≡ limit → EachWithin (incoming_limit limit) (l.incoming.bytes ++ more) → FrontFits l
@@ -119,7 +119,7 @@ each_fits l limit more same each header =
 -- this came behind what waits, and messages were taken off the front
 pub record Flows {T : Type 0} (before after : LinkState T) (came : List ℕ) : Type 0 where
   pub limit : after.limit ≡ before.limit
-  pub behind : (more : List ℕ) → (n : ℕ) × Behind n (before.incoming.bytes ++ (came ++ more)) (after.incoming.bytes ++ more)
+  pub behind : (more : List ℕ) → (n : ℕ) × IsAfter n (before.incoming.bytes ++ (came ++ more)) (after.incoming.bytes ++ more)
 
 module _ {T : Type 0} where
   flows_nothing : (before after : LinkState T) → after.incoming ≡ before.incoming → after.limit ≡ before.limit → Flows before after []
@@ -135,7 +135,7 @@ module _ {T : Type 0} where
         let first = one.behind (y ++ more) in
         let second = two.behind more in
         let both = behind_joins first.0 second.0 (before.incoming.bytes ++ (x ++ (y ++ more))) (mid.incoming.bytes ++ (y ++ more)) (after.incoming.bytes ++ more) first.1 second.1 in
-        (both.0, subst (λ (bs : List ℕ). Behind both.0 (before.incoming.bytes ++ bs) (after.incoming.bytes ++ more)) (sym (append_assoc x y more)) both.1);
+        (both.0, subst (λ (bs : List ℕ). IsAfter both.0 (before.incoming.bytes ++ bs) (after.incoming.bytes ++ more)) (sym (append_assoc x y more)) both.1);
   }
 
   pub flows_came : (receives : T → ℕ → Result Queue IoFault → T → Type 0) (before after : LinkState T) (r : Result Queue IoFault) (answer : Result (Unit {0}) IoFault)
@@ -213,7 +213,7 @@ module _ {T Core Event Finish : Type 0} (sends : T → Queue → Result ℕ IoFa
     where
       go : (c : Result (Unit {0}) IoFault)
           → MatchResult c (λ _. Reads sends reader receives n (with_link p link) turns out after)
-          (λ f. (turns ≡ []) × (out ≡ stops (Some f) (lacked_memory (Err f)) n) × (after ≡ record { core = reader.faulted p.core f; link = link }))
+          (λ f. (turns ≡ []) × (out ≡ stops (Some f) (lacks_memory (Err f)) n) × (after ≡ record { core = reader.faulted p.core f; link = link }))
           → (Reads sends reader receives n (with_link p link) turns out after → Flows link after.link (received_in turns).bytes) → Flows link after.link (received_in turns).bytes
       go (Ok u) more goes = goes more
       go (Err f) (none, ends, same) goes =
@@ -260,7 +260,7 @@ module _ {Core Event Finish : Type 0} (reader : Reader Core Event Finish) where
     where
       go : (c : Result (Unit {0}) IoFault)
           → MatchResult c (λ _. Reads ScriptSends reader ScriptReceives n (with_link p link) turns out after)
-          (λ f. (turns ≡ []) × (out ≡ stops (Some f) (lacked_memory (Err f)) n) × (after ≡ record { core = reader.faulted p.core f; link = link }))
+          (λ f. (turns ≡ []) × (out ≡ stops (Some f) (lacks_memory (Err f)) n) × (after ≡ record { core = reader.faulted p.core f; link = link }))
           → (Reads ScriptSends reader ScriptReceives n (with_link p link) turns out after → left_over link.transport.arrivals ≡ joined (received_in turns) (left_of after))
           → (c ≢ Err fault.OutOfMemory) × (left_over link.transport.arrivals ≡ joined (received_in turns) (left_of after))
       go (Ok u) more goes = (λ refused. true≢false (ap is_ok refused), goes more)
@@ -281,7 +281,7 @@ module _ {Core Event Finish : Type 0} (reader : Reader Core Event Finish) where
   record ActsFlow (before : ReaderState Script Core) (came : List ℕ) (after : ReaderState Script Core) : Type 0 where
     limit : after.link.limit ≡ before.link.limit
     behind : (more : List ℕ)
-        → (n : ℕ) × Behind n (before.link.incoming.bytes ++ ((left_of before).bytes ++ (came ++ more))) (after.link.incoming.bytes ++ ((left_of after).bytes ++ more))
+        → (n : ℕ) × IsAfter n (before.link.incoming.bytes ++ ((left_of before).bytes ++ (came ++ more))) (after.link.incoming.bytes ++ ((left_of after).bytes ++ more))
 
   act_flows : (before after : ReaderState Script Core) (a : Act Event Finish) → Does reader before a after → ActsFlow before (arrived_by a).bytes after
   act_flows before after (Arrived r) (fed, same) = record {
@@ -303,7 +303,7 @@ module _ {Core Event Finish : Type 0} (reader : Reader Core Event Finish) where
             let f = flows.behind ((left_of after).bytes ++ more) in
             let whole : (received_in turns).bytes ++ ((left_of after).bytes ++ more) ≡ (left_of before).bytes ++ more
             = sym (append_assoc (received_in turns).bytes (left_of after).bytes more) ∙ ap (λ (bs : List ℕ). bs ++ more) (sym came) in
-            (f.0, subst (λ (bs : List ℕ). Behind f.0 (before.link.incoming.bytes ++ bs) (after.link.incoming.bytes ++ ((left_of after).bytes ++ more))) whole f.1);
+            (f.0, subst (λ (bs : List ℕ). IsAfter f.0 (before.link.incoming.bytes ++ bs) (after.link.incoming.bytes ++ ((left_of after).bytes ++ more))) whole f.1);
       }
   act_flows before after (HasEnded u gave) (off, (es, (v, is, carried))) =
       let kept = carries_stays ScriptSends reader v before.link after es gave false carried in
@@ -332,7 +332,7 @@ module _ {Core Event Finish : Type 0} (reader : Reader Core Event Finish) where
             let g = others.behind more in
             let both = behind_joins f.0 g.0 _ _ _ f.1 g.1 in
             let bytes = sym (append_assoc (arrived_by a).bytes (arrived acts).bytes more) in
-            (both.0, subst (λ (bs : List ℕ). Behind both.0 (before.link.incoming.bytes ++ ((left_of before).bytes ++ bs)) (after.link.incoming.bytes ++ ((left_of after).bytes ++ more))) bytes both.1);
+            (both.0, subst (λ (bs : List ℕ). IsAfter both.0 (before.link.incoming.bytes ++ ((left_of before).bytes ++ bs)) (after.link.incoming.bytes ++ ((left_of after).bytes ++ more))) bytes both.1);
       }
 
   -- where each message is no longer than the incoming storage may become, so is the one at the front in the end
@@ -342,7 +342,7 @@ module _ {Core Event Finish : Type 0} (reader : Reader Core Event Finish) where
       let flows = acts_flow before after acts does in
       let f = flows.behind [] in
       let came = ap (λ (bs : List ℕ). before.link.incoming.bytes ++ ((left_of before).bytes ++ bs)) (append-nil (arrived acts).bytes) in
-      let behind = subst (λ (bs : List ℕ). Behind f.0 bs (after.link.incoming.bytes ++ ((left_of after).bytes ++ []))) came f.1 in
+      let behind = subst (λ (bs : List ℕ). IsAfter f.0 bs (after.link.incoming.bytes ++ ((left_of after).bytes ++ []))) came f.1 in
       each_fits after.link before.link.limit ((left_of after).bytes ++ []) flows.limit (each_later f.0 _ _ each behind)
 
   -- so no receive of such a stretch finds the storage full

@@ -10,11 +10,11 @@ use Rattle.wl_wire.specs.declared.error.MessageParseError.TheVariants as errors
 use Rattle.wl_wire.specs.Message.{WireMessage}
 use Rattle.wl_wire.specs.Parse.{length_of}
 use Rattle.wl_link.specs.Exchange.{Queue, nothing}
-use Rattle.wl_link.specs.Link.{Behind, EachWithin, FilledBy, FindsRoom, LacksBytes, LinkState, ReadOne, free_room, grown_capacity, incoming_limit, with_transport}
+use Rattle.wl_link.specs.Link.{IsAfter, EachWithin, FilledBy, FindsRoom, LacksBytes, LinkState, ReadOne, free_room, grown_capacity, incoming_limit, with_transport}
 use Rattle.wl_link.proofs.Calls.QueueLaws.{joined_nothing}
 use Rattle.wl_link.specs.Reader.{came_by}
 use Rattle.wl_link.proofs.Calls.LaterLaws.{lacks_bytes, other_reads}
-use Rattle.wl_link.specs.Sides.{Filling, InNeed, InTime, Reading, ReceiverCall, ReceiverRun, RoomLaw, all_came, came_by as call_came, roomy}
+use Rattle.wl_link.specs.Sides.{ByFill, InNeed, InTime, ByRead, ReceiverCall, ReceiverRun, RoomLaw, all_came, brought_by as call_came, roomy}
 use Rattle.wl_link.proofs.Streams.StreamLaws.{read_left, read_same}
 use Rattle.wl_link.proofs.Streams.LengthLaws.{each_fits, each_later, flows_came, flows_taken}
 
@@ -73,16 +73,16 @@ module _ {T : Type 0} (receives : T → ℕ → Result Queue IoFault → T → T
       let least = least_room before holds in
       subst Holds (sym filled.2) (record { header = omega (arith, holds.header, least); within = omega (arith, least, holds.within) })
 
-  came_same : (r : Result Queue IoFault) → came_by r ≡ call_came (Filling (Some r))
+  came_same : (r : Result Queue IoFault) → came_by r ≡ call_came (ByFill (Some r))
   came_same (Ok came) = refl
   came_same (Err f) = refl
 
   fill_ready : (before after : LinkState T) (r : Result Queue IoFault) (answer : Result (Unit {0}) IoFault) (lacking : Bool) (more : List ℕ)
-      → Ready before lacking ((call_came (Filling (Some r))).bytes ++ more) → FilledBy receives before r answer after → Ready after false more
+      → Ready before lacking ((call_came (ByFill (Some r))).bytes ++ more) → FilledBy receives before r answer after → Ready after false more
   fill_ready before after r answer lacking more ready filled =
       let flows = flows_came receives before after r answer filled in
       let f = flows.behind more in
-      let came = subst (λ (q : Queue). Behind f.0 (before.incoming.bytes ++ (q.bytes ++ more)) (after.incoming.bytes ++ more)) (came_same r) f.1 in
+      let came = subst (λ (q : Queue). IsAfter f.0 (before.incoming.bytes ++ (q.bytes ++ more)) (after.incoming.bytes ++ more)) (came_same r) f.1 in
       record {
         holds = fill_holds before after r answer ready.holds filled;
         lacks = λ no. absurd (true≢false (sym no));
@@ -116,30 +116,30 @@ module _ {T : Type 0} (receives : T → ℕ → Result Queue IoFault → T → T
   none_full : (before full : LinkState T) (got : List ReceiverCall) (lacking : Bool) → Ready before lacking (all_came got).bytes → InNeed lacking got → InTime got
       → ReceiverRun receives look_up before got full → ReceiverRun (roomy receives) look_up before got full
   none_full before full [] lacking ready need in_time run = run
-  none_full before full (Filling None ∷ cs) lacking ready need in_time (t, mid, same, rest) =
+  none_full before full (ByFill None ∷ cs) lacking ready need in_time (t, mid, same, rest) =
       let next = subst (λ (l : LinkState T). Ready l lacking (all_came cs).bytes) (sym same) (moved_ready before t lacking (all_came cs).bytes ready) in
       (t, mid, same, none_full mid full cs lacking next need in_time.1 rest)
-  none_full before full (Filling (Some r) ∷ cs) lacking ready need in_time (t, mid, (answer, filled), rest) =
-      let here = moved_ready before t lacking (all_came (Filling (Some r) ∷ cs)).bytes ready in
+  none_full before full (ByFill (Some r) ∷ cs) lacking ready need in_time (t, mid, (answer, filled), rest) =
+      let here = moved_ready before t lacking (all_came (ByFill (Some r) ∷ cs)).bytes ready in
       let finds = finds_room (with_transport before t) here.holds (here.lacks need.0) (each_fits (with_transport before t) before.limit _ refl here.each) in
       let some : free_room (with_transport before t) ≢ 0 = λ none. omega (arith, finds, none) in
       let next = fill_ready (with_transport before t) mid r answer lacking (all_came cs).bytes here filled in
       (t, mid, (answer, ((filled.0, some), filled.1, filled.2)), none_full mid full cs false next need.1 in_time.1 rest)
-  none_full before full (Reading (Ok m) ∷ cs) lacking ready need in_time (t, mid, read, rest) =
+  none_full before full (ByRead (Ok m) ∷ cs) lacking ready need in_time (t, mid, read, rest) =
       let here = moved_ready before t lacking (all_came cs).bytes ready in
       (t, mid, read, none_full mid full cs false (taken_ready (with_transport before t) mid m lacking (all_came cs).bytes here read) need in_time.1 rest)
-  none_full before full (Reading (Err errors.MissingData) ∷ cs) lacking ready need in_time (t, mid, read, rest) =
+  none_full before full (ByRead (Err errors.MissingData) ∷ cs) lacking ready need in_time (t, mid, read, rest) =
       let here = moved_ready before t lacking (all_came cs).bytes ready in
       let same = read_same receives look_up nothing (with_transport before t) mid errors.MissingData read in
       let short = subst (λ (l : LinkState T). ReadOne (λ sender opcode found. found ≡ look_up sender opcode) (with_transport before t) (Err errors.MissingData) l) same read in
       let lacks = lacks_bytes (λ sender opcode found. found ≡ look_up sender opcode) (with_transport before t) short in
       (t, mid, read, none_full mid full cs true (refused_ready (with_transport before t) mid lacking true (all_came cs).bytes here same (λ yes. lacks)) need in_time.1 rest)
-  none_full before full (Reading (Err errors.MissingFD) ∷ cs) lacking ready need in_time run = absurd (in_time.0 refl)
-  none_full before full (Reading (Err errors.Malformed) ∷ cs) lacking ready need in_time (t, mid, read, rest) =
+  none_full before full (ByRead (Err errors.MissingFD) ∷ cs) lacking ready need in_time run = absurd (in_time.0 refl)
+  none_full before full (ByRead (Err errors.Malformed) ∷ cs) lacking ready need in_time (t, mid, read, rest) =
       let here = moved_ready before t lacking (all_came cs).bytes ready in
       let same = read_same receives look_up nothing (with_transport before t) mid errors.Malformed read in
       (t, mid, read, none_full mid full cs false (refused_ready (with_transport before t) mid lacking false (all_came cs).bytes here same (λ no. absurd (true≢false (sym no)))) need in_time.1 rest)
-  none_full before full (Reading (Err errors.OutOfMemory) ∷ cs) lacking ready need in_time (t, mid, read, rest) =
+  none_full before full (ByRead (Err errors.OutOfMemory) ∷ cs) lacking ready need in_time (t, mid, read, rest) =
       let here = moved_ready before t lacking (all_came cs).bytes ready in
       let same = read_same receives look_up nothing (with_transport before t) mid errors.OutOfMemory read in
       (t, mid, read, none_full mid full cs false (refused_ready (with_transport before t) mid lacking false (all_came cs).bytes here same (λ no. absurd (true≢false (sym no)))) need in_time.1 rest)

@@ -17,12 +17,12 @@ use Rattle.wl_wire.proofs.Spelling.CursorLaws.{reads_tokens}
 use Rattle.wl_wire.proofs.Spelling.RoundTrip.{length-spelling, sender-spelling, length_of-spelling, opcode_of-spelling, written_is_read_lem, one_message_lem}
 use Rattle.wl_wire.proofs.Spelling.FrontLaws.{length_front, opcode_front, sender_front}
 use Rattle.wl_link.specs.Exchange.{Queue, Sending, joined, nothing, IsWithinOffer}
-use Rattle.wl_link.specs.Link.{LinkState, with_transport, FlushedBy, WroteBy, with_came, behind_first, ReadFound, ReadOne, spelled}
+use Rattle.wl_link.specs.Link.{LinkState, with_transport, FlushedBy, WroteBy, with_came, after_first, ReadFound, ReadOne, spelled}
 use Rattle.wl_link.specs.Kept.{taken, NoZero, LosesNothing, queued_by}
 use Rattle.wl_link.proofs.Calls.KeptLaws.{flush_kept, write_kept, gone-taken}
 use Rattle.wl_link.proofs.Calls.QueueLaws.{queue_is, joined_assoc, joined_nothing}
 use Rattle.wl_link.proofs.Calls.ReadLaws.{reads_enough, refused_though_read, read_under_other}
-use Rattle.wl_link.specs.Sides.{SenderCall, SenderRun, written_by, written, all_taken, NoneZero, ReceiverCall, Filling, Reading, ReceiverStep, ReceiverRun, came_by, all_came, messages_read, spelled_all, IsReadable, StreamLaw, AllReadLaw, CuttingLaw, TakesFirst, ReadTakes}
+use Rattle.wl_link.specs.Sides.{SenderCall, SenderRun, written_by, written, all_taken, NoneZero, ReceiverCall, ByFill, ByRead, ReceiverStep, ReceiverRun, brought_by, all_came, messages_read, spelled_all, IsReadable, StreamLaw, AllReadLaw, CuttingLaw, TakesFirst, ReadTakes}
 
 -- ---- queues behind one another
 
@@ -140,7 +140,7 @@ module _ (look_up : ℕ → ℕ → Option (List ArgumentType)) (waiting pending
         let read' = subst (λ (bs : List ℕ). ReadsMessage bs signature (tokens n.args ++ drop (length (tokens n.args)) waiting.tokens) n) (sym bytes_front) read in
         one_message_lem m n waiting.bytes signature waiting.tokens reads (subst (λ (ts : List Token). ReadsMessage waiting.bytes signature ts n) (sym tokens_front) read')
 
-    left_is : joined (behind_first signature waiting) pending ≡ spelled_all ns
+    left_is : joined (after_first signature waiting) pending ≡ spelled_all ns
     left_is =
         queue_is _ _
         (ap (λ (k : ℕ). drop k waiting.bytes ++ pending.bytes) (length_is ∙ sym (length-spelling n)) ∙ bytes_left)
@@ -160,17 +160,17 @@ module _ {T : Type 0} (receives : T → ℕ → Result Queue IoFault → T → T
       (ms : List WireMessage) → AllByRecursion (IsReadable look_up) ms → joined before (joined (all_came cs) pending) ≡ spelled_all ms
       → Left look_up ms (messages_read cs) after pending
 
-  carries_filled : (received : Option (Result Queue IoFault)) (cs : List ReceiverCall) (before mid after : Queue) → mid ≡ joined before (came_by (Filling received))
-      → Carries mid cs after → Carries before (Filling received ∷ cs) after
+  carries_filled : (received : Option (Result Queue IoFault)) (cs : List ReceiverCall) (before mid after : Queue) → mid ≡ joined before (brought_by (ByFill received))
+      → Carries mid cs after → Carries before (ByFill received ∷ cs) after
   carries_filled received cs before mid after is others ms readable spelled_is =
       others ms readable
       (ap (λ (q : Queue). joined q (joined (all_came cs) pending)) is
-      ∙ joined_assoc before (came_by (Filling received)) (joined (all_came cs) pending)
-      ∙ ap (λ (q : Queue). joined before q) (sym (joined_assoc (came_by (Filling received)) (all_came cs) pending)) ∙ spelled_is)
+      ∙ joined_assoc before (brought_by (ByFill received)) (joined (all_came cs) pending)
+      ∙ ap (λ (q : Queue). joined before q) (sym (joined_assoc (brought_by (ByFill received)) (all_came cs) pending)) ∙ spelled_is)
 
   carries_first : (cs : List ReceiverCall) (before after : Queue) (signature : List ArgumentType) (m : WireMessage)
       → look_up (sender_of before.bytes) (opcode_of before.bytes) ≡ Some signature → ReadsMessage before.bytes signature before.tokens m
-      → Carries (behind_first signature before) cs after → Carries before (Reading (Ok m) ∷ cs) after
+      → Carries (after_first signature before) cs after → Carries before (ByRead (Ok m) ∷ cs) after
   carries_first cs before after signature m looked reads others [] readable spelled_is =
       absurd (nothing_spelled look_up before (joined (all_came cs) pending) signature m looked reads spelled_is)
   carries_first cs before after signature m looked reads others (n ∷ ns) readable spelled_is =
@@ -187,7 +187,7 @@ module _ {T : Type 0} (receives : T → ℕ → Result Queue IoFault → T → T
   abbrev pub FirstRead : LinkState T → WireMessage → LinkState T → Type 0
   FirstRead before m after =
       (signature : List ArgumentType) × (look_up (sender_of before.incoming.bytes) (opcode_of before.incoming.bytes) ≡ Some signature)
-      × ReadsMessage before.incoming.bytes signature before.incoming.tokens m × (after.incoming ≡ behind_first signature before.incoming)
+      × ReadsMessage before.incoming.bytes signature before.incoming.tokens m × (after.incoming ≡ after_first signature before.incoming)
 
   pub read_left : (before after : LinkState T) (m : WireMessage) → ReadOne (λ sender opcode found. found ≡ look_up sender opcode) before (Ok m) after
       → FirstRead before m after
@@ -215,25 +215,25 @@ module _ {T : Type 0} (receives : T → ℕ → Result Queue IoFault → T → T
 
   carries_read : (before mid after : LinkState T) (answer : Result WireMessage MessageParseError) (cs : List ReceiverCall)
       → ReadOne (λ sender opcode found. found ≡ look_up sender opcode) before answer mid → Carries mid.incoming cs after.incoming
-      → Carries before.incoming (Reading answer ∷ cs) after.incoming
+      → Carries before.incoming (ByRead answer ∷ cs) after.incoming
   carries_read before mid after (Ok m) cs read others =
       let r = read_left before mid m read in
       carries_first cs before.incoming after.incoming r.0 m r.1 r.2 (subst (λ (q : Queue). Carries q cs after.incoming) r.3 others)
   carries_read before mid after (Err e) cs read others =
       subst (λ (q : Queue). Carries q cs after.incoming) (ap (λ (l : LinkState T). l.incoming) (read_same before mid e read)) others
 
-  came_is : (before : Queue) (r : Result Queue IoFault) → with_came before r ≡ joined before (came_by (Filling (Some r)))
+  came_is : (before : Queue) (r : Result Queue IoFault) → with_came before r ≡ joined before (brought_by (ByFill (Some r)))
   came_is before (Ok came) = refl
   came_is before (Err fault) = sym (joined_nothing before)
 
   step_carries : (before mid after : LinkState T) (c : ReceiverCall) (cs : List ReceiverCall) → ReceiverStep receives look_up before c mid
       → Carries mid.incoming cs after.incoming → Carries before.incoming (c ∷ cs) after.incoming
-  step_carries before mid after (Filling None) cs step others =
+  step_carries before mid after (ByFill None) cs step others =
       carries_filled None cs before.incoming mid.incoming after.incoming (ap (λ (l : LinkState T). l.incoming) step ∙ sym (joined_nothing before.incoming)) others
-  step_carries before mid after (Filling (Some received)) cs step others =
+  step_carries before mid after (ByFill (Some received)) cs step others =
       carries_filled (Some received) cs before.incoming mid.incoming after.incoming
       (ap (λ (l : LinkState T). l.incoming) step.1.2 ∙ came_is before.incoming received) others
-  step_carries before mid after (Reading answer) cs step others = carries_read before mid after answer cs step others
+  step_carries before mid after (ByRead answer) cs step others = carries_read before mid after answer cs step others
 
   pub receiver_carries : (before after : LinkState T) (cs : List ReceiverCall) → ReceiverRun receives look_up before cs after
       → Carries before.incoming cs after.incoming
@@ -305,7 +305,7 @@ cutting_law {T = T} receives look_up start mid between end at_once x y a b c e f
 -- a read takes the first message off the stream
 pub takes_first : (look_up : ℕ → ℕ → Option (List ArgumentType)) (before : Queue) (signature : List ArgumentType) (m : WireMessage)
     → look_up (sender_of before.bytes) (opcode_of before.bytes) ≡ Some signature → ReadsMessage before.bytes signature before.tokens m
-    → TakesFirst look_up before m (behind_first signature before)
+    → TakesFirst look_up before m (after_first signature before)
 unfolding Stream
 takes_first look_up before signature m looked reads ms =
     let count : length (tokens m.args) ≡ fd_count signature = reads_tokens signature m.args (payload_of before.bytes) before.tokens reads.args in

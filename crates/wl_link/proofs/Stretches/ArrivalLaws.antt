@@ -11,7 +11,7 @@ use Rattle.wl_wire.specs.declared.error.IoFault.TheVariants as fault
 use Rattle.wl_wire.specs.declared.error.MessageParseError.TheVariants as errors
 use Rattle.wl_link.specs.Exchange.{Queue, joined}
 use Rattle.wl_link.specs.Link.{FilledBy, LinkState, count_of, counted_answer}
-use Rattle.wl_link.specs.Puts.{lacked_memory}
+use Rattle.wl_link.specs.Puts.{lacks_memory}
 use Rattle.wl_link.specs.Reader.{AllFed, Gives, Halts, Handled, IsFed, Lacks, ReaderState, Reader, Reads, Received, Turn, Unread, came_by, stops, with_link}
 use Rattle.wl_link.specs.Script.{Script, ScriptReceives, arrivals_after, given}
 use Rattle.wl_link.specs.Stretch.{AllPieces, left_over}
@@ -145,7 +145,7 @@ module _ {T Core Event Finish : Type 0} (sends : T → Queue → Result ℕ IoFa
     where
       go : (c : Result (Unit {0}) IoFault) → counted_answer (count_of r) ≡ c
           → MatchResult c (λ _. Reads sends reader receives n (with_link p link) turns out after)
-          (λ f. (turns ≡ []) × (out ≡ stops (Some f) (lacked_memory (Err f)) n) × (after ≡ record { core = reader.faulted p.core f; link = link }))
+          (λ f. (turns ≡ []) × (out ≡ stops (Some f) (lacks_memory (Err f)) n) × (after ≡ record { core = reader.faulted p.core f; link = link }))
           → (Reads sends reader receives n (with_link p link) turns out after → Waits) → Waits
       go (Ok u) was more goes = goes more
       go (Err f) was (none, ends, same) goes =
@@ -172,7 +172,7 @@ module _ {T Core Event Finish : Type 0} (sends : T → Queue → Result ℕ IoFa
   fed_blocks left p (Received (Ok came) ∷ turns) out (on, lacks, (n, is, (link, filled, finds, h))) (fed, others) ample f stopped =
       fed_blocks n (with_link p link) turns out
       (subst (λ (c : Result (Unit {0}) IoFault). MatchResult c (λ _. Reads sends reader receives n (with_link p link) turns out after)
-      (λ f. (turns ≡ []) × (out ≡ stops (Some f) (lacked_memory (Err f)) n) × (after ≡ record { core = reader.faulted p.core f; link = link }))) (byte_came came fed) h)
+      (λ f. (turns ≡ []) × (out ≡ stops (Some f) (lacks_memory (Err f)) n) × (after ≡ record { core = reader.faulted p.core f; link = link }))) (byte_came came fed) h)
       others ample f stopped
   fed_blocks left p (Received (Err g) ∷ turns) out (on, lacks, (n, is, (link, filled, finds, (none, ends, same)))) (blocked', others) ample f stopped =
       sym (same_Some g f (sym (ap stopped_of ends) ∙ stopped)) ∙ blocked'

@@ -6,7 +6,7 @@ use Rattle.wl_wire.specs.declared.error.IoFault.TheVariants as fault
 use Rattle.wl_wire.specs.Parse.{length_of}
 use Rattle.wl_link.specs.Exchange.{Chain, Queue, Sending, joined, nothing}
 use Rattle.wl_link.specs.Link.{FilledBy, FindsRoom, LacksBytes, LinkState, count_of, counted_answer, free_room, grown_capacity, incoming_limit, with_came}
-use Rattle.wl_link.specs.Puts.{lacked_memory}
+use Rattle.wl_link.specs.Puts.{lacks_memory}
 use Rattle.wl_link.specs.Reader.{AllFed, Gives, Handled, Lacks, Leaves, ReaderState, Reader, Reads, Received, Takes, Then, Turn, Unread, Verdict, came_by, received_in, sends_in, stops, with_link}
 use Rattle.wl_link.specs.Served.{Finds}
 use Rattle.wl_link.specs.Script.{Script, ScriptReceives, ScriptSends}
@@ -54,13 +54,13 @@ module _ {Core Event Finish : Type 0} (reader : Reader Core Event Finish) where
     abbrev ReceivedThen : ℕ → ReaderState Script Core → List Turn → Gives Event → LinkState Script → Result (Unit {0}) IoFault → Type 0
     ReceivedThen n p turns out link c =
         MatchResult c (λ _. Reads ScriptSends reader ScriptReceives n (with_link p link) turns out after)
-        (λ f. (turns ≡ []) × (out ≡ stops (Some f) (lacked_memory (Err f)) n) × (after ≡ record { core = reader.faulted p.core f; link = link }))
+        (λ f. (turns ≡ []) × (out ≡ stops (Some f) (lacks_memory (Err f)) n) × (after ≡ record { core = reader.faulted p.core f; link = link }))
 
     not_memory : (n : ℕ) (p : ReaderState Script Core) (turns : List Turn) (out : Gives Event) (link : LinkState Script) (c : Result (Unit {0}) IoFault) → out.refused ≡ false
         → ReceivedThen n p turns out link c → c ≢ Err fault.OutOfMemory
     not_memory n p turns out link (Ok u) ample h is = true≢false (ap is_ok is)
     not_memory n p turns out link (Err f) ample h is =
-        let lacked : lacked_memory (Err f) ≡ false = sym (ap (λ (o : Gives Event). o.refused) h.1) ∙ ample in
+        let lacked : lacks_memory (Err f) ≡ false = sym (ap (λ (o : Gives Event). o.refused) h.1) ∙ ample in
         not_lacked (Err f) lacked is
 
     not_full : (n : ℕ) (p : ReaderState Script Core) (turns : List Turn) (out : Gives Event) (link : LinkState Script) (r : Result Queue IoFault) → out.refused ≡ false

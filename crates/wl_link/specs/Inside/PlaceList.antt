@@ -21,7 +21,7 @@ module _ {A : Type 0} where
   place places i = slice_index_or places i None
 
   -- one place holds this, and every other what it held
-  pub record Puts (before : List (Option A)) (at : ℕ) (x : Option A) (after : List (Option A)) : Type 0 where
+  pub record SetsPlace (before : List (Option A)) (at : ℕ) (x : Option A) (after : List (Option A)) : Type 0 where
     pub places : (i : ℕ) → place after i ≡ (if i == at then x else place before i)
 
   -- the place holds nothing, and is one that there is or the one after the last
@@ -31,7 +31,7 @@ module _ {A : Type 0} where
   -- something is put at a place, exactly if it is free; memory may be refused only for the one after the last
   abbrev pub PutsAt : List (Option A) → ℕ → A → Result (Unit {0}) InsertError → List (Option A) → Type 0
   PutsAt before at x (Ok _) after =
-      (is_free_place before at ≡ true) × Puts before at (Some x) after × (length after ≡ put_len at (length before))
+      (is_free_place before at ≡ true) × SetsPlace before at (Some x) after × (length after ≡ put_len at (length before))
   PutsAt before at x (Err insert.NotFree) after = (is_free_place before at ≡ false) × (after ≡ before)
   PutsAt before at x (Err insert.OutOfMemory) after =
       (is_free_place before at ≡ true) × (at ≡ length before) × (after ≡ before)
@@ -40,7 +40,7 @@ module _ {A : Type 0} where
   abbrev pub LendsAt : {R : Type 0} → (A → R → A → Type 0) → List (Option A) → ℕ → Option R → List (Option A) → Type 0
   LendsAt call before at answer after =
       MatchOption (place before at) ((answer ≡ None) × (after ≡ before))
-      (λ x. (r : _) × (y : A) × call x r y × (answer ≡ Some r) × Puts before at (Some y) after)
+      (λ x. (r : _) × (y : A) × call x r y × (answer ≡ Some r) × SetsPlace before at (Some y) after)
 
   -- the first place that holds nothing
   pub record IsFirstFree (places : List (Option A)) (at : ℕ) : Type 0 where
@@ -52,7 +52,7 @@ module _ {A : Type 0} where
   -- first place has the number `first`.
   abbrev pub PutsNew : List (Option A) → ℕ → ℕ → A → Result ℕ NewError → List (Option A) → Type 0
   PutsNew before number end x (Ok n) after =
-      (at : ℕ) × (n ≡ at + number) × (at < end) × IsFirstFree before at × Puts before at (Some x) after × (length after ≡ put_len at (length before))
+      (at : ℕ) × (n ≡ at + number) × (at < end) × IsFirstFree before at × SetsPlace before at (Some x) after × (length after ≡ put_len at (length before))
   PutsNew before number end x (Err new.IdsExhausted) after = ((at : ℕ) × (end ≤ at) × IsFirstFree before at) × (after ≡ before)
   PutsNew before number end x (Err new.OutOfMemory) after =
       ((at : ℕ) × (at < end) × IsFirstFree before at × (at ≡ length before)) × (after ≡ before)

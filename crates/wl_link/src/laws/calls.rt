@@ -92,6 +92,6 @@ pub fn cutting_does_not_matter<T: Transport>()
 pub fn each_size_has_its_value()
     ensures bytes { MAX_BYTES_OUT ≡ 4096 }
     ensures tokens { MAX_FDS_OUT ≡ 28 }
-    ensures storage { DEFAULT_MAX_BUFFER_SIZE ≡ 4096 }
+    ensures buffer { DEFAULT_MAX_BUFFER_SIZE ≡ 4096 }
     ensures incoming { INCOMING_LIMIT ≡ 65536 }
 {}

@@ -4,7 +4,7 @@ use mathlib.Core.Logic.{inl, inr}
 use Rattle.std.specs.Prelude.{◌⊎◌}
 use Rattle.std.proofs.lemmas.List.{nil_from_length}
 use Rattle.wl_server.specs.declared.notes.Happening.{Happening}
-use Rattle.wl_server.specs.Inside.Gathering.{AllLeft, count_leaving, leaving}
+use Rattle.wl_server.specs.Inside.Gathering.{AllLeft, count_leaving, to_gather}
 use Rattle.wl_server.specs.Inside.Leaving.{collected, ends_at, given_at, id_in}
 use Rattle.wl_server.specs.Server.{Stored}
 use Rattle.wl_server.specs.Steps.{SomeClient}
@@ -46,7 +46,7 @@ module _ {T U C : Type 0} where
 
   pub none_leaving : (waits : Bool) (clients : List (Option (Stored T U C))) → count_leaving waits clients ≤ 0 → AllLeft waits clients
   none_leaving waits clients none slot x here =
-      let one = count_at waits clients slot x here in nil_from_length (leaving waits x) (omega (arith, one, none))
+      let one = count_at waits clients slot x here in nil_from_length (to_gather waits x) (omega (arith, one, none))
 
   pub none_ends : (n : ℕ) (clients : List (Option (Stored T U C))) → length (collected given_at n clients) ≤ 0 → length (collected ends_at n clients) ≤ 0
   none_ends n [] none = none
@@ -66,15 +66,15 @@ module _ {T U C : Type 0} where
   later : {R : Stored T U C → Type 0} (x : Option (Stored T U C)) (clients : List (Option (Stored T U C))) → SomeClient clients R → SomeClient (x ∷ clients) R
   later x clients (slot, s, here, is) = (suc slot, s, here, is)
 
-  one_leaves : (waits : Bool) (clients : List (Option (Stored T U C))) → 0 < count_leaving waits clients → SomeClient clients (λ s. leaving waits (Some s) ≢ [])
+  one_leaves : (waits : Bool) (clients : List (Option (Stored T U C))) → 0 < count_leaving waits clients → SomeClient clients (λ s. to_gather waits (Some s) ≢ [])
   one_leaves waits [] more = absurd (omega (arith, more))
   one_leaves waits (None ∷ clients) more = later None clients (one_leaves waits clients (omega (arith, more)))
-  one_leaves waits (Some s ∷ clients) more = at (leaving waits (Some s)) refl (one_leaves waits clients)
+  one_leaves waits (Some s ∷ clients) more = at (to_gather waits (Some s)) refl (one_leaves waits clients)
     where
-      at : (told : List (Happening U)) → leaving waits (Some s) ≡ told → (0 < count_leaving waits clients → SomeClient clients (λ s. leaving waits (Some s) ≢ []))
-          → SomeClient (Some s ∷ clients) (λ s. leaving waits (Some s) ≢ [])
+      at : (told : List (Happening U)) → to_gather waits (Some s) ≡ told → (0 < count_leaving waits clients → SomeClient clients (λ s. to_gather waits (Some s) ≢ []))
+          → SomeClient (Some s ∷ clients) (λ s. to_gather waits (Some s) ≢ [])
       at [] none rest =
-          let long : length (leaving waits (Some s)) ≡ 0 = ap length none in
+          let long : length (to_gather waits (Some s)) ≡ 0 = ap length none in
           later (Some s) clients (rest (omega (arith, more, long)))
       at (h ∷ told) is rest = (0, s, refl, λ none. some_none (sym is ∙ none))
         where

@@ -12,7 +12,7 @@ use Rattle.wl_server.specs.declared.objects.Kept.{Kept}
 use Rattle.wl_server.specs.declared.notes.Happening.{Happening}
 use Rattle.wl_server.specs.Deeds.{Deed, Noted, left_if, notes_in}
 use Rattle.wl_server.specs.Felt.{FlushedTo, objects_leave}
-use Rattle.wl_server.specs.Inside.Gathering.{emptied, leaving}
+use Rattle.wl_server.specs.Inside.Gathering.{emptied, to_gather}
 use Rattle.wl_server.specs.Globals.{Offer}
 use Rattle.wl_server.specs.Ids.{ClientParts}
 use Rattle.wl_server.specs.Inside.Leaving.{FlushesKilled, ends_in, ends_of, given_in, staying}
@@ -89,7 +89,7 @@ module _ {T U G C : Type 0} (w : World T G C) (id : ClientParts) (offer : Offer 
         ),
       )
 
-  left_is : (x : Option (Stored T U C)) → leaving true x ≡ [] → x ≡ option_map (emptied true) x
+  left_is : (x : Option (Stored T U C)) → to_gather true x ≡ [] → x ≡ option_map (emptied true) x
   left_is None none = refl
   left_is (Some s) none = both s.made s.part.waiting none
       (λ made waiting. ap (λ (m : List (Happening U)). let x : Stored T U C = record { serial = s.serial; part = s.part; made = m } in Some x) made
@@ -140,7 +140,7 @@ module _ {T U G C : Type 0} (w : World T G C) (id : ClientParts) (offer : Offer 
   -- it felt the flush, its notes were gathered, and it left if it was killed
   pub cleaned_one : (x0 x1 x2 : Option (Stored T U C)) (lacked : Bool) (sent : List (Deed U)) (n n2 n3 : List (Happening U))
       → Feels (seen_as [] x0) (λ p q. FlushesKilled w.sends p lacked sent q) lacked sent (seen_as [] x1)
-      → option_map (emptied true) x2 ≡ option_map (emptied true) x1 → leaving true x2 ≡ [] → n2 ++ leaving true x2 ≡ n ++ leaving true x1
+      → option_map (emptied true) x2 ≡ option_map (emptied true) x1 → to_gather true x2 ≡ [] → n2 ++ to_gather true x2 ≡ n ++ to_gather true x1
       → n3 ≡ n2 ++ ends_in id x2 → share_of id out.items ≡ given_in x2 → CleanedBy x0 n lacked (staying x2) n3
   cleaned_one x0 x1 x2 lacked sent n n2 n3 felt same none told noted given =
       subst (λ (x : Option (Stored T U C)). CleanedBy x0 n lacked (staying x) n3) (sym is) (at x0 x1 felt told1 noted1 given1)
@@ -148,7 +148,7 @@ module _ {T U G C : Type 0} (w : World T G C) (id : ClientParts) (offer : Offer 
       is : x2 ≡ option_map (emptied true) x1
       is = left_is x2 none ∙ same
 
-      told1 : n2 ++ [] ≡ n ++ leaving true x1
+      told1 : n2 ++ [] ≡ n ++ to_gather true x1
       told1 = ap (λ (l : List (Happening U)). n2 ++ l) (sym none) ∙ told
 
       noted1 : n3 ≡ n2 ++ ends_in id (option_map (emptied true) x1)
@@ -158,7 +158,7 @@ module _ {T U G C : Type 0} (w : World T G C) (id : ClientParts) (offer : Offer 
       given1 = given ∙ ap given_in is
 
       at : (x0 x1 : Option (Stored T U C)) → Feels (seen_as [] x0) (λ p q. FlushesKilled w.sends p lacked sent q) lacked sent (seen_as [] x1)
-          → n2 ++ [] ≡ n ++ leaving true x1 → n3 ≡ n2 ++ ends_in id (option_map (emptied true) x1) → share_of id out.items ≡ given_in (option_map (emptied true) x1)
+          → n2 ++ [] ≡ n ++ to_gather true x1 → n3 ≡ n2 ++ ends_in id (option_map (emptied true) x1) → share_of id out.items ≡ given_in (option_map (emptied true) x1)
           → CleanedBy x0 n lacked (staying (option_map (emptied true) x1)) n3
       at None None (u, (not, nothing, same)) told noted given = (
         [],

@@ -5,7 +5,7 @@ use Rattle.wl_link.specs.declared.object.Object.{Object}
 use Rattle.wl_server.specs.declared.objects.Kept.{Kept}
 use Rattle.wl_server.specs.declared.notes.Note.{Note}
 use Rattle.wl_server.specs.Ids.{ClientParts}
-use Rattle.wl_server.specs.Inside.Leaving.{ending, ends_of}
+use Rattle.wl_server.specs.Inside.Leaving.{with_data, ends_of}
 use Rattle.wl_server.specs.Part.{note_of_end}
 use Rattle.wl_server.specs.Server.{note_of}
 use Rattle.wl_server.proofs.CleanupSteps.Outgoing.{ending_length}
@@ -16,7 +16,7 @@ module _ {U : Type 0} where
     pub noted : notes ++ map (note_of client) (ends_of client objects) ≡ total
     pub fits : length notes + length (ends_of client objects) ≤ room
 
-  pub ending_begins : (client : ClientParts) (notes : List (Note U)) (objects : List (ℕ × Object (Kept U))) (n room : ℕ) → n ≡ length notes → n + length (ending objects) ≤ room
+  pub ending_begins : (client : ClientParts) (notes : List (Note U)) (objects : List (ℕ × Object (Kept U))) (n room : ℕ) → n ≡ length notes → n + length (with_data objects) ≤ room
       → Ending client notes objects (notes ++ map (note_of client) (ends_of client objects)) room
   ending_begins client notes objects n room is fits =
       let same = ending_length client objects in record { noted = refl; fits = omega (arith, is, same, fits) }

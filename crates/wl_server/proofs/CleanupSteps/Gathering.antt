@@ -9,7 +9,7 @@ use Rattle.std.proofs.lemmas.Option.{same_Some, none-some}
 use Rattle.wl_server.specs.declared.notes.Happening.{Happening}
 use Rattle.wl_server.specs.declared.notes.Happening.TheVariants as happened
 use Rattle.wl_server.specs.declared.notes.Note.{Note}
-use Rattle.wl_server.specs.Inside.Gathering.{Gathers, MovesNote, count_leaving, emptied, leaving, notes_from}
+use Rattle.wl_server.specs.Inside.Gathering.{Gathers, MovesNote, count_leaving, emptied, to_gather, notes_from}
 use Rattle.wl_server.specs.Ids.{ClientParts, same_client}
 use Rattle.wl_server.specs.Server.{Stored, client_at, if_serial, note_of, notes_of, told_of}
 use Rattle.wl_server.proofs.CallSteps.Slots.{Are, Serials, Slots, client_absent, client_present, compare, get_set_other, get_set_same, other_of, same_parts, same_self, same_serials, same_slots}
@@ -55,10 +55,10 @@ set_itself (z ∷ xs) (suc k) x here = ap (λ l. z ∷ l) (set_itself xs k x her
 
 module _ {T U C : Type 0} (waits : Bool) where
   count_set : (clients : List (Option (Stored T U C))) (k : ℕ) (x y : Option (Stored T U C)) → slice_get clients k ≡ Some x
-      → count_leaving waits (slice_set clients k y) + length (leaving waits x) ≡ count_leaving waits clients + length (leaving waits y)
+      → count_leaving waits (slice_set clients k y) + length (to_gather waits x) ≡ count_leaving waits clients + length (to_gather waits y)
   count_set [] k x y here = absurd (false≢true (ap is_some here))
   count_set (z ∷ clients) zero x y here =
-      let same : length (leaving waits z) ≡ length (leaving waits x) = ap (λ (o : Option (Stored T U C)). length (leaving waits o)) (same_Some z x here) in omega (arith, same)
+      let same : length (to_gather waits z) ≡ length (to_gather waits x) = ap (λ (o : Option (Stored T U C)). length (to_gather waits o)) (same_Some z x here) in omega (arith, same)
   count_set (z ∷ clients) (suc k) x y here = let more = count_set clients k x y here in omega (arith, more)
 
   -- ---- one client's notes
@@ -78,23 +78,23 @@ module _ {T U C : Type 0} (waits : Bool) where
   -- ---- counts
 
   pub count_at : (clients : List (Option (Stored T U C))) (k : ℕ) (x : Option (Stored T U C)) → slice_get clients k ≡ Some x
-      → length (leaving waits x) ≤ count_leaving waits clients
+      → length (to_gather waits x) ≤ count_leaving waits clients
   count_at [] k x here = absurd (false≢true (ap is_some here))
   count_at (z ∷ clients) zero x here =
-      let same : length (leaving waits z) ≡ length (leaving waits x) = ap (λ (o : Option (Stored T U C)). length (leaving waits o)) (same_Some z x here) in omega (arith, same)
+      let same : length (to_gather waits z) ≡ length (to_gather waits x) = ap (λ (o : Option (Stored T U C)). length (to_gather waits o)) (same_Some z x here) in omega (arith, same)
   count_at (z ∷ clients) (suc k) x here = let more = count_at clients k x here in omega (arith, more)
 
   drop_more : (clients : List (Option (Stored T U C))) (k : ℕ) (x : Option (Stored T U C)) → slice_get clients k ≡ Some x
-      → count_leaving waits (drop k clients) ≡ length (leaving waits x) + count_leaving waits (drop (suc k) clients)
+      → count_leaving waits (drop k clients) ≡ length (to_gather waits x) + count_leaving waits (drop (suc k) clients)
   drop_more [] k x here = absurd (false≢true (ap is_some here))
-  drop_more (z ∷ clients) zero x here = ap (λ (o : Option (Stored T U C)). length (leaving waits o) + count_leaving waits clients) (same_Some z x here)
+  drop_more (z ∷ clients) zero x here = ap (λ (o : Option (Stored T U C)). length (to_gather waits o) + count_leaving waits clients) (same_Some z x here)
   drop_more (z ∷ clients) (suc k) x here = drop_more clients k x here
 
   pub count_drop : (clients : List (Option (Stored T U C))) (k : ℕ) (x : Option (Stored T U C)) → slice_get clients k ≡ Some x
-      → count_leaving waits (drop k clients) ≡ length (leaving waits x) + count_leaving waits (drop (k + 1) clients)
+      → count_leaving waits (drop k clients) ≡ length (to_gather waits x) + count_leaving waits (drop (k + 1) clients)
   count_drop clients k x here =
       let next : suc k ≡ k + 1 = omega arith in
-      subst (λ (n : ℕ). count_leaving waits (drop k clients) ≡ length (leaving waits x) + count_leaving waits (drop n clients)) next (drop_more clients k x here)
+      subst (λ (n : ℕ). count_leaving waits (drop k clients) ≡ length (to_gather waits x) + count_leaving waits (drop n clients)) next (drop_more clients k x here)
 
   pub gathers_length : (clients : List (Option (Stored T U C))) (notes : List (Note U)) (clients' : List (Option (Stored T U C))) (notes' : List (Note U))
       → Gathers waits clients notes clients' notes' → length clients' ≡ length clients
@@ -104,7 +104,7 @@ module _ {T U C : Type 0} (waits : Bool) where
   -- there is room for the notes of each client
   pub room_at : (clients : List (Option (Stored T U C))) (notes : List (Note U)) (clients' : List (Option (Stored T U C))) (notes' : List (Note U)) (n n' room room' k : ℕ)
       (x : Option (Stored T U C)) → Gathers waits clients notes clients' notes' → n ≡ length notes → n' ≡ length notes' → n + count_leaving waits clients ≤ room
-      → room' ≡ room → slice_get clients' k ≡ Some x → n' + length (leaving waits x) ≤ room'
+      → room' ≡ room → slice_get clients' k ≡ Some x → n' + length (to_gather waits x) ≤ room'
   room_at clients notes clients' notes' n n' room room' k x by is is' fits same here =
       let one = count_at clients' k x here in
       let count = by.count in
@@ -112,7 +112,7 @@ module _ {T U C : Type 0} (waits : Bool) where
 
   -- ---- one note is moved
 
-  from_length : (slot : ℕ) (x : Option (Stored T U C)) (told behind : List (Happening U)) → leaving waits x ≡ told ++ behind
+  from_length : (slot : ℕ) (x : Option (Stored T U C)) (told behind : List (Happening U)) → to_gather waits x ≡ told ++ behind
       → length (notes_from waits slot x told) ≡ length told
   from_length slot None [] behind left = refl
   from_length slot None (h ∷ told) behind left = absurd (nil_cons left)
@@ -124,33 +124,33 @@ module _ {T U C : Type 0} (waits : Bool) where
   -- what is told of an id
   abbrev ToldOf : List (Option (Stored T U C)) → List (Note U) → List (Option (Stored T U C)) → List (Note U) → ClientParts → Type 0
   ToldOf clients notes clients' notes' id =
-      notes_of id notes' ++ leaving waits (client_at id clients') ≡ notes_of id notes ++ leaving waits (client_at id clients)
+      notes_of id notes' ++ to_gather waits (client_at id clients') ≡ notes_of id notes ++ to_gather waits (client_at id clients)
 
   told_if : (clients clients' : List (Option (Stored T U C))) (notes notes' : List (Note U)) (target : ClientParts) (told : List (Happening U)) (id : ClientParts)
       → same_client target id ≡ false → notes' ≡ notes ++ map (note_of target) told → client_at id clients' ≡ client_at id clients → ToldOf clients notes clients' notes' id
   told_if clients clients' notes notes' target told id other is same =
-      ap (λ (o : Option (Stored T U C)). notes_of id notes' ++ leaving waits o) same
-      ∙ ap (λ (l : List (Happening U)). l ++ leaving waits (client_at id clients))
+      ap (λ (o : Option (Stored T U C)). notes_of id notes' ++ to_gather waits o) same
+      ∙ ap (λ (l : List (Happening U)). l ++ to_gather waits (client_at id clients))
       (ap (notes_of id) is ∙ (notes_append id notes (map (note_of target) told)
       ∙ (ap (λ (l : List (Happening U)). notes_of id notes ++ l) (notes_other target id told other) ∙ append-nil (notes_of id notes))))
 
   told_at : (clients : List (Option (Stored T U C))) (notes notes' : List (Note U)) (slot : ℕ) (x x' : Option (Stored T U C)) → slice_get clients slot ≡ Some x
       → MovesNote waits slot x notes x' notes' → (id : ClientParts) → ToldOf clients notes (slice_set clients slot x') notes' id
   told_at clients notes notes' slot None None here (h, left, rest, is) id =
-      ap (λ (xs : List (Option (Stored T U C))). notes_of id notes' ++ leaving waits (client_at id xs)) (set_itself clients slot None here)
-      ∙ ap (λ (ns : List (Note U)). notes_of id ns ++ leaving waits (client_at id clients)) (is ∙ append-nil notes)
+      ap (λ (xs : List (Option (Stored T U C))). notes_of id notes' ++ to_gather waits (client_at id xs)) (set_itself clients slot None here)
+      ∙ ap (λ (ns : List (Note U)). notes_of id ns ++ to_gather waits (client_at id clients)) (is ∙ append-nil notes)
   told_at clients notes notes' slot None (Some s') here (h, left, rest, is) id = absurd (none-some (emptied waits s') (sym rest))
   told_at clients notes notes' slot (Some s) None here (h, left, rest, is) id = absurd (none-some (emptied waits s) rest)
   told_at clients notes notes' slot (Some s) (Some s') here (h, left, rest, is) id =
       elim (compare target id) [
         | Are at same ↦
-            ap (λ (o : Option (Stored T U C)). notes_of id notes' ++ leaving waits o) (client_present id clients' s' (after at) (serial' ∙ same))
-            ∙ (ap (λ (l : List (Happening U)). l ++ leaving waits (Some s'))
+            ap (λ (o : Option (Stored T U C)). notes_of id notes' ++ to_gather waits o) (client_present id clients' s' (after at) (serial' ∙ same))
+            ∙ (ap (λ (l : List (Happening U)). l ++ to_gather waits (Some s'))
             (ap (notes_of id) is ∙ (notes_append id notes (map (note_of target) told)
             ∙ ap (λ (l : List (Happening U)). notes_of id notes ++ l) (notes_same target id told (is_same at same))))
-            ∙ (append_assoc (notes_of id notes) told (leaving waits (Some s'))
+            ∙ (append_assoc (notes_of id notes) told (to_gather waits (Some s'))
             ∙ (ap (λ (l : List (Happening U)). notes_of id notes ++ l) (sym left)
-            ∙ ap (λ (o : Option (Stored T U C)). notes_of id notes ++ leaving waits o) (sym (client_present id clients s (before at) same)))))
+            ∙ ap (λ (o : Option (Stored T U C)). notes_of id notes ++ to_gather waits o) (sym (client_present id clients s (before at) same)))))
         | Slots at ↦ told_if clients clients' notes notes' target told id (same_slots target id at) is
             (ap (λ (o : Option (Option (Stored T U C))). if_serial id.serial (option_map_or (λ s. s) o None)) (get_set_other clients slot id.slot (Some s') (other_of slot id.slot at)))
         | Serials at differ ↦ told_if clients clients' notes notes' target told id (same_serials target id at differ) is
@@ -183,9 +183,9 @@ module _ {T U C : Type 0} (waits : Bool) where
       → MovesNote waits slot x notes x' notes' → Gathers waits clients notes (slice_set clients slot x') notes'
   gathers_at clients notes notes' slot x x' here (h, left, rest, is) =
       let told : List (Happening U) = h ∷ [] in
-      let fewer : length (leaving waits x) ≡ length told + length (leaving waits x') = ap length left ∙ length-append told (leaving waits x') in
+      let fewer : length (to_gather waits x) ≡ length told + length (to_gather waits x') = ap length left ∙ length-append told (to_gather waits x') in
       let more : length notes' ≡ length notes + length told =
-      ap length is ∙ (length-append notes (notes_from waits slot x told) ∙ ap (λ (n : ℕ). length notes + n) (from_length slot x told (leaving waits x') left))
+      ap length is ∙ (length-append notes (notes_from waits slot x told) ∙ ap (λ (n : ℕ). length notes + n) (from_length slot x told (to_gather waits x') left))
       in
       let set = count_set clients slot x x' here in
       record {

@@ -13,7 +13,7 @@ use Rattle.wl_server.specs.declared.notes.Happening.{Happening}
 use Rattle.wl_server.specs.declared.notes.Happening.TheVariants as happened
 use Rattle.wl_server.specs.declared.notes.Note.{Note}
 use Rattle.wl_server.specs.declared.notes.queues.NotePlace.{NotePlace}
-use Rattle.wl_server.specs.Inside.Gathering.{AllLeft, MovesNote, leaving}
+use Rattle.wl_server.specs.Inside.Gathering.{AllLeft, MovesNote, to_gather}
 use Rattle.wl_server.specs.Inside.NoteOrder.{IsOrderOf, place_of, places_at, slot_of}
 use Rattle.wl_server.specs.Ids.{ClientParts}
 use Rattle.wl_server.specs.Server.{Stored, note_of, stored_at}
@@ -119,7 +119,7 @@ split (suc a) (suc b) = go (split a b)
 module _ {T U C : Type 0} (waits : Bool) where
   -- each slot below this one has as many places as its client has notes, and the others have none
   pub record Placed (clients : List (Option (Stored T U C))) (slot : ℕ) (order : List NotePlace) : Type 0 where
-    pub below : (k : ℕ) → k < slot → places_at k order ≡ length (leaving waits (stored_at k clients))
+    pub below : (k : ℕ) → k < slot → places_at k order ≡ length (to_gather waits (stored_at k clients))
     pub past : (k : ℕ) → slot ≤ k → places_at k order ≡ 0
 
   pub stored_is : (clients : List (Option (Stored T U C))) (k : ℕ) (x : Option (Stored T U C)) → slice_get clients k ≡ Some x → stored_at k clients ≡ x
@@ -134,23 +134,23 @@ module _ {T U C : Type 0} (waits : Bool) where
   placed_none clients order none = record { below = λ k below. absurd (omega (arith, below)); past = λ k past. ap (places_at k) none }
 
   pub placed_more : (clients : List (Option (Stored T U C))) (slot : ℕ) (x : Option (Stored T U C)) (order order' : List NotePlace) → slice_get clients slot ≡ Some x
-      → Placed clients slot order → ((k : ℕ) → places_at k order' ≡ places_at k order + (if slot == k then length (leaving waits x) else 0))
+      → Placed clients slot order → ((k : ℕ) → places_at k order' ≡ places_at k order + (if slot == k then length (to_gather waits x) else 0))
       → Placed clients (slot + 1) order'
   placed_more clients slot x order order' here placed put = record {
     below = λ k below. at k below (slot == k) refl;
     past = λ k past. none k past (slot == k) refl;
   }
     where
-      added : (k : ℕ) (b : Bool) → (slot == k) ≡ b → places_at k order' ≡ places_at k order + (if b then length (leaving waits x) else 0)
-      added k b is = put k ∙ ap (λ (b : Bool). places_at k order + (if b then length (leaving waits x) else 0)) is
+      added : (k : ℕ) (b : Bool) → (slot == k) ≡ b → places_at k order' ≡ places_at k order + (if b then length (to_gather waits x) else 0)
+      added k b is = put k ∙ ap (λ (b : Bool). places_at k order + (if b then length (to_gather waits x) else 0)) is
 
-      at : (k : ℕ) → k < slot + 1 → (b : Bool) → (slot == k) ≡ b → places_at k order' ≡ length (leaving waits (stored_at k clients))
+      at : (k : ℕ) → k < slot + 1 → (b : Bool) → (slot == k) ≡ b → places_at k order' ≡ length (to_gather waits (stored_at k clients))
       at k below true is =
           let same = eqb-true slot k is in
           let more = added k true is in
           let none = placed.past k (omega (arith, same)) in
-          let there : length (leaving waits (stored_at k clients)) ≡ length (leaving waits x) =
-          ap (λ (o : Option (Stored T U C)). length (leaving waits o)) (subst (λ (n : ℕ). stored_at n clients ≡ x) same (stored_is clients slot x here))
+          let there : length (to_gather waits (stored_at k clients)) ≡ length (to_gather waits x) =
+          ap (λ (o : Option (Stored T U C)). length (to_gather waits o)) (subst (λ (n : ℕ). stored_at n clients ≡ x) same (stored_is clients slot x here))
           in
           omega (arith, more, none, there)
       at k below false is =
@@ -167,20 +167,20 @@ module _ {T U C : Type 0} (waits : Bool) where
           omega (arith, more, before)
 
   pub placed_all : (clients : List (Option (Stored T U C))) (slot : ℕ) (order : List NotePlace) → length clients ≤ slot → Placed clients slot order → (k : ℕ)
-      → places_at k order ≡ length (leaving waits (stored_at k clients))
+      → places_at k order ≡ length (to_gather waits (stored_at k clients))
   placed_all clients slot order ends placed k = at (split k slot)
     where
-      at : (k < slot) ⊎ (slot ≤ k) → places_at k order ≡ length (leaving waits (stored_at k clients))
+      at : (k < slot) ⊎ (slot ≤ k) → places_at k order ≡ length (to_gather waits (stored_at k clients))
       at (inl below) = placed.below k below
       at (inr past) =
           placed.past k past
-          ∙ sym (ap (λ (o : Option (Stored T U C)). length (leaving waits o)) (none_stored clients k (omega (arith, ends, past))))
+          ∙ sym (ap (λ (o : Option (Stored T U C)). length (to_gather waits o)) (none_stored clients k (omega (arith, ends, past))))
 
   -- where there is no note, there is no place
-  pub none_placed : (clients : List (Option (Stored T U C))) → AllLeft waits clients → (k : ℕ) → places_at k [] ≡ length (leaving waits (stored_at k clients))
+  pub none_placed : (clients : List (Option (Stored T U C))) → AllLeft waits clients → (k : ℕ) → places_at k [] ≡ length (to_gather waits (stored_at k clients))
   none_placed clients none k = at (slice_get clients k) refl
     where
-      at : (o : Option (Option (Stored T U C))) → slice_get clients k ≡ o → 0 ≡ length (leaving waits (option_map_or (λ s. s) o None))
+      at : (o : Option (Option (Stored T U C))) → slice_get clients k ≡ o → 0 ≡ length (to_gather waits (option_map_or (λ s. s) o None))
       at None here = refl
       at (Some x) here = sym (ap length (none k x here))
 
@@ -188,16 +188,16 @@ module _ {T U C : Type 0} (waits : Bool) where
 
   -- each slot has as many places left as its client has notes
   abbrev pub Left : List (Option (Stored T U C)) → List NotePlace → Type 0
-  Left clients order = (k : ℕ) → places_at k order ≡ length (leaving waits (stored_at k clients))
+  Left clients order = (k : ℕ) → places_at k order ≡ length (to_gather waits (stored_at k clients))
 
   next_count : (clients : List (Option (Stored T U C))) (order : List NotePlace) (i k : ℕ) (p : NotePlace) (b : Bool) → slice_get order i ≡ Some p → Left clients (drop i order)
-      → (p.slot == k) ≡ b → length (leaving waits (stored_at k clients)) ≡ (if b then 1 else 0) + places_at k (drop (i + 1) order)
+      → (p.slot == k) ≡ b → length (to_gather waits (stored_at k clients)) ≡ (if b then 1 else 0) + places_at k (drop (i + 1) order)
   next_count clients order i k p b here left is =
       sym (left k) ∙ (places_drop order i k p here ∙ ap (λ (b : Bool). (if b then 1 else 0) + places_at k (drop (i + 1) order)) is)
 
   -- the client at the next place has a note
   pub next_some : (clients : List (Option (Stored T U C))) (order : List NotePlace) (i : ℕ) (p : NotePlace) → slice_get order i ≡ Some p → Left clients (drop i order)
-      → 0 < length (leaving waits (stored_at p.slot clients))
+      → 0 < length (to_gather waits (stored_at p.slot clients))
   next_some clients order i p here left = let count = next_count clients order i p.slot p true here left (eq-eqb p.slot p.slot refl) in omega (arith, count)
 
   pub next_within : (clients : List (Option (Stored T U C))) (order : List NotePlace) (i : ℕ) (p : NotePlace) → slice_get order i ≡ Some p → Left clients (drop i order)
@@ -208,7 +208,7 @@ module _ {T U C : Type 0} (waits : Bool) where
       at (inl within) = within
       at (inr past) =
           let some = next_some clients order i p here left in
-          let none : length (leaving waits (stored_at p.slot clients)) ≡ 0 = ap (λ (o : Option (Stored T U C)). length (leaving waits o)) (none_stored clients p.slot past) in
+          let none : length (to_gather waits (stored_at p.slot clients)) ≡ 0 = ap (λ (o : Option (Stored T U C)). length (to_gather waits o)) (none_stored clients p.slot past) in
           absurd (omega (arith, some, none))
 
   pub left_after : (clients : List (Option (Stored T U C))) (notes notes' : List (Note U)) (order : List NotePlace) (i : ℕ) (p : NotePlace) (x x' : Option (Stored T U C))
@@ -216,24 +216,24 @@ module _ {T U C : Type 0} (waits : Bool) where
       → Left (slice_set clients p.slot x') (drop (i + 1) order)
   left_after clients notes notes' order i p x x' here there (h, one, rest, is) left k = at (p.slot == k) refl
     where
-      at : (b : Bool) → (p.slot == k) ≡ b → places_at k (drop (i + 1) order) ≡ length (leaving waits (stored_at k (slice_set clients p.slot x')))
+      at : (b : Bool) → (p.slot == k) ≡ b → places_at k (drop (i + 1) order) ≡ length (to_gather waits (stored_at k (slice_set clients p.slot x')))
       at true same =
           let at_slot = eqb-true p.slot k same in
           let count = next_count clients order i k p true here left same in
-          let before : length (leaving waits (stored_at k clients)) ≡ length (leaving waits x) =
-          ap (λ (o : Option (Stored T U C)). length (leaving waits o)) (subst (λ (n : ℕ). stored_at n clients ≡ x) at_slot (stored_is clients p.slot x there))
+          let before : length (to_gather waits (stored_at k clients)) ≡ length (to_gather waits x) =
+          ap (λ (o : Option (Stored T U C)). length (to_gather waits o)) (subst (λ (n : ℕ). stored_at n clients ≡ x) at_slot (stored_is clients p.slot x there))
           in
-          let fewer : length (leaving waits x) ≡ suc (length (leaving waits x')) = ap length one in
-          let after : length (leaving waits (stored_at k (slice_set clients p.slot x'))) ≡ length (leaving waits x') =
-          ap (λ (o : Option (Stored T U C)). length (leaving waits o))
+          let fewer : length (to_gather waits x) ≡ suc (length (to_gather waits x')) = ap length one in
+          let after : length (to_gather waits (stored_at k (slice_set clients p.slot x'))) ≡ length (to_gather waits x') =
+          ap (λ (o : Option (Stored T U C)). length (to_gather waits o))
           (subst (λ (n : ℕ). stored_at n (slice_set clients p.slot x') ≡ x') at_slot
           (stored_is (slice_set clients p.slot x') p.slot x' (get_set_same clients p.slot x x' there)))
           in
           omega (arith, count, before, fewer, after)
       at false other =
           let count = next_count clients order i k p false here left other in
-          let same : length (leaving waits (stored_at k (slice_set clients p.slot x'))) ≡ length (leaving waits (stored_at k clients)) =
-          ap (λ (o : Option (Option (Stored T U C))). length (leaving waits (option_map_or (λ s. s) o None))) (get_set_other clients p.slot k x' (other_of p.slot k other))
+          let same : length (to_gather waits (stored_at k (slice_set clients p.slot x'))) ≡ length (to_gather waits (stored_at k clients)) =
+          ap (λ (o : Option (Option (Stored T U C))). length (to_gather waits (option_map_or (λ s. s) o None))) (get_set_other clients p.slot k x' (other_of p.slot k other))
           in
           omega (arith, count, same)
 
@@ -241,10 +241,10 @@ module _ {T U C : Type 0} (waits : Bool) where
   none_left clients order none left slot x here =
       let count = left slot in
       let no : places_at slot order ≡ 0 = ap (places_at slot) none in
-      let there : length (leaving waits (stored_at slot clients)) ≡ length (leaving waits x) =
-      ap (λ (o : Option (Stored T U C)). length (leaving waits o)) (stored_is clients slot x here)
+      let there : length (to_gather waits (stored_at slot clients)) ≡ length (to_gather waits x) =
+      ap (λ (o : Option (Stored T U C)). length (to_gather waits o)) (stored_is clients slot x here)
       in
-      nil_from_length (leaving waits x) (omega (arith, count, no, there))
+      nil_from_length (to_gather waits x) (omega (arith, count, no, there))
 
   -- ---- the slots of the notes
 
@@ -252,7 +252,7 @@ module _ {T U C : Type 0} (waits : Bool) where
       → map slot_of notes' ≡ map slot_of notes ++ slot ∷ []
   slots_after notes notes' slot None x' (h, one, rest, is) = absurd (nil_cons one)
     where
-      nil_cons : [] ≡ h ∷ leaving waits x' → ⊥
+      nil_cons : [] ≡ h ∷ to_gather waits x' → ⊥
       nil_cons e = cc
   slots_after notes notes' slot (Some s) x' (h, one, rest, is) =
       ap (map slot_of) is
@@ -267,10 +267,10 @@ module _ {T U C : Type 0} (waits : Bool) where
       subst (λ (m : ℕ). m < length clients) (sym is) (next_within clients order i (get_or order i d) (slice_get-get_or order i d within) left)
 
   pub place_some : (clients : List (Option (Stored T U C))) (order : List NotePlace) (i n : ℕ) (d : NotePlace) (x : Option (Stored T U C)) → i < length order
-      → n ≡ (get_or order i d).slot → slice_get clients n ≡ Some x → Left clients (drop i order) → 0 < length (leaving waits x)
+      → n ≡ (get_or order i d).slot → slice_get clients n ≡ Some x → Left clients (drop i order) → 0 < length (to_gather waits x)
   place_some clients order i n d x within is there left =
-      subst (λ (o : Option (Stored T U C)). 0 < length (leaving waits o)) (stored_is clients n x there)
-      (subst (λ (m : ℕ). 0 < length (leaving waits (stored_at m clients))) (sym is)
+      subst (λ (o : Option (Stored T U C)). 0 < length (to_gather waits o)) (stored_is clients n x there)
+      (subst (λ (m : ℕ). 0 < length (to_gather waits (stored_at m clients))) (sym is)
       (next_some clients order i (get_or order i d) (slice_get-get_or order i d within) left))
 
   pub place_left : (clients : List (Option (Stored T U C))) (notes notes' : List (Note U)) (order : List NotePlace) (i n : ℕ) (d : NotePlace) (x x' : Option (Stored T U C))

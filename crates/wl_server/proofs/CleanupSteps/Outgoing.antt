@@ -9,14 +9,14 @@ use Rattle.std.proofs.lemmas.Option.{same_Some, none-some, slice_get_within}
 use Rattle.wl_wire.specs.declared.error.IoFault.{IoFault}
 use Rattle.wl_link.specs.declared.object.Object.{Object}
 use Rattle.wl_link.specs.Exchange.{Queue}
-use Rattle.wl_link.specs.Puts.{lacked_memory}
+use Rattle.wl_link.specs.Puts.{lacks_memory}
 use Rattle.wl_server.specs.declared.objects.Kept.{Kept}
 use Rattle.wl_server.specs.declared.notes.Happening.{Happening}
 use Rattle.wl_server.specs.declared.notes.Note.{Note}
 use Rattle.wl_server.specs.Inside.Client.{Does}
 use Rattle.wl_server.specs.Felt.{FlushedTo}
 use Rattle.wl_server.specs.Ids.{ClientParts}
-use Rattle.wl_server.specs.Inside.Leaving.{Flushes, FlushesKilled, all_staying, collected, ending, ends_at, ends_of, given_at, id_in, staying}
+use Rattle.wl_server.specs.Inside.Leaving.{Flushes, FlushesKilled, all_staying, collected, with_data, ends_at, ends_of, given_at, id_in, staying}
 use Rattle.wl_server.specs.Part.{end_note, id_at}
 use Rattle.wl_server.specs.Server.{Stored, note_of}
 use Rattle.wl_server.proofs.Readings.Flushing.{killed_stays, live_flushed}
@@ -56,12 +56,12 @@ other_killed false true other is = false≢true is
 other_killed false false other is = false≢true (sym other)
 
 module _ {U : Type 0} where
-  pub ending_length : (client : ClientParts) (objects : List (ℕ × Object (Kept U))) → length (ends_of client objects) ≡ length (ending objects)
+  pub ending_length : (client : ClientParts) (objects : List (ℕ × Object (Kept U))) → length (ends_of client objects) ≡ length (with_data objects)
   ending_length client [] = refl
   ending_length client (e ∷ objects) = at e.1.value.user_data refl (ending_length client objects)
     where
-      at : (given : Option U) → e.1.value.user_data ≡ given → length (ends_of client objects) ≡ length (ending objects)
-          → length (end_note (id_at client e.0 e.1) given ++ ends_of client objects) ≡ length (if is_some given then e ∷ ending objects else ending objects)
+      at : (given : Option U) → e.1.value.user_data ≡ given → length (ends_of client objects) ≡ length (with_data objects)
+          → length (end_note (id_at client e.0 e.1) given ++ ends_of client objects) ≡ length (if is_some given then e ∷ with_data objects else with_data objects)
       at None is more = more
       at (Some u) is more = ap (λ (n : ℕ). suc n) more
 
@@ -69,7 +69,7 @@ module _ {T U C : Type 0} where
   -- ---- what waits for a killed client
 
   pub flushes_killed : (sends : T → Queue → Result ℕ IoFault → T → Type 0) (s s' : Stored T U C) (answer : Result (Unit {0}) IoFault) (lacked : Bool) → s.part.is_killed ≡ true
-      → lacked ≡ lacked_memory answer → Does s (λ p did q. FlushedTo sends p answer (lacked_memory answer) did q) s' → Does s (λ p did q. FlushesKilled sends p lacked did q) s'
+      → lacked ≡ lacks_memory answer → Does s (λ p did q. FlushedTo sends p answer (lacks_memory answer) did q) s' → Does s (λ p did q. FlushesKilled sends p lacked did q) s'
   flushes_killed sends s s' answer lacked killed is (did, q, flushed, so) =
       (did, q, if_true s.part.is_killed _ _ killed (answer, subst (λ (l : Bool). FlushedTo sends s.part answer l did q) (sym is) flushed), so)
 
@@ -82,7 +82,7 @@ module _ {T U C : Type 0} where
   )
 
   pub flushes_where : (sends : T → Queue → Result ℕ IoFault → T → Type 0) (killed : Bool) (s s' : Stored T U C) (answer : Result (Unit {0}) IoFault) (lacked : Bool)
-      → s.part.is_killed ≡ killed → lacked ≡ lacked_memory answer → Does s (λ p did q. FlushedTo sends p answer (lacked_memory answer) did q) s'
+      → s.part.is_killed ≡ killed → lacked ≡ lacks_memory answer → Does s (λ p did q. FlushedTo sends p answer (lacks_memory answer) did q) s'
       → Does s (λ p did q. Flushes sends killed p lacked did q) s'
   flushes_where sends true s s' answer lacked is refused flushed = flushes_killed sends s s' answer lacked is refused flushed
   flushes_where sends false s s' answer lacked is refused flushed = live_flushed sends s s' answer lacked is refused flushed
@@ -95,7 +95,7 @@ module _ {T U C : Type 0} where
   -- ---- what is noted of one client
 
   pub ends_length : (slot : ℕ) (o : Option (Stored T U C)) (s : Stored T U C) → o ≡ Some s → s.part.is_killed ≡ true
-      → length (ends_at slot o) ≡ length (ending (entries s.part.store.objects))
+      → length (ends_at slot o) ≡ length (with_data (entries s.part.store.objects))
   ends_length slot o s is killed =
       ap (λ (x : Option (Stored T U C)). length (ends_at slot x)) is
       ∙ rw killed (length-map (ends_of (id_in slot s) (entries s.part.store.objects)) (note_of (id_in slot s)) ∙ ending_length (id_in slot s) (entries s.part.store.objects))

@@ -12,7 +12,7 @@ use Rattle.wl_server.specs.declared.notes.Happening.{Happening}
 use Rattle.wl_server.specs.declared.notes.Note.{Note}
 use Rattle.wl_server.specs.Deeds.{Deed, notes_in}
 use Rattle.wl_server.specs.Felt.{FlushedTo}
-use Rattle.wl_server.specs.Inside.Gathering.{Gathers, all_emptied, count_leaving, emptied, leaving}
+use Rattle.wl_server.specs.Inside.Gathering.{Gathers, all_emptied, count_leaving, emptied, to_gather}
 use Rattle.wl_server.specs.Ids.{ClientParts}
 use Rattle.wl_server.specs.Inside.Leaving.{FlushesKilled, collected, ends_at, given_at}
 use Rattle.wl_server.specs.Part.{Part, with_link}
@@ -32,7 +32,7 @@ module _ {T U C : Type 0} where
   -- two places at which a cleanup finds as much
   abbrev pub SamePlace : ℕ → Option (Stored T U C) → Option (Stored T U C) → Type 0
   SamePlace slot x y =
-      (length (leaving true y) ≡ length (leaving true x)) × (length (ends_at slot y) ≡ length (ends_at slot x)) × (length (given_at slot y) ≡ length (given_at slot x))
+      (length (to_gather true y) ≡ length (to_gather true x)) × (length (ends_at slot y) ≡ length (ends_at slot x)) × (length (given_at slot y) ≡ length (given_at slot x))
 
   abbrev pub SameCounts : ℕ → List (Option (Stored T U C)) → List (Option (Stored T U C)) → Type 0
   SameCounts n xs ys =
@@ -98,19 +98,19 @@ module _ {T U C : Type 0} where
 
   felt_leaves : (sends : T → Queue → Result ℕ IoFault → T → Type 0) (k : ℕ) (lacked : Bool) (o o' : Option (Option (Stored T U C)))
       → FeltAt (λ id p lacked did q. FlushesKilled sends p lacked did q) k o lacked o'
-      → length (leaving true (option_map_or (λ s. s) o' None)) ≡ length (leaving true (option_map_or (λ s. s) o None))
-  felt_leaves sends k lacked None o' (not, is) = ap (λ (o : Option (Option (Stored T U C))). length (leaving true (option_map_or (λ s. s) o None))) is
+      → length (to_gather true (option_map_or (λ s. s) o' None)) ≡ length (to_gather true (option_map_or (λ s. s) o None))
+  felt_leaves sends k lacked None o' (not, is) = ap (λ (o : Option (Option (Stored T U C))). length (to_gather true (option_map_or (λ s. s) o None))) is
   felt_leaves sends k lacked (Some a) o' (b, feels, to) =
-      ap (λ (o : Option (Option (Stored T U C))). length (leaving true (option_map_or (λ s. s) o None))) to ∙ (same_place sends k a b lacked feels).0
+      ap (λ (o : Option (Option (Stored T U C))). length (to_gather true (option_map_or (λ s. s) o None))) to ∙ (same_place sends k a b lacked feels).0
 
   -- the places that were taken down before the flush are still those of the notes
   pub flushed_order : (sends : T → Queue → Result ℕ IoFault → T → Type 0) (refused : Bool) (start now : List (Option (Stored T U C))) (order : List NotePlace)
       → AllFeel (λ id p lacked did q. FlushesKilled sends p lacked did q) refused (length start) start now → IsOrderOf true start order → IsOrderOf true now order
   flushed_order sends refused start now order all is = record { rise = is.rise; each = λ k. is.each k ∙ sym (at k (split k (length start))) }
     where
-      at : (k : ℕ) → (k < length start) ⊎ (length start ≤ k) → length (leaving true (stored_at k now)) ≡ length (leaving true (stored_at k start))
+      at : (k : ℕ) → (k < length start) ⊎ (length start ≤ k) → length (to_gather true (stored_at k now)) ≡ length (to_gather true (stored_at k start))
       at k (inl below) = felt_leaves sends k (all.lacks k) (slice_get start k) (slice_get now k) (all.felt k below)
-      at k (inr past) = ap (λ (o : Option (Option (Stored T U C))). length (leaving true (option_map_or (λ s. s) o None))) (all.rest k past)
+      at k (inr past) = ap (λ (o : Option (Option (Stored T U C))). length (to_gather true (option_map_or (λ s. s) o None))) (all.rest k past)
 
   -- ---- gathered notes
 

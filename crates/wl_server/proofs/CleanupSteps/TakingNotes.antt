@@ -14,7 +14,7 @@ use Rattle.wl_server.specs.declared.runs.step.Step.TheVariants as step
 use Rattle.wl_server.proofs.OverRuns.Alone.AccountLaws.{calls}
 use Rattle.wl_server.specs.Backend.{Calls}
 use Rattle.wl_server.specs.Deeds.{NoteTaken}
-use Rattle.wl_server.specs.Inside.Gathering.{AllLeft, Gathers, all_emptied, count_leaving, emptied, leaving}
+use Rattle.wl_server.specs.Inside.Gathering.{AllLeft, Gathers, all_emptied, count_leaving, emptied, to_gather}
 use Rattle.wl_server.specs.Globals.{Offer}
 use Rattle.wl_server.specs.Ids.{ClientParts}
 use Rattle.wl_server.specs.Part.{Part}
@@ -49,21 +49,21 @@ module _ {T U C : Type 0} where
       → Gathers waits clients notes clients' notes' → (id : ClientParts) → option_map (emptied waits) (client_at id clients') ≡ option_map (emptied waits) (client_at id clients)
   same_left waits clients notes clients' notes' by id = sym (client_emptied waits clients' id) ∙ (ap (client_at id) by.rest ∙ client_emptied waits clients id)
 
-  pub none_left : (waits : Bool) (clients : List (Option (Stored T U C))) → AllLeft waits clients → (id : ClientParts) → leaving waits (client_at id clients) ≡ []
+  pub none_left : (waits : Bool) (clients : List (Option (Stored T U C))) → AllLeft waits clients → (id : ClientParts) → to_gather waits (client_at id clients) ≡ []
   none_left waits clients all id = at (slice_get clients id.slot) refl
     where
-      if_there : (b : Bool) (s : Stored T U C) → leaving waits (Some s) ≡ [] → leaving waits (if b then Some s else None) ≡ []
+      if_there : (b : Bool) (s : Stored T U C) → to_gather waits (Some s) ≡ [] → to_gather waits (if b then Some s else None) ≡ []
       if_there true s none = none
       if_there false s none = refl
 
-      at : (x : Option (Option (Stored T U C))) → slice_get clients id.slot ≡ x → leaving waits (if_serial id.serial (option_map_or (λ s. s) x None)) ≡ []
+      at : (x : Option (Option (Stored T U C))) → slice_get clients id.slot ≡ x → to_gather waits (if_serial id.serial (option_map_or (λ s. s) x None)) ≡ []
       at None here = refl
       at (Some None) here = refl
       at (Some (Some s)) here = if_there (s.serial == id.serial) s (all id.slot (Some s) here)
 
   -- ---- the notes that were made
 
-  made_of : (x : Option (Stored T U C)) → leaving false x ≡ option_map_or (λ s. s.made) x []
+  made_of : (x : Option (Stored T U C)) → to_gather false x ≡ option_map_or (λ s. s.made) x []
   made_of None = refl
   made_of (Some s) = append-nil s.made
 
@@ -78,7 +78,7 @@ module _ {T U C : Type 0} where
       (seen_as [] (client_at id clients'))
   each_taken w offer clients notes clients' out by left id = (told, refl, refl, held)
     where
-      none : leaving false (client_at id clients') ≡ []
+      none : to_gather false (client_at id clients') ≡ []
       none = none_left false clients' left id
 
       told : notes_of id out.items ≡ notes_of id notes ++ option_map_or (λ s. s.made) (client_at id clients) []

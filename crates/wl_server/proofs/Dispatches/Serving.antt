@@ -16,7 +16,7 @@ use Rattle.wl_server.specs.declared.runs.step.Reply.TheVariants as reply
 use Rattle.wl_server.specs.declared.runs.step.Step.{Step}
 use Rattle.wl_server.specs.declared.runs.step.Step.TheVariants as step
 use Rattle.wl_server.specs.Backend.{BackendState, Calls}
-use Rattle.wl_server.specs.Dispatch.{Answering, Answers, AreCut, DispatchesAll, DispatchesClient, EndsDispatch, Handles, Last, Serves, ServesEach, StayAccountedFor, Round, Rounds, RoundsEnd, behind_cleanup, dispatched, fault_of_end, fault_of_reading, more, no_action, none, not_ended, refusal_in, total_with}
+use Rattle.wl_server.specs.Dispatch.{Answering, Answers, AreCut, DispatchesAll, DispatchesClient, EndsDispatch, Handles, Last, Serves, ServesEach, StayAccountedFor, Round, Rounds, RoundsEnd, after_cleanup, dispatched, fault_of_end, fault_of_reading, more, no_action, none, not_ended, refusal_in, total_with}
 use Rattle.wl_server.specs.Ids.{ClientParts}
 use Rattle.wl_server.specs.Inside.Dispatching.{CleansUp, Fewer, HasServed, HasServedEach, ServesAll, ServesOnce, ServesSome, waiting_of}
 use Rattle.wl_server.specs.PartStep.{World}
@@ -302,7 +302,7 @@ module _ {T U G C : Type 0} (w : World T G C) where
 
   -- the cleanup of a dispatch
   pub cleans_up : (before left after : BackendState T U G C) (r : Result (Vec (ClientParts × T) Global) OutOfMemory) (answer result : Result ℕ IoFault) (was : Bool)
-      → was ≡ before.refused → Calls w before step.Cleanup (reply.Cleanup r) left → after ≡ record left { refused = was || left.refused } → result ≡ behind_cleanup r answer
+      → was ≡ before.refused → Calls w before step.Cleanup (reply.Cleanup r) left → after ≡ record left { refused = was || left.refused } → result ≡ after_cleanup r answer
       → CleansUp w before answer result after
   cleans_up before left after r answer result was was_is calls kept is =
       let (e, call, refused, one) = calls.step in record {

@@ -20,7 +20,7 @@ use Rattle.wl_link.proofs.Calls.Branches.{either_bool, either_option, either_res
 use Rattle.wl_link.specs.Exchange.{Queue, Sending, nothing}
 use Rattle.wl_link.proofs.Streams.LengthLaws.{carries_stays}
 use Rattle.wl_link.specs.Link.{LinkState, ReadOne, WroteBy, count_of, counted_answer}
-use Rattle.wl_link.specs.Puts.{Said, lacked_memory}
+use Rattle.wl_link.specs.Puts.{Said, lacks_memory}
 use Rattle.wl_link.specs.Reader.{CarriesOut, Given, Gives, Handled, Reader, Reads, Received, Stops as StopsReading, Turn, Unread, Verdict, came_to, put_and_gave, stops, with_link as at_link, ReaderState}
 use Rattle.wl_link.proofs.Streams.StreamLaws.{read_left}
 use Rattle.wl_server.specs.declared.error.ActionError.{ActionError}
@@ -153,7 +153,7 @@ module _ {T U C : Type 0} where
         (carries_stays sends speaker (tells c (m ∷ [])) before (record { core = c; link = link }) (es ++ []) (put_and_gave (m ∷ []) []) false
         (inl (es, [], m ∷ [], Ok tt, link, false, (es, Ok u, link, inl write, ([], [], sym (append-nil es), refl, (refl, refl, refl, refl))), (refl, refl, refl), refl, refl, refl, refl))).incoming
     write_keeps c before link m es (Err f) write =
-        (carries_stays sends speaker (tells c (m ∷ [])) before (record { core = came_to speaker (tells c (m ∷ [])) (Err f); link = link }) (es ++ []) [] (lacked_memory (Err f) || false)
+        (carries_stays sends speaker (tells c (m ∷ [])) before (record { core = came_to speaker (tells c (m ∷ [])) (Err f); link = link }) (es ++ []) [] (lacks_memory (Err f) || false)
         (inl (es, [], [], Err f, link, false, (es, Err f, link, inl write, (refl, refl, refl, refl)), (refl, refl, refl), refl, refl, refl, refl))).incoming
 
     sent_keeps : (client : ClientParts) (p q : Part T U C) (m : SessionMessage) (x : Object (Kept U)) (ends : Bool) (wrote : Result (Unit {0}) IoFault) (link : LinkState T)
@@ -432,7 +432,7 @@ module _ {T Core Event Finish : Type 0} (sends : T → Queue → Result ℕ IoFa
 
   received : (left n : ℕ) (p end : ReaderState T Core) (link : LinkState T) (turns : List Turn) (out : Gives Event) (c : Result (Unit {0}) IoFault) → left ≡ suc n
       → MatchResult c (λ _. Reads sends reader receives n (at_link p link) turns out end)
-      (λ f. (turns ≡ []) × (out ≡ stops (Some f) (lacked_memory (Err f)) n) × (end ≡ record { core = reader.faulted p.core f; link = link }))
+      (λ f. (turns ≡ []) × (out ≡ stops (Some f) (lacks_memory (Err f)) n) × (end ≡ record { core = reader.faulted p.core f; link = link }))
       → (Reads sends reader receives n (at_link p link) turns out end → out.left ≤ n) → out.left < left
   received left n p end link turns out (Ok u) is more goes = let few = goes more in omega (arith, is, few)
   received left n p end link turns out (Err f) is (none, ends, same) goes = let e = ap (λ (o : Gives Event). o.left) ends in omega (arith, is, e)

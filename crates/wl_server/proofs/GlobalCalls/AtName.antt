@@ -90,11 +90,11 @@ module _ {G : Type 0} where
           rw (other, becomes, stored_here store id.name x id.name refl, same) refl
 
   -- there was no memory for a new global
-  pub lacks_memory : (table : List InterfaceRow) (store after : Store (KeptGlobal G)) (last : ℕ) (i : InterfaceId) (version : ℕ) (row : InterfaceRow)
+  pub name_lacks_memory : (table : List InterfaceRow) (store after : Store (KeptGlobal G)) (last : ℕ) (i : InterfaceId) (version : ℕ) (row : InterfaceRow)
       (x : Object (KeptGlobal G)) (answer : Result ℕ NewError) (e : NewError) → slice_get table i.0 ≡ Some row → nat_le version row.version ≡ true
       → last < last_possible_serial → answer ≡ Err e → e ≡ new.OutOfMemory → InsertsNew name_range store x answer after
       → CreatesGlobal table (globals_of store last) i version (Err refused.OutOfMemory)
-  lacks_memory table store after last i version row x answer e known fits left is memory inserts =
+  name_lacks_memory table store after last i version row x answer e known fits left is memory inserts =
       at (subst (λ (r : Result ℕ NewError). InsertsNew name_range store x r after) (is ∙ ap Err memory) inserts)
     where
       at : InsertsNew name_range store x (Err new.OutOfMemory) after → CreatesGlobal table (globals_of store last) i version (Err refused.OutOfMemory)

@@ -4,7 +4,7 @@ use Rattle.wl_wire.specs.declared.error.IoFault.{IoFault}
 use Rattle.wl_wire.specs.declared.error.IoFault.TheVariants as fault
 use Rattle.wl_link.specs.Exchange.{Queue}
 use Rattle.wl_link.specs.Link.{LinkState}
-use Rattle.wl_link.specs.Puts.{Said, lacked_memory}
+use Rattle.wl_link.specs.Puts.{Said, lacks_memory}
 use Rattle.wl_link.specs.Reader.{Verdict, came_to}
 use Rattle.wl_server.specs.declared.notes.DisconnectReason.TheVariants.{ConnectionClosed}
 use Rattle.wl_server.specs.declared.notes.Happening.{Happening}
@@ -62,15 +62,15 @@ module _ {T U C : Type 0} where
   pub told_by : (sends : T → Queue → Result ℕ IoFault → T → Type 0) (c : Core U C) (puts : List Said) (events : Core U C → List (Told U))
       (before after : LinkState T) (told : Result (Unit {0}) IoFault) → ((d : Core U C) → told_notes (events d) ≡ []) → Puts sends before puts told after
       → (did : List (Deed U))
-      × Tells sends (telling c puts events) before (lacked_memory told) did (part_of (record { core = closing c told; link = after }))
+      × Tells sends (telling c puts events) before (lacks_memory told) did (part_of (record { core = closing c told; link = after }))
       × (notes_in did ≡ notes_in (end_deeds (closing c told).ended))
   told_by sends c puts events before after told silent put =
       let v = telling c puts events in
       let t = tells_put sends v before after after told [] false put (refl, refl, refl) in
-      subst (λ (d : Core U C). (did : List (Deed U)) × Tells sends v before (lacked_memory told) did (part_of (record { core = d; link = after }))
+      subst (λ (d : Core U C). (did : List (Deed U)) × Tells sends v before (lacks_memory told) did (part_of (record { core = d; link = after }))
       × (notes_in did ≡ notes_in (end_deeds d.ended)))
       (came_closing c puts events told) (
         t.0,
-        subst (λ (b : Bool). Tells sends v before b t.0 (part_of (record { core = came_to speaker v told; link = after }))) (or_false (lacked_memory told)) t.1,
+        subst (λ (b : Bool). Tells sends v before b t.0 (part_of (record { core = came_to speaker v told; link = after }))) (or_false (lacks_memory told)) t.1,
         t.2 ∙ ap (λ (l : List (Happening U)). l ++ notes_in (end_deeds (came_to speaker v told).ended)) (silent (came_to speaker v told)),
       )

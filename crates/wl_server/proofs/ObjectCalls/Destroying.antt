@@ -8,7 +8,7 @@ use Rattle.wl_link.specs.declared.object.Object.{Object}
 use Rattle.wl_link.specs.Exchange.{Queue}
 use Rattle.wl_link.specs.Identity.{Id, named_in}
 use Rattle.wl_link.specs.Link.{LinkState}
-use Rattle.wl_link.specs.Puts.{lacked_memory}
+use Rattle.wl_link.specs.Puts.{lacks_memory}
 use Rattle.wl_link.specs.Reader.{Verdict, came_to}
 use Rattle.wl_link.specs.Store.{Store, held, removed}
 use Rattle.wl_server.specs.declared.error.DestroyError.{DestroyError}
@@ -21,7 +21,7 @@ use Rattle.wl_server.specs.Inside.Client.{Does}
 use Rattle.wl_server.specs.Deeds.{Deed, left_if, notes_in}
 use Rattle.wl_server.specs.Inside.Destruction.{lacks_destroy}
 use Rattle.wl_server.specs.Ids.{IdParts}
-use Rattle.wl_server.specs.Objects.{Destroys, destroyable, destroys, leaving, unless_refused}
+use Rattle.wl_server.specs.Objects.{Destroys, destroyable, destroys, told_of_removed, unless_refused}
 use Rattle.wl_server.specs.Part.{Part, id_of, named, note_of_end, registries_without, serial_of}
 use Rattle.wl_server.specs.Inside.Puts.{Puts}
 use Rattle.wl_server.specs.Server.{Stored}
@@ -50,7 +50,7 @@ module _ {U : Type 0} where
   named_is_held store id x e = not_null (eqb id.number 0) (id_of id) (held store id.number) x e
 
   -- nothing that an object leaves behind is a note
-  pub leaves_no_note : {C : Type 0} (id : IdParts) (u : Option U) (c : Core U C) → told_notes (leaving id u c) ≡ []
+  pub leaves_no_note : {C : Type 0} (id : IdParts) (u : Option U) (c : Core U C) → told_notes (told_of_removed id u c) ≡ []
   leaves_no_note id u c = at (is_some (named c.store id)) u
     where
       at : (b : Bool) (u : Option U) → told_notes (cond b [] (map Did (left_if (id_of id) u))) ≡ []
@@ -117,7 +117,7 @@ module _ {T U C : Type 0} (sends : T → Queue → Result ℕ IoFault → T → 
 
     -- there was no memory for the message
     pub untold : (link : LinkState T) (waiting : List (Happening U)) (n : ℕ) (wrote : Result (Unit {0}) IoFault) → waiting ≡ s.part.waiting → n ≡ id.number
-        → Puts sends s.part.link (deletions n) wrote link → lacked_memory wrote ≡ true
+        → Puts sends s.part.link (deletions n) wrote link → lacks_memory wrote ≡ true
         → Does s (λ p did q. Destruction (Err destroy.OutOfMemory) p did q) (with_waiting (linked s link) waiting)
     untold link waiting n wrote same number puts lacked = carried (Err destroy.OutOfMemory) (with_waiting (linked s link) waiting) refl (
       core_of s.part,
@@ -126,7 +126,7 @@ module _ {T U C : Type 0} (sends : T → Queue → Result ℕ IoFault → T → 
       ap (with_waiting (linked s link)) same ∙ ap (with_notes (linked s link)) (sym (no_notes s.made (silent (core_of s.part)))),
     )
       where
-        at : (wrote : Result (Unit {0}) IoFault) → lacked_memory wrote ≡ true → Puts sends s.part.link (deletions id.number) wrote link
+        at : (wrote : Result (Unit {0}) IoFault) → lacks_memory wrote ≡ true → Puts sends s.part.link (deletions id.number) wrote link
             → Puts sends s.part.link (deletions id.number) (Err fault.OutOfMemory) link
         at (Ok u) lacked puts = absurd (false≢true lacked)
         at (Err fault.WouldBlock) lacked puts = absurd (false≢true lacked)
@@ -150,7 +150,7 @@ module _ {T U C : Type 0} (sends : T → Queue → Result ℕ IoFault → T → 
       made = s.made;
     }
 
-    gone_to : (link : LinkState T) (wrote : Result (Unit {0}) IoFault) (after : Stored T U C) → lacked_memory wrote ≡ false
+    gone_to : (link : LinkState T) (wrote : Result (Unit {0}) IoFault) (after : Stored T U C) → lacks_memory wrote ≡ false
         → MatchResult wrote (λ _. after ≡ gone link) (λ _. Does (gone link) (λ p did q. Kills p ConnectionClosed did q) after)
         → after ≡ arrived s (came_to speaker verdict wrote) link
     gone_to link (Ok u) after lacked told = told ∙ ap (with_notes (gone link)) (sym (append-nil s.made))
@@ -164,7 +164,7 @@ module _ {T U C : Type 0} (sends : T → Queue → Result ℕ IoFault → T → 
 
     -- it is gone, and the client was told, or closed down where it could not be
     told_destroyed : (link : LinkState T) (n : ℕ) (wrote : Result (Unit {0}) IoFault) (after a : Stored T U C) → n ≡ id.number → a ≡ gone link
-        → Puts sends s.part.link (deletions n) wrote link → lacked_memory wrote ≡ false
+        → Puts sends s.part.link (deletions n) wrote link → lacks_memory wrote ≡ false
         → MatchResult wrote (λ _. after ≡ a) (λ _. Does a (λ p did q. Kills p ConnectionClosed did q) after)
         → Does s (λ p did q. Destruction (Ok tt) p did q) after
     told_destroyed link n wrote after a number is_gone puts lacked told =
@@ -204,7 +204,7 @@ module _ {T U C : Type 0} (sends : T → Queue → Result ℕ IoFault → T → 
     -- what was taken out is gone, and the client was told, or closed down where it could not be
     pub destroyed : (link : LinkState T) (n : ℕ) (store : Store (Kept U)) (registries : List Id) (before waiting : List (Happening U))
         (wrote : Result (Unit {0}) IoFault) (after : Stored T U C) → n ≡ id.number → Puts sends s.part.link (deletions n) wrote link
-        → lacked_memory wrote ≡ false → store ≡ removed s.part.store id.number
+        → lacks_memory wrote ≡ false → store ≡ removed s.part.store id.number
         → IfSome (held s.part.store id.number) (λ y. registries ≡ registries_without s.part.registries id.number y)
         → IfSome (held s.part.store id.number) (λ y. waiting ≡ before ++ note_of_end id.client id.number y) → before ≡ s.part.waiting
         → MatchResult wrote (λ _. after ≡ with_all link store registries waiting)

@@ -7,7 +7,7 @@ use Rattle.wl_wire.specs.declared.error.ProtocolError.{ProtocolError}
 use Rattle.wl_wire.specs.Table.{InterfaceRow}
 use Rattle.wl_link.specs.Exchange.{Queue, Sending}
 use Rattle.wl_link.specs.Link.{LinkState}
-use Rattle.wl_link.specs.Puts.{FlushesOut, lacked_memory}
+use Rattle.wl_link.specs.Puts.{FlushesOut, lacks_memory}
 use Rattle.wl_link.specs.Reader.{came_to}
 use Rattle.wl_server.specs.declared.notes.DisconnectReason.{DisconnectReason}
 use Rattle.wl_server.specs.declared.notes.DisconnectReason.TheVariants.{ConnectionClosed, ProtocolError as BrokeProtocol}
@@ -133,7 +133,7 @@ module _ {T U C : Type 0} (sends : T → Queue → Result ℕ IoFault → T → 
       → error ≡ error_of table id code text
       → Puts sends s.part.link (error_messages (core_of s.part) id code text) wrote put.part.link → put ≡ linked s put.part.link
       → FlushesOut sends true put.part.link es lacked flushed.part.link → flushed ≡ linked put flushed.part.link
-      → refused ≡ lacked_memory wrote → MatchResult wrote (λ _. told ≡ flushed) (λ _. Does flushed (λ p did q. Kills p ConnectionClosed did q) told)
+      → refused ≡ lacks_memory wrote → MatchResult wrote (λ _. told ≡ flushed) (λ _. Does flushed (λ p did q. Kills p ConnectionClosed did q) told)
       → Does told (λ p did q. Kills p (BrokeProtocol error) did q) after
       → IsCarried sends (posts table (core_of s.part) id code text) s (refused || lacked) after
   posted_live put flushed told after error wrote es refused lacked is puts put-is flushes flushed-is refused-is tells kills = (

@@ -14,7 +14,7 @@ use Rattle.wl_wire.specs.Table.{InterfaceRow}
 use Rattle.wl_link.specs.declared.object.Object.{Object}
 use Rattle.wl_link.specs.Exchange.{Queue, Sending}
 use Rattle.wl_link.specs.Link.{LinkState, Wrote, WroteBy}
-use Rattle.wl_link.specs.Puts.{lacked_memory}
+use Rattle.wl_link.specs.Puts.{lacks_memory}
 use Rattle.wl_link.specs.Store.{Store, held}
 use Rattle.wl_server.specs.declared.error.EventError.{EventError}
 use Rattle.wl_server.specs.declared.error.EventError.TheVariants as refused
@@ -26,7 +26,7 @@ use Rattle.wl_server.specs.Deeds.{Deed, Put, Sent, notes_in}
 use Rattle.wl_server.specs.Inside.Ending.{notes_ending, registries_ending, store_ending, told_of_end, PutsEnd, TellsEnd}
 use Rattle.wl_server.specs.Events.{AsksForMemory, SendsEvent, SendsGranted, SentAs, SessionMessage, ends_closed, ends_sender, event_check, said, session_content, wire_argument, wire_message}
 use Rattle.wl_server.specs.Ids.{ClientParts, IdParts}
-use Rattle.wl_server.specs.Objects.{leaving}
+use Rattle.wl_server.specs.Objects.{told_of_removed}
 use Rattle.wl_server.specs.Part.{Part, named, with_link}
 use Rattle.wl_server.specs.Inside.Puts.{Puts}
 use Rattle.wl_server.specs.Server.{Stored}
@@ -94,11 +94,11 @@ module _ {T U C : Type 0} (client : ClientParts) (m : SessionMessage) (sender : 
     told_of : (p : Part T U C) (ends : Bool) (mid after : LinkState T) (told : Result (Unit {0}) IoFault)
         → Puts sends mid (told_of_end ends m.sender.number) told after
         → (did : List (Deed U))
-        × Tells sends (ends_sender client (core_of p) m sender ends) mid (lacked_memory told) did
+        × Tells sends (ends_sender client (core_of p) m sender ends) mid (lacks_memory told) did
         (part_of (record { core = closing (ends_sender client (core_of p) m sender ends).core told; link = after }))
         × (notes_in did ≡ notes_in (end_deeds (closing (ends_sender client (core_of p) m sender ends).core told).ended))
     told_of p true mid after told puts =
-        told_by sends (ends_sender client (core_of p) m sender true).core _ (leaving m.sender sender.value.user_data) mid after told (leaves_no_note m.sender sender.value.user_data) puts
+        told_by sends (ends_sender client (core_of p) m sender true).core _ (told_of_removed m.sender sender.value.user_data) mid after told (leaves_no_note m.sender sender.value.user_data) puts
     told_of p false mid after told puts = told_by sends (core_of p) [] (λ d. []) mid after told (λ d. refl) puts
 
     told_closed : (p : Part T U C) (ends : Bool) (mid : LinkState T) (f : IoFault)
@@ -107,11 +107,11 @@ module _ {T U C : Type 0} (client : ClientParts) (m : SessionMessage) (sender : 
         (part_of (record { core = closing (ends_sender client (core_of p) m sender ends).core (Err f); link = mid }))
         × (notes_in did ≡ notes_in (end_deeds (closing (ends_sender client (core_of p) m sender ends).core (Err f)).ended))
     told_closed p true mid f =
-        told_by sends (ends_sender client (closed_down (core_of p)) m sender true).core [] (leaving m.sender sender.value.user_data) mid mid (Ok tt) (leaves_no_note m.sender sender.value.user_data)
+        told_by sends (ends_sender client (closed_down (core_of p)) m sender true).core [] (told_of_removed m.sender sender.value.user_data) mid mid (Ok tt) (leaves_no_note m.sender sender.value.user_data)
         (puts_none sends mid)
     told_closed p false mid f = told_by sends (closed_down (core_of p)) [] (λ d. []) mid mid (Ok tt) (λ d. refl) (puts_none sends mid)
 
-    sent_failed : (before after : Part T U C) (ends : Bool) (f : IoFault) (mid : LinkState T) (did : List (Deed U)) → lacked_memory (Err f) ≡ false
+    sent_failed : (before after : Part T U C) (ends : Bool) (f : IoFault) (mid : LinkState T) (did : List (Deed U)) → lacks_memory (Err f) ≡ false
         → Tells sends (ends_closed client (core_of before) m sender ends) mid false did after
         → SentAs sends client before m sender ends (Err f) mid (Ok tt) false did after
     sent_failed before after ends fault.WouldBlock mid did other tells = (tells, refl)
@@ -124,7 +124,7 @@ module _ {T U C : Type 0} (client : ClientParts) (m : SessionMessage) (sender : 
 
     -- the event was written, or its write failed and not for want of memory
     pub sent : (s s1 s2 : Stored T U C) (ends : Bool) (n : ℕ) (mid : LinkState T) (written : Result (Unit {0}) IoFault) (lacked : Bool)
-        → Wrote sends s.part.link (wire_message m) written mid → lacked_memory written ≡ false
+        → Wrote sends s.part.link (wire_message m) written mid → lacks_memory written ≡ false
         → s1 ≡ after_end s ends mid → n ≡ m.sender.number → TellsEnd sends s1 n ends written lacked s2
         → Does s (λ p did q. SendsGranted sends client p m sender ends (Ok tt) lacked did q) s2
     sent s s1 s2 ends n mid written lacked (es, wrote) went ended n-is (told, after, puts, lacked-is, closed) =
@@ -147,7 +147,7 @@ module _ {T U C : Type 0} (client : ClientParts) (m : SessionMessage) (sender : 
             (ap (λ (x : Stored T U C). let y : Stored T U C = record x { part = with_link x.part after } in y) ended ∙ after_end_is s ends after) closed)
             ∙ ap (λ (l : List (Happening U)). client_of s.serial (closing c told) after (s.made ++ l)) (sym notes)
 
-        by : (written : Result (Unit {0}) IoFault) → WroteBy sends s.part.link (wire_message m) es written mid → lacked_memory written ≡ false
+        by : (written : Result (Unit {0}) IoFault) → WroteBy sends s.part.link (wire_message m) es written mid → lacks_memory written ≡ false
             → PutsEnd sends mid m.sender.number ends written told after
             → Does s (λ p did q. SendsGranted sends client p m sender ends (Ok tt) lacked did q) s2
         by (Ok u) wrote went puts =
@@ -169,7 +169,7 @@ module _ {T U C : Type 0} (client : ClientParts) (m : SessionMessage) (sender : 
                 Err f,
                 mid,
                 wrote,
-                subst (λ (b : Bool). SentAs sends client s.part m sender ends (Err f) mid (Ok tt) b t.0 q) (sym (lacked-is ∙ ap lacked_memory told-err ∙ went))
+                subst (λ (b : Bool). SentAs sends client s.part m sender ends (Err f) mid (Ok tt) b t.0 q) (sym (lacked-is ∙ ap lacks_memory told-err ∙ went))
                     (sent_failed s.part q ends f mid t.0 went (rw (told-err, same) t.1)),
                 refl,
               ),
@@ -188,7 +188,7 @@ module _ {T U C : Type 0} (client : ClientParts) (m : SessionMessage) (sender : 
 
     -- there was no memory for the write
     pub not_written : (s s1 : Stored T U C) (ends : Bool) (mid : LinkState T) (written : Result (Unit {0}) IoFault)
-        → Wrote sends s.part.link (wire_message m) written mid → lacked_memory written ≡ true → s1 ≡ record s { part = with_link s.part mid }
+        → Wrote sends s.part.link (wire_message m) written mid → lacks_memory written ≡ true → s1 ≡ record s { part = with_link s.part mid }
         → Does s (λ p did q. SendsGranted sends client p m sender ends (Err refused.OutOfMemory) true did q) s1
     not_written s s1 ends mid written (es, wrote) lacked same = (
       map Sent es ++ [],
@@ -198,7 +198,7 @@ module _ {T U C : Type 0} (client : ClientParts) (m : SessionMessage) (sender : 
           (sym (append-nil s.made) ∙ ap (λ (l : List (Happening U)). s.made ++ l) (sym (notes_behind es []))),
     )
       where
-        refused_as : (written : Result (Unit {0}) IoFault) → lacked_memory written ≡ true
+        refused_as : (written : Result (Unit {0}) IoFault) → lacks_memory written ≡ true
             → SentAs sends client s.part m sender ends written mid (Err refused.OutOfMemory) true [] (with_link s.part mid)
         refused_as (Ok u) lacked = absurd (false≢true lacked)
         refused_as (Err fault.WouldBlock) lacked = absurd (false≢true lacked)

@@ -6,7 +6,7 @@ use Rattle.std.proofs.lemmas.Option.{same_Some}
 use Rattle.wl_wire.specs.declared.error.IoFault.{IoFault}
 use Rattle.wl_link.specs.Exchange.{Queue, Sending}
 use Rattle.wl_link.specs.Link.{LinkState, Wrote}
-use Rattle.wl_link.specs.Puts.{FlushesOut, lacked_memory}
+use Rattle.wl_link.specs.Puts.{FlushesOut, lacks_memory}
 use Rattle.wl_server.specs.declared.notes.DisconnectReason.{DisconnectReason}
 use Rattle.wl_server.specs.declared.notes.DisconnectReason.TheVariants.{ConnectionClosed}
 use Rattle.wl_server.specs.Ids.{ClientParts}
@@ -32,7 +32,7 @@ module _ {T U C : Type 0} where
   pub told_exactly : (sends : T → Queue → Result ℕ IoFault → T → Type 0) (before : LinkState T) (put flushed told after : Stored T U C) (reason : DisconnectReason)
       (n code : ℕ) (text : List ℕ) (wrote : Result (Unit {0}) IoFault) (es : List Sending) (refused lacked : Bool)
       → Wrote sends before (error_message n code text).message wrote put.part.link → FlushesOut sends true put.part.link es lacked flushed.part.link
-      → refused ≡ lacked_memory wrote → MatchResult wrote (λ _. told ≡ flushed) (λ _. Does flushed (λ p did q. Kills p ConnectionClosed did q) told)
+      → refused ≡ lacks_memory wrote → MatchResult wrote (λ _. told ≡ flushed) (λ _. Does flushed (λ p did q. Kills p ConnectionClosed did q) told)
       → Does told (λ p did q. Kills p reason did q) after → TellsOrLacks sends before n code text (refused || lacked) after.part.link
   told_exactly sends before put flushed told after reason n code text wrote es refused lacked wrote-is flushes refused-is tells kills =
       let same : after.part.link ≡ flushed.part.link = kills_link told after reason kills ∙ told_link flushed told wrote tells in

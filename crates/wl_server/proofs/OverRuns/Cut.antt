@@ -1,7 +1,7 @@
 -- It does not matter how bytes are cut into receives.
 pub mod ReaderLaws
 pub mod CuttingLaws
-pub mod StorageLaws
+pub mod BufferLaws
 pub mod AnswerLaws
 pub mod StretchLaws
 pub mod RoomLaws

@@ -25,7 +25,7 @@ use Rattle.wl_server.specs.Deeds.{Deed, notes_in, Noted, left_if}
 use Rattle.wl_server.specs.Finish.{FinishesRequest, ended_by, ends, ends_request, refusal, store_with_data, ending}
 use Rattle.wl_server.specs.Ids.{ClientParts, IdParts, same_client}
 use Rattle.wl_server.specs.Inside.Carried.{told_notes}
-use Rattle.wl_server.specs.Inside.Finishing.{is_memory, lacks_finish}
+use Rattle.wl_server.specs.Inside.Finishing.{is_out_of_memory, lacks_finish}
 use Rattle.wl_server.specs.Lookups.{and_then}
 use Rattle.wl_server.specs.Objects.{unless_refused}
 use Rattle.wl_server.specs.Part.{Part, id_of, named, same_id, serial_of, end_note, id_at, note_of_end}
@@ -171,7 +171,7 @@ module _ {T U C : Type 0} where
       at (Some made) (Some u) true is_open killed is = absurd cc
       at (Some made) (Some u) false is_open killed is = absurd cc
 
-  why_calm : (p : Part T U C) (u : Option U) (e : FinishError) → Why p u e → is_memory e ≡ false
+  why_calm : (p : Part T U C) (u : Option U) (e : FinishError) → Why p u e → is_out_of_memory e ≡ false
   why_calm p u finish.InvalidId why = absurd why
   why_calm p u finish.NoOpenAction why = refl
   why_calm p u finish.WrongKind why = refl
@@ -392,7 +392,7 @@ module _ {T U G C : Type 0} (w : World T G C) (before after : BackendState T U G
       refused_to call target (λ lacked did (r, is, h).
       own_lacks w.sends target u r _ _ lacked did (ap (λ (a : Answer U). lacks_finish a) (sym (inside answer r is)) ∙ lacks) h)
 
-  request_same : (r : FinishRefused (Option U)) → is_memory r.error ≡ false → IsAnswered (Err r) → IsRefusedWhole before after
+  request_same : (r : FinishRefused (Option U)) → is_out_of_memory r.error ≡ false → IsAnswered (Err r) → IsRefusedWhole before after
   request_same r quiet call = (
     unchanged call refl refl (λ id.
         let (lacked, did, h) = request_each (Err r) call id in
@@ -520,15 +520,15 @@ module _ {T U G C : Type 0} (w : World T G C) (before after : BackendState T U G
       elim (either_option (seen target before.server).part (own target _ _ _ lacked did _ h)) [
         | inl (none, (is, rest)) ↦
             let (error, back) = was_refused_for u r finish.InvalidId is in
-            (back, because error (none, request_same r (ap is_memory error) call))
+            (back, because error (none, request_same r (ap is_out_of_memory error) call))
         | inr (p, there, (q, does, same)) ↦
             elim (comes_to w.sends target u (Err r) lacked did p q does) [
               | inl x ↦
                   let (error, back) = was_refused_for u r x.error x.answer_is in
-                  (back, because error (refused_as p there x.error x.why (request_same r (ap is_memory error ∙ why_calm p u x.error x.why) call)))
+                  (back, because error (refused_as p there x.error x.why (request_same r (ap is_out_of_memory error ∙ why_calm p u x.error x.why) call)))
               | inr e ↦
                   let (lacks, error, back) = was_starved u r lacked e.answer_is in
-                  (back, because error (starved_as p q lacked did r e lacks there same (request_starved (Err r) (ap is_memory error) call)))
+                  (back, because error (starved_as p q lacked did r e lacks there same (request_starved (Err r) (ap is_out_of_memory error) call)))
             ]
       ]
     where

@@ -6,7 +6,7 @@ use Rattle.wl_wire.specs.declared.error.IoFault.{IoFault}
 use Rattle.wl_wire.specs.declared.error.IoFault.TheVariants as fault
 use Rattle.wl_link.specs.Exchange.{Queue, Sending}
 use Rattle.wl_link.specs.Link.{LinkState}
-use Rattle.wl_link.specs.Puts.{FlushesOut, PutsOut, Said, lacked_memory}
+use Rattle.wl_link.specs.Puts.{FlushesOut, PutsOut, Said, lacks_memory}
 use Rattle.wl_link.specs.Reader.{CarriesOut, Given, Verdict, came_to, put_and_gave, ReaderState}
 use Rattle.wl_server.specs.Deeds.{Deed, Sent, notes_in}
 use Rattle.wl_server.specs.Inside.Carried.{told_notes}
@@ -27,7 +27,7 @@ pub told : {T U C A : Type 0} (sends : T → Queue → Result ℕ IoFault → T 
     → f q ≡ cond lacked (g v.starved) (g v.core)
 told {T} {U} {C} {A} sends g f agree v none last closed link lacked did q (es, gave, end, carries, did_so, same) = ap f same ∙ agree end ∙ carried carries
   where
-    came : (wrote : Result (Unit {0}) IoFault) (b : Bool) → b ≡ false → g (came_to speaker v wrote) ≡ cond (lacked_memory wrote || b) (g v.starved) (g v.core)
+    came : (wrote : Result (Unit {0}) IoFault) (b : Bool) → b ≡ false → g (came_to speaker v wrote) ≡ cond (lacks_memory wrote || b) (g v.starved) (g v.core)
     came (Ok u) b calm = last v.core ∙ ap (λ (b : Bool). cond b (g v.starved) (g v.core)) (sym calm)
     came (Err fault.OutOfMemory) b calm = refl
     came (Err fault.WouldBlock) b calm = last _ ∙ closed v.core ∙ ap (λ (b : Bool). cond b (g v.starved) (g v.core)) (sym calm)
@@ -55,7 +55,7 @@ told_nothing {T} {U} {C} sends v nothing none unasked link lacked did q (es, gav
   where
     carried : CarriesOut sends speaker v link es gave lacked end → lacked ≡ false
     carried (inl (first, others, put, wrote, mid, lacks, puts, flushes, sent, is, given, memory)) =
-        memory ∙ ap (λ (r : Result (Unit {0}) IoFault). lacked_memory r || lacks) (nothing_put sends link v.puts nothing first put wrote mid puts)
+        memory ∙ ap (λ (r : Result (Unit {0}) IoFault). lacks_memory r || lacks) (nothing_put sends link v.puts nothing first put wrote mid puts)
         ∙ no_flush sends v.flushes mid others lacks end.link none flushes
     carried (inr (asks, refused, silent, given, starves)) = absurd (true≢false (sym asks ∙ unasked))
 
@@ -72,7 +72,7 @@ told_starved {T} {U} {C} sends v none link lacked did q starved (es, gave, end, 
     deeds : List Sending → List Said → Core U C → List (Deed U)
     deeds es put c = deeds_of (map Sent es) (put_and_gave put (v.events c)) c
 
-    came : (wrote : Result (Unit {0}) IoFault) (b : Bool) → b ≡ false → (lacked_memory wrote || b) ≡ true → came_to speaker v wrote ≡ v.starved
+    came : (wrote : Result (Unit {0}) IoFault) (b : Bool) → b ≡ false → (lacks_memory wrote || b) ≡ true → came_to speaker v wrote ≡ v.starved
     came (Err fault.OutOfMemory) b calm lacks = refl
     came (Ok u) b calm lacks = absurd (true≢false (sym lacks ∙ calm))
     came (Err fault.WouldBlock) b calm lacks = absurd (true≢false (sym lacks ∙ calm))
@@ -118,7 +118,7 @@ pub told_ended : {T U C : Type 0} (sends : T → Queue → Result ℕ IoFault �
     (lacked : Bool) (did : List (Deed U)) (q : Part T U C) → lacked ≡ false → Tells sends v link lacked did q → IsTold v did q
 told_ended {T} {U} {C} sends v last link lacked did q calm (es, gave, end, carries, did_so, same) = carried carries
   where
-    came : (wrote : Result (Unit {0}) IoFault) (b : Bool) → (lacked_memory wrote || b) ≡ false
+    came : (wrote : Result (Unit {0}) IoFault) (b : Bool) → (lacks_memory wrote || b) ≡ false
         → (came_to speaker v wrote ≡ v.core) ⊎ ((wrote ≡ Ok tt → ⊥) × (came_to speaker v wrote ≡ closed_down v.core))
     came (Ok u) b calm = inl (last v.core)
     came (Err fault.OutOfMemory) b calm = absurd (true≢false calm)

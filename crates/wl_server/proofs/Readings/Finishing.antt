@@ -8,7 +8,7 @@ use Rattle.wl_link.specs.declared.object.Object.{Object}
 use Rattle.wl_link.specs.Exchange.{Queue}
 use Rattle.wl_link.specs.Identity.{Id, named_in}
 use Rattle.wl_link.specs.Link.{LinkState}
-use Rattle.wl_link.specs.Puts.{lacked_memory}
+use Rattle.wl_link.specs.Puts.{lacks_memory}
 use Rattle.wl_link.specs.Reader.{came_to}
 use Rattle.wl_link.specs.Refusals.{first_refusal, when}
 use Rattle.wl_link.specs.Store.{Store, held, removed}
@@ -24,7 +24,7 @@ use Rattle.wl_server.specs.Inside.Carried.{IsCarried, told_notes}
 use Rattle.wl_server.specs.Inside.Client.{Does}
 use Rattle.wl_server.specs.Deeds.{Noted, left_if, notes_in}
 use Rattle.wl_server.specs.Finish.{FinishesOpen, Refuses, closed, data_given, ended_by, ending, ends, ends_request, refusal, store_with_data}
-use Rattle.wl_server.specs.Inside.Finishing.{EndsObject, EndsSender, is_memory, part_closed, part_without}
+use Rattle.wl_server.specs.Inside.Finishing.{EndsObject, EndsSender, is_out_of_memory, part_closed, part_without}
 use Rattle.wl_server.specs.Objects.{unless_refused, without}
 use Rattle.wl_server.specs.Ids.{ClientParts, IdParts}
 use Rattle.wl_server.specs.Part.{end_note, id_at, id_of, named, note_of_end, registries_without, serial_of, with_link, with_user_data, Part}
@@ -85,7 +85,7 @@ module _ {T U C : Type 0} (sends : T → Queue → Result ℕ IoFault → T → 
   -- it was taken out at its number, and noted
   pub ends_taken : (x : Object (Kept U)) (n : ℕ) (wrote : Result (Unit {0}) IoFault) (link : LinkState T) (store : Store (Kept U)) (registries : List Id)
       (made same_made : List (Happening U)) → Some x ≡ ended_by s.part.store sender is_destructor → n ≡ sender.number → Puts sends s.part.link (deletions n) wrote link
-      → false ≡ lacked_memory wrote → store ≡ removed s.part.store n
+      → false ≡ lacks_memory wrote → store ≡ removed s.part.store n
       → ((y : Object (Kept U)) → held s.part.store n ≡ Some y
       → (registries ≡ registries_without s.part.registries n y) × (made ≡ same_made ++ note_of_end client n y))
       → same_made ≡ s.made → EndsSender sends client s sender is_destructor (Ok wrote) (changed link store registries made)
@@ -144,7 +144,7 @@ module _ {U : Type 0} where
 
 -- ---- a write's answer
 
-wanted_memory : (wrote : Result (Unit {0}) IoFault) → lacked_memory wrote ≡ true → wrote ≡ Err fault.OutOfMemory
+wanted_memory : (wrote : Result (Unit {0}) IoFault) → lacks_memory wrote ≡ true → wrote ≡ Err fault.OutOfMemory
 wanted_memory (Ok u) is = absurd (false≢true is)
 wanted_memory (Err fault.WouldBlock) is = absurd (false≢true is)
 wanted_memory (Err fault.Pipe) is = absurd (false≢true is)
@@ -161,7 +161,7 @@ module _ {U C : Type 0} where
   closing c (Err _) = closed_down c
 
   module _ (client : ClientParts) (c : Core U C) (id : IdParts) (x : Object (Kept U)) (created : Option IdParts) (u : Option U) where
-    came_closing : (wrote : Result (Unit {0}) IoFault) → lacked_memory wrote ≡ false
+    came_closing : (wrote : Result (Unit {0}) IoFault) → lacks_memory wrote ≡ false
         → closing (closed (without c id.number x) created u) wrote ≡ came_to speaker (ends client c id (Some x) created u) wrote
     came_closing (Ok v) is = refl
     came_closing (Err fault.WouldBlock) is = refl
@@ -187,9 +187,9 @@ pub where_some : {X : Type 0} (o : Option X) (x : X) → Some x ≡ o → (A : T
 where_some {X} o x is A B h = subst (λ (o : Option X). MatchOption o A B) is h
 
 -- no refusal for other reasons is a want of memory
-no_memory : (a b : Bool) (e : FinishError) → first_refusal (when a finish.MissingObjectData ∷ when b finish.UnexpectedData ∷ []) ≡ Some e → is_memory e ≡ false
-no_memory true b e is = sym (ap is_memory (same_some is))
-no_memory false true e is = sym (ap is_memory (same_some is))
+no_memory : (a b : Bool) (e : FinishError) → first_refusal (when a finish.MissingObjectData ∷ when b finish.UnexpectedData ∷ []) ≡ Some e → is_out_of_memory e ≡ false
+no_memory true b e is = sym (ap is_out_of_memory (same_some is))
+no_memory false true e is = sym (ap is_out_of_memory (same_some is))
 no_memory false false e is = absurd (none_some is)
 
 ok_ok : (f : OutOfMemory) → ◌≡◌ {A = Result (Result (Unit {0}) IoFault) OutOfMemory} (Err f) (Ok (Ok tt)) → ⊥
@@ -326,9 +326,9 @@ module _ {T U C : Type 0} (sends : T → Queue → Result ℕ IoFault → T → 
       let t = tells_carried sends (ends_request client (core_of s.part) sender is_destructor created u) s after refused reached in
       (t.0, t.1, where_none (refusal s.part.is_killed created u) none _ (λ e. Refuses s.part u e answer refused t.0 t.1) (is, t.2), t.3)
 
-  pub request_refused : (e : FinishError) → Some e ≡ refusal s.part.is_killed created u → RequestDoes (Err (record { error = e; user_data = u })) (is_memory e) s
+  pub request_refused : (e : FinishError) → Some e ≡ refusal s.part.is_killed created u → RequestDoes (Err (record { error = e; user_data = u })) (is_out_of_memory e) s
   request_refused e some =
-      does_quietly s (λ p did q. FinishesOpen sends client p (opened.Request sender is_destructor created) u (Err (record { error = e; user_data = u })) (is_memory e) did q)
+      does_quietly s (λ p did q. FinishesOpen sends client p (opened.Request sender is_destructor created) u (Err (record { error = e; user_data = u })) (is_out_of_memory e) did q)
       s.part
-      (where_some (refusal s.part.is_killed created u) e some _ (λ e'. Refuses s.part u e' (Err (record { error = e; user_data = u })) (is_memory e) [] s.part)
+      (where_some (refusal s.part.is_killed created u) e some _ (λ e'. Refuses s.part u e' (Err (record { error = e; user_data = u })) (is_out_of_memory e) [] s.part)
       (refl, no_memory (is_some created && (is_none u && not s.part.is_killed)) (is_none created && is_some u) e (sym some), refl, refl))

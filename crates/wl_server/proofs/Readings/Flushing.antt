@@ -3,7 +3,7 @@ use Rattle.std.proofs.Common.{◌≡◌, ℕ, Bool, true, false, List, [], Resul
 use Rattle.wl_wire.specs.declared.error.IoFault.{IoFault}
 use Rattle.wl_link.proofs.Calls.Branches.{at_false, at_true}
 use Rattle.wl_link.specs.Exchange.{Queue}
-use Rattle.wl_link.specs.Puts.{lacked_memory}
+use Rattle.wl_link.specs.Puts.{lacks_memory}
 use Rattle.wl_server.specs.declared.notes.Happening.{Happening}
 use Rattle.wl_server.specs.Inside.Client.{Does}
 use Rattle.wl_server.specs.Deeds.{Deed}
@@ -21,8 +21,8 @@ module _ {T U C : Type 0} where
     pub killed_stays : (s : Stored T U C) → s.part.is_killed ≡ true → Does s (λ p did q. FlushesLive sends p false did q) s
     killed_stays s killed = does_nothing s (λ p did q. FlushesLive sends p false did q) (at_true _ s.part.is_killed killed (refl, refl, refl))
 
-    pub live_flushed : (s s' : Stored T U C) (answer : Result (Unit {0}) IoFault) (lacked : Bool) → s.part.is_killed ≡ false → lacked ≡ lacked_memory answer
-        → Does s (λ p did q. FlushedTo sends p answer (lacked_memory answer) did q) s' → Does s (λ p did q. FlushesLive sends p lacked did q) s'
+    pub live_flushed : (s s' : Stored T U C) (answer : Result (Unit {0}) IoFault) (lacked : Bool) → s.part.is_killed ≡ false → lacked ≡ lacks_memory answer
+        → Does s (λ p did q. FlushedTo sends p answer (lacks_memory answer) did q) s' → Does s (λ p did q. FlushesLive sends p lacked did q) s'
     live_flushed s s' answer lacked live is (did, q, flushed, made) =
         subst (λ (l : Bool). Does s (λ p did q. FlushesLive sends p l did q) s') (sym is)
         (did, q, at_false _ s.part.is_killed live (answer, flushed), made)

@@ -8,15 +8,15 @@ use Rattle.wl_wire.specs.declared.error.IoFault.TheVariants as fault
 use Rattle.wl_link.specs.Exchange.{Queue}
 use Rattle.wl_link.specs.Identity.{Id}
 use Rattle.wl_link.specs.Link.{LinkState}
-use Rattle.wl_link.specs.Puts.{Said, lacked_memory}
+use Rattle.wl_link.specs.Puts.{Said, lacks_memory}
 use Rattle.wl_link.specs.Reader.{Given, HandedOut, Queued, Verdict, came_to, put_and_gave}
 use Rattle.wl_server.specs.declared.reading.action.OpenAction.{OpenAction}
 use Rattle.wl_server.specs.declared.notes.Happening.{Happening}
 use Rattle.wl_server.specs.declared.notes.DisconnectReason.TheVariants.{ConnectionClosed}
 use Rattle.wl_server.specs.declared.reading.action.Found.{Found}
 use Rattle.wl_server.specs.declared.reading.action.NoAction.{NoAction}
-use Rattle.wl_server.specs.declared.reading.action.TurnEnd.{TurnEnd}
-use Rattle.wl_server.specs.declared.reading.action.TurnEnd.TheVariants as came
+use Rattle.wl_server.specs.declared.reading.action.MessageEnd.{MessageEnd}
+use Rattle.wl_server.specs.declared.reading.action.MessageEnd.TheVariants as came
 use Rattle.wl_server.specs.Inside.Carried.{IsCarried}
 use Rattle.wl_server.specs.Inside.Client.{Does}
 use Rattle.wl_server.specs.Deeds.{Acted, Deed, Handed, Remembered, notes_in}
@@ -27,7 +27,7 @@ use Rattle.wl_server.specs.Inside.Puts.{Puts}
 use Rattle.wl_server.specs.Reading.{Around, action_in, breaks, garbled, hands_out, replies, stops_if}
 use Rattle.wl_server.specs.Server.{Stored}
 use Rattle.wl_server.specs.Telling.{Core, Did, Kills, Stops, Told, closed_down, core_of, deeds_in, speaker}
-use Rattle.wl_server.specs.Inside.Turns.{Acts, Ended, GoesOn, HasNoNote, IsHandled, Live, Turned, turned}
+use Rattle.wl_server.specs.Inside.ReadingLoop.{Acts, Ended, WentOn, HasNoNote, IsHandled, Live, MessageResult, message_result}
 use Rattle.wl_server.proofs.ObjectCalls.Posting.{kills_is}
 
 -- ---- what was put says nothing of an action, and is no note
@@ -81,7 +81,7 @@ broken_with refused = record { fault = fault.Pipe; refused = refused }
 
 module _ {T U C : Type 0} (sends : T → Queue → Result ℕ IoFault → T → Type 0) where
   -- nothing changed of a client but its objects
-  pub from_there : (v : Verdict (Core U C) (Told U)) (before mid after : Stored T U C) (to : Turned) → mid.serial ≡ before.serial → mid.made ≡ before.made
+  pub from_there : (v : Verdict (Core U C) (Told U)) (before mid after : Stored T U C) (to : MessageResult) → mid.serial ≡ before.serial → mid.made ≡ before.made
       → mid.part.link ≡ before.part.link → IsHandled sends v mid to after → IsHandled sends v before to after
   from_there v before mid after to serial made link h = record {
     es = h.es;
@@ -175,7 +175,7 @@ module _ {T U C : Type 0} (sends : T → Queue → Result ℕ IoFault → T → 
 
   pub replied_all : (s after : Stored T U C) (link : LinkState T) (puts : List Said) (did : List (Deed U)) → AreQuiet did → Live s.part
       → Puts sends s.part.link puts (Ok tt) link → after ≡ over_link s link
-      → IsHandled sends (replies (core_of s.part) puts did) s GoesOn after
+      → IsHandled sends (replies (core_of s.part) puts did) s WentOn after
   replied_all s after link puts did quiet live (es, put, put_out) same =
       let events : List (Told U) = map Did did ++ stops_if (core_of s.part) in
       let stops : stops_if (core_of s.part) ≡ [] = live_stops (core_of s.part) live.0 in
@@ -199,14 +199,14 @@ module _ {T U C : Type 0} (sends : T → Queue → Result ℕ IoFault → T → 
 
   pub replied_failed : (s after : Stored T U C) (link : LinkState T) (puts : List Said) (did : List (Deed U)) (f : IoFault) → AreQuiet did
       → Puts sends s.part.link puts (Err f) link → Does (over_link s link) (λ p did q. Kills p ConnectionClosed did q) after
-      → IsHandled sends (replies (core_of s.part) puts did) s (Ended (broken_with (lacked_memory (Err f)))) after
+      → IsHandled sends (replies (core_of s.part) puts did) s (Ended (broken_with (lacks_memory (Err f)))) after
   replied_failed s after link puts did f quiet (es, put, put_out) kills =
       let c = core_of s.part in
       let events : List (Told U) = map Did did ++ Stops fault.Pipe ∷ [] in
       record {
         es = es ++ [];
         gave = put_and_gave put events;
-        refused = lacked_memory (Err f);
+        refused = lacks_memory (Err f);
         end = record { core = closed_down c; link = link };
         carried = inl (
           es,
@@ -220,7 +220,7 @@ module _ {T U C : Type 0} (sends : T → Queue → Result ℕ IoFault → T → 
           refl,
           sym (came_closed c puts did f),
           ap (λ (d : Core U C). put_and_gave put ((replies c puts did).events d)) (sym (came_closed c puts did f)),
-          or_false (lacked_memory (Err f)),
+          or_false (lacks_memory (Err f)),
         );
         no_note = no_note_put put (map HandedOut events) (quiet.no_note (Stops fault.Pipe ∷ []));
         says = (refl, refl, behind_puts put (map HandedOut events) ∙ sym (ap action_in (append-nil (map HandedOut events))) ∙ quiet.silent (Stops fault.Pipe ∷ []) []);
@@ -242,10 +242,10 @@ module _ {T U C : Type 0} (sends : T → Queue → Result ℕ IoFault → T → 
   }
 
   -- as a reply was put, and as that was answered
-  pub replied : (s after : Stored T U C) (link : LinkState T) (puts : List Said) (did : List (Deed U)) (wrote : Result (Unit {0}) IoFault) (end : TurnEnd)
+  pub replied : (s after : Stored T U C) (link : LinkState T) (puts : List Said) (did : List (Deed U)) (wrote : Result (Unit {0}) IoFault) (end : MessageEnd)
       (f : Found) (args : List (Argument IdParts Token)) → AreQuiet did → Live s.part → Puts sends s.part.link puts wrote link
-      → MatchResult wrote (λ _. (end ≡ came.GoesOn) × (after ≡ over_link s link))
-      (λ f. (end ≡ came.Ends (broken_with (lacked_memory (Err f)))) × Does (over_link s link) (λ p did q. Kills p ConnectionClosed did q) after)
-      → IsHandled sends (replies (core_of s.part) puts did) s (turned end f args) after
+      → MatchResult wrote (λ _. (end ≡ came.Continues) × (after ≡ over_link s link))
+      (λ f. (end ≡ came.Ends (broken_with (lacks_memory (Err f)))) × Does (over_link s link) (λ p did q. Kills p ConnectionClosed did q) after)
+      → IsHandled sends (replies (core_of s.part) puts did) s (message_result end f args) after
   replied s after link puts did (Ok u) end found args quiet live put (is, same) = rw is (replied_all s after link puts did quiet live put same)
   replied s after link puts did (Err f) end found args quiet live put (is, kills) = rw is (replied_failed s after link puts did f quiet put kills)

@@ -7,7 +7,7 @@ use Rattle.wl_wire.specs.Table.{InterfaceRow}
 use Rattle.wl_link.proofs.Calls.Branches.{at_false, at_true}
 use Rattle.wl_link.specs.Exchange.{Queue}
 use Rattle.wl_link.specs.Link.{LinkState}
-use Rattle.wl_link.specs.Puts.{Said, lacked_memory}
+use Rattle.wl_link.specs.Puts.{Said, lacks_memory}
 use Rattle.wl_link.specs.Reader.{came_to}
 use Rattle.wl_server.specs.declared.notes.DisconnectReason.TheVariants.{ConnectionClosed}
 use Rattle.wl_server.specs.declared.notes.Happening.{Happening}
@@ -58,7 +58,7 @@ module _ {T U C : Type 0} (sends : T → Queue → Result ℕ IoFault → T → 
   )
 
   pub live_hears : (s after : Stored T U C) (messages : List Said) (wrote : Result (Unit {0}) IoFault) (link : LinkState T) (lacked : Bool)
-      → s.part.is_killed ≡ false → Puts sends s.part.link messages wrote link → lacked ≡ lacked_memory wrote
+      → s.part.is_killed ≡ false → Puts sends s.part.link messages wrote link → lacked ≡ lacks_memory wrote
       → MatchResult wrote (λ _. after ≡ over_link s link) (λ _. Does (over_link s link) (λ p did q. Kills p ConnectionClosed did q) after)
       → (did : List (Deed U)) × (q : Part T U C) × Hears sends s.part messages lacked did q × (after ≡ record { serial = s.serial; part = q; made = s.made ++ notes_in did })
   live_hears s after messages (Ok u) link lacked live puts is told =
@@ -68,7 +68,7 @@ module _ {T U C : Type 0} (sends : T → Queue → Result ℕ IoFault → T → 
   live_hears s after messages (Err f) link lacked live puts is (killing, q, (deeds, part), becomes) =
       let (did, tells, notes) = tells_put sends (tells (core_of s.part) messages) s.part.link link link (Err f) [] false puts (refl, refl, refl) in
       let core = came_failed (core_of s.part) messages f in
-      as_heard s after messages (lacked_memory (Err f) || false) lacked did _ q (notes_in killing) live tells (is ∙ sym (or_false (lacked_memory (Err f))))
+      as_heard s after messages (lacks_memory (Err f) || false) lacked did _ q (notes_in killing) live tells (is ∙ sym (or_false (lacks_memory (Err f))))
       (part ∙ ap (λ (c : Core U C). part_of (record { core = c; link = link })) (sym core))
       (notes ∙ ap (λ (c : Core U C). notes_in (end_deeds {U = U} c.ended)) core ∙ ap (λ (ds : List (Deed U)). notes_in ds) (sym deeds))
       becomes
@@ -85,7 +85,7 @@ module _ {T U C : Type 0} (sends : T → Queue → Result ℕ IoFault → T → 
       subst (λ (b : Bool). HearsNew table b g s false s) (sym unseen) (live_hears s s [] (Ok tt) s.part.link false live (puts_none sends s.part.link) refl refl)
 
   pub seen_hears : (table : List InterfaceRow) (visible : Bool) (g : Shown) (s after : Stored T U C) (wrote : Result (Unit {0}) IoFault) (link : LinkState T) (lacked : Bool)
-      → s.part.is_killed ≡ false → visible ≡ true → Puts sends s.part.link (map (λ r. global_message table r g) s.part.registries) wrote link → lacked ≡ lacked_memory wrote
+      → s.part.is_killed ≡ false → visible ≡ true → Puts sends s.part.link (map (λ r. global_message table r g) s.part.registries) wrote link → lacked ≡ lacks_memory wrote
       → MatchResult wrote (λ _. after ≡ over_link s link) (λ _. Does (over_link s link) (λ p did q. Kills p ConnectionClosed did q) after)
       → HearsNew table visible g s lacked after
   seen_hears table visible g s after wrote link lacked live seen puts is told =

@@ -3,7 +3,7 @@ use Rattle.std.proofs.Common.{◌≡◌, ◌∙◌, ℕ, Bool, true, ◌||◌, L
 use Rattle.wl_wire.specs.declared.error.IoFault.{IoFault}
 use Rattle.wl_link.specs.Exchange.{Queue, Sending}
 use Rattle.wl_link.specs.Link.{LinkState}
-use Rattle.wl_link.specs.Puts.{FlushesOut, Said, lacked_memory}
+use Rattle.wl_link.specs.Puts.{FlushesOut, Said, lacks_memory}
 use Rattle.wl_link.specs.Reader.{Given, HandedOut, Queued, Verdict, came_to, put_and_gave}
 use Rattle.wl_link.specs.Reader.{ReaderState}
 use Rattle.wl_server.specs.declared.notes.Happening.{Happening}
@@ -51,7 +51,7 @@ module _ {U C : Type 0} where
   pub tells_put : {T : Type 0} (sends : T → Queue → Result ℕ IoFault → T → Type 0) (v : Verdict (Core U C) (Told U)) (before mid after : LinkState T)
       (wrote : Result (Unit {0}) IoFault) (others : List Sending) (lacked : Bool)
       → Puts sends before v.puts wrote mid → FlushesOut sends v.flushes mid others lacked after
-      → (did : List (Deed U)) × Tells sends v before (lacked_memory wrote || lacked) did (part_of (record { core = came_to speaker v wrote; link = after }))
+      → (did : List (Deed U)) × Tells sends v before (lacks_memory wrote || lacked) did (part_of (record { core = came_to speaker v wrote; link = after }))
       × (notes_in did ≡ told_notes (v.events (came_to speaker v wrote)) ++ notes_in (end_deeds (came_to speaker v wrote).ended))
   tells_put sends v before mid after wrote others lacked (es, put, puts) flushed =
       let core : Core U C = came_to speaker v wrote in

@@ -10,7 +10,7 @@ use Rattle.std.proofs.lemmas.List.{take-append-drop}
 use Rattle.std.proofs.lemmas.List.Folds.{list_any-append, list_any_none}
 use Rattle.wl_wire.specs.declared.interface.InterfaceId.{InterfaceId}
 use Rattle.wl_wire.specs.declared.protocol.TableError.TheVariants as fault
-use Rattle.wl_wire.specs.Asked.{request_in, request_row}
+use Rattle.wl_wire.specs.MessageRows.{request_in, request_row}
 use Rattle.wl_wire.specs.Text.{HasNoZero}
 use Rattle.wl_server.specs.Errors.{new_id_text, since_text}
 use Rattle.wl_wire.specs.Table.{InterfaceRow, IsAcceptedTable, MessageRow, anonymous_row, callback_row, display_row, registry_row, fixed_rows, holds_zero, messages, name_of}

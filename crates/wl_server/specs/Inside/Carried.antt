@@ -3,7 +3,7 @@ use Rattle.std.specs.Prelude.{◌≡◌, ◌⊎◌, ℕ, List, ◌++◌, Bool, t
 use Rattle.wl_wire.specs.declared.error.IoFault.{IoFault}
 use Rattle.wl_link.specs.Exchange.{Queue, Sending}
 use Rattle.wl_link.specs.Link.{LinkState}
-use Rattle.wl_link.specs.Puts.{FlushesOut, lacked_memory}
+use Rattle.wl_link.specs.Puts.{FlushesOut, lacks_memory}
 use Rattle.wl_link.specs.Reader.{HandedOut, Verdict, came_to}
 use Rattle.wl_server.specs.declared.notes.Happening.{Happening}
 use Rattle.wl_server.specs.Deeds.{notes_in}
@@ -21,7 +21,7 @@ module _ {T U C : Type 0} (sends : T → Queue → Result ℕ IoFault → T → 
   Put v before refused core after =
       (wrote : Result (Unit {0}) IoFault) × (mid : LinkState T) × (others : List Sending) × (lacked : Bool)
       × Puts sends before v.puts wrote mid × FlushesOut sends v.flushes mid others lacked after
-      × (core ≡ came_to speaker v wrote) × (refused ≡ lacked_memory wrote || lacked)
+      × (core ≡ came_to speaker v wrote) × (refused ≡ lacks_memory wrote || lacked)
 
   -- memory was refused before anything was put
   abbrev pub Starved : Verdict (Core U C) (Told U) → LinkState T → Bool → Core U C → LinkState T → Type 0

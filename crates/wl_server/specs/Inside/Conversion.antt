@@ -39,9 +39,9 @@ module _ {U : Type 0} where
       progress.child ≢ None → list_any is_new_id progress.kinds.now ≡ true → objects.map.reserved ≡ true
 
   -- an object is made at that number, or none may be made there and nothing is changed
-  abbrev pub Makes : ClientParts → Objects (Kept U) → InterfaceId → ℕ → ℕ → Option IdParts → Objects (Kept U) → Type 0
-  Makes client before i version n None after = (is_valid_new before n ≡ false) × (after ≡ before)
-  Makes client before i version n (Some id) after =
+  abbrev pub MakesObject : ClientParts → Objects (Kept U) → InterfaceId → ℕ → ℕ → Option IdParts → Objects (Kept U) → Type 0
+  MakesObject client before i version n None after = (is_valid_new before n ≡ false) × (after ≡ before)
+  MakesObject client before i version n (Some id) after =
       (is_valid_new before n ≡ true) × (after ≡ with_made before n i version) × (id ≡ made_id client before n i)
 
   -- what a new id became; its type was taken off the list before

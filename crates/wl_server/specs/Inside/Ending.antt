@@ -5,7 +5,7 @@ use Rattle.wl_link.specs.declared.object.Object.{Object}
 use Rattle.wl_link.specs.Exchange.{Queue}
 use Rattle.wl_link.specs.Identity.{Id}
 use Rattle.wl_link.specs.Link.{LinkState}
-use Rattle.wl_link.specs.Puts.{Said, lacked_memory}
+use Rattle.wl_link.specs.Puts.{Said, lacks_memory}
 use Rattle.wl_link.specs.Store.{Store, removed}
 use Rattle.wl_server.specs.declared.objects.Kept.{Kept}
 use Rattle.wl_server.specs.declared.notes.DisconnectReason.TheVariants.{ConnectionClosed}
@@ -33,7 +33,7 @@ abbrev pub TellsEnd : {T U C : Type 0} → (T → Queue → Result ℕ IoFault �
     → Stored T U C → Type 0
 TellsEnd {T = T} sends before n ends written refused after =
     (answer : Result (Unit {0}) IoFault) × (link : LinkState T) × PutsEnd sends before.part.link n ends written answer link
-    × (refused ≡ lacked_memory answer)
+    × (refused ≡ lacks_memory answer)
     × MatchResult answer (λ _. after ≡ record before { part = with_link before.part link })
     (λ _. Does (record before { part = with_link before.part link }) (λ p did q. Kills p ConnectionClosed did q) after)
 

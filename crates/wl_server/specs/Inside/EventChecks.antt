@@ -1,7 +1,7 @@
 -- What the functions that look at an event say to their callers.
 use Rattle.std.specs.Prelude.{List, ◌∷◌, Bool, not, Option, Some, Result, Ok, Err}
 use Rattle.wl_wire.specs.declared.interface.InterfaceId.{InterfaceId}
-use Rattle.wl_wire.specs.Asked.{matches}
+use Rattle.wl_wire.specs.MessageRows.{matches}
 use Rattle.wl_wire.specs.Table.{MessageRow}
 use Rattle.wl_link.specs.Refusals.{when}
 use Rattle.wl_link.specs.Store.{Store}

@@ -5,7 +5,7 @@ use Rattle.wl_wire.specs.declared.error.OutOfMemory.{OutOfMemory}
 use Rattle.wl_link.specs.declared.object.Object.{Object}
 use Rattle.wl_link.specs.Exchange.{Queue}
 use Rattle.wl_link.specs.Link.{LinkState}
-use Rattle.wl_link.specs.Puts.{lacked_memory}
+use Rattle.wl_link.specs.Puts.{lacks_memory}
 use Rattle.wl_link.specs.Store.{removed}
 use Rattle.wl_server.specs.declared.error.FinishError.{FinishError}
 use Rattle.wl_server.specs.declared.error.FinishError.TheVariants as finish
@@ -19,13 +19,13 @@ use Rattle.wl_server.specs.Server.{Stored}
 use Rattle.wl_server.specs.Telling.{deletions}
 
 -- whether memory was refused, by the reason or the answer
-abbrev pub is_memory : FinishError → Bool
-is_memory finish.OutOfMemory = true
-is_memory _ = false
+abbrev pub is_out_of_memory : FinishError → Bool
+is_out_of_memory finish.OutOfMemory = true
+is_out_of_memory _ = false
 
 abbrev pub lacks_finish : {D : Type 0} → Result (Unit {0}) (FinishRefused D) → Bool
 lacks_finish (Ok _) = false
-lacks_finish (Err r) = is_memory r.error
+lacks_finish (Err r) = is_out_of_memory r.error
 
 module _ {T U C : Type 0} where
   -- no action is open any longer, and the object that it made has its data
@@ -41,7 +41,7 @@ module _ {T U C : Type 0} (sends : T → Queue → Result ℕ IoFault → T → 
   -- refused, and the object stays.
   abbrev pub EndsObject : Stored T U C → IdParts → Object (Kept U) → Result (Result (Unit {0}) IoFault) OutOfMemory → Stored T U C → Type 0
   EndsObject before sender x (Ok wrote) after =
-      Puts sends before.part.link (deletions sender.number) wrote after.part.link × (lacked_memory wrote ≡ false)
+      Puts sends before.part.link (deletions sender.number) wrote after.part.link × (lacks_memory wrote ≡ false)
       × (after ≡ record {
         serial = before.serial;
         part = part_without before.part after.part.link sender.number x;
@@ -49,7 +49,7 @@ module _ {T U C : Type 0} (sends : T → Queue → Result ℕ IoFault → T → 
       })
   EndsObject before sender x (Err _) after =
       ((is_some x.value.user_data ≡ true) × (after ≡ before))
-      ⊎ ((wrote : Result (Unit {0}) IoFault) × (lacked_memory wrote ≡ true)
+      ⊎ ((wrote : Result (Unit {0}) IoFault) × (lacks_memory wrote ≡ true)
       × Puts sends before.part.link (deletions sender.number) wrote after.part.link
       × (after ≡ record before { part = with_link before.part after.part.link }))
 

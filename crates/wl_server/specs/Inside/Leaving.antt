@@ -16,8 +16,8 @@ use Rattle.wl_server.specs.Server.{Stored, note_of}
 
 module _ {U : Type 0} where
   -- the objects that have user data
-  abbrev pub ending : List (ℕ × Object (Kept U)) → List (ℕ × Object (Kept U))
-  ending entries = filter (λ e. is_some e.1.value.user_data) entries
+  abbrev pub with_data : List (ℕ × Object (Kept U)) → List (ℕ × Object (Kept U))
+  with_data entries = filter (λ e. is_some e.1.value.user_data) entries
 
   -- what is noted of objects that leave
   abbrev pub ends_of : ClientParts → List (ℕ × Object (Kept U)) → List (Happening U)

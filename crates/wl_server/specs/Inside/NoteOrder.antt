@@ -5,12 +5,12 @@ use Rattle.wl_server.specs.declared.notes.Happening.{Happening}
 use Rattle.wl_server.specs.declared.notes.Note.{Note}
 use Rattle.wl_server.specs.declared.notes.Note.TheVariants.{Initialized, Disconnected, Destroyed}
 use Rattle.wl_server.specs.declared.notes.queues.NotePlace.{NotePlace}
-use Rattle.wl_server.specs.Inside.Gathering.{leaving}
+use Rattle.wl_server.specs.Inside.Gathering.{to_gather}
 use Rattle.wl_server.specs.Server.{Stored, stored_at}
 
 -- the number after this one; after the greatest, that one again
-abbrev pub number_behind : ℕ → ℕ
-number_behind n = min (n + 1) (2 ^ 128 - 1)
+abbrev pub number_after : ℕ → ℕ
+number_after n = min (n + 1) (2 ^ 128 - 1)
 
 -- the place of a note with its number, at a slot; the note waits for a cleanup or not
 abbrev pub place_of : {U : Type 0} → Bool → ℕ → ℕ × Happening U → NotePlace
@@ -37,4 +37,4 @@ slot_of (Destroyed client object u) = client.slot
 -- The places rise in time, and each note that is gathered has one.
 pub record IsOrderOf {T U C : Type 0} (waits : Bool) (clients : List (Option (Stored T U C))) (order : List NotePlace) : Type 0 where
   pub rise : Rise order
-  pub each : (slot : ℕ) → places_at slot order ≡ length (leaving waits (stored_at slot clients))
+  pub each : (slot : ℕ) → places_at slot order ≡ length (to_gather waits (stored_at slot clients))

@@ -32,7 +32,7 @@ use Rattle.wl_server.specs.Ids.{IdParts}
 use Rattle.wl_server.specs.Part.{id_of}
 use Rattle.wl_server.specs.Reading.{Around, breaks, garbled, hands_out, replies, request_to, row_in}
 use Rattle.wl_server.specs.Telling.{Core, Told, deletions, done_message, global_message}
-use Rattle.wl_server.specs.Inside.Turns.{NotTaken, ReadsIn, found_with}
+use Rattle.wl_server.specs.Inside.ReadingLoop.{NotTaken, ReadsIn, found_with}
 
 -- the number of the new id, if that is the only argument
 abbrev pub only_new_id : List WireArgument → Option ℕ

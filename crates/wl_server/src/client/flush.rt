@@ -4,7 +4,7 @@
 //! and not killed. The *slot* of a client is its index in the server's list of clients.
 
 ghost use Rattle.std.specs.Prelude.{ℕ, length};
-ghost use Rattle.wl_link.specs.Puts.{lacked_memory};
+ghost use Rattle.wl_link.specs.Puts.{lacks_memory};
 ghost use Rattle.wl_server.specs.Backend.{Calls};
 ghost use Rattle.wl_server.specs.Inside.Client.{Does};
 ghost use Rattle.wl_server.specs.Felt.{FlushedTo};
@@ -27,7 +27,7 @@ use wl_wire::IoFault;
 impl<T: Transport + Drop, U: Drop, C: Drop> Client<T, U, C> {
     /// Sends what waits for the client, as far as its transport takes it.
     pub fn flush(&mut self) -> Result<(), IoFault>
-        ensures { Does self.old (λ p did q. FlushedTo T.sends p result (lacked_memory result) did q) self.new }
+        ensures { Does self.old (λ p did q. FlushedTo T.sends p result (lacks_memory result) did q) self.new }
     {
         self.socket.flush()
     }

@@ -4,7 +4,7 @@
 //! happened to a client or an object (`Note`).
 
 ghost use Rattle.std.specs.Prelude.{◌≡◌, MatchResult};
-ghost use Rattle.wl_link.specs.Puts.{lacked_memory};
+ghost use Rattle.wl_link.specs.Puts.{lacks_memory};
 ghost use Rattle.wl_server.specs.Backend.{Calls};
 ghost use Rattle.wl_server.specs.Inside.Client.{Does};
 ghost use Rattle.wl_server.specs.PartStep.{over};
@@ -44,7 +44,7 @@ impl<T: Drop, U: Drop, C: Drop> Client<T, U, C> {
         numbers: &mut NoteNumbers,
         answer: Result<(), IoFault>,
     ) -> bool
-        ensures refused { result ≡ lacked_memory answer }
+        ensures refused { result ≡ lacks_memory answer }
         ensures closed { MatchResult answer (λ _. self.new ≡ self.old) (λ _. Does self.old (λ p did q. Kills p ConnectionClosed did q) self.new) }
     {
         let Err(fault) = answer else {

@@ -4,7 +4,7 @@ ghost use Rattle.std.specs.Prelude.{◌≡◌, ◌∷◌, ℕ, [], Some};
 ghost use Rattle.wl_wire.specs.declared.argument.Argument.TheVariants as arg;
 ghost use Rattle.wl_wire.specs.Message.{content};
 ghost use Rattle.wl_link.specs.Link.{Wrote};
-ghost use Rattle.wl_link.specs.Puts.{lacked_memory};
+ghost use Rattle.wl_link.specs.Puts.{lacks_memory};
 ghost use Rattle.wl_server.specs.Inside.Puts.{Puts};
 ghost use Rattle.wl_server.specs.Telling.{deletions, done_message, error_message};
 
@@ -27,7 +27,7 @@ const DELETE_ID: u16 = 1;
 
 /// Whether memory was refused to a write or a flush that was answered so.
 pub fn is_out_of_memory(answer: Result<(), IoFault>) -> bool
-    ensures { result ≡ lacked_memory answer }
+    ensures { result ≡ lacks_memory answer }
 {
     matches!(answer, Err(IoFault::OutOfMemory))
 }

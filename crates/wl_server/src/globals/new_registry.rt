@@ -5,7 +5,7 @@ ghost use Rattle.wl_server.specs.Globals.{is_shown as global_is_shown, shown};
 ghost use Rattle.wl_server.specs.Part.{id_of};
 ghost use Rattle.wl_server.specs.Inside.Puts.{Puts};
 ghost use Rattle.wl_server.specs.Telling.{global_message};
-ghost use Rattle.wl_server.specs.Inside.Turns.{around_of};
+ghost use Rattle.wl_server.specs.Inside.ReadingLoop.{around_of};
 
 use crate::globals::KeptGlobal;
 use crate::globals::announce::Announcement;

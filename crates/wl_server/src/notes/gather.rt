@@ -5,7 +5,7 @@
 
 ghost use Rattle.std.specs.Prelude.{◌≡◌, ℕ, ◌+◌, ◌++◌, ◌≤◌, ◌<◌, ◌==◌, ◌∷◌, [], if◌then◌else◌, length, map, false, None, Some, MatchOption, IfOk, IsPermutation, OnErr, OnOk};
 ghost use Rattle.std.specs.Vec.{vec_capacity, vec_len};
-ghost use Rattle.wl_server.specs.Inside.Gathering.{AllLeft, Gathers, MovesNote, count_leaving, emptied, leaving};
+ghost use Rattle.wl_server.specs.Inside.Gathering.{AllLeft, Gathers, MovesNote, count_leaving, emptied, to_gather};
 ghost use Rattle.wl_server.specs.Inside.NoteOrder.{IsOrderOf, Rise, places_at, slot_of};
 ghost use Rattle.wl_server.specs.Server.{note_of as the_note};
 
@@ -31,8 +31,8 @@ impl<T, U, C> Client<T, U, C> {
     /// Takes the next note of the client: the oldest that was made, or if there is none and `waits` is set, the oldest
     /// that waits.
     fn take_note(&mut self, waits: bool) -> Option<Happening<U>>
-        ensures { MatchOption result ((self.new ≡ self.old) × (leaving waits (Some self.old) ≡ []))
-            (λ h. (leaving waits (Some self.old) ≡ h ∷ leaving waits (Some self.new)) × (emptied waits self.new ≡ emptied waits self.old)) }
+        ensures { MatchOption result ((self.new ≡ self.old) × (to_gather waits (Some self.old) ≡ []))
+            (λ h. (to_gather waits (Some self.old) ≡ h ∷ to_gather waits (Some self.new)) × (emptied waits self.new ≡ emptied waits self.old)) }
     {
         if let Some(happening) = self.made.pop() {
             return Some(happening);
@@ -51,7 +51,7 @@ fn move_note<T, U, C>(
     waits: bool,
     notes: &mut Vec<Note<U>>,
 )
-    requires some { 0 < length (leaving waits client.old) }
+    requires some { 0 < length (to_gather waits client.old) }
     requires room { vec_len notes.old < vec_capacity notes.old }
     ensures moved { MovesNote waits slot client.old notes.old.items client.new notes.new.items }
     ensures capacity { vec_capacity notes.new ≡ vec_capacity notes.old }
@@ -89,7 +89,7 @@ pub fn gather<T, U, C>(
 
 /// How many notes of the client of a slot are gathered.
 pub fn count_of<T, U, C>(client: &Option<Client<T, U, C>>, waits: bool) -> usize
-    ensures { result ≡ length (leaving waits client.now) }
+    ensures { result ≡ length (to_gather waits client.now) }
 {
     match client {
         Some(client) if waits => client.made.len() + client.waiting.len(),
@@ -117,7 +117,7 @@ fn put_places_at<T, U, C>(
     slot: u32,
     order: &mut Vec<NotePlace>,
 ) -> Result<(), OutOfMemory>
-    ensures { OnOk result ((k : ℕ) → places_at k order.new.items ≡ places_at k order.old.items + (if slot == k then length (leaving waits client.now) else 0)) }
+    ensures { OnOk result ((k : ℕ) → places_at k order.new.items ≡ places_at k order.old.items + (if slot == k then length (to_gather waits client.now) else 0)) }
 {
     let Some(client) = client else {
         return Ok(());

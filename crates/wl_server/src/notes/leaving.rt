@@ -5,7 +5,7 @@
 ghost use Rattle.std.specs.Prelude.{◌≡◌, ◌+◌, ◌++◌, ◌<◌, ◌≤◌, length, map};
 ghost use Rattle.std.specs.FinMap.{entries};
 ghost use Rattle.std.specs.Vec.{vec_capacity, vec_len};
-ghost use Rattle.wl_server.specs.Inside.Leaving.{ending, ends_of};
+ghost use Rattle.wl_server.specs.Inside.Leaving.{with_data, ends_of};
 ghost use Rattle.wl_server.specs.Part.{note_of_end};
 ghost use Rattle.wl_server.specs.Server.{note_of};
 
@@ -16,7 +16,7 @@ use wl_link::{Object, ObjectMap};
 
 /// How many objects have user data. `usize::MAX` stands for any larger number.
 pub fn count_ending<U: Drop>(objects: &ObjectMap<Kept<U>>) -> usize
-    ensures { result < 0xFFFFFFFFFFFFFFFF → length (ending (entries objects.now.store.objects)) ≤ result }
+    ensures { result < 0xFFFFFFFFFFFFFFFF → length (with_data (entries objects.now.store.objects)) ≤ result }
 {
     let mut count: usize = 0;
     let mut all = objects.all_objects();
@@ -48,7 +48,7 @@ fn end_object<U: Drop>(
 /// Goes through the objects of a client that is taken out, by ascending number, moving each out of the map. Makes a note
 /// of each that has user data.
 pub fn end_objects<U: Drop>(objects: ClientObjects<U>, client: &ClientId, notes: &mut Vec<Note<U>>)
-    requires { vec_len notes.old + length (ending (entries objects.map.store.objects)) ≤ vec_capacity notes.old }
+    requires { vec_len notes.old + length (with_data (entries objects.map.store.objects)) ≤ vec_capacity notes.old }
     ensures noted { notes.new.items ≡ notes.old.items ++ map (note_of client.now) (ends_of client.now (entries objects.map.store.objects)) }
     ensures capacity { vec_capacity notes.new ≡ vec_capacity notes.old }
 {

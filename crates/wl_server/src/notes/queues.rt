@@ -8,7 +8,7 @@
 
 ghost use Rattle.std.specs.Prelude.{◌≡◌, ◌+◌, ◌++◌, ◌∷◌, ◌<◌, ◌≤◌, [], false, true, length, map, IfOk, MatchOption, OnOk};
 ghost use Rattle.std.specs.VecDeque.{deque_capacity, deque_len};
-ghost use Rattle.wl_server.specs.Inside.NoteOrder.{number_behind, place_of};
+ghost use Rattle.wl_server.specs.Inside.NoteOrder.{number_after, place_of};
 
 use crate::notes::Happening;
 use std::alloc::Global;
@@ -28,7 +28,7 @@ pub struct NoteNumbers {
 /// Returns the next number, and counts up.
 fn next_number(next: &mut u128) -> u128
     ensures given { result ≡ next.old }
-    ensures counted { next.new ≡ number_behind next.old }
+    ensures counted { next.new ≡ number_after next.old }
 {
     let number = *next;
     *next = number.saturating_add(1);
@@ -123,7 +123,7 @@ impl<U> MadeNotes<U> {
     pub fn push(&mut self, numbers: &mut NoteNumbers, happening: Happening<U>)
         requires { deque_len self.old.queue < deque_capacity self.old.queue }
         ensures items { self.new.queue.items ≡ self.old.queue.items ++ (numbers.old.made, happening) ∷ [] }
-        ensures numbers { numbers.new ≡ record numbers.old { made = number_behind numbers.old.made } }
+        ensures numbers { numbers.new ≡ record numbers.old { made = number_after numbers.old.made } }
         ensures len { deque_len self.new.queue ≡ deque_len self.old.queue + 1 }
         ensures capacity { deque_capacity self.new.queue ≡ deque_capacity self.old.queue }
     {
@@ -184,7 +184,7 @@ impl<U> WaitingNotes<U> {
     pub fn push(&mut self, numbers: &mut NoteNumbers, happening: Happening<U>)
         requires { deque_len self.old.queue < deque_capacity self.old.queue }
         ensures items { self.new.queue.items ≡ self.old.queue.items ++ (numbers.old.waiting, happening) ∷ [] }
-        ensures numbers { numbers.new ≡ record numbers.old { waiting = number_behind numbers.old.waiting } }
+        ensures numbers { numbers.new ≡ record numbers.old { waiting = number_after numbers.old.waiting } }
     {
         let number = next_number(&mut numbers.waiting);
         self.queue.push_back_reserved((number, happening));

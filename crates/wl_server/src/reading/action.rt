@@ -2,7 +2,7 @@
 
 ghost use Rattle.std.specs.Prelude.{◌≡◌};
 ghost use Rattle.wl_server.specs.Deeds.{handed};
-ghost use Rattle.wl_server.specs.Inside.Turns.{found_with};
+ghost use Rattle.wl_server.specs.Inside.ReadingLoop.{found_with};
 
 use crate::ids::global_id::GlobalId;
 use crate::ids::object_id::ObjectId;
@@ -106,13 +106,13 @@ impl Found {
     }
 }
 
-/// What became of a turn, which handles one message.
+/// What the handling of a message came to.
 #[derive(Drop)]
-pub enum TurnEnd {
+pub enum MessageEnd {
     /// An action was found. It is to be handed out.
     Acts,
     /// A message was handled, and the reading goes on.
-    GoesOn,
+    Continues,
     /// No whole message waits.
     Lacks,
     /// The reading ends without an action.

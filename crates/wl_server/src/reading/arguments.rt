@@ -3,9 +3,9 @@
 ghost use Rattle.std.specs.Prelude.{◌≡◌, ◌≢◌, ◌+◌, ◌<◌, false, true, None, Ok, Err, IfOk, MatchResult, length, reverse};
 ghost use Rattle.smallvec.specs.SmallVec.{HasRoomFor};
 ghost use Rattle.wl_wire.specs.Argument.{Matches};
-ghost use Rattle.wl_wire.specs.Asked.{next_interface, rest_of};
+ghost use Rattle.wl_wire.specs.MessageRows.{next_interface, rest_of};
 ghost use Rattle.wl_server.specs.Requests.{Wrong, allows_null as null_allowed, convert, kinds_after, object_argument};
-ghost use Rattle.wl_server.specs.Inside.Conversion.{CanMake, Converts, EndsWhole, IsNextKind, Makes, MakesNew, objects_of, state};
+ghost use Rattle.wl_server.specs.Inside.Conversion.{CanMake, Converts, EndsWhole, IsNextKind, MakesObject, MakesNew, objects_of, state};
 
 use crate::ids::client_id::ClientId;
 use crate::ids::object_id::ObjectId;
@@ -66,7 +66,7 @@ pub fn make_object<U: Drop>(
     number: u32,
 ) -> Option<ObjectId>
     requires { objects.old.map.reserved ≡ true }
-    ensures made { Makes client (objects_of objects.old) interface version number result (objects_of objects.new) }
+    ensures made { MakesObject client (objects_of objects.old) interface version number result (objects_of objects.new) }
     ensures registries { objects.new.registries ≡ objects.old.registries }
 {
     if number >= SERVER_ID_LIMIT || objects.last_serial == u64::MAX {

@@ -11,7 +11,7 @@ ghost use Rattle.wl_server.specs.Ids.{IdParts};
 ghost use Rattle.wl_server.specs.Reading.{display_request as request_verdict, made_at, registers, syncs};
 ghost use Rattle.wl_server.specs.Inside.Responses.{HasNames, core_with, only_new_id, response_to};
 ghost use Rattle.wl_server.specs.Telling.{Core};
-ghost use Rattle.wl_server.specs.Inside.Turns.{around_of};
+ghost use Rattle.wl_server.specs.Inside.ReadingLoop.{around_of};
 
 use crate::globals::handler::GlobalHandler;
 use crate::objects::{ClientObjects, Registry};

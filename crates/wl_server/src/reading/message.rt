@@ -1,9 +1,9 @@
-//! One turn of a reading: takes the message at the front of the incoming buffer, and handles it.
+//! Takes the message at the front of the incoming buffer, and handles it.
 
 ghost use Rattle.std.specs.Prelude.{◌≡◌, ◌≤◌, ◌<◌, List, [], true, false, Some, Ok, Err, length, vec_len, vec_capacity, IfOk, IfSome, OnErr, OnOk, option_copied, option_map};
 ghost use Rattle.smallvec.specs.SmallVec.{HasRoomFor};
 ghost use Rattle.wl_wire.specs.Argument.{Matches};
-ghost use Rattle.wl_wire.specs.Asked.{creates};
+ghost use Rattle.wl_wire.specs.MessageRows.{creates};
 ghost use Rattle.wl_wire.specs.Message.{content};
 ghost use Rattle.wl_wire.specs.Parse.{IsThere};
 ghost use Rattle.wl_wire.specs.Table.{IsAcceptedTable, holds_zero, message_row};
@@ -15,7 +15,7 @@ ghost use Rattle.wl_server.specs.declared.reading.action.Found.{Found as FoundOf
 ghost use Rattle.wl_server.specs.declared.reading.action.Reading.{Reading as ReadingOf};
 ghost use Rattle.wl_server.specs.Ids.{IdParts};
 ghost use Rattle.wl_server.specs.Inside.Responses.{HasNames, TookRequest};
-ghost use Rattle.wl_server.specs.Inside.Turns.{IsHeader, Live, NotTaken, TookWith, Turns, around_of, turned};
+ghost use Rattle.wl_server.specs.Inside.ReadingLoop.{IsHeader, Live, NotTaken, TookWith, HandlesMessage, around_of, message_result};
 
 use crate::client::Client;
 use crate::globals::handler::GlobalHandler;
@@ -23,7 +23,7 @@ use crate::ids::object_id::ObjectId;
 use crate::notes::queues::NoteNumbers;
 use crate::objects::{ClientObjects, Kept};
 use crate::reading::Surroundings;
-use crate::reading::action::{Found, NoAction, Reading, TurnEnd};
+use crate::reading::action::{Found, MessageEnd, NoAction, Reading};
 use crate::reading::request::request;
 use crate::reading::response::Response;
 use smallvec::SmallVec;
@@ -175,7 +175,7 @@ fn empty(message: &mut Message<u32, Token>)
 impl<T: Transport + Drop, U: Drop, C: Drop> Client<T, U, C> {
     /// Takes the message at the front off the incoming buffer, and handles it. `message` is the place that it is read
     /// into. An action that is handed out is in `found` then, and its arguments are in `args`.
-    pub fn turn<G: GlobalHandler<C> + Drop>(
+    pub fn handle_message<G: GlobalHandler<C> + Drop>(
         &mut self,
         numbers: &mut NoteNumbers,
         around: &Surroundings<'_, G>,
@@ -183,24 +183,24 @@ impl<T: Transport + Drop, U: Drop, C: Drop> Client<T, U, C> {
         message: &mut Message<u32, Token>,
         found: &mut Found,
         args: &mut SmallVec<Argument<ObjectId, Token>, INLINE_ARGS>,
-    ) -> TurnEnd
+    ) -> MessageEnd
         requires live { Live self.old.part }
         requires place { INLINE_ARGS ≤ message.old.args.capacity }
         requires inline { INLINE_ARGS ≤ args.old.capacity }
-        ensures turns { Turns T.sends T.receives (around_of G.views around.now) self.old reading.old (turned result found.new args.new.items) self.new reading.new }
+        ensures handles { HandlesMessage T.sends T.receives (around_of G.views around.now) self.old reading.old (message_result result found.new args.new.items) self.new reading.new }
         ensures place { INLINE_ARGS ≤ message.new.args.capacity }
         ensures inline { INLINE_ARGS ≤ args.new.capacity }
     {
         let Some(header) = self.socket.next_header() else {
-            return TurnEnd::Lacks;
+            return MessageEnd::Lacks;
         };
-        let end = self.turn_at(numbers, around, reading, header, message, found, args);
+        let end = self.handle_at(numbers, around, reading, header, message, found, args);
         empty(message);
         end
     }
 
-    /// Does the same as `turn` for a message with this header, and leaves in `message` what is left of the message.
-    fn turn_at<G: GlobalHandler<C> + Drop>(
+    /// Does the same as `handle_message` for a message with this header, and leaves in `message` what is left of the message.
+    fn handle_at<G: GlobalHandler<C> + Drop>(
         &mut self,
         numbers: &mut NoteNumbers,
         around: &Surroundings<'_, G>,
@@ -209,12 +209,12 @@ impl<T: Transport + Drop, U: Drop, C: Drop> Client<T, U, C> {
         message: &mut Message<u32, Token>,
         found: &mut Found,
         args: &mut SmallVec<Argument<ObjectId, Token>, INLINE_ARGS>,
-    ) -> TurnEnd
+    ) -> MessageEnd
         requires live { Live self.old.part }
         requires header { IsHeader self.old.part.link header }
         requires place { INLINE_ARGS ≤ message.old.args.capacity }
         requires inline { INLINE_ARGS ≤ args.old.capacity }
-        ensures turns { Turns T.sends T.receives (around_of G.views around.now) self.old reading.old (turned result found.new args.new.items) self.new reading.new }
+        ensures handles { HandlesMessage T.sends T.receives (around_of G.views around.now) self.old reading.old (message_result result found.new args.new.items) self.new reading.new }
         ensures inline { INLINE_ARGS ≤ args.new.capacity }
     {
         let read = reading.read;
@@ -237,22 +237,22 @@ impl<T: Transport + Drop, U: Drop, C: Drop> Client<T, U, C> {
         }
     }
 
-    /// What becomes of the turn if no message was taken.
+    /// What it comes to if no message was taken.
     fn not_taken<G: GlobalHandler<C> + Drop>(
         &mut self,
         numbers: &mut NoteNumbers,
         around: &Surroundings<'_, G>,
         error: MessageParseError,
-    ) -> TurnEnd
+    ) -> MessageEnd
         requires live { Live self.old.part }
         requires not_taken { NotTaken around.now.protocol.now self.old.part.store self.old.part.link error }
         ensures { (r : ReadingOf) (f : FoundOf) (args : List (Arg IdParts TokenParts)) → r.read ≤ 0xFFFFFFFFFFFFFFFF
-            → Turns T.sends T.receives (around_of G.views around.now) self.old r (turned result f args) self.new r }
+            → HandlesMessage T.sends T.receives (around_of G.views around.now) self.old r (message_result result f args) self.new r }
     {
         match error {
-            MessageParseError::MissingData | MessageParseError::MissingFD => TurnEnd::Lacks,
-            MessageParseError::Malformed => TurnEnd::Ends(self.garbled(numbers)),
-            MessageParseError::OutOfMemory => TurnEnd::Ends(NoAction {
+            MessageParseError::MissingData | MessageParseError::MissingFD => MessageEnd::Lacks,
+            MessageParseError::Malformed => MessageEnd::Ends(self.garbled(numbers)),
+            MessageParseError::OutOfMemory => MessageEnd::Ends(NoAction {
                 fault: IoFault::OutOfMemory,
                 refused: true,
             }),

@@ -13,7 +13,7 @@ ghost use Rattle.wl_server.specs.Cutting.{CallIsCut};
 ghost use Rattle.wl_server.specs.PartStep.{Asked, over};
 ghost use Rattle.wl_server.specs.Reading.{NextAction, action_content, new_reading};
 ghost use Rattle.wl_server.specs.Room.{HasRoom};
-ghost use Rattle.wl_server.specs.Inside.Turns.{EndsAs, Fills, Live, Waited, action_of, around_of};
+ghost use Rattle.wl_server.specs.Inside.ReadingLoop.{EndsAs, Fills, Live, Waited, action_of, around_of};
 
 use crate::backend::Backend;
 use crate::client::Client;
@@ -25,7 +25,7 @@ use crate::ids::object_id::ObjectId;
 use crate::notes::DisconnectReason;
 use crate::notes::queues::NoteNumbers;
 use crate::reading::Surroundings;
-use crate::reading::action::{Action, Found, NoAction, Reading, TurnEnd};
+use crate::reading::action::{Action, Found, MessageEnd, NoAction, Reading};
 use crate::reading::place::MessagePlace;
 use smallvec::SmallVec;
 use wl_link::Transport;
@@ -68,11 +68,11 @@ impl<T: Transport + Drop, U: Drop, C: Drop> Client<T, U, C> {
         // The count of requests starts within its type.
         prove!(reading.read <= usize::MAX);
         loop {
-            match self.turn(numbers, around, reading, message, found, args) {
-                TurnEnd::GoesOn => {}
-                TurnEnd::Lacks => return None,
-                TurnEnd::Acts => return Some(Ok(())),
-                TurnEnd::Ends(end) => return Some(Err(end)),
+            match self.handle_message(numbers, around, reading, message, found, args) {
+                MessageEnd::Continues => {}
+                MessageEnd::Lacks => return None,
+                MessageEnd::Acts => return Some(Ok(())),
+                MessageEnd::Ends(end) => return Some(Err(end)),
             }
         }
     }
@@ -142,7 +142,7 @@ impl<T: Transport + Drop, U: Drop, C: Drop> Client<T, U, C> {
 
     /// Finds the next action of the client, which is open until it is finished. The action is in `found` then, and its
     /// arguments are in `args`. Also returns whether memory was refused.
-    pub fn next_action<G: GlobalHandler<C> + Drop>(
+    pub fn find_action<G: GlobalHandler<C> + Drop>(
         &mut self,
         numbers: &mut NoteNumbers,
         around: &Surroundings<'_, G>,
@@ -255,7 +255,7 @@ impl<T: Transport + Drop, U: Drop, G: GlobalHandler<C> + Drop, C: Drop> Backend<
             globals: &self.globals,
             client: *id,
         };
-        let (answer, refused) = client.next_action(
+        let (answer, refused) = client.find_action(
             &mut self.numbers,
             &around,
             reading,

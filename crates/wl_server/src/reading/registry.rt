@@ -11,7 +11,7 @@ ghost use Rattle.wl_server.specs.Ids.{IdParts};
 ghost use Rattle.wl_server.specs.Reading.{binds, binds_to, made_at, registry_request as request_verdict};
 ghost use Rattle.wl_server.specs.Inside.Responses.{HasNames, allows, bind_of, bind_parts, core_with, response_to};
 ghost use Rattle.wl_server.specs.Telling.{Core};
-ghost use Rattle.wl_server.specs.Inside.Turns.{around_of};
+ghost use Rattle.wl_server.specs.Inside.ReadingLoop.{around_of};
 
 use crate::globals::KeptGlobal;
 use crate::globals::handler::GlobalHandler;

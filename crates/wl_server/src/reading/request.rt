@@ -3,7 +3,7 @@
 ghost use Rattle.std.specs.Prelude.{◌≡◌, ◌<◌, [], true, false, Some, length, vec_len, vec_capacity};
 ghost use Rattle.smallvec.specs.SmallVec.{HasRoomFor};
 ghost use Rattle.wl_wire.specs.Argument.{Matches};
-ghost use Rattle.wl_wire.specs.Asked.{creates as row_creates};
+ghost use Rattle.wl_wire.specs.MessageRows.{creates as row_creates};
 ghost use Rattle.wl_wire.specs.Message.{content};
 ghost use Rattle.wl_wire.specs.Table.{holds_zero, message_row};
 ghost use Rattle.wl_link.specs.declared.object.Object.{Object as ObjectOf};
@@ -12,7 +12,7 @@ ghost use Rattle.wl_server.specs.declared.objects.Kept.{Kept as KeptOf};
 ghost use Rattle.wl_server.specs.Reading.{request_to};
 ghost use Rattle.wl_server.specs.Inside.Responses.{HasNames, core_with, response_to};
 ghost use Rattle.wl_server.specs.Telling.{Core};
-ghost use Rattle.wl_server.specs.Inside.Turns.{around_of};
+ghost use Rattle.wl_server.specs.Inside.ReadingLoop.{around_of};
 
 use crate::globals::handler::GlobalHandler;
 use crate::ids::object_id::ObjectId;

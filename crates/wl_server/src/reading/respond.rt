@@ -6,10 +6,10 @@ ghost use Rattle.std.specs.Prelude.{◌≡◌, ◌∷◌, map, List, [], false, 
 ghost use Rattle.wl_wire.specs.declared.argument.Argument.{Argument as Arg};
 ghost use Rattle.wl_wire.specs.declared.argument.Token.{Token as TokenParts};
 ghost use Rattle.wl_wire.specs.declared.error.IoFault.TheVariants as io;
-ghost use Rattle.wl_link.specs.Puts.{lacked_memory};
+ghost use Rattle.wl_link.specs.Puts.{lacks_memory};
 ghost use Rattle.wl_server.specs.declared.notes.DisconnectReason.TheVariants.{ConnectionClosed};
 ghost use Rattle.wl_server.specs.declared.reading.action.Found.{Found as FoundOf};
-ghost use Rattle.wl_server.specs.declared.reading.action.TurnEnd.TheVariants as came;
+ghost use Rattle.wl_server.specs.declared.reading.action.MessageEnd.TheVariants as came;
 ghost use Rattle.wl_server.specs.Inside.Client.{Does};
 ghost use Rattle.wl_server.specs.Deeds.{Remembered};
 ghost use Rattle.wl_server.specs.Globals.{shown};
@@ -18,7 +18,7 @@ ghost use Rattle.wl_server.specs.Part.{id_of};
 ghost use Rattle.wl_server.specs.Reading.{breaks, garbled, replies};
 ghost use Rattle.wl_server.specs.Inside.Responses.{HasName, HasNames, code_of, opened_of, response_to, text_of};
 ghost use Rattle.wl_server.specs.Telling.{Kills, core_of, global_message};
-ghost use Rattle.wl_server.specs.Inside.Turns.{Acts, Ended, IsHandled, Live, around_of, turned};
+ghost use Rattle.wl_server.specs.Inside.ReadingLoop.{Acts, Ended, IsHandled, Live, around_of, message_result};
 
 use crate::client::Client;
 use crate::events::display::{DISPLAY, put_done};
@@ -28,7 +28,7 @@ use crate::ids::object_id::ObjectId;
 use crate::notes::DisconnectReason;
 use crate::notes::queues::NoteNumbers;
 use crate::reading::Surroundings;
-use crate::reading::action::{Found, NoAction, OpenAction, TurnEnd};
+use crate::reading::action::{Found, MessageEnd, NoAction, OpenAction};
 use crate::reading::response::{Breach, Response};
 use crate::reading::texts::{bind_text, fault_text, new_id_text, since_text};
 use std::alloc::Global;
@@ -124,20 +124,20 @@ impl<T: Transport + Drop, U: Drop, C: Drop> Client<T, U, C> {
         }
     }
 
-    /// What becomes of the turn after the answer to a request was written, with this result. If the write failed, the
+    /// What the handling of a request comes to after the answer was written, with this result. If the write failed, the
     /// client is killed.
-    pub fn replied(&mut self, numbers: &mut NoteNumbers, wrote: Result<(), IoFault>) -> TurnEnd
+    pub fn replied(&mut self, numbers: &mut NoteNumbers, wrote: Result<(), IoFault>) -> MessageEnd
         ensures { MatchResult wrote
-            (λ _. (result ≡ came.GoesOn) × (self.new ≡ self.old))
-            (λ f. (result ≡ came.Ends (record { fault = io.Pipe; refused = lacked_memory (Err f) }))
+            (λ _. (result ≡ came.Continues) × (self.new ≡ self.old))
+            (λ f. (result ≡ came.Ends (record { fault = io.Pipe; refused = lacks_memory (Err f) }))
             × Does self.old (λ p did q. Kills p ConnectionClosed did q) self.new) }
     {
         let is_written = wrote.is_ok();
         let refused = self.kill_unless_written(numbers, wrote);
         if is_written {
-            return TurnEnd::GoesOn;
+            return MessageEnd::Continues;
         }
-        TurnEnd::Ends(NoAction {
+        MessageEnd::Ends(NoAction {
             fault: IoFault::Pipe,
             refused,
         })
@@ -149,11 +149,11 @@ impl<T: Transport + Drop, U: Drop, C: Drop> Client<T, U, C> {
         numbers: &mut NoteNumbers,
         around: &Surroundings<'_, G>,
         registry: &ObjectId,
-    ) -> TurnEnd
+    ) -> MessageEnd
         requires { Live self.old.part }
         ensures { (f : FoundOf) (args : List (Arg IdParts TokenParts)) → IsHandled T.sends
             (replies (core_of self.old.part) (map (global_message around.now.protocol.now (id_of registry.now)) (shown G.views (around_of G.views around.now).globals around.now.client self.old.part.info))
-            (Remembered (id_of registry.now) ∷ [])) self.old (turned result f args) self.new }
+            (Remembered (id_of registry.now) ∷ [])) self.old (message_result result f args) self.new }
     {
         let alloc = self.alloc();
         let wrote = put_globals(alloc, &mut self.socket, around, &self.info, registry);
@@ -167,14 +167,14 @@ impl<T: Transport + Drop, U: Drop, C: Drop> Client<T, U, C> {
         around: &Surroundings<'_, G>,
         response: &Response<'_>,
         found: &Found,
-    ) -> TurnEnd
+    ) -> MessageEnd
         requires live { Live self.old.part }
         requires names { HasNames response.now }
-        ensures { (args : List (Arg IdParts TokenParts)) → IsHandled T.sends (response_to (around_of G.views around.now) (core_of self.old.part) response.now found.now args) self.old (turned result found.now args) self.new }
+        ensures { (args : List (Arg IdParts TokenParts)) → IsHandled T.sends (response_to (around_of G.views around.now) (core_of self.old.part) response.now found.now args) self.old (message_result result found.now args) self.new }
     {
         match response {
-            Response::Garbled => TurnEnd::Ends(self.garbled(numbers)),
-            Response::Breaks(breach) => TurnEnd::Ends(self.ends_by(numbers, around, breach)),
+            Response::Garbled => MessageEnd::Ends(self.garbled(numbers)),
+            Response::Breaks(breach) => MessageEnd::Ends(self.ends_by(numbers, around, breach)),
             Response::Syncs(callback) => {
                 let alloc = self.alloc();
                 let wrote = put_done(alloc, &mut self.socket, callback.protocol_id());
@@ -183,7 +183,7 @@ impl<T: Transport + Drop, U: Drop, C: Drop> Client<T, U, C> {
             Response::Registers(registry) => self.registered(numbers, around, registry),
             Response::HandsOut => {
                 self.action = Some(open_action(found));
-                TurnEnd::Acts
+                MessageEnd::Acts
             }
         }
     }

@@ -8,7 +8,7 @@ use Rattle.wl_wire.specs.declared.argument.Argument.TheVariants as arg
 use Rattle.wl_wire.specs.declared.argument.ArgumentType.{ArgumentType}
 use Rattle.wl_wire.specs.declared.argument.ArgumentType.TheVariants as kind
 use Rattle.wl_wire.specs.Argument.{kind_of, type_of, Matches}
-use Rattle.wl_wire.specs.Asked.{matches, type_number}
+use Rattle.wl_wire.specs.MessageRows.{matches, type_number}
 
 -- the type of an argument says nothing of null
 pub kind_of-type_of : {Id Fd : Type 0} (a : Argument Id Fd) → kind_of (type_of a) ≡ type_of a

@@ -104,9 +104,9 @@ Fails errors.OutOfMemory read = Unit {0}
 Fails _ read = ⊥
 
 -- a function gives what is read, seen by the view, unless memory was refused
-abbrev pub Gives : {X Y : Type 0} → (X → Y) → Result X MessageParseError → Option Y → Type 0
-Gives view (Ok x) read = read ≡ Some (view x)
-Gives view (Err e) read = Fails e read
+abbrev pub ReadsAs : {X Y : Type 0} → (X → Y) → Result X MessageParseError → Option Y → Type 0
+ReadsAs view (Ok x) read = read ≡ Some (view x)
+ReadsAs view (Err e) read = Fails e read
 
 -- what the parser answers if no whole message is there
 abbrev pub RefusesHeader : List ℕ → MessageParseError → Type 0

@@ -92,7 +92,7 @@ static ROWS: [Row; 9] = [
         told: "would block\n36 arrivals\nwould block\n0 arrivals\n",
     },
     Row {
-        name: "message longer than the first storage",
+        name: "message longer than the first buffer",
         acts: &[
             Act::Send(Request::Sync),
             ARRIVE_5000,

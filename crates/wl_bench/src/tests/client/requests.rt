@@ -106,7 +106,7 @@ static ROWS: [Row; 9] = [
     },
     // A request of 5016 bytes after the 44 of the bind: the buffer of 4096 bytes grows, and a send takes 4096 at most.
     Row {
-        name: "storage grows for a request",
+        name: "buffer grows for a request",
         acts: &[
             Act::Bound,
             Act::Send(Request::Give(5000)),

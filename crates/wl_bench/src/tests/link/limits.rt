@@ -16,26 +16,26 @@ const WRITE_4100: Act = Act::Write((42, 0), &[Arg::Ones(4088)]);
 /// Runs over a script, and what they tell.
 static ROWS: [Row; 10] = [
     Row {
-        name: "storage grows without a limit",
+        name: "buffer grows without a limit",
         cues: &[],
         limit: None,
         acts: &[
             WRITE_4100,
-            Act::Tell(Fact::Storage),
+            Act::Tell(Fact::Capacities),
             Act::Tell(Fact::Waiting),
         ],
-        told: "write: done\nstorage: 4096, 8192\nwaiting: 0, 0, 4100, 0\n0 sends recorded\n",
+        told: "write: done\ncapacities: 4096, 8192\nwaiting: 0, 0, 4100, 0\n0 sends recorded\n",
     },
     Row {
-        name: "storage grows for a message with a descriptor",
+        name: "buffer grows for a message with a descriptor",
         cues: &[],
         limit: None,
         acts: &[
             Act::Write((42, 0), &[Arg::Ones(4088), Arg::Fd(7)]),
-            Act::Tell(Fact::Storage),
+            Act::Tell(Fact::Capacities),
             Act::Tell(Fact::Waiting),
         ],
-        told: "write: done\nstorage: 4096, 8192\nwaiting: 0, 0, 4100, 1\n0 sends recorded\n",
+        told: "write: done\ncapacities: 4096, 8192\nwaiting: 0, 0, 4100, 1\n0 sends recorded\n",
     },
     // The buffer is full, and may not grow: what waits is sent first.
     Row {
@@ -56,9 +56,9 @@ static ROWS: [Row; 10] = [
         acts: &[
             WRITE_4096,
             Act::Tell(Fact::Waiting),
-            Act::Tell(Fact::Storage),
+            Act::Tell(Fact::Capacities),
         ],
-        told: "write: done\nwaiting: 0, 0, 4096, 0\nstorage: 4096, 4096\n0 sends recorded\n",
+        told: "write: done\nwaiting: 0, 0, 4096, 0\ncapacities: 4096, 4096\n0 sends recorded\n",
     },
     Row {
         name: "limit bounds a message",
@@ -67,65 +67,65 @@ static ROWS: [Row; 10] = [
         acts: &[
             WRITE_4100,
             Act::Tell(Fact::Waiting),
-            Act::Tell(Fact::Storage),
+            Act::Tell(Fact::Capacities),
         ],
-        told: "write: message too big\nwaiting: 0, 0, 0, 0\nstorage: 4096, 4096\n0 sends recorded\n",
+        told: "write: message too big\nwaiting: 0, 0, 0, 0\ncapacities: 4096, 4096\n0 sends recorded\n",
     },
     Row {
-        name: "incoming storage grows for a message",
+        name: "incoming buffer grows for a message",
         cues: &[ARRIVE_5000],
         limit: None,
         acts: &[
             Act::FillAndRead(2),
-            Act::Tell(Fact::Storage),
+            Act::Tell(Fact::Capacities),
             Act::Tell(Fact::Waiting),
         ],
-        told: "2 read: 2, 0: uint 0\nstorage: 8192, 4096\nwaiting: 0, 0, 0, 0\n0 sends recorded\n",
+        told: "2 read: 2, 0: uint 0\ncapacities: 8192, 4096\nwaiting: 0, 0, 0, 0\n0 sends recorded\n",
     },
     Row {
-        name: "incoming storage grows up to 65536 bytes",
+        name: "incoming buffer grows up to 65536 bytes",
         cues: &[Cue::ArriveInChunks(&[2, 0, 0, 0, 0, 0, 0xfc, 0xff], 65532)],
         limit: None,
-        acts: &[Act::FillAndRead(16), Act::Tell(Fact::Storage)],
-        told: "16 read: 2, 0: uint 0\nstorage: 65536, 4096\n0 sends recorded\n",
+        acts: &[Act::FillAndRead(16), Act::Tell(Fact::Capacities)],
+        told: "16 read: 2, 0: uint 0\ncapacities: 65536, 4096\n0 sends recorded\n",
     },
     // A buffer of 65536 bytes of which none is read is full for good.
     Row {
-        name: "incoming storage grows no further",
+        name: "incoming buffer grows no further",
         cues: &[Cue::ArriveInChunks(&[9, 0, 0, 0, 1, 0, 8, 0], 65540)],
         limit: None,
         acts: &[
             Act::FillEach(16),
-            Act::Tell(Fact::Storage),
+            Act::Tell(Fact::Capacities),
             Act::Fill,
-            Act::Tell(Fact::Storage),
+            Act::Tell(Fact::Capacities),
             Act::Tell(Fact::Waiting),
         ],
-        told: "storage: 65536, 4096\nreceive: broken pipe\nstorage: 65536, 4096\nwaiting: 65536, 0, 0, 0\n0 sends recorded\n",
+        told: "capacities: 65536, 4096\nreceive: broken pipe\ncapacities: 65536, 4096\nwaiting: 65536, 0, 0, 0\n0 sends recorded\n",
     },
     Row {
-        name: "incoming storage stops at the limit",
+        name: "incoming buffer stops at the limit",
         cues: &[ARRIVE_5000],
         limit: Some(4096),
         acts: &[
             Act::FillAndRead(1),
             Act::Fill,
-            Act::Tell(Fact::Storage),
+            Act::Tell(Fact::Capacities),
             Act::Tell(Fact::Waiting),
         ],
-        told: "receive: broken pipe\nstorage: 4096, 4096\nwaiting: 4096, 0, 0, 0\n0 sends recorded\n",
+        told: "receive: broken pipe\ncapacities: 4096, 4096\nwaiting: 4096, 0, 0, 0\n0 sends recorded\n",
     },
     Row {
-        name: "lowered limit makes no storage smaller",
+        name: "lowered limit makes no buffer smaller",
         cues: &[ARRIVE_5000],
         limit: None,
         acts: &[
             Act::FillAndRead(2),
             Act::SetLimit(Some(4096)),
             Act::Fill,
-            Act::Tell(Fact::Storage),
+            Act::Tell(Fact::Capacities),
         ],
-        told: "2 read: 2, 0: uint 0\nreceive: would block\nstorage: 8192, 4096\n0 sends recorded\n",
+        told: "2 read: 2, 0: uint 0\nreceive: would block\ncapacities: 8192, 4096\n0 sends recorded\n",
     },
 ];
 

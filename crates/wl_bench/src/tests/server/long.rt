@@ -11,7 +11,7 @@ use std::test::Fail;
 static ROWS: [Row; 3] = [
     // The buffer is doubled for a request of 5000 bytes, if the limit allows it.
     Row {
-        name: "request longer than the first storage",
+        name: "request longer than the first buffer",
         acts: &[
             Act::Do(Call::DefaultLimit(8192)),
             Act::Quietly(&BOUND),

@@ -31,7 +31,7 @@ use Rattle.wl_server.specs.Finish.{FinishesBind, FinishesRequest, Refuses, close
 use Rattle.wl_server.specs.Globals.{Offer}
 use Rattle.wl_server.specs.Ids.{ClientParts, GlobalParts, IdParts}
 use Rattle.wl_server.proofs.OverRuns.Moves.MovesOfCalls.{ended_named, granted_named, named_held, named_serial}
-use Rattle.wl_server.specs.Objects.{Creates, DataSet, Destroys, destroyable, destroys, leaving, new_object, unless_refused, without, without_noted}
+use Rattle.wl_server.specs.Objects.{Creates, DataSet, Destroys, destroyable, destroys, told_of_removed, new_object, unless_refused, without, without_noted}
 use Rattle.wl_server.specs.Part.{Part, end_note, id_at, id_of, last_possible_serial, named, note_of_end, with_link}
 use Rattle.wl_server.specs.Telling.{Core, Did, Kills, Tells, core_of, delete_message, deletions}
 use Rattle.wl_server.proofs.OverRuns.Announced.WatchedReadings.{deletions_other}
@@ -176,7 +176,7 @@ module _ {G C : Type 0} (views : G → ClientParts → C → GlobalParts → Boo
             })
             (λ fits.
             speaks_then (core_of p) (without_noted client (core_of p) id.number x) (deletions id.number)
-            (told_deeds (leaving id x.value.user_data (without_noted client (core_of p) id.number x))) refl
+            (told_deeds (told_of_removed id x.value.user_data (without_noted client (core_of p) id.number x))) refl
             (silent_left id x.value.user_data (is_some (named (without_noted client (core_of p) id.number x).store id))).1 (deletes_goes (part_scene p) id.number)
             (without_still (core_of p) id x there (λ same. alone same (not_refused _ answer lacked is (fits refl)))))
             tells'
@@ -243,7 +243,7 @@ module _ {G C : Type 0} (views : G → ClientParts → C → GlobalParts → Boo
       ends_leads false other = lives_same views client r offer p.is_killed (part_scene p)
       ends_leads true other =
           speaks_then (core_of p) (without_noted client (core_of p) m.sender.number sender) (deletions m.sender.number)
-          (told_deeds (leaving m.sender sender.value.user_data (without_noted client (core_of p) m.sender.number sender))) refl
+          (told_deeds (told_of_removed m.sender sender.value.user_data (without_noted client (core_of p) m.sender.number sender))) refl
           (silent_left m.sender sender.value.user_data (is_some (named (without_noted client (core_of p) m.sender.number sender).store m.sender))).1
           (deletes_goes (part_scene p) m.sender.number) (without_still (core_of p) m.sender sender is other)
 

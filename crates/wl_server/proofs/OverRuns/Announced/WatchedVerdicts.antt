@@ -8,7 +8,7 @@ use Rattle.wl_link.proofs.Calls.Branches.{either_result}
 use Rattle.wl_link.specs.Exchange.{Queue, Sending}
 use Rattle.wl_link.specs.Identity.{Id}
 use Rattle.wl_link.specs.Link.{LinkState}
-use Rattle.wl_link.specs.Puts.{FlushesOut, PutsOut, Said, lacked_memory}
+use Rattle.wl_link.specs.Puts.{FlushesOut, PutsOut, Said, lacks_memory}
 use Rattle.wl_link.specs.Reader.{CarriesOut, Given, Reader, Turn, Verdict, came_to, ReaderState}
 use Rattle.wl_server.proofs.OverRuns.Moves.BaseMoves.{Doings}
 use Rattle.wl_server.specs.Deeds.{Deed, Put, Sent, log_of, registries_in}
@@ -147,7 +147,7 @@ module _ {U C : Type 0} where
 
     came : (link mid after : LinkState T) (first others : List Sending) (put : List Said) (wrote : Result (Unit {0}) IoFault) (lacked : Bool) (gave : List (Given (Told U)))
         (refused : Bool) (e : Core U C) → PutsOut sends link v.puts first put wrote mid → FlushesOut sends v.flushes mid others lacked after
-        → e ≡ came_to reader v wrote → deeds_in gave ≡ map Put put ++ told_deeds (v.events (came_to reader v wrote)) → refused ≡ lacked_memory wrote || lacked
+        → e ≡ came_to reader v wrote → deeds_in gave ≡ map Put put ++ told_deeds (v.events (came_to reader v wrote)) → refused ≡ lacks_memory wrote || lacked
         → CameTo c v gave refused e
     came link mid after first others put (Ok u) lacked gave refused e puts flushed core deeds is =
         inr (inr (

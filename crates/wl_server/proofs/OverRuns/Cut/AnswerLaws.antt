@@ -15,8 +15,8 @@ use Rattle.wl_link.specs.declared.object.Object.{Object}
 use Rattle.wl_link.specs.Exchange.{Queue, Sending}
 use Rattle.wl_link.specs.Identity.{Objects}
 use Rattle.wl_link.specs.Link.{LinkState, counted_answer, count_of}
-use Rattle.wl_link.specs.Puts.{PutsOut, Said, lacked_memory}
-use Rattle.wl_link.specs.Reader.{CarriesOut, Ends, Given, Gives, Halts, HandedOut, Handled, Reads, Received, Turn, Unread, Verdict, behind, came_to, put_and_gave, stops, with_link, ReaderState}
+use Rattle.wl_link.specs.Puts.{PutsOut, Said, lacks_memory}
+use Rattle.wl_link.specs.Reader.{CarriesOut, Ends, Given, Gives, Halts, HandedOut, Handled, Reads, Received, Turn, Unread, Verdict, given_first, came_to, put_and_gave, stops, with_link, ReaderState}
 use Rattle.wl_link.proofs.Readings.ServedLaws.{both_false}
 use Rattle.wl_link.specs.Store.{held}
 use Rattle.wl_server.specs.declared.reading.action.OpenAction.{OpenAction}
@@ -319,7 +319,7 @@ module _ {U G C : Type 0} (a : Around G C) where
 
   -- ---- a verdict that was carried out
 
-  came_broken : (v : Verdict (Core U C) (Told U)) (f : IoFault) → lacked_memory (Err f) ≡ false → came_to (server a) v (Err f) ≡ v.last (closed_down v.core)
+  came_broken : (v : Verdict (Core U C) (Told U)) (f : IoFault) → lacks_memory (Err f) ≡ false → came_to (server a) v (Err f) ≡ v.last (closed_down v.core)
   came_broken v fault.OutOfMemory ample = absurd (true≢false ample)
   came_broken v fault.WouldBlock ample = refl
   came_broken v fault.Pipe ample = refl
@@ -330,7 +330,7 @@ module _ {U G C : Type 0} (a : Around G C) where
 
   module _ {T : Type 0} (sends : T → Queue → Result ℕ IoFault → T → Type 0) where
     came_says : (v : Verdict (Core U C) (Told U)) → Speaks v → (before mid : LinkState T) (es : List Sending) (put : List Said) (wrote : Result (Unit {0}) IoFault)
-        → PutsOut sends before v.puts es put wrote mid → lacked_memory wrote ≡ false → Says (map HandedOut (v.events (came_to (server a) v wrote))) (came_to (server a) v wrote)
+        → PutsOut sends before v.puts es put wrote mid → lacks_memory wrote ≡ false → Says (map HandedOut (v.events (came_to (server a) v wrote))) (came_to (server a) v wrote)
     came_says v speaks before mid es put (Ok u) puts ample = speaks.whole
     came_says v speaks before mid es put (Err f) puts ample =
         subst (λ (d : Core U C). Says (map HandedOut (v.events d)) d) (sym (came_broken v f ample)) (speaks.broken (none_broken sends v.puts before mid es put f puts))
@@ -339,7 +339,7 @@ module _ {U G C : Type 0} (a : Around G C) where
         (after : ReaderState T (Core U C)) → refused ≡ false → CarriesOut sends (server a) v before es gave refused after → Says gave after.core
     carried_says v speaks before es gave refused after ample (inr (asks, was, none, is, same)) = absurd (true≢false (sym was ∙ ample))
     carried_says v speaks before es gave refused after ample (inl (first, others, put, wrote, mid, lacked, puts, flushed, split, core, is, was)) =
-        let calm = both_false (lacked_memory wrote) lacked (sym ample ∙ was) in
+        let calm = both_false (lacks_memory wrote) lacked (sym ample ∙ was) in
         let says = came_says v speaks before mid first put wrote puts calm.0 in
         let events = v.events (came_to (server a) v wrote) in
         subst (λ (d : Core U C). Says gave d) (sym core)
@@ -388,7 +388,7 @@ module _ {U C : Type 0} where
   faulted_sound c (fault.Other n) r = sound_killed c _ (inl (r.live, r.none)) r.unopened
 
   -- what a verdict said, and then the rest
-  joins_so : (c mid e : Core U C) (first : List (Given (Told U))) (lacked : Bool) (rest out : Gives (Told U)) → out ≡ behind first lacked rest → Says first mid
+  joins_so : (c mid e : Core U C) (first : List (Given (Told U))) (lacked : Bool) (rest out : Gives (Told U)) → out ≡ given_first first lacked rest → Says first mid
       → ReadsSo mid rest e → (reads_on mid ≡ false → (rest.stopped ≡ None) × (rest.gave ≡ []) × (e ≡ mid)) → ReadsSo c out e
   joins_so c mid e first lacked rest out split says more over =
       subst (λ (g : Gives (Told U)). ReadsSo c g e) (sym split)
@@ -401,7 +401,7 @@ module _ {U C : Type 0} where
       both : answers_in (first ++ rest.gave) ≡ answers_in first ++ answers_in rest.gave
       both = answers_both first rest.gave
 
-      go : ((reads_on mid ≡ true) × (answers_in first ≡ [])) ⊎ IsOver (answers_in first) mid → IsAnswered mid rest e → IsAnswered c (behind first lacked rest) e
+      go : ((reads_on mid ≡ true) × (answers_in first ≡ [])) ⊎ IsOver (answers_in first) mid → IsAnswered mid rest e → IsAnswered c (given_first first lacked rest) e
       go (inl (on, none)) (inl (f, stopped, nothing)) =
           inl (f, stopped, both ∙ ap₂ (λ (x y : List (Result Handed IoFault)). x ++ y) none nothing)
       go (inl (on, none)) (inr (stopped, inl (off, nothing))) = absurd (true≢false (sym on ∙ off))
@@ -445,11 +445,11 @@ module _ {T U G C : Type 0} (sends : T → Queue → Result ℕ IoFault → T �
     where
       go : (c : Result (Unit {0}) IoFault)
           → MatchResult c (λ _. Reads sends (server a) receives n (with_link p link) turns out after)
-          (λ f. (turns ≡ []) × (out ≡ stops (Some f) (lacked_memory (Err f)) n) × (after ≡ record { core = faulted p.core f; link = link }))
+          (λ f. (turns ≡ []) × (out ≡ stops (Some f) (lacks_memory (Err f)) n) × (after ≡ record { core = faulted p.core f; link = link }))
           → (Reads sends (server a) receives n (with_link p link) turns out after → ReadsSo p.core out after.core) → ReadsSo p.core out after.core
       go (Ok u) more goes = goes more
       go (Err f) (none, ends, same) goes =
-          stops_so p.core after.core out (Some f) (lacked_memory (Err f)) n
+          stops_so p.core after.core out (Some f) (lacks_memory (Err f)) n
           (subst (λ (x : ReaderState T (Core U C)). IsSound x.core) (sym same) (faulted_sound p.core f (ready p.core on sound))) ends (inl (f, refl, refl))
   reads_so left p after (Handled es ∷ turns) out (on, (v, link, first, lacked, mid, rest, (m, read, is), carried, split, more)) ample sound =
       let calm = both_false lacked rest.refused (sym ample ∙ ap (λ (o : Gives (Told U)). o.refused) split) in
@@ -481,7 +481,7 @@ module _ {U G C : Type 0} (a : Around G C) where
     quiet : (d : Core U C) → IsBeside (map HandedOut (v.events d))
     none : (d : Core U C) → answers_in (map HandedOut (v.events d)) ≡ []
 
-  closed_end : (v : Verdict (Core U C) (Told U)) → Closes v → (wrote : Result (Unit {0}) IoFault) → lacked_memory wrote ≡ false → IsSound (came_to (server a) v wrote)
+  closed_end : (v : Verdict (Core U C) (Told U)) → Closes v → (wrote : Result (Unit {0}) IoFault) → lacks_memory wrote ≡ false → IsSound (came_to (server a) v wrote)
   closed_end v closes' (Ok u) ample = subst IsSound (sym (closes'.last v.core)) (inl (closes'.live, closes'.unended))
   closed_end v closes' (Err f) ample =
       subst IsSound (sym (came_broken a v f ample ∙ closes'.last (closed_down v.core))) (sound_killed v.core _ (inl (closes'.live, closes'.unended)) closes'.unopened)
@@ -553,7 +553,7 @@ module _ {U G C : Type 0} (a : Around G C) where
     ends_so p after u es gave unended (v, taken, inr (asks, was, none, is, same)) = absurd (true≢false (sym was))
     ends_so p after u es gave unended (v, taken, inl (first, others, put, wrote, mid, lacked, puts, flushed, split, core, is, was)) =
         let closes' = taken_closes p.core u v unended taken in
-        let calm = both_false (lacked_memory wrote) lacked was in
+        let calm = both_false (lacks_memory wrote) lacked was in
         let end = came_to (server a) v wrote in
         record {
           sound = subst IsSound (sym core) (closed_end v closes' wrote calm.0);

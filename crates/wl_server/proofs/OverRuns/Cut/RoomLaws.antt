@@ -8,8 +8,8 @@ use Rattle.wl_link.proofs.Calls.Branches.{either_bool, either_option, either_res
 use Rattle.wl_link.specs.Exchange.{Queue, Sending}
 use Rattle.wl_link.proofs.Streams.LengthLaws.{failed_finds}
 use Rattle.wl_link.specs.Link.{FindsRoom, LinkState, count_of, counted_answer}
-use Rattle.wl_link.specs.Puts.{Said, lacked_memory}
-use Rattle.wl_link.specs.Reader.{CarriesOut, Given, Gives, Handled, Reads, Received, Turn, Unread, Verdict, behind, stops, with_link, ReaderState}
+use Rattle.wl_link.specs.Puts.{Said, lacks_memory}
+use Rattle.wl_link.specs.Reader.{CarriesOut, Given, Gives, Handled, Reads, Received, Turn, Unread, Verdict, given_first, stops, with_link, ReaderState}
 use Rattle.wl_server.specs.declared.reading.action.Reading.{Reading}
 use Rattle.wl_server.specs.declared.error.ActionError.{ActionError}
 use Rattle.wl_server.specs.declared.notes.DisconnectReason.{DisconnectReason}
@@ -90,7 +90,7 @@ module _ {T U G C : Type 0} (sends : T → Queue → Result ℕ IoFault → T �
       let c = carried sends receives a.client (server a) (λ d f. refl) p.core v comes calm link es first lacked mid by in
       (ap came_in c.deeds ∙ none_put c.put c.made ∙ c.quiet.1, c.calm)
 
-  none_told : (first : List (Given (Told U))) (lacked : Bool) (rest out : Gives (Told U)) → out ≡ behind first lacked rest → came_in (deeds_in first) ≡ []
+  none_told : (first : List (Given (Told U))) (lacked : Bool) (rest out : Gives (Told U)) → out ≡ given_first first lacked rest → came_in (deeds_in first) ≡ []
       → came_in (deeds_in rest.gave) ≡ [] → came_in (deeds_in out.gave) ≡ []
   none_told first lacked rest out split none nor =
       ap (λ (o : Gives (Told U)). came_in (deeds_in o.gave)) split
@@ -134,7 +134,7 @@ module _ {T U G C : Type 0} (sends : T → Queue → Result ℕ IoFault → T �
     where
       go : (c : Result (Unit {0}) IoFault) → counted_answer (count_of s) ≡ c
           → MatchResult c (λ _. Reads sends (server a) receives n (with_link p link) turns out after)
-          (λ f. (turns ≡ []) × (out ≡ stops (Some f) (lacked_memory (Err f)) n) × (after ≡ record { core = faulted p.core f; link = link }))
+          (λ f. (turns ≡ []) × (out ≡ stops (Some f) (lacks_memory (Err f)) n) × (after ≡ record { core = faulted p.core f; link = link }))
           → (s ≡ r) ⊎ IsAmong (received U turns) r
           → (Reads sends (server a) receives n (with_link p link) turns out after → IsAmong (received U turns) r → Leaves after.link) → Leaves after.link
       go (Ok u) was more (inl same) goes = absurd (none_fails s (subst BringsNone (sym same) none) was)

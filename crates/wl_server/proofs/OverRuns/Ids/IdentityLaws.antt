@@ -219,7 +219,7 @@ module _ {T U G C : Type 0} (w : World T G C) (id : ClientParts) where
     pub are : AreObjectsOf point there
     pub empty : held there.store 0 ≡ None
     pub before : Follows w id offer s o done first point there
-    pub behind : Follows w id (offer_through offer done) point there later rest t whole.kept
+    pub after_point : Follows w id (offer_through offer done) point there later rest t whole.kept
     pub ends_first : RunEnds serial_of is_over o first there
     pub ends_rest : RunEnds serial_of is_over there rest whole.kept
 
@@ -238,7 +238,7 @@ module _ {T U G C : Type 0} (w : World T G C) (id : ClientParts) where
         are = subst (λ (x : Seen T U C). AreObjectsOf x o) (sym same) are;
         empty = empty;
         before = (same, refl);
-        behind = subst (λ (x : Seen T U C). Follows w id offer x o later rest.changes t rest.kept) (sym same) rest.follows;
+        after_point = subst (λ (x : Seen T U C). Follows w id offer x o later rest.changes t rest.kept) (sym same) rest.follows;
         ends_first = refl;
         ends_rest = rest.ends;
       }
@@ -255,7 +255,7 @@ module _ {T U G C : Type 0} (w : World T G C) (id : ClientParts) where
         are = parts.are;
         empty = parts.empty;
         before = (mid, one.after, by, one.ends, one.are, whole.follows.5, whole.follows.6, whole.follows.7, parts.before);
-        behind = parts.behind;
+        after_point = parts.after_point;
         ends_first = (one.after, one.ends, parts.ends_first);
         ends_rest = parts.ends_rest;
       }

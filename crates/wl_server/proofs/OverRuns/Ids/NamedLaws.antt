@@ -49,7 +49,7 @@ module _ {T U G C : Type 0} (w : World T G C) (id : ClientParts) where
         split = parts.split;
         there = parts.there;
         before = parts.before;
-        behind = parts.behind;
+        after_point = parts.after_point;
         stays = λ o named. (
             let (birth, at, own) = named_law serial_of display_object refl parts.first parts.rest parts.there parts.whole.kept
             (run_leads serial_of (OwnsExactly is_over) (objects.first_objects display_object) parts.there parts.first parts.ends_first)

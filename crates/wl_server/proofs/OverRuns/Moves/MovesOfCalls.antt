@@ -7,7 +7,7 @@ use Rattle.std.proofs.lemmas.Option.{same_Some}
 use Rattle.wl_wire.specs.declared.error.IoFault.{IoFault}
 use Rattle.wl_wire.specs.declared.error.IoFault.TheVariants as fault
 use Rattle.wl_wire.specs.declared.interface.InterfaceId.{InterfaceId}
-use Rattle.wl_wire.specs.Asked.{event_row, matches}
+use Rattle.wl_wire.specs.MessageRows.{event_row, matches}
 use Rattle.wl_wire.specs.Table.{InterfaceRow, MessageRow}
 use Rattle.wl_link.specs.declared.object.Object.{Object}
 use Rattle.wl_link.proofs.Calls.Branches.{either_bool, either_option}
@@ -39,7 +39,7 @@ use Rattle.wl_server.specs.Events.{SendsEvent, SendsGranted, SentAs, SessionMess
 use Rattle.wl_server.specs.Finish.{FinishesBind, FinishesRequest, Refuses, closed, closes, data_given, ended_by, ending, ends, ends_request, refusal, store_with_data}
 use Rattle.wl_server.specs.Ids.{ClientParts, IdParts}
 use Rattle.wl_server.proofs.OverRuns.Moves.MovesOfVerdicts.{Comes, Go, IsCalm, Lands, at, ends_killed, lands_at, lands_not, lands_then, same_doings, tells_moves}
-use Rattle.wl_server.specs.Objects.{Creates, DataSet, Destroys, destroyable, destroys, leaving, new_object, without, without_noted}
+use Rattle.wl_server.specs.Objects.{Creates, DataSet, Destroys, destroyable, destroys, told_of_removed, new_object, without, without_noted}
 use Rattle.wl_server.specs.Part.{Part, end_note, id_at, id_of, last_possible_serial, named, note_of_end, serial_of, with_link, with_user_data}
 use Rattle.wl_server.specs.Telling.{Core, Did, Kills, Tells, Told, closed_down, core_of, killed, tells}
 
@@ -208,13 +208,13 @@ module _ {T U C : Type 0} (sends : T → Queue → Result ℕ IoFault → T → 
       (done_left (id_of id) x.value.user_data ∙ ap (λ (i : Id). record nothing_done { left = left_id i x.value.user_data }) (sym (named_id client c.store id x is))) refl)
 
   -- and the deed stands among what is handed out, where it is gone
-  leaving_told : (id : IdParts) (u : Option U) (store : Store (Kept U)) (e : Core U C) → e.store ≡ removed store id.number → told_deeds (leaving id u e) ≡ left_if (id_of id) u
+  leaving_told : (id : IdParts) (u : Option U) (store : Store (Kept U)) (e : Core U C) → e.store ≡ removed store id.number → told_deeds (told_of_removed id u e) ≡ left_if (id_of id) u
   leaving_told id u store e same =
       ap (λ (b : Bool). told_deeds (cond b [] (map Did (left_if (id_of id) u))))
       (gone_named e.store id (ap (λ (s : Store (Kept U)). held s id.number) same ∙ removed_here store id.number id.number refl))
       ∙ told_left (id_of id) u
 
-  leaving_kept : (id : IdParts) (u : Option U) (c : Core U C) (x : Object (Kept U)) → named c.store id ≡ Some x → told_deeds (leaving id u c) ≡ []
+  leaving_kept : (id : IdParts) (u : Option U) (c : Core U C) (x : Object (Kept U)) → named c.store id ≡ Some x → told_deeds (told_of_removed id u c) ≡ []
   leaving_kept id u c x is = ap (λ (o : Option (Object (Kept U))). told_deeds (cond (is_some o) [] (map Did (left_if (id_of id) u)))) is
 
   destroys_comes : (c : Core U C) (id : IdParts) (x : Object (Kept U)) → Calm c → named c.store id ≡ Some x → Come c (destroys client c id x)

@@ -14,7 +14,7 @@ use Rattle.wl_link.specs.Exchange.{Queue, Sending}
 use Rattle.wl_link.proofs.Readings.HoldingLaws.{read_stays}
 use Rattle.wl_link.specs.Link.{LinkState, ReadFound, ReadOne, count_of, counted_answer}
 use Rattle.wl_link.specs.Puts.{Said}
-use Rattle.wl_link.specs.Reader.{CarriesOut, Given, Gives, Handled, Reads, Received, Stops, Turn, Unread, Verdict, behind, with_link, ReaderState}
+use Rattle.wl_link.specs.Reader.{CarriesOut, Given, Gives, Handled, Reads, Received, Stops, Turn, Unread, Verdict, given_first, with_link, ReaderState}
 use Rattle.wl_server.specs.declared.reading.action.Reading.{Reading}
 use Rattle.wl_server.specs.declared.error.ActionError.{ActionError}
 use Rattle.wl_server.specs.declared.notes.DisconnectReason.TheVariants.{ConnectionClosed}
@@ -126,7 +126,7 @@ module _ {T U G C : Type 0} (sends : T → Queue → Result ℕ IoFault → T �
 
   -- a turn, and then the rest
   then_moves : (left : ℕ) (before mid after : ReaderState T (Core U C)) (es : List Sending) (turns : List Turn) (first : List (Given (Told U))) (lacked : Bool)
-      (rest out : Gives (Told U)) → out ≡ behind first lacked rest
+      (rest out : Gives (Told U)) → out ≡ given_first first lacked rest
       → Step (part_of before) (done (deeds_of (map Sent es) first mid.core)) (part_of mid) × Calm mid.core × IsQuiet (deeds_in first)
       → Reads sends (server a) receives left mid turns rest after
       → (mid.core.ended ≡ None → Calm mid.core → Read mid turns rest after)

@@ -9,7 +9,7 @@ use Rattle.wl_wire.specs.declared.error.IoFault.{IoFault}
 use Rattle.wl_wire.specs.declared.error.IoFault.TheVariants as fault
 use Rattle.wl_wire.specs.declared.interface.InterfaceId.{InterfaceId}
 use Rattle.wl_wire.specs.Argument.{WireArgument}
-use Rattle.wl_wire.specs.Asked.{fits, next_interface}
+use Rattle.wl_wire.specs.MessageRows.{fits, next_interface}
 use Rattle.wl_wire.specs.Message.{WireMessage}
 use Rattle.wl_wire.specs.Table.{MessageRow, callback_id, name_of, registry_id}
 use Rattle.wl_link.specs.declared.object.Object.{Object}

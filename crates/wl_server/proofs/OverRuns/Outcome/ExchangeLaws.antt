@@ -10,7 +10,7 @@ use Rattle.wl_wire.specs.declared.error.MessageParseError.TheVariants as parse
 use Rattle.wl_wire.specs.Message.{WireMessage}
 use Rattle.wl_link.specs.Exchange.{Queue, Sending, IsFunction, IsReceiveFunction}
 use Rattle.wl_link.specs.Link.{LinkState, count_of, counted_answer}
-use Rattle.wl_link.specs.Puts.{FlushesOut, PutBy, PutsOut, Said, lacked_memory}
+use Rattle.wl_link.specs.Puts.{FlushesOut, PutBy, PutsOut, Said, lacks_memory}
 use Rattle.wl_link.specs.Reader.{CarriesOut, Given, Gives, Halts, Handled, Lacks, Leaves, ReaderState, Reader, Reads, Received, Stops, Takes, Then, Turn, Unread, Verdict, stops, with_link}
 use Rattle.wl_link.specs.Served.{Finds}
 use Rattle.wl_link.specs.Outcome.{SameCall}
@@ -78,8 +78,8 @@ module _ {T : Type 0} (sends : T → Queue → Result ℕ IoFault → T → Type
     carries_sends v before x y es fs g h (inr (asks, was, none, is, same)) other = absurd (true≢false (sym was))
     carries_sends v before x y es fs g h (inl carried) (inr (asks, was, none, is, same)) = absurd (true≢false (sym was))
     carries_sends v before x y es fs g h (inl (first, others, put, a, mid, lacked, puts, flushes, split, end, is, was)) (inl (first', others', put', b, mid', lacked', puts', flushes', split', end', is', was')) =
-        let ample = both_false (lacked_memory a) lacked was in
-        let ample' = both_false (lacked_memory b) lacked' was' in
+        let ample = both_false (lacks_memory a) lacked was in
+        let ample' = both_false (lacks_memory b) lacked' was' in
         let ok = not_lacked a ample.0 in
         let ok' = not_lacked b ample'.0 in
         let s = puts_one sends function v.puts before mid mid' first first' put put' a b ok ok' puts puts' in
@@ -163,7 +163,7 @@ module _ {T : Type 0} (sends : T → Queue → Result ℕ IoFault → T → Type
 
       abbrev Ended : ℕ → ReaderState T Core → List Turn → Gives Event → ReaderState T Core → LinkState T → IoFault → Type 0
       Ended n p turns out after link f =
-          (turns ≡ []) × (out ≡ stops (Some f) (lacked_memory (Err f)) n) × (after ≡ record { core = reader.faulted p.core f; link = link })
+          (turns ≡ []) × (out ≡ stops (Some f) (lacks_memory (Err f)) n) × (after ≡ record { core = reader.faulted p.core f; link = link })
 
       abbrev ReceivedThen : ℕ → ReaderState T Core → List Turn → Gives Event → ReaderState T Core → LinkState T → Result (Unit {0}) IoFault → Type 0
       ReceivedThen n p turns out after link c = MatchResult c (λ u. GoesOn n p turns out after link u) (λ f. Ended n p turns out after link f)

@@ -1,6 +1,6 @@
 use Rattle.wl_server.proofs.OverRuns.Cut.CuttingLaws.{ending_cuts, histories_cut, one_served, reading_cuts, some_served}
 use Rattle.wl_server.specs.PartStep.{over}
-use Rattle.wl_server.proofs.OverRuns.Cut.StorageLaws.{each_served}
+use Rattle.wl_server.proofs.OverRuns.Cut.BufferLaws.{each_served}
 use Rattle.wl_server.proofs.laws.cutting_does_not_matter_to_a_client.Goals as goal
 
 pub returns-clause-reading : goal.returns-clause-reading

@@ -5,8 +5,8 @@ use Rattle.wl_wire.proofs.write.count_of.Given as goal
 
 abbrev pub invariant-loop-arg : goal.invariant-loop-arg
 invariant-loop-arg g l = record {
-  bytes : l.count.behind + 4 * l.arg-index ≡ 4 * l.count.tokens + sum_by piece_len (take l.arg-index l.args);
-  small : l.count.behind ≤ 65535;
+  bytes : l.count.tails + 4 * l.arg-index ≡ 4 * l.count.tokens + sum_by piece_len (take l.arg-index l.args);
+  small : l.count.tails ≤ 65535;
   tokens : l.count.tokens ≡ sum_by token_count (take l.arg-index l.args);
   few : l.count.tokens ≤ l.arg-index;
 }

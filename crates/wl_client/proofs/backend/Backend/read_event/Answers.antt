@@ -1,5 +1,5 @@
 use Rattle.std.proofs.Common.{arith}
-use Rattle.wl_client.specs.Inside.Turns.{with_event}
+use Rattle.wl_client.specs.Inside.ReadingLoop.{with_event}
 use Rattle.wl_client.proofs.Readings.{fault_ends, goes_on, none_is_left, some_ends, starts}
 use Rattle.wl_client.proofs.backend.Backend.read_event.Goals as goal
 

@@ -1,5 +1,5 @@
 use Rattle.std.proofs.Common.{◌≤◌}
-use Rattle.wl_client.specs.Inside.Turns.{Live}
+use Rattle.wl_client.specs.Inside.ReadingLoop.{Live}
 use Rattle.wl_client.proofs.Readings.{So}
 use Rattle.wl_client.proofs.backend.Backend.read_event.Given as goal
 

@@ -1,5 +1,5 @@
 use Rattle.std.proofs.Common.{ℕ, ◌≤◌, List, length, sym, ap, subst, vec_len}
-use Rattle.wl_link.specs.Inside.Storage.{Waiting, waits}
+use Rattle.wl_link.specs.Inside.WaitingBytes.{Waiting, waits}
 use Rattle.wl_link.proofs.Ranges.{slice_range_later}
 use Rattle.wl_link.proofs.buffer.Buffer.consume.Goals as goal
 

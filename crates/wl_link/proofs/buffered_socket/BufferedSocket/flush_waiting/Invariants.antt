@@ -1,5 +1,5 @@
 use Rattle.std.proofs.Common.{length}
-use Rattle.wl_link.specs.Inside.Storage.{beside}
+use Rattle.wl_link.specs.Inside.WaitingBytes.{beside}
 use Rattle.wl_link.proofs.Calls.FlushLaws.{FlushLeads}
 use Rattle.wl_link.proofs.buffered_socket.BufferedSocket.flush_waiting.Given as goal
 

@@ -24,16 +24,16 @@ felt : {T U G C : Type 0} (i : InterfaceId) (version : ℕ) (handler : G) (answe
     → IsFelt {T = T} {U = U} {G = G} {C = C} (Asked (step.CreateGlobal i version handler) (reply.CreateGlobal answer))
 felt i version handler answer = record { last = refl; client = λ b. tt; order = tt; room = λ b. tt }
 
-abbrev is_memory : GlobalError → Bool
-is_memory refused.OutOfMemory = true
-is_memory _ = false
+abbrev is_out_of_memory : GlobalError → Bool
+is_out_of_memory refused.OutOfMemory = true
+is_out_of_memory _ = false
 
-no_memory : (e : GlobalError) → (e ≡ refused.OutOfMemory → ⊥) → is_memory e ≡ false
+no_memory : (e : GlobalError) → (e ≡ refused.OutOfMemory → ⊥) → is_out_of_memory e ≡ false
 no_memory refused.OutOfMemory other = absurd (other refl)
 no_memory e other = refl
 
 growth : (T U G C : Type 0) (i : InterfaceId) (version : ℕ) (handler : G) (e : GlobalError)
-    → lacks_growth {T = T} {U = U} {G = G} {C = C} (Asked (step.CreateGlobal i version handler) (reply.CreateGlobal (Err e))) ≡ is_memory e
+    → lacks_growth {T = T} {U = U} {G = G} {C = C} (Asked (step.CreateGlobal i version handler) (reply.CreateGlobal (Err e))) ≡ is_out_of_memory e
 growth T U G C i version handler refused.OutOfMemory = refl
 growth T U G C i version handler e = refl
 
@@ -43,7 +43,7 @@ returns-after-matches g c = rw (← c.self.view_is)
     c.in-Err.ensures.answer
     (growth g.row.T.Denot g.row.U.Denot g.row.G.Denot g.row.C.Denot c.args.interface c.args.version c.args.handler c.in-Err.error
     ∙ elim c.match-matches.branch [
-      | in-OutOfMemory w ↦ ap is_memory w.in-OutOfMemory.is ∙ sym w.self-is
+      | in-OutOfMemory w ↦ ap is_out_of_memory w.in-OutOfMemory.is ∙ sym w.self-is
       | in_default w ↦ no_memory c.in-Err.error w.in_default.not-OutOfMemory ∙ sym w.self-is
     ])
     (λ id b. (_, refl, (refl, refl, refl))))

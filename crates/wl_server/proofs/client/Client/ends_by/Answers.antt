@@ -1,5 +1,5 @@
 use Rattle.wl_server.specs.Inside.Responses.{code_of, text_of}
-use Rattle.wl_server.specs.Inside.Turns.{around_of}
+use Rattle.wl_server.specs.Inside.ReadingLoop.{around_of}
 use Rattle.wl_server.proofs.Readings.Handling.{broke, broke_starved}
 use Rattle.wl_server.proofs.client.Client.ends_by.Goals as goal
 

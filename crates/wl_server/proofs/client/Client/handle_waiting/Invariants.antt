@@ -1,5 +1,5 @@
 use Rattle.std.proofs.Common.{◌≡◌, ◌≤◌, length}
-use Rattle.wl_server.specs.Inside.Turns.{Goes, around_of}
+use Rattle.wl_server.specs.Inside.ReadingLoop.{ReadsOn, around_of}
 use Rattle.wl_server.proofs.client.Client.handle_waiting.Given as goal
 
 -- the reading came so far, and goes on
@@ -8,7 +8,7 @@ invariant-loop-end g l = record {
   place : 4 ≤ l.message.args.capacity;
   inline : 4 ≤ l.args.capacity;
   left : l.reading.receives_left ≡ l.fn.reading.receives_left;
-  goes : Goes g.T.Transport.sends g.T.Transport.receives (around_of g.G.GlobalHandler.views l.fn.around) l.fn.self l.fn.reading l.self l.reading;
+  goes : ReadsOn g.T.Transport.sends g.T.Transport.receives (around_of g.G.GlobalHandler.views l.fn.around) l.fn.self l.fn.reading l.self l.reading;
 }
 
 abbrev pub decreases-loop-end : goal.decreases-loop-end

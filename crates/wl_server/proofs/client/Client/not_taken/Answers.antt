@@ -1,10 +1,10 @@
-use Rattle.wl_server.specs.Inside.Turns.{around_of}
-use Rattle.wl_server.proofs.Readings.Turning.{does_ask, front_asks, is_malformed, turn_unread}
+use Rattle.wl_server.specs.Inside.ReadingLoop.{around_of}
+use Rattle.wl_server.proofs.Readings.OneMessage.{does_ask, front_asks, is_malformed, message_unread}
 use Rattle.wl_server.proofs.client.Client.not_taken.Goals as goal
 
 pub returns-in-Malformed : goal.returns-in-Malformed
 returns-in-Malformed g c r f args within =
-    turn_unread g.T.Transport.sends g.T.Transport.receives (around_of g.G.GlobalHandler.views c.args.around.now) c.args.self.now r c.garbled.result c.garbled.new.self c.requires.live within
+    message_unread g.T.Transport.sends g.T.Transport.receives (around_of g.G.GlobalHandler.views c.args.around.now) c.args.self.now r c.garbled.result c.garbled.new.self c.requires.live within
     (is_malformed g.T.Transport.sends g.T.Transport.receives (around_of g.G.GlobalHandler.views c.args.around.now) c.args.self.now (rw c.in-Malformed.is at c.requires.not_taken)) c.garbled.ensures
 
 pub returns-in-OutOfMemory : goal.returns-in-OutOfMemory

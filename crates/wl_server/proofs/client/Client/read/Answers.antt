@@ -1,6 +1,6 @@
 use Rattle.std.proofs.Common.{◌≡◌, ◌≤◌, ◌-◌, suc, arith, rules, refl}
-use Rattle.wl_server.specs.Inside.Turns.{around_of}
-use Rattle.wl_server.proofs.Readings.Turning.{fills_ends, fills_goes, goes_ends, goes_goes, goes_none, goes_within, none_left}
+use Rattle.wl_server.specs.Inside.ReadingLoop.{around_of}
+use Rattle.wl_server.proofs.Readings.OneMessage.{fills_ends, fills_goes, goes_ends, goes_goes, goes_none, goes_within, none_left}
 use Rattle.wl_server.proofs.client.Client.read.Goals as goal
 
 pub loop-end-init : goal.loop-end-init

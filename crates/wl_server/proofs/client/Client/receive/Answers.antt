@@ -1,6 +1,6 @@
 use Rattle.std.proofs.Common.{refl}
 use Rattle.wl_wire.specs.declared.error.IoFault.TheVariants as fault
-use Rattle.wl_server.proofs.Readings.Turning.{fault_fills, fault_stays}
+use Rattle.wl_server.proofs.Readings.OneMessage.{fault_fills, fault_stays}
 use Rattle.wl_server.proofs.client.Client.receive.Goals as goal
 
 pub returns-in_default : goal.returns-in_default

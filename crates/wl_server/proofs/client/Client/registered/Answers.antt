@@ -3,7 +3,7 @@ use Rattle.wl_server.specs.Deeds.{Remembered}
 use Rattle.wl_server.specs.Globals.{shown}
 use Rattle.wl_server.specs.Part.{id_of}
 use Rattle.wl_server.specs.Telling.{global_message}
-use Rattle.wl_server.specs.Inside.Turns.{around_of}
+use Rattle.wl_server.specs.Inside.ReadingLoop.{around_of}
 use Rattle.wl_server.proofs.Readings.Handling.{remembered_quiet, replied}
 use Rattle.wl_server.proofs.client.Client.registered.Goals as goal
 

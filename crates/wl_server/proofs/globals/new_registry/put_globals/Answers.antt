@@ -3,7 +3,7 @@ use Rattle.std.specs.FinMap.{entries}
 use Rattle.wl_server.specs.Part.{id_of}
 use Rattle.wl_server.specs.Inside.News.{Announced}
 use Rattle.wl_server.specs.Inside.Puts.{Puts}
-use Rattle.wl_server.specs.Inside.Turns.{around_of}
+use Rattle.wl_server.specs.Inside.ReadingLoop.{around_of}
 use Rattle.wl_server.specs.Telling.{global_message}
 use Rattle.wl_server.proofs.GlobalCalls.Announcing.{told_begins, told_failed, told_one}
 use Rattle.wl_server.proofs.globals.new_registry.put_globals.Goals as goal

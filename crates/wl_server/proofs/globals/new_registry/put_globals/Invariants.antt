@@ -2,7 +2,7 @@ use Rattle.std.proofs.Common.{map}
 use Rattle.wl_server.specs.Globals.{shown}
 use Rattle.wl_server.specs.Part.{id_of}
 use Rattle.wl_server.specs.Telling.{global_message}
-use Rattle.wl_server.specs.Inside.Turns.{around_of}
+use Rattle.wl_server.specs.Inside.ReadingLoop.{around_of}
 use Rattle.wl_server.proofs.GlobalCalls.Announcing.{ToldTo}
 use Rattle.wl_server.proofs.globals.new_registry.put_globals.Given as goal
 

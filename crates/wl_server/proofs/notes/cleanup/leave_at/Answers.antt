@@ -2,7 +2,7 @@ use Rattle.std.proofs.Common.{◌≡◌, ◌∙◌, true, ◌++◌, length, map,
 use Rattle.std.specs.FinMap.{entries}
 use Rattle.std.proofs.lemmas.Option.{same_Some}
 use Rattle.wl_server.specs.Ids.{ClientParts}
-use Rattle.wl_server.specs.Inside.Leaving.{ending, ends_at, ends_of}
+use Rattle.wl_server.specs.Inside.Leaving.{with_data, ends_at, ends_of}
 use Rattle.wl_server.specs.Server.{Stored, note_of}
 use Rattle.wl_server.proofs.CleanupSteps.Outgoing.{ends_killed, ends_length}
 use Rattle.wl_server.proofs.notes.cleanup.leave_at.Goals as goal
@@ -11,10 +11,10 @@ pub end_objects-requires : goal.end_objects-requires
 end_objects-requires g c =
     let killed : c.in-Some.client.part.is_killed ≡ true = ap (λ (s : Stored _ _ _). s.part.is_killed) (sym c.client.view_is) ∙ c.if-not-client.false in
     let same : c.in-Some-take.client ≡ c.in-Some.client = same_Some _ _ (sym c.in-Some-take.is ∙ c.take.ensures.value) in
-    let long : length (ends_at c.args.slot c.args.place.now) ≡ length (ending (entries c.client-in-Some-take.inside.objects.map.store.objects)) =
+    let long : length (ends_at c.args.slot c.args.place.now) ≡ length (with_data (entries c.client-in-Some-take.inside.objects.map.store.objects)) =
     ends_length c.args.slot c.args.place.now c.in-Some.client c.in-Some.is killed
-    ∙ (ap (λ (s : Stored _ _ _). length (ending (entries s.part.store.objects))) (sym same)
-    ∙ ap (λ (s : Stored _ _ _). length (ending (entries s.part.store.objects))) (sym c.client-in-Some-take.view_is))
+    ∙ (ap (λ (s : Stored _ _ _). length (with_data (entries s.part.store.objects))) (sym same)
+    ∙ ap (λ (s : Stored _ _ _). length (with_data (entries s.part.store.objects))) (sym c.client-in-Some-take.view_is))
     in
     let fits = c.requires.notes in
     omega (arith, long, fits)

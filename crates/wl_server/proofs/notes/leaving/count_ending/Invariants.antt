@@ -1,11 +1,11 @@
 use Rattle.std.proofs.Common.{◌<◌, ◌≤◌, ◌+◌, length}
 use Rattle.std.specs.FinMap.{entries}
-use Rattle.wl_server.specs.Inside.Leaving.{ending}
+use Rattle.wl_server.specs.Inside.Leaving.{with_data}
 use Rattle.wl_server.proofs.notes.leaving.count_ending.Given as goal
 
 abbrev pub invariant-loop-object : goal.invariant-loop-object
 invariant-loop-object g l =
-    l.count < 0xFFFFFFFFFFFFFFFF → length (ending (entries l.objects.store.objects)) ≤ l.count + length (ending l.all)
+    l.count < 0xFFFFFFFFFFFFFFFF → length (with_data (entries l.objects.store.objects)) ≤ l.count + length (with_data l.all)
 
 abbrev pub decreases-loop-object : goal.decreases-loop-object
 decreases-loop-object g l = length l.all

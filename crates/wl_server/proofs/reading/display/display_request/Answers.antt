@@ -1,6 +1,6 @@
 use Rattle.std.proofs.Common.{sym, ◌∙◌}
 use Rattle.wl_server.specs.Inside.Responses.{core_with}
-use Rattle.wl_server.specs.Inside.Turns.{around_of}
+use Rattle.wl_server.specs.Inside.ReadingLoop.{around_of}
 use Rattle.wl_server.proofs.Readings.Requesting.{display_garbled, display_registry, display_sync, one_new}
 use Rattle.wl_server.proofs.reading.display.display_request.Goals as goal
 

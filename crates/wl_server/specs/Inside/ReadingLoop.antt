@@ -1,4 +1,4 @@
--- What the functions of a reading say to each other. In the code a *turn* is the handling of one message.
+-- What the functions of a reading say to each other.
 use Rattle.std.specs.Prelude.{◌≡◌, ◌⊎◌, ◌<◌, ◌≤◌, ◌+◌, ℕ, min, length, List, [], ◌++◌, Bool, true, false, Option, None, Some, option_map, Result, Ok, Err}
 use Rattle.std.specs.Borrow.{Bor}
 use Rattle.wl_wire.specs.declared.argument.Argument.{Argument}
@@ -12,8 +12,8 @@ use Rattle.wl_wire.specs.Parse.{IsThere, opcode_of, sender_of}
 use Rattle.wl_wire.specs.Table.{InterfaceRow, MessageRow, message_row}
 use Rattle.wl_link.specs.Exchange.{Queue, Sending}
 use Rattle.wl_link.specs.Link.{Filled, FindsRoom, LinkState, ReadOne, grown_capacity}
-use Rattle.wl_link.specs.Puts.{lacked_memory}
-use Rattle.wl_link.specs.Reader.{CarriesOut, Given, Gives, Lacks, Reads, Turn, Verdict, behind, handled_in}
+use Rattle.wl_link.specs.Puts.{lacks_memory}
+use Rattle.wl_link.specs.Reader.{CarriesOut, Given, Gives, Lacks, Reads, Turn, Verdict, given_first, handled_in}
 use Rattle.wl_link.specs.Reader.{ReaderState}
 use Rattle.wl_link.specs.Store.{Store, held}
 use Rattle.wl_server.specs.declared.reading.action.Reading.{Reading}
@@ -24,8 +24,8 @@ use Rattle.wl_server.specs.declared.reading.Surroundings.{Surroundings}
 use Rattle.wl_server.specs.declared.reading.action.Found.{Found}
 use Rattle.wl_server.specs.declared.reading.action.Found.TheVariants as found
 use Rattle.wl_server.specs.declared.reading.action.NoAction.{NoAction}
-use Rattle.wl_server.specs.declared.reading.action.TurnEnd.{TurnEnd}
-use Rattle.wl_server.specs.declared.reading.action.TurnEnd.TheVariants as came
+use Rattle.wl_server.specs.declared.reading.action.MessageEnd.{MessageEnd}
+use Rattle.wl_server.specs.declared.reading.action.MessageEnd.TheVariants as came
 use Rattle.wl_server.specs.Deeds.{Bind, Handed, Request, notes_in}
 use Rattle.wl_server.specs.Ids.{ClientParts, GlobalParts, IdParts}
 use Rattle.wl_server.specs.Part.{Part, with_link}
@@ -73,26 +73,26 @@ module _ {U : Type 0} where
       × (row_in table (held store m.sender) m.opcode ≡ Some (message_row desc.now))
   TookWith table store before (Err e) m after = (after ≡ before) × NotTaken table store before e
 
--- ---- how a turn ends
+-- ---- what the handling of a message comes to
 
 -- the action that is handed out, with the arguments of a request
 abbrev pub found_with : Found → List (Argument IdParts Token) → Handed
 found_with (found.Request sender opcode is_destructor created) args = Request sender opcode args is_destructor created
 found_with (found.Bind global object) args = Bind global object
 
--- how a turn ended, with the action that it hands out
-pub data Turned : Type 0 where
-  Acts : Handed → Turned
-  GoesOn : Turned
-  LacksMore : Turned
-  Ended : NoAction → Turned
+-- what the handling of a message came to, with the action that it hands out
+pub data MessageResult : Type 0 where
+  Acts : Handed → MessageResult
+  WentOn : MessageResult
+  LacksMore : MessageResult
+  Ended : NoAction → MessageResult
 
 -- what was found, and the arguments of a request, stand in places of their own
-abbrev pub turned : TurnEnd → Found → List (Argument IdParts Token) → Turned
-turned came.Acts f args = Acts (found_with f args)
-turned came.GoesOn f args = GoesOn
-turned came.Lacks f args = LacksMore
-turned (came.Ends e) f args = Ended e
+abbrev pub message_result : MessageEnd → Found → List (Argument IdParts Token) → MessageResult
+message_result came.Acts f args = Acts (found_with f args)
+message_result came.Continues f args = WentOn
+message_result came.Lacks f args = LacksMore
+message_result (came.Ends e) f args = Ended e
 
 -- how a reading ended, with the action that it hands out
 abbrev pub action_of : {E : Type 0} → Result (Unit {0}) E → Found → List (Argument IdParts Token) → Result Handed E
@@ -121,10 +121,10 @@ module _ {U : Type 0} where
   HasNoNote gave = notes_in (deeds_in gave) ≡ []
 
 module _ {U C : Type 0} where
-  -- what was given, and the core after it, show that the turn ended so
-  abbrev pub Says : Turned → List (Given (Told U)) → Bool → Core U C → Type 0
+  -- what was given, and the core after it, show that it came to this
+  abbrev pub Says : MessageResult → List (Given (Told U)) → Bool → Core U C → Type 0
   Says (Acts h) gave refused c = (refused ≡ false) × (reads_on c ≡ false) × (action_in gave ≡ Ok h)
-  Says GoesOn gave refused c = (refused ≡ false) × (c.ended ≡ None) × (c.is_killed ≡ false) × (c.action ≡ None) × IsSilent gave
+  Says WentOn gave refused c = (refused ≡ false) × (c.ended ≡ None) × (c.is_killed ≡ false) × (c.action ≡ None) × IsSilent gave
   Says LacksMore gave refused c = ⊥
   Says (Ended end) gave refused c = (refused ≡ end.refused) × (reads_on c ≡ false) × (action_in gave ≡ Err (Io end.fault))
 
@@ -140,8 +140,8 @@ module _ {T U C : Type 0} where
   stored_as before end =
       record { serial = before.serial; part = part_of end; made = before.made ++ notes_in (end_deeds end.core.ended) }
 
-  -- a verdict was carried out in a turn, which ended so
-  pub record IsHandled (sends : T → Queue → Result ℕ IoFault → T → Type 0) (v : Verdict (Core U C) (Told U)) (before : Stored T U C) (to : Turned)
+  -- a verdict was carried out for a message, and it came to this
+  pub record IsHandled (sends : T → Queue → Result ℕ IoFault → T → Type 0) (v : Verdict (Core U C) (Told U)) (before : Stored T U C) (to : MessageResult)
       (after : Stored T U C) : Type 0 where
     pub es : List Sending
     pub gave : List (Given (Told U))
@@ -159,16 +159,16 @@ module _ {T U G C : Type 0} (sends : T → Queue → Result ℕ IoFault → T �
 
   -- if a reading that begins now, with so many receives left, may end so, then one that began at `start` may, with these
   -- entries and what they gave before it
-  abbrev pub Leads : ℕ → Part T U C → List Turn → List (Given (Told U)) → ℕ → Part T U C → Type 0
-  Leads left start first gave left' now =
+  abbrev pub ReadSoFar : ℕ → Part T U C → List Turn → List (Given (Told U)) → ℕ → Part T U C → Type 0
+  ReadSoFar left start first gave left' now =
       (turns : List Turn) (rest : Gives (Told U)) (end : ReaderState T (Core U C)) → Reads sends (server a) receives left' (reader_part now) turns rest end
-      → Reads sends (server a) receives left (reader_part start) (first ++ turns) (behind gave false rest) end
+      → Reads sends (server a) receives left (reader_part start) (first ++ turns) (given_first gave false rest) end
 
   -- what a reading has done so far; it goes on
-  pub record Goes (before : Stored T U C) (r : Reading) (now : Stored T U C) (r' : Reading) : Type 0 where
+  pub record ReadsOn (before : Stored T U C) (r : Reading) (now : Stored T U C) (r' : Reading) : Type 0 where
     pub first : List Turn
     pub gave : List (Given (Told U))
-    pub leads : Leads r.receives_left before.part first gave r'.receives_left now.part
+    pub leads : ReadSoFar r.receives_left before.part first gave r'.receives_left now.part
     pub silent : IsSilent gave
     pub no_note : HasNoNote gave
     pub read : r'.read ≡ counted r.read (handled_in first)
@@ -189,17 +189,17 @@ module _ {T U G C : Type 0} (sends : T → Queue → Result ℕ IoFault → T �
     pub no_note : HasNoNote out.gave
     pub after_is : after ≡ stored_as before end
 
-  -- a turn of a reading
-  abbrev pub Turns : Stored T U C → Reading → Turned → Stored T U C → Reading → Type 0
-  Turns before r (Acts h) after r' = EndsAs before r (Ok h) after r'
-  Turns before r GoesOn after r' =
-      Goes before r after r' × (r'.receives_left ≡ r.receives_left) × (length after.part.link.incoming.bytes < length before.part.link.incoming.bytes)
-  Turns before r LacksMore after r' = LacksIn before.part × (after ≡ before) × (r' ≡ r)
-  Turns before r (Ended end) after r' = EndsAs before r (Err end) after r'
+  -- the message at the front was handled, if one is there
+  abbrev pub HandlesMessage : Stored T U C → Reading → MessageResult → Stored T U C → Reading → Type 0
+  HandlesMessage before r (Acts h) after r' = EndsAs before r (Ok h) after r'
+  HandlesMessage before r WentOn after r' =
+      ReadsOn before r after r' × (r'.receives_left ≡ r.receives_left) × (length after.part.link.incoming.bytes < length before.part.link.incoming.bytes)
+  HandlesMessage before r LacksMore after r' = LacksIn before.part × (after ≡ before) × (r' ≡ r)
+  HandlesMessage before r (Ended end) after r' = EndsAs before r (Err end) after r'
 
-  -- each message that was there whole was handled, and the turns ended so
+  -- each message that was there whole was handled, and it came to this
   abbrev pub Waited : Stored T U C → Reading → Option (Result Handed NoAction) → Stored T U C → Reading → Type 0
-  Waited before r None after r' = Goes before r after r' × (r'.receives_left ≡ r.receives_left) × LacksIn after.part
+  Waited before r None after r' = ReadsOn before r after r' × (r'.receives_left ≡ r.receives_left) × LacksIn after.part
   Waited before r (Some answer) after r' = EndsAs before r answer after r'
 
 module _ {T U C : Type 0} (receives : T → ℕ → Result Queue IoFault → T → Type 0) where
@@ -210,5 +210,5 @@ module _ {T U C : Type 0} (receives : T → ℕ → Result Queue IoFault → T �
       × (after ≡ linked before after.part.link)
   Fills before (Some end) after =
       (link : LinkState T) × Filled receives before.part.link (Err end.fault) link
-      × FindsRoom before.part.link (grown_capacity before.part.link) × (end.refused ≡ lacked_memory (Err end.fault))
+      × FindsRoom before.part.link (grown_capacity before.part.link) × (end.refused ≡ lacks_memory (Err end.fault))
       × (after ≡ stored_as before (record { core = faulted (core_of before.part) end.fault; link = link }))

@@ -1,4 +1,4 @@
-//! Storages that have too little room: they grow as far as the program lets them.
+//! Buffers that have too little room: they grow as far as the program lets them.
 
 use super::arrivals::{DESTROY, SYNC_AT_4, SYNC_AT_5};
 use super::hostile::BOUND as WITH_A_QUAD;

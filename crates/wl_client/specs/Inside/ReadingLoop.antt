@@ -1,4 +1,4 @@
--- What the functions of a reading say to each other. In the code a *turn* is the handling of one message.
+-- What the functions of a reading say to each other.
 use Rattle.std.specs.Prelude.{◌≡◌, ◌⊎◌, ◌||◌, ◌≤◌, ℕ, length, List, [], Bool, true, false, Option, None, Some, Result, Ok, Err}
 use Rattle.std.specs.Borrow.{Bor}
 use Rattle.wl_wire.specs.declared.argument.Token.{Token}
@@ -16,7 +16,7 @@ use Rattle.wl_link.specs.declared.object.Object.{Object}
 use Rattle.wl_link.specs.Exchange.{Queue}
 use Rattle.wl_link.specs.Identity.{Objects}
 use Rattle.wl_link.specs.Link.{LinkState, ReadOne}
-use Rattle.wl_link.specs.Puts.{lacked_memory}
+use Rattle.wl_link.specs.Puts.{lacks_memory}
 use Rattle.wl_link.specs.Inside.ReaderLoops.{EndsSo, LeadsOn, ReceivedTo as PartReceived}
 use Rattle.wl_link.specs.Store.{Store, held}
 use Rattle.wl_client.specs.declared.display.DisplayMessage.{DisplayMessage}
@@ -30,8 +30,8 @@ use Rattle.wl_client.specs.declared.objects.Kept.{Kept}
 use Rattle.wl_client.specs.declared.protocol_error.EventFault.{EventFault}
 use Rattle.wl_client.specs.declared.event.OpenEvent.{OpenEvent}
 use Rattle.wl_client.specs.declared.message.NoEvent.{NoEvent}
-use Rattle.wl_client.specs.declared.message.TurnEnd.{TurnEnd}
-use Rattle.wl_client.specs.declared.message.TurnEnd.TheVariants as came
+use Rattle.wl_client.specs.declared.message.MessageEnd.{MessageEnd}
+use Rattle.wl_client.specs.declared.message.MessageEnd.TheVariants as came
 use Rattle.wl_client.specs.ObjectId.{IdParts}
 use Rattle.wl_client.specs.Events.{Outcome, Whole, Wrong, DisplayEvent, Fails, Deletes, Unreadable, error_of}
 use Rattle.wl_client.specs.Handling.{Handling, Swallows, HandsOut, Breaks, front_row, handling, row_in, signature_in}
@@ -85,18 +85,18 @@ module _ {U : Type 0} where
       × (ReadsIn table store before (Err e) before
       ⊎ ((e ≡ parse.OutOfMemory) × EventAsks table store before.incoming))
 
--- how a turn ended, with the event that it hands out
-pub data Turned : Type 0 where
-  GaveEvent : Message IdParts Token → Turned
-  WentOn : Turned
-  LacksMore : Turned
-  Ended : NoEvent → Turned
+-- what the handling of a message came to, with the event that it hands out
+pub data MessageResult : Type 0 where
+  GaveEvent : Message IdParts Token → MessageResult
+  WentOn : MessageResult
+  LacksMore : MessageResult
+  Ended : NoEvent → MessageResult
 
-abbrev pub turned : TurnEnd → Message IdParts Token → Turned
-turned came.Event event = GaveEvent event
-turned came.GoesOn event = WentOn
-turned came.Lacks event = LacksMore
-turned (came.Ends e) event = Ended e
+abbrev pub message_result : MessageEnd → Message IdParts Token → MessageResult
+message_result came.Event event = GaveEvent event
+message_result came.Continues event = WentOn
+message_result came.Lacks event = LacksMore
+message_result (came.Ends e) event = Ended e
 
 -- how a reading ended, with the event that it hands out
 abbrev pub with_event : Result (Unit {0}) NoEvent → Message IdParts Token → Result (Message IdParts Token) NoEvent
@@ -121,7 +121,7 @@ Stores e end after =
 
 module _ {U : Type 0} where
   -- the handling of a message was carried out: what the objects are then, and the error and the open event before and then
-  abbrev pub Carries : Handling U → Turned → Objects (Kept U) → Option WaylandError → Option WaylandError → Option OpenEvent → Option OpenEvent → Type 0
+  abbrev pub Carries : Handling U → MessageResult → Objects (Kept U) → Option WaylandError → Option WaylandError → Option OpenEvent → Option OpenEvent → Type 0
   Carries (Swallows o) WentOn objects error error' opened opened' = (objects ≡ o) × (error' ≡ error) × (opened' ≡ opened)
   Carries (HandsOut m event o) (GaveEvent e) objects error error' opened opened' =
       (session_content e ≡ m) × (objects ≡ o) × (error' ≡ error) × (opened' ≡ Some event)
@@ -130,17 +130,17 @@ module _ {U : Type 0} where
 
   -- the message at the front was taken and handled; or it was not taken, and all is as before
   abbrev pub TakenTo : {T : Type 0} → List InterfaceRow → Objects (Kept U) → LinkState T → Option WaylandError → Option OpenEvent
-      → Result TurnEnd MessageParseError → Message IdParts Token → Objects (Kept U) → LinkState T → Option WaylandError → Option OpenEvent → Type 0
+      → Result MessageEnd MessageParseError → Message IdParts Token → Objects (Kept U) → LinkState T → Option WaylandError → Option OpenEvent → Type 0
   TakenTo table objects link error opened (Ok end) event objects' link' error' opened' =
       (m : WireMessage) × ReadsIn table objects.store link (Ok m) link'
-      × Carries (handling table objects m) (turned end event) objects' error error' opened opened'
+      × Carries (handling table objects m) (message_result end event) objects' error error' opened opened'
   TakenTo table objects link error opened (Err e) event objects' link' error' opened' =
       (objects' ≡ objects) × (link' ≡ link) × (error' ≡ error) × (opened' ≡ opened)
       × (ReadsIn table objects.store link (Err e) link ⊎ ((e ≡ parse.OutOfMemory) × EventAsks table objects.store link.incoming))
 
 module _ {T U : Type 0} where
   -- the handling of a message was carried out
-  abbrev pub HandledTo : SessionState T U → Handling U → Turned → SessionState T U → Type 0
+  abbrev pub HandledTo : SessionState T U → Handling U → MessageResult → SessionState T U → Type 0
   HandledTo before (Swallows o) WentOn after = after ≡ with_objects before o
   HandledTo before (HandsOut m event o) (GaveEvent e) after =
       (session_content e ≡ m) × (after ≡ record (with_objects before o) { open_event = Some event })
@@ -157,17 +157,17 @@ module _ {T U : Type 0} where
   abbrev pub NotTaken : SessionState T U → MessageParseError → Type 0
   NotTaken s e = ReadsAs s (Err e) s.link ⊎ ((e ≡ parse.OutOfMemory) × EventAsks s.table s.store s.link.incoming)
 
-  -- no message was taken, and the turn ended so
-  abbrev pub NotTakenTo : SessionState T U → Turned → SessionState T U → Type 0
+  -- no message was taken, and it came to this
+  abbrev pub NotTakenTo : SessionState T U → MessageResult → SessionState T U → Type 0
   NotTakenTo before LacksMore after = Lacks before × (after ≡ before)
   NotTakenTo before (Ended end) after =
       (ReadsAs before (Err parse.Malformed) before.link × HandledTo before (malformed before) (Ended end) after)
       ⊎ ((end ≡ record { error = no_event.OutOfMemory; refused = true }) × NotTaken before parse.OutOfMemory × (after ≡ before))
   NotTakenTo before _ after = ⊥
 
-  -- a turn of a reading
-  abbrev pub Turns : SessionState T U → Turned → SessionState T U → Type 0
-  Turns before to after =
+  -- the message at the front was handled, if one is there
+  abbrev pub HandlesMessage : SessionState T U → MessageResult → SessionState T U → Type 0
+  HandlesMessage before to after =
       NotTakenTo before to after
       ⊎ ((m : WireMessage) × (link : LinkState T) × ReadsAs before (Ok m) link
       × HandledTo (with_link before link) (handling before.table (objects_of before) m) to after)
@@ -186,12 +186,12 @@ module _ {T U : Type 0} where
       pub refused_is : event_refused answer ≡ lacked || short
 
     -- if a reading that begins now may end so, then one that began with `before` may
-    abbrev pub Leads : SessionState T U → SessionState T U → Type 0
-    Leads before now = LeadsOn sends receives client (reader_state_of before) [] false (reader_state_of now)
+    abbrev pub ReadSoFar : SessionState T U → SessionState T U → Type 0
+    ReadSoFar before now = LeadsOn sends receives client (reader_state_of before) [] false (reader_state_of now)
 
-    -- each message that was there whole was handled, and the turns ended so
+    -- each message that was there whole was handled, and it came to this
     abbrev pub Waited : SessionState T U → Option (Result (Message IdParts Token) NoEvent) → SessionState T U → Type 0
-    Waited before None after = Live after × Lacks after × Leads before after
+    Waited before None after = Live after × Lacks after × ReadSoFar before after
     Waited before (Some r) after = EndsAs before r after
 
     -- a receive was made, or there was no memory for it
@@ -199,4 +199,4 @@ module _ {T U : Type 0} where
     ReceivedTo before None after = PartReceived sends receives client (reader_state_of before) None (reader_state_of after) × Live after
     ReceivedTo before (Some end) after =
         (f : IoFault) × PartReceived sends receives client (reader_state_of before) (Some f) (reader_state_of after)
-        × (end ≡ record { error = by_fault f; refused = lacked_memory (Err f) })
+        × (end ≡ record { error = by_fault f; refused = lacks_memory (Err f) })

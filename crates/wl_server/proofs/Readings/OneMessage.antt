@@ -13,10 +13,10 @@ use Rattle.wl_link.specs.Exchange.{Queue, Sending}
 use Rattle.wl_link.proofs.Streams.LengthLaws.{carries_stays}
 use Rattle.wl_link.specs.Link.{Filled, FindsRoom, LinkState, grown_capacity}
 use Rattle.wl_link.proofs.Readings.ReaderLoops.{room_found}
-use Rattle.wl_link.specs.Puts.{lacked_memory}
-use Rattle.wl_link.specs.Reader.{CarriesOut, FrontAsks, Given, Gives, Halts, Handled, Leaves, Reads, Received, Takes, Turn, Unread, Verdict, behind, handled_in, stops, ReaderState}
+use Rattle.wl_link.specs.Puts.{lacks_memory}
+use Rattle.wl_link.specs.Reader.{CarriesOut, FrontAsks, Given, Gives, Halts, Handled, Leaves, Reads, Received, Takes, Turn, Unread, Verdict, given_first, handled_in, stops, ReaderState}
 use Rattle.wl_link.specs.declared.object.Object.{Object}
-use Rattle.wl_link.specs.Store.{Store, held}
+use Rattle.wl_link.specs.Store.{held}
 use Rattle.wl_wire.specs.Table.{MessageRow}
 use Rattle.wl_server.specs.declared.reading.action.OpenAction.{OpenAction}
 use Rattle.wl_server.specs.declared.reading.action.Reading.{Reading}
@@ -38,7 +38,7 @@ use Rattle.wl_server.specs.Part.{Part}
 use Rattle.wl_server.specs.Reading.{Around, action_in, NextAction, ReadsNone, ReadsTo, answered, exchanges_in, faulted, read_on, reads_on, request, request_to, row_asks, row_in, server}
 use Rattle.wl_server.specs.Server.{Stored}
 use Rattle.wl_server.specs.Telling.{Core, Kills, Told, core_of, deeds_in, deeds_of, end_deeds, part_of, reader_part}
-use Rattle.wl_server.specs.Inside.Turns.{Acts, Ended, EndsAs, Fills, Goes, GoesOn, HasNoNote, IsHandled, IsSilent, LacksIn, LacksMore, Live, NotTaken, ReadsIn, Turned, Turns, answer_of, counted, linked, refused_of, stored_as}
+use Rattle.wl_server.specs.Inside.ReadingLoop.{Acts, Ended, EndsAs, Fills, ReadsOn, WentOn, HasNoNote, IsHandled, IsSilent, LacksIn, LacksMore, Live, NotTaken, ReadsIn, MessageResult, HandlesMessage, answer_of, counted, linked, refused_of, stored_as}
 use Rattle.wl_server.proofs.Readings.Handling.{from_there}
 use Rattle.wl_server.proofs.Readings.Notes.{notes_append, notes_of_sends}
 use Rattle.wl_server.proofs.ObjectCalls.Posting.{kills_is}
@@ -93,7 +93,7 @@ module _ {T U C : Type 0} where
 module _ {T U G C : Type 0} (sends : T → Queue → Result ℕ IoFault → T → Type 0) (receives : T → ℕ → Result Queue IoFault → T → Type 0) (a : Around G C) where
   -- ---- joining
 
-  pub goes_none : (s : Stored T U C) (r : Reading) → r.read ≤ most → Live s.part → Goes sends receives a s r s r
+  pub goes_none : (s : Stored T U C) (r : Reading) → r.read ≤ most → Live s.part → ReadsOn sends receives a s r s r
   goes_none s r within live = record {
     first = [];
     gave = [];
@@ -106,16 +106,16 @@ module _ {T U G C : Type 0} (sends : T → Queue → Result ℕ IoFault → T �
     made = refl;
   }
 
-  behind_twice : (gave more : List (Given (Told U))) (refused : Bool) (rest : Gives (Told U)) → behind gave false (behind more refused rest) ≡ behind (gave ++ more) refused rest
+  behind_twice : (gave more : List (Given (Told U))) (refused : Bool) (rest : Gives (Told U)) → given_first gave false (given_first more refused rest) ≡ given_first (gave ++ more) refused rest
   behind_twice gave more refused rest =
       ap (λ (g : List (Given (Told U))). let o : Gives (Told U) = record rest { gave = g; refused = refused || rest.refused } in o) (sym (append_assoc gave more rest.gave))
 
-  pub goes_goes : (s m e : Stored T U C) (r q t : Reading) → Goes sends receives a s r m q → Goes sends receives a m q e t → Goes sends receives a s r e t
+  pub goes_goes : (s m e : Stored T U C) (r q t : Reading) → ReadsOn sends receives a s r m q → ReadsOn sends receives a m q e t → ReadsOn sends receives a s r e t
   goes_goes s m e r q t one two = record {
     first = one.first ++ two.first;
     gave = one.gave ++ two.gave;
     leads = λ turns rest end reads. rw (append_assoc one.first two.first turns, ← behind_twice one.gave two.gave false rest)
-        (one.leads (two.first ++ turns) (behind two.gave false rest) end (two.leads turns rest end reads));
+        (one.leads (two.first ++ turns) (given_first two.gave false rest) end (two.leads turns rest end reads));
     silent = λ rest. ap action_in (append_assoc one.gave two.gave rest) ∙ one.silent (two.gave ++ rest) ∙ two.silent rest;
     no_note = no_note_append one.gave two.gave one.no_note two.no_note;
     read = two.read ∙ counted_twice r.read (handled_in one.first) (handled_in two.first) q.read one.read ∙ ap (counted r.read) (sym (handled_append one.first two.first));
@@ -124,11 +124,11 @@ module _ {T U G C : Type 0} (sends : T → Queue → Result ℕ IoFault → T �
     made = two.made ∙ one.made;
   }
 
-  pub goes_ends : (s m e : Stored T U C) (r q t : Reading) (answer : Result Handed NoAction) → Goes sends receives a s r m q → EndsAs sends receives a m q answer e t
+  pub goes_ends : (s m e : Stored T U C) (r q t : Reading) (answer : Result Handed NoAction) → ReadsOn sends receives a s r m q → EndsAs sends receives a m q answer e t
       → EndsAs sends receives a s r answer e t
   goes_ends s m e r q t answer one two = record {
     turns = one.first ++ two.turns;
-    out = behind one.gave false two.out;
+    out = given_first one.gave false two.out;
     end = two.end;
     reads = one.leads two.turns two.out two.end two.reads;
     answer_is = two.answer_is ∙ quiet two.out.stopped;
@@ -152,7 +152,7 @@ module _ {T U G C : Type 0} (sends : T → Queue → Result ℕ IoFault → T �
     module _ (v : Verdict (Core U C) (Told U)) (link : LinkState T) (t : List Sending → Turn)
         (found : (m : ℕ) (es : List Sending) (first : List (Given (Told U))) (lacked : Bool) (mid : ReaderState T (Core U C)) (turns : List Turn) (rest : Gives (Told U)) (end : ReaderState T (Core U C))
         → CarriesOut sends (server a) v link es first lacked mid → Reads sends (server a) receives m mid turns rest end
-        → Reads sends (server a) receives m (reader_part s.part) (t es ∷ turns) (behind first lacked rest) end)
+        → Reads sends (server a) receives m (reader_part s.part) (t es ∷ turns) (given_first first lacked rest) end)
         (left : r'.receives_left ≡ r.receives_left) (read : (es : List Sending) → r'.read ≡ counted r.read (handled_in (t es ∷ []))) where
       ends_so : (answer : Result Handed NoAction) (gave : List (Given (Told U))) (refused : Bool) (end : ReaderState T (Core U C)) (es : List Sending) (after : Stored T U C)
           → CarriesOut sends (server a) v link es gave refused end → reads_on end.core ≡ false → answer_of answer ≡ action_in gave → refused_of answer ≡ refused
@@ -161,7 +161,7 @@ module _ {T U G C : Type 0} (sends : T → Queue → Result ℕ IoFault → T �
           let rest : Gives (Told U) = stops None false r.receives_left in
           record {
             turns = t es ∷ [];
-            out = behind gave refused rest;
+            out = given_first gave refused rest;
             end = end;
             reads = found r.receives_left es gave refused end [] rest end carried (refl, at_false (Halts sends (server a) r.receives_left end rest) (reads_on end.core) off refl);
             answer_is = says ∙ ap action_in (sym (append-nil gave));
@@ -174,12 +174,12 @@ module _ {T U G C : Type 0} (sends : T → Queue → Result ℕ IoFault → T �
 
       goes_so : (gave : List (Given (Told U))) (refused : Bool) (end : ReaderState T (Core U C)) (es : List Sending) (after : Stored T U C)
           → CarriesOut sends (server a) v link es gave refused end → refused ≡ false → end.core.ended ≡ None → end.core.is_killed ≡ false → end.core.action ≡ None → IsSilent gave
-          → HasNoNote gave → after ≡ stored_as s end → Goes sends receives a s r after r'
+          → HasNoNote gave → after ≡ stored_as s end → ReadsOn sends receives a s r after r'
       goes_so gave refused end es after carried calm unended alive unopened silent none is =
           record {
             first = t es ∷ [];
             gave = gave;
-            leads = λ turns rest last reads. subst (λ (b : Bool). Reads sends (server a) receives r.receives_left (reader_part s.part) (t es ∷ turns) (behind gave b rest) last) calm
+            leads = λ turns rest last reads. subst (λ (b : Bool). Reads sends (server a) receives r.receives_left (reader_part s.part) (t es ∷ turns) (given_first gave b rest) last) calm
                 (found r.receives_left es gave refused end turns rest last carried (again turns rest last reads));
             silent = silent;
             no_note = none;
@@ -205,32 +205,32 @@ module _ {T U G C : Type 0} (sends : T → Queue → Result ℕ IoFault → T �
           = ap (λ (x : Stored T U C). length x.part.link.incoming.bytes) is ∙ ap (λ (q : Queue). length q.bytes) kept.incoming in
           omega (arith, bytes, fewer)
 
-      turns_so : (to : Turned) (after : Stored T U C) → IsHandled sends v (linked s link) to after → length link.incoming.bytes < length s.part.link.incoming.bytes
-          → Turns sends receives a s r to after r'
-      turns_so (Acts h) after i fewer =
+      handles_so : (to : MessageResult) (after : Stored T U C) → IsHandled sends v (linked s link) to after → length link.incoming.bytes < length s.part.link.incoming.bytes
+          → HandlesMessage sends receives a s r to after r'
+      handles_so (Acts h) after i fewer =
           ends_so (Ok h) i.gave i.refused i.end i.es after i.carried i.says.1 (sym i.says.2) (sym i.says.0) i.no_note i.after_is
-      turns_so GoesOn after i fewer = (
+      handles_so WentOn after i fewer = (
         goes_so i.gave i.refused i.end i.es after i.carried i.says.0 i.says.1 i.says.2 i.says.3 i.says.4 i.no_note i.after_is,
         left,
         shorter i.gave i.refused i.end i.es after i.carried i.after_is fewer,
       )
-      turns_so LacksMore after i fewer = absurd i.says
-      turns_so (Ended end) after i fewer =
+      handles_so LacksMore after i fewer = absurd i.says
+      handles_so (Ended end) after i fewer =
           ends_so (Err end) i.gave i.refused i.end i.es after i.carried i.says.1 (sym i.says.2) (sym i.says.0) i.no_note i.after_is
 
     -- the message at the front was taken and handled
-    pub turn_handled : (v : Verdict (Core U C) (Told U)) (link : LinkState T) (to : Turned) (after : Stored T U C) → Takes sends (server a) (reader_part s.part) v link
+    pub message_handled : (v : Verdict (Core U C) (Told U)) (link : LinkState T) (to : MessageResult) (after : Stored T U C) → Takes sends (server a) (reader_part s.part) v link
         → IsHandled sends v (linked s link) to after → length link.incoming.bytes < length s.part.link.incoming.bytes → r'.receives_left ≡ r.receives_left
-        → r'.read ≡ counted r.read 1 → Turns sends receives a s r to after r'
-    turn_handled v link to after taken handled fewer left read =
-        turns_so v link (λ es. Handled es)
+        → r'.read ≡ counted r.read 1 → HandlesMessage sends receives a s r to after r'
+    message_handled v link to after taken handled fewer left read =
+        handles_so v link (λ es. Handled es)
         (λ m es first lacked mid turns rest end carried reads. (on, (v, link, first, lacked, mid, rest, taken, carried, refl, reads))) left (λ es. read) to after handled fewer
 
   -- malformed bytes stay, and the connection is closed
-  pub turn_unread : (s : Stored T U C) (r : Reading) (end : NoAction) (after : Stored T U C) → Live s.part → r.read ≤ most
+  pub message_unread : (s : Stored T U C) (r : Reading) (end : NoAction) (after : Stored T U C) → Live s.part → r.read ≤ most
       → Leaves sends (server a) (reader_part s.part) ((server a).malformed (core_of s.part)) s.part.link
-      → IsHandled sends ((server a).malformed (core_of s.part)) s (Ended end) after → Turns sends receives a s r (Ended end) after r
-  turn_unread s r end after live within leaves i =
+      → IsHandled sends ((server a).malformed (core_of s.part)) s (Ended end) after → HandlesMessage sends receives a s r (Ended end) after r
+  message_unread s r end after live within leaves i =
       ends_so s r r live ((server a).malformed (core_of s.part)) s.part.link (λ es. Unread es)
       (λ m es first lacked mid turns rest last carried reads. (on s r r live, ((server a).malformed (core_of s.part), s.part.link, first, lacked, mid, rest, leaves, carried, refl, reads)))
       refl (λ es. counted_none r.read within) (Err end) i.gave i.refused i.end i.es after i.carried i.says.1 (sym i.says.2) (sym i.says.0) i.no_note i.after_is
@@ -298,14 +298,14 @@ module _ {T U G C : Type 0} (sends : T → Queue → Result ℕ IoFault → T �
   known m row None is = cc
   known m row (Some x) is = (x, refl)
 
-  pub turn_taken : (s : Stored T U C) (r r' : Reading) (link : LinkState T) (m : WireMessage) (row : MessageRow) (objects objects' : ClientObjects U)
-      (response : Response) (f : Found) (args : List (Argument IdParts Token)) (to : Turned) (after : Stored T U C)
+  pub message_taken : (s : Stored T U C) (r r' : Reading) (link : LinkState T) (m : WireMessage) (row : MessageRow) (objects objects' : ClientObjects U)
+      (response : Response) (f : Found) (args : List (Argument IdParts Token)) (to : MessageResult) (after : Stored T U C)
       → Live s.part → ReadsIn a.table s.part.store s.part.link (Ok m) link → row_in a.table (held s.part.store m.sender) m.opcode ≡ Some row
       → core_with (core_of s.part) s.part.info objects ≡ core_of s.part → Responds s objects m row objects' response f args
       → IsHandled sends (response_to a (core_of (gone_through s link objects').part) response f args) (gone_through s link objects') to after
       → length link.incoming.bytes < length s.part.link.incoming.bytes → r'.receives_left ≡ r.receives_left → r'.read ≡ counted r.read 1
-      → Turns sends receives a s r to after r'
-  turn_taken s r r' link m row objects objects' response f args to after live read is same responds handled fewer left count =
+      → HandlesMessage sends receives a s r to after r'
+  message_taken s r r' link m row objects objects' response f args to after live read is same responds handled fewer left count =
       let k = known m row (held s.part.store m.sender) is in
       let mid = gone_through s link objects' in
       let v = response_to a (core_of mid.part) response f args in
@@ -313,12 +313,12 @@ module _ {T U G C : Type 0} (sends : T → Queue → Result ℕ IoFault → T �
       = subst (λ (core : Core U C). request_to a core m k.0 row ≡ v) same
       (responds k.0 (core_of s.part) (ap (λ (core : Core U C). held core.store m.sender) same ∙ k.1)) in
       let found : v ≡ (server a).handles (core_of s.part) m = sym verdict ∙ sym (ap₂ (request a (core_of s.part) m) k.1 is) in
-      turn_handled s r r' live v link to after (m, read, found)
+      message_handled s r r' live v link to after (m, read, found)
       (from_there sends v (linked s link) mid after to refl refl refl handled) fewer left count
 
   -- ---- receives
 
-  pub goes_within : (s m : Stored T U C) (r q : Reading) → Goes sends receives a s r m q → q.read ≤ most
+  pub goes_within : (s m : Stored T U C) (r q : Reading) → ReadsOn sends receives a s r m q → q.read ≤ most
   goes_within s m r q g = let e = g.read in omega (arith, e)
 
   module _ (s : Stored T U C) (r q : Reading) (live : Live s.part) (within : r.read ≤ most) (lacks : LacksIn sends receives a s.part) (left : r.receives_left ≡ suc q.receives_left)
@@ -330,7 +330,7 @@ module _ {T U G C : Type 0} (sends : T → Queue → Result ℕ IoFault → T �
     is_read = read ∙ counted_none r.read within
 
     -- a receive after which it goes on
-    pub fills_goes : (after : Stored T U C) → Fills receives s None after → Goes sends receives a s r after q
+    pub fills_goes : (after : Stored T U C) → Fills receives s None after → ReadsOn sends receives a s r after q
     fills_goes after (inr (impossible, same), finds, is) = absurd (never impossible)
       where
         never : ◌≡◌ {A = Result (Unit {0}) IoFault} (Ok tt) (Err fault.OutOfMemory) → ⊥
@@ -349,7 +349,7 @@ module _ {T U G C : Type 0} (sends : T → Queue → Result ℕ IoFault → T �
             (made.0, refl, made.2),
             room_found receives s.part.link after.part.link rc (Ok tt) made finds,
             subst (λ (c : Result (Unit {0}) IoFault). MatchResult c (λ _. Reads sends (server a) receives q.receives_left (record { core = core_of s.part; link = after.part.link }) turns rest end)
-                (λ f. (turns ≡ []) × (behind [] false rest ≡ stops (Some f) (lacked_memory (Err f)) q.receives_left)
+                (λ f. (turns ≡ []) × (given_first [] false rest ≡ stops (Some f) (lacks_memory (Err f)) q.receives_left)
                 × (end ≡ record { core = faulted (core_of s.part) f; link = after.part.link }))) made.1
                 (subst (λ (x : Stored T U C). Reads sends (server a) receives q.receives_left (record { core = core_of x.part; link = x.part.link }) turns rest end) is reads),
           ),
@@ -366,7 +366,7 @@ module _ {T U G C : Type 0} (sends : T → Queue → Result ℕ IoFault → T �
     -- a receive that ends it
     pub fills_ends : (end : NoAction) (after : Stored T U C) → Fills receives s (Some end) after → EndsAs sends receives a s r (Err end) after q
     fills_ends end after (link, inl (rc, made), finds, refused, is) =
-        let out : Gives (Told U) = stops (Some end.fault) (lacked_memory (Err end.fault)) q.receives_left in
+        let out : Gives (Told U) = stops (Some end.fault) (lacks_memory (Err end.fault)) q.receives_left in
         let last : ReaderState T (Core U C) = record { core = faulted (core_of s.part) end.fault; link = link } in
         record {
           turns = Received rc ∷ [];
@@ -383,7 +383,7 @@ module _ {T U G C : Type 0} (sends : T → Queue → Result ℕ IoFault → T �
                 (made.0, refl, made.2),
                 room_found receives s.part.link link rc (Err end.fault) made finds,
                 subst (λ (c : Result (Unit {0}) IoFault). MatchResult c (λ _. Reads sends (server a) receives q.receives_left (record { core = core_of s.part; link = link }) [] out last)
-                    (λ f. (reads_none ≡ []) × (out ≡ stops (Some f) (lacked_memory (Err f)) q.receives_left)
+                    (λ f. (reads_none ≡ []) × (out ≡ stops (Some f) (lacks_memory (Err f)) q.receives_left)
                     × (last ≡ record { core = faulted (core_of s.part) f; link = link }))) made.1 (refl, refl, refl),
               ),
             ),
@@ -404,7 +404,7 @@ module _ {T U G C : Type 0} (sends : T → Queue → Result ℕ IoFault → T �
           end = reader_part s.part;
           reads = (refl, at_true (out ≡ stops None false r.receives_left) (reads_on (core_of s.part)) (live_reads s.part live) (inr (inr (lacks, (q.receives_left, left, refl)))));
           answer_is = ap (λ (f : IoFault). let r : Result Handed ActionError = Err (Io f) in r) memory;
-          refused_is = refused ∙ ap (λ (f : IoFault). lacked_memory (Err f)) memory;
+          refused_is = refused ∙ ap (λ (f : IoFault). lacks_memory (Err f)) memory;
           left = refl;
           read = is_read;
           no_note = refl;
@@ -499,7 +499,7 @@ module _ {T U G C : Type 0} (sends : T → Queue → Result ℕ IoFault → T �
 -- a fault after which more may come
 pub fault_stays : {T U C : Type 0} (receives : T → ℕ → Result Queue IoFault → T → Type 0) (s : Stored T U C) (link : LinkState T) (f : IoFault)
     → faulted (core_of s.part) f ≡ core_of s.part → Filled receives s.part.link (Err f) link → FindsRoom s.part.link (grown_capacity s.part.link)
-    → Fills receives s (Some (record { fault = f; refused = lacked_memory (Err f) })) (linked s link)
+    → Fills receives s (Some (record { fault = f; refused = lacks_memory (Err f) })) (linked s link)
 fault_stays receives s link f same filled finds = (
   link,
   filled,
@@ -516,7 +516,7 @@ pub fault_fills : {T U C : Type 0} (receives : T → ℕ → Result Queue IoFaul
 fault_fills receives s after link f blocks memory filled finds kills =
     (link, filled, finds, sym (lacks_none f memory), kills_is (linked s link) after ConnectionClosed kills ∙ closes f blocks memory)
   where
-    lacks_none : (f : IoFault) → f ≢ fault.OutOfMemory → lacked_memory (Err f) ≡ false
+    lacks_none : (f : IoFault) → f ≢ fault.OutOfMemory → lacks_memory (Err f) ≡ false
     lacks_none fault.WouldBlock memory = refl
     lacks_none fault.Pipe memory = refl
     lacks_none fault.TooBig memory = refl

@@ -1,7 +1,7 @@
 use Rattle.std.proofs.Common.{◌∙◌, Ok, Err, refl, sym}
-use Rattle.wl_server.specs.Inside.Turns.{around_of, found_with}
-use Rattle.wl_server.proofs.Readings.Turning.{killed_done, live_is, open_done, reading_done}
-use Rattle.wl_server.proofs.client.Client.next_action.Goals as goal
+use Rattle.wl_server.specs.Inside.ReadingLoop.{around_of, found_with}
+use Rattle.wl_server.proofs.Readings.OneMessage.{killed_done, live_is, open_done, reading_done}
+use Rattle.wl_server.proofs.client.Client.find_action.Goals as goal
 
 pub returns-then-is_some : goal.returns-then-is_some
 returns-then-is_some g c =

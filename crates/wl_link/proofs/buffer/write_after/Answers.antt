@@ -1,7 +1,7 @@
 use Rattle.std.proofs.Common.{arith}
 use Rattle.wl_wire.specs.MapIds.{numbered}
 use Rattle.wl_link.proofs.Writing.{appended_behind}
-use Rattle.wl_link.proofs.buffer.write_behind.Goals as goal
+use Rattle.wl_link.proofs.buffer.write_after.Goals as goal
 
 pub returns-clause-appended : goal.returns-clause-appended
 returns-clause-appended g c =
