@@ -171,12 +171,12 @@ limit_4096 = ((λ _. ((12, refl), lit≤ tt, lit≤ tt, λ p power least enough.
 limit_is : IsFresh arriving (Some 4096) (link_with arriving nothing nothing)
 limit_is = (Some 4096, (4096, refl, limit_4096), refl)
 
-module _ (U G C : Type 0) (views : G → ClientParts → C → GlobalParts → Bool) (client : ClientParts) (info : C) where
+module _ (U G C : Type 0) (views : G → ClientParts → C → GlobalParts → Bool) (client : ClientParts) (client_data : C) where
   abbrev display_alone : Store (Kept U)
   display_alone = stored empty_store 1 display_object
 
   abbrev pub first_part : Part Script U C
-  first_part = fresh_part (link_with arriving nothing nothing) info
+  first_part = fresh_part (link_with arriving nothing nothing) client_data
 
   abbrev place : Around G C
   place = record { table = fixed_rows; client = client; globals = (new_offer fixed_rows).globals; views = views }
@@ -328,12 +328,12 @@ module _ (U G C : Type 0) (views : G → ClientParts → C → GlobalParts → B
   -- whatever the calls of the server do with memory at hand, they do this
   pub first_answer : (link : LinkState Script) (left : Reading) (did sent : List (Deed U)) (mid after : Part Script U C)
       → IsFresh arriving (Some 4096) link
-      → NextAction ScriptSends ScriptReceives place new_reading (fresh_part link info) (Err (Io fault.WouldBlock)) left false did mid
+      → NextAction ScriptSends ScriptReceives place new_reading (fresh_part link client_data) (Err (Io fault.WouldBlock)) left false did mid
       → FlushedTo ScriptSends mid (Ok tt) false sent after
       → all_bytes after.link.transport.sent ≡ answer_bytes
   first_answer link left did sent mid after fresh read flushed =
       let link_is : link ≡ link_with arriving nothing nothing = fresh_one arriving (Some 4096) link _ fresh limit_is in
-      let reads = subst (λ (l : LinkState Script). NextAction ScriptSends ScriptReceives place new_reading (fresh_part l info) (Err (Io fault.WouldBlock)) left false did mid) link_is read in
+      let reads = subst (λ (l : LinkState Script). NextAction ScriptSends ScriptReceives place new_reading (fresh_part l client_data) (Err (Io fault.WouldBlock)) left false did mid) link_is read in
       let one = next_action_one ScriptSends script_sends_function ScriptReceives script_receives_function place new_reading first_part
       (Err (Io fault.WouldBlock)) (Err (Io fault.WouldBlock)) left request_read.0 did request_read.1 mid answered_part reads request_read.2 in
       let flushes = subst (λ (p : Part Script U C). FlushedTo ScriptSends p (Ok tt) false sent after) one.0.after flushed in
@@ -389,10 +389,10 @@ module _ (U G C : Type 0) (views : G → ClientParts → C → GlobalParts → B
 
   -- ---- the insertion
 
-  pub has_asked : (before after : Backend) (transport : Script) (info : C) (id : ClientParts) → before.server ≡ new_server fixed_rows → transport ≡ bringing request_bytes
-      → Calls w before (step.InsertClient transport info) (reply.InsertClient (Ok id)) after → HasAsked after.server id
-  has_asked before after transport info id fresh brings calls =
-      let (lacked, did, none, (r, is, inserted)) = to_client before after (step.InsertClient transport info) (reply.InsertClient (Ok id)) id calls in
+  pub has_asked : (before after : Backend) (transport : Script) (client_data : C) (id : ClientParts) → before.server ≡ new_server fixed_rows → transport ≡ bringing request_bytes
+      → Calls w before (step.InsertClient transport client_data) (reply.InsertClient (Ok id)) after → HasAsked after.server id
+  has_asked before after transport client_data id fresh brings calls =
+      let (lacked, did, none, (r, is, inserted)) = to_client before after (step.InsertClient transport client_data) (reply.InsertClient (Ok id)) id calls in
       at r lacked did (ap inserted_as is) inserted
     where
       offer_is : after.server.offer ≡ new_offer fixed_rows
@@ -401,16 +401,16 @@ module _ (U G C : Type 0) (views : G → ClientParts → C → GlobalParts → B
           one.offer ∙ ap (λ (c : Call Script U G C). offer_after before.server.offer c) is ∙ ap (λ (s : ServerState Script U G C). s.offer) fresh
 
       at : (r : Result ClientParts InsertClientError) (lacked : Bool) (did : List (Deed U)) → Some (Ok id) ≡ Some r
-          → InsertedAs w id before.server.offer transport info r (seen id before.server) lacked did (seen id after.server) → HasAsked after.server id
+          → InsertedAs w id before.server.offer transport client_data r (seen id before.server) lacked did (seen id after.server) → HasAsked after.server id
       at (Err e) lacked did is inserted = absurd cc
       at (Ok new) lacked did is inserted =
           let new_is : new ≡ id = cc in
           let same : same_client new id ≡ true = ap (λ (i : ClientParts). same_client i id) new_is ∙ same_self id in
           let (link, begun, unlacked, deeds, seen_is) = subst (λ (b : Bool). MatchBool b
-          (Inserted w id before.server.offer transport info (seen id before.server) lacked did (seen id after.server)) (Unfelt (seen id before.server) lacked did (seen id after.server))) same inserted in
+          (Inserted w id before.server.offer transport client_data (seen id before.server) lacked did (seen id after.server)) (Unfelt (seen id before.server) lacked did (seen id after.server))) same inserted in
           let limit : before.server.offer.default_limit ≡ 4096 = ap (λ (s : ServerState Script U G C). s.offer.default_limit) fresh in
           let brought = subst (λ (n : ℕ). IsFresh transport (Some n) link) limit begun in
-          (link, info, subst (λ (t : Script). IsFresh t (Some 4096) link) brings brought, ap (λ (x : Seen Script U C). x.part) seen_is, offer_is)
+          (link, client_data, subst (λ (t : Script). IsFresh t (Some 4096) link) brings brought, ap (λ (x : Seen Script U C). x.part) seen_is, offer_is)
 
   -- ---- the reading, and the flush
 
@@ -418,19 +418,19 @@ module _ (U G C : Type 0) (views : G → ClientParts → C → GlobalParts → B
   pub was_answered : (before mid after : Backend) (id : ClientParts) (error : ActionError) → HasAsked before.server id → error ≡ Io fault.WouldBlock
       → Calls w before (step.NextAction id) (reply.NextAction (Err error)) mid → mid.refused ≡ false
       → Calls w mid (step.Flush (Some id)) (reply.Flush (Ok tt)) after → WasSent after.server id answer_bytes
-  was_answered before mid after id error (link, info, fresh, there, offer) blocks reading memory flush =
+  was_answered before mid after id error (link, client_data, fresh, there, offer) blocks reading memory flush =
       let (lacked, did, none, (r, left, is, reads)) = to_client before mid (step.NextAction id) (reply.NextAction (Err error)) id reading in
-      let (p, read, here) = of_stored id (seen id before.server) (seen id mid.server) (fresh_part link info) _ _ lacked did there reads in
+      let (p, read, here) = of_stored id (seen id before.server) (seen id mid.server) (fresh_part link client_data) _ _ lacked did there reads in
       let (lacked', sent, none', (f, is', flushes)) = to_client mid after (step.Flush (Some id)) (reply.Flush (Ok tt)) id flush in
       let (q, flushed, left_here) = of_stored id (seen id mid.server) (seen id after.server) p _ _ lacked' sent here flushes in
-      let answered = subst (λ (x : Result Action ActionError). NextAction ScriptSends ScriptReceives (around w id before.server.offer) new_reading (fresh_part link info) (action_content x) left lacked did p)
+      let answered = subst (λ (x : Result Action ActionError). NextAction ScriptSends ScriptReceives (around w id before.server.offer) new_reading (fresh_part link client_data) (action_content x) left lacked did p)
       (sym (ap reading_of is) ∙ ap Err blocks) read in
-      let unlacked = subst (λ (b : Bool). NextAction ScriptSends ScriptReceives (around w id before.server.offer) new_reading (fresh_part link info) (Err (Io fault.WouldBlock)) left b did p)
+      let unlacked = subst (λ (b : Bool). NextAction ScriptSends ScriptReceives (around w id before.server.offer) new_reading (fresh_part link client_data) (Err (Io fault.WouldBlock)) left b did p)
       (none memory) answered in
-      let offered = subst (λ (o : Offer G). NextAction ScriptSends ScriptReceives (around w id o) new_reading (fresh_part link info) (Err (Io fault.WouldBlock)) left false did p)
+      let offered = subst (λ (o : Offer G). NextAction ScriptSends ScriptReceives (around w id o) new_reading (fresh_part link client_data) (Err (Io fault.WouldBlock)) left false did p)
       offer unlacked in
       let went = subst (λ (x : Result (Unit {0}) IoFault). FlushedTo ScriptSends p x lacked' sent q) (sym (ap flushed_as is')) flushed in
       let (es, l, by, lacks, deeds, is_q) = went in
       let sent_so = subst (λ (b : Bool). FlushedTo ScriptSends p (Ok tt) b sent q) lacks went in
-      let bytes = first_answer U G C views id info link left did sent p q fresh offered sent_so in
+      let bytes = first_answer U G C views id client_data link left did sent p q fresh offered sent_so in
       (q.link.transport, ap (λ (o : Option (Part Script U C)). option_map (λ (x : Part Script U C). x.link.transport) o) left_here, bytes)

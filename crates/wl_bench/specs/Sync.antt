@@ -48,8 +48,8 @@ module _ {U G C : Type 0} where
   -- a server over the fixed interfaces alone took a client from which the request comes, and nothing has happened since
   abbrev pub HasAsked : ServerState Script U G C → ClientParts → Type 0
   HasAsked s id =
-      (link : LinkState Script) × (info : C) × IsFreshLink (bringing request_bytes) (Some 4096) link
-      × (client_of s id ≡ Some (fresh_part link info)) × (s.offer ≡ new_offer fixed_rows)
+      (link : LinkState Script) × (client_data : C) × IsFreshLink (bringing request_bytes) (Some 4096) link
+      × (client_of s id ≡ Some (fresh_part link client_data)) × (s.offer ≡ new_offer fixed_rows)
 
   -- the client was sent these bytes
   abbrev pub WasSent : ServerState Script U G C → ClientParts → List ℕ → Type 0

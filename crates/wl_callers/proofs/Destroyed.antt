@@ -23,11 +23,11 @@ use Rattle.wl_callers.specs.Destruction.{IsGoneForGood}
 -- ---- a client that is stored was inserted
 
 module _ {T U G C : Type 0} (id : ClientParts) where
-  inserts_if : (b : Bool) (call : Call T U G C) (transport : T) (info : C) (new : ClientParts)
-      → call ≡ Asked (step.InsertClient transport info) (reply.InsertClient (Ok new)) → same_client new id ≡ b → Inserts id call ⊎ IsNotInserted id call
-  inserts_if true call transport info new is same =
-      inl (transport, info, is ∙ ap (λ (n : ClientParts). Asked (step.InsertClient transport info) (reply.InsertClient (Ok n))) (same_is new id same))
-  inserts_if false call transport info new is differ =
+  inserts_if : (b : Bool) (call : Call T U G C) (transport : T) (client_data : C) (new : ClientParts)
+      → call ≡ Asked (step.InsertClient transport client_data) (reply.InsertClient (Ok new)) → same_client new id ≡ b → Inserts id call ⊎ IsNotInserted id call
+  inserts_if true call transport client_data new is same =
+      inl (transport, client_data, is ∙ ap (λ (n : ClientParts). Asked (step.InsertClient transport client_data) (reply.InsertClient (Ok n))) (same_is new id same))
+  inserts_if false call transport client_data new is differ =
       inr (λ other (t, i, inserts). subst (λ (n : ClientParts). same_client n id ≡ false) (inside other t i inserts) differ)
     where
       inside : (other : ClientParts) (t : T) (i : C) → call ≡ Asked (step.InsertClient t i) (reply.InsertClient (Ok other)) → new ≡ other
@@ -35,8 +35,8 @@ module _ {T U G C : Type 0} (id : ClientParts) where
 
   -- a call inserts the client, or not
   inserts_or_not : (call : Call T U G C) → Inserts id call ⊎ IsNotInserted id call
-  inserts_or_not (Asked (step.InsertClient transport info) (reply.InsertClient (Ok new))) =
-      inserts_if (same_client new id) (Asked (step.InsertClient transport info) (reply.InsertClient (Ok new))) transport info new refl refl
+  inserts_or_not (Asked (step.InsertClient transport client_data) (reply.InsertClient (Ok new))) =
+      inserts_if (same_client new id) (Asked (step.InsertClient transport client_data) (reply.InsertClient (Ok new))) transport client_data new refl refl
   inserts_or_not call = inr (λ other (t, i, same). absurd cc)
 
   -- where in a run it was inserted
@@ -98,7 +98,7 @@ module _ {T U G C : Type 0} (w : World T G C) (before after : BackendState T U G
           → WasInserted o.client earlier → named_of (seen o.client end) o ≡ None
       behind table earlier later end led leads x was gone inserted =
           let (e, is, refused, by) = call.step in
-          let (transport, info, inserts) = inserted.inserts in
+          let (transport, client_data, inserts) = inserted.inserts in
           nothing (named_of (seen o.client end) o)
-          (again table earlier (e ∷ []) later before.server after.server end led (after.server, by, refl) leads o.client transport info inserted.earlier inserted.since inserted.entry inserted.split
+          (again table earlier (e ∷ []) later before.server after.server end led (after.server, by, refl) leads o.client transport client_data inserted.earlier inserted.since inserted.entry inserted.split
           inserts o (ap is_some was) (λ some. true≢false (sym some ∙ ap is_some gone)))

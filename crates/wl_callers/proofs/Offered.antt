@@ -32,21 +32,21 @@ module _ {T U G C : Type 0} (w : World T G C) (before after : BackendState T U G
   pub offered : (answer : Result GlobalParts GlobalError) → Calls w before (step.CreateGlobal i version handler) (reply.CreateGlobal answer) after → Announcing U w
       → IfOk answer (λ global. IsOffered w handler i version global after.server)
   offered (Err e) call law = tt
-  offered (Ok global) call law = λ id p there live sees table run earlier later e transport info registry led split inserted made alone.
-      let shows : AreSameGlobals (announced (log_of (history (mine id later))) registry) (shown_of w.views after.server.offer id p.info) =
+  offered (Ok global) call law = λ id p there live sees table run earlier later e transport client_data registry led split inserted made alone.
+      let shows : AreSameGlobals (announced (log_of (history (mine id later))) registry) (shown_of w.views after.server.offer id p.client_data) =
       at_client id p there live (announced (log_of (history (mine id later))) registry)
-      (law table run after.server led id transport info earlier later e split inserted registry made alone) in
+      (law table run after.server led id transport client_data earlier later e split inserted registry made alone) in
       (shows (announced_as after.server.offer.table (record { name = global.name; interface = i; version = version }))).1
-      (contains_among (shown_of w.views after.server.offer id p.info) _ (shown_among w.views id p.info after.server.offer _ (is_shown id p sees)))
+      (contains_among (shown_of w.views after.server.offer id p.client_data) _ (shown_among w.views id p.client_data after.server.offer _ (is_shown id p sees)))
     where
       at_client : (id : ClientParts) (p : Part T U C) → client_of after.server id ≡ Some p → p.is_killed ≡ false → (told : List Announced)
-          → MatchOption (client_of after.server id) (Unit {0}) (λ p. p.is_killed ≡ false → AreSameGlobals told (shown_of w.views after.server.offer id p.info))
-          → AreSameGlobals told (shown_of w.views after.server.offer id p.info)
+          → MatchOption (client_of after.server id) (Unit {0}) (λ p. p.is_killed ≡ false → AreSameGlobals told (shown_of w.views after.server.offer id p.client_data))
+          → AreSameGlobals told (shown_of w.views after.server.offer id p.client_data)
       at_client id p there live told h =
-          subst (λ (o : Option (Part T U C)). MatchOption o (Unit {0}) (λ p. p.is_killed ≡ false → AreSameGlobals told (shown_of w.views after.server.offer id p.info))) there h live
+          subst (λ (o : Option (Part T U C)). MatchOption o (Unit {0}) (λ p. p.is_killed ≡ false → AreSameGlobals told (shown_of w.views after.server.offer id p.client_data))) there h live
 
-      is_shown : (id : ClientParts) (p : Part T U C) → w.views handler id p.info global ≡ true
-          → IsShown w.views id p.info after.server.offer (announced_as after.server.offer.table (record { name = global.name; interface = i; version = version }))
+      is_shown : (id : ClientParts) (p : Part T U C) → w.views handler id p.client_data global ≡ true
+          → IsShown w.views id p.client_data after.server.offer (announced_as after.server.offer.table (record { name = global.name; interface = i; version = version }))
       is_shown id p sees = record {
         global = new_global i version global.serial handler;
         at = (let (e, is, refused, by) = call.step in

@@ -20,13 +20,13 @@ module _ {T U G C : Type 0} (w : World T G C) where
   -- alone, announces this global, by all that was put for the client since it was inserted.
   abbrev pub IsTold : ServerState T U G C → ClientParts → Announced → Type 0
   IsTold after id g =
-      (table : List InterfaceRow) (run earlier later : List (Entry T U G C)) (e : Entry T U G C) (transport : T) (info : C) (registry : Id)
-      → Leads w (new_server table) run after → run ≡ earlier ++ e ∷ later → e.call ≡ Asked (step.InsertClient transport info) (reply.InsertClient (Ok id))
+      (table : List InterfaceRow) (run earlier later : List (Entry T U G C)) (e : Entry T U G C) (transport : T) (client_data : C) (registry : Id)
+      → Leads w (new_server table) run after → run ≡ earlier ++ e ∷ later → e.call ≡ Asked (step.InsertClient transport client_data) (reply.InsertClient (Ok id))
       → Contains (registries_in (history (mine id later))) registry → IsAlwaysLeftAlone registry (mine id later)
       → Contains (announced (log_of (history (mine id later))) registry) g
 
   -- each live client that may see the global was told of it
   abbrev pub IsOffered : G → InterfaceId → ℕ → GlobalParts → ServerState T U G C → Type 0
   IsOffered handler i version global after =
-      (id : ClientParts) (p : Part T U C) → client_of after id ≡ Some p → p.is_killed ≡ false → w.views handler id p.info global ≡ true
+      (id : ClientParts) (p : Part T U C) → client_of after id ≡ Some p → p.is_killed ≡ false → w.views handler id p.client_data global ≡ true
       → IsTold after id (announced_as after.offer.table (record { name = global.name; interface = i; version = version }))

@@ -50,8 +50,8 @@ module _ {U : Type 0} where
   with_data_for c (Some id) (Some u) = record c { store = data_given c.store id.number (named c.store id) u }
   with_data_for c _ _ = c
 
-  abbrev pub closed : Core U → OpenEvent → Option U → Core U
-  closed c event u = with_data_for (after_destructor (record c { open_event = None }) event) event.created u
+  abbrev pub core_finished : Core U → OpenEvent → Option U → Core U
+  core_finished c event u = with_data_for (after_destructor (record c { open_event = None }) event) event.created u
 
 module _ {T U : Type 0} where
   abbrev pub Refuses : SessionState T U → Option U → FinishError → Result (Unit {0}) (FinishRefused U) → SessionState T U → Type 0
@@ -62,10 +62,10 @@ module _ {T U : Type 0} where
   NotesEnd s event =
       (event.is_destructor ≡ true) × MatchOption (alive (named s.store event.sender)) ⊥ (λ x. IsSome x.value.user_data)
 
-  -- the event is closed; or there is no memory for the note of an object that it ends
-  abbrev pub Closes : SessionState T U → OpenEvent → Option U → Result (Unit {0}) (FinishRefused U) → SessionState T U → Type 0
-  Closes before event u answer after =
-      ((answer ≡ Ok tt) × (after ≡ with_core before (closed (core_of before) event u)))
+  -- the event is finished; or there is no memory for the note of an object that it ends
+  abbrev pub FinishesEvent : SessionState T U → OpenEvent → Option U → Result (Unit {0}) (FinishRefused U) → SessionState T U → Type 0
+  FinishesEvent before event u answer after =
+      ((answer ≡ Ok tt) × (after ≡ with_core before (core_finished (core_of before) event u)))
       ⊎ (NotesEnd before event × Refuses before u finish.OutOfMemory answer after)
 
   -- an error gives the data back, and the event stays open
@@ -73,7 +73,7 @@ module _ {T U : Type 0} where
   Finishes before u answer after =
       MatchOption before.open_event
       (Refuses before u finish.NoOpenEvent answer after)
-      (λ event. MatchOption (refusal event.created u) (Closes before event u answer after) (λ e. Refuses before u e answer after))
+      (λ event. MatchOption (refusal event.created u) (FinishesEvent before event u answer after) (λ e. Refuses before u e answer after))
 
   -- the answer to a flush by that of the link; a fault is stored, unless more may be sent later
   abbrev pub FlushEnds : SessionState T U → Result (Unit {0}) IoFault → Result (Unit {0}) FlushError → SessionState T U → Type 0

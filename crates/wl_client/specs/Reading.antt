@@ -23,7 +23,7 @@ use Rattle.wl_client.specs.declared.objects.Kept.{Kept}
 use Rattle.wl_client.specs.declared.event.OpenEvent.{OpenEvent}
 use Rattle.wl_client.specs.ObjectId.{IdParts}
 use Rattle.wl_client.specs.Events.{error_of}
-use Rattle.wl_client.specs.Finish.{closed, refusal}
+use Rattle.wl_client.specs.Finish.{core_finished, refusal}
 use Rattle.wl_client.specs.Handling.{Handling, Swallows, HandsOut, Breaks, handed, handling, row_in, signature_in}
 use Rattle.wl_client.specs.Requests.{SessionMessage, session_content}
 use Rattle.wl_client.specs.Session.{Core, SessionState, alive, core_of, named}
@@ -89,7 +89,7 @@ module _ {U : Type 0} where
   -- there may be no memory for the note of an object that the event ends
   abbrev pub finished : Core U → OpenEvent → Option U → Verdict (Core U) SessionMessage
   finished c event u = record {
-    core = closed c event u;
+    core = core_finished c event u;
     puts = [];
     flushes = false;
     last = λ d. d;

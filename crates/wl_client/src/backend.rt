@@ -12,11 +12,10 @@ use crate::error::WaylandError;
 use crate::event::OpenEvent;
 use crate::object_id::ObjectId;
 use crate::objects::{Kept, Note, fresh_object};
-use crate::place::MessagePlace;
 use std::alloc::Global;
 use std::marker::Model;
 use std::mem;
-use wl_link::{BufferedSocket, ObjectMap};
+use wl_link::{BufferedSocket, MessagePlace, ObjectMap};
 use wl_wire::{OutOfMemory, Protocol, WL_DISPLAY_INTERFACE};
 
 /// The number of the display, `wl_display`.
@@ -47,7 +46,7 @@ pub struct Backend<T, U> {
     pub(crate) notes: Vec<Note>,
     /// Whether memory was refused in the last call that took `&mut self`.
     pub(crate) refused: bool,
-    /// The message that is being read. It is kept here so that its memory is used again.
+    /// The message that is being read. It is kept here so that none is made and dropped for each message.
     pub(crate) place: MessagePlace,
 }
 

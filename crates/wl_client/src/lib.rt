@@ -34,7 +34,6 @@ mod message;
 mod next_event;
 mod object_id;
 mod objects;
-mod place;
 mod protocol_error;
 mod replay;
 mod request;

@@ -28,7 +28,7 @@ use crate::objects::Kept;
 use crate::protocol_error::{EventFault, fault_text, told_error};
 use smallvec::SmallVec;
 use std::alloc::Global;
-use wl_link::{BufferedSocket, ObjectMap, Transport};
+use wl_link::{BufferedSocket, ObjectMap, Transport, empty_place};
 use wl_wire::{
     Argument, INLINE_ARGS, IoFault, Message, MessageDesc, MessageParseError, OutOfMemory, Protocol,
     ProtocolError, Text, Token,
@@ -254,18 +254,6 @@ fn take_and_handle<T: Drop, U: Drop>(
     }
 }
 
-/// Drops what is left of a message in its place, and the place's memory if it has more than the arguments that need no
-/// allocation.
-fn empty(message: &mut Message<u32, Token>)
-    ensures { INLINE_ARGS ≤ message.new.args.capacity }
-{
-    if message.args.spilled() {
-        message.args = SmallVec::new(*message.args.allocator());
-    } else {
-        message.args.clear();
-    }
-}
-
 impl<T: Transport + Drop, U: Drop> Backend<T, U> {
     /// Takes the first message off what was received, and handles it. If it makes an event, that is in `event` then.
     pub(crate) fn handle_message(&mut self, event: &mut Message<ObjectId, Token>) -> MessageEnd
@@ -298,7 +286,7 @@ impl<T: Transport + Drop, U: Drop> Backend<T, U> {
             &mut self.place.message,
             event,
         );
-        empty(&mut self.place.message);
+        empty_place(&mut self.place.message);
         match handled {
             Ok(end) => end,
             Err(error) => self.not_taken(error),

@@ -3,7 +3,7 @@ pub mod FlushLaws
 pub mod WriteLaws
 pub mod ReadLaws
 pub mod TakenLaws
-pub mod KeptLaws
+pub mod NothingLostLaws
 pub mod OneLaws
 pub mod NumberLaws
 pub mod Branches

@@ -149,13 +149,13 @@ module _ {D : Type 0} (c s : List (Option (Object D))) (w : Within c s) where
       ∙ find_entries s server_range.first j n e
 
 -- where the object of a number is kept
-pub data Kept (m : ℕ) : Type 0 where
-  nowhere : m ≡ 0 → Kept m
-  in_clients : (i : ℕ) → m ≡ client_range.first + i → m < client_range.end → Kept m
-  in_servers : (i : ℕ) → m ≡ server_range.first + i → Kept m
+pub data RangeOf (m : ℕ) : Type 0 where
+  nowhere : m ≡ 0 → RangeOf m
+  in_clients : (i : ℕ) → m ≡ client_range.first + i → m < client_range.end → RangeOf m
+  in_servers : (i : ℕ) → m ≡ server_range.first + i → RangeOf m
 
-kept : (m : ℕ) → Kept m
-kept m =
+range_of : (m : ℕ) → RangeOf m
+range_of m =
     elim (cases_lt m server_range.first) [
       | inl h ↦ elim (cases_eq m 0) [ inl e ↦ nowhere e | inr e ↦ in_clients (m - 1) (omega arith) h ]
       | inr h ↦ in_servers (m - server_range.first) (omega arith)
@@ -167,7 +167,7 @@ module _ {D : Type 0} (c s : List (Option (Object D))) (w : Within c s) where
   pub changed_client : (c' : List (Option (Object D))) → Within c' s → (at n : ℕ) (x : Option (Object D)) → n ≡ client_range.first + at
       → n < client_range.end → SetsPlace c at x c' → (m : ℕ) → held (store_of c' s) m ≡ cond (eqb m n) x (held (store_of c s) m)
   changed_client c' w' at n x e h puts m =
-      elim (kept m) [
+      elim (range_of m) [
         | nowhere d ↦ held_zero c' s w' m d ∙ sym (ap₂ (λ b o. cond b x o) (ne_eqb m n (λ t. omega arith)) (held_zero c s w m d))
         | in_clients i d l ↦
             held_client c' s w' m i d l ∙ puts.places i
@@ -179,7 +179,7 @@ module _ {D : Type 0} (c s : List (Option (Object D))) (w : Within c s) where
   pub changed_server : (s' : List (Option (Object D))) → Within c s' → (at n : ℕ) (x : Option (Object D)) → n ≡ server_range.first + at
       → SetsPlace s at x s' → (m : ℕ) → held (store_of c s') m ≡ cond (eqb m n) x (held (store_of c s) m)
   changed_server s' w' at n x e puts m =
-      elim (kept m) [
+      elim (range_of m) [
         | nowhere d ↦ held_zero c s' w' m d ∙ sym (ap₂ (λ b o. cond b x o) (ne_eqb m n (λ t. omega arith)) (held_zero c s w m d))
         | in_clients i d l ↦
             held_client c s' w' m i d l ∙ sym (ap₂ (λ b o. cond b x o) (ne_eqb m n (λ t. omega arith)) (held_client c s w m i d l))

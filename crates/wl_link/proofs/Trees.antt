@@ -8,7 +8,7 @@ use Rattle.std.specs.Int.{bit_at, trailing_zeros, w64}
 use Rattle.std.proofs.Math.Seq.{take-append_seam}
 use Rattle.std.proofs.Math.Nat.{pow-succ'}
 use Rattle.wl_link.specs.Inside.PlaceList.{place, IsFirstFree, free_flag, ShowsFree, WordsReadIn}
-use Rattle.wl_link.specs.Inside.FreeTree.{word, is_set, as_bit, flags_above, IsLevel, IsTree, changed, IsLeast, FindsLeast, lowest_bit, with_first, height, reads_of, IsHeight, words_of, is_ready, has_room, is_one_word, ClearsBelow, TakesLeast, ChangesFlag}
+use Rattle.wl_link.specs.Inside.FreeTree.{word, is_set, as_bit, flags_above, IsLevel, IsTree, changed, IsLeast, FindsLeast, lowest_bit, with_first, height, reads_of, IsHeight, words_of, is_ready, has_capacity, is_one_word, ClearsBelow, TakesLeast, ChangesFlag}
 
 -- ---- bits and flags
 
@@ -349,7 +349,7 @@ module _ {Z : Type 0} where
   ready_some (v ∷ up) e = omega arith
 
   pub ready_up : (v : Vec ℕ Z) (up : List (Vec ℕ Z)) → 0 < vec_len v → is_ready (v ∷ up) ≡ true → is_ready up ≡ true
-  ready_up v up some e = go (has_room v) (eqb (vec_len v) 0) (is_ready up) (ne_eqb (vec_len v) 0 (λ z. omega arith)) e
+  ready_up v up some e = go (has_capacity v) (eqb (vec_len v) 0) (is_ready up) (ne_eqb (vec_len v) 0 (λ z. omega arith)) e
     where
       go : (a b r : Bool) → b ≡ false → (a && (b || r)) ≡ true → r ≡ true
       go true true r f e = absurd (true≢false f)

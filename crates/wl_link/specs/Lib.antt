@@ -9,7 +9,7 @@ pub mod Link
 pub mod Lending
 pub mod Refusals
 -- Laws of a link: what is kept, what is read back, that there is one outcome.
-pub mod Kept
+pub mod NothingLost
 pub mod Outcome
 pub mod Sides
 -- What a session is as a reader: what it puts, what a reading gives, what is served.

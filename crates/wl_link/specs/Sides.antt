@@ -10,7 +10,7 @@ use Rattle.wl_wire.specs.Message.{WireMessage, IsMessage}
 use Rattle.wl_wire.specs.Stream.{Stream}
 use Rattle.wl_link.specs.Exchange.{Queue, Sending, joined, nothing}
 use Rattle.wl_link.specs.Link.{EachWithin, LinkState, with_transport, FlushedBy, WroteBy, FilledBy, incoming_limit, with_came, ReadOne, spelled}
-use Rattle.wl_link.specs.Kept.{taken, NoZero}
+use Rattle.wl_link.specs.NothingLost.{taken, NoZero}
 
 -- ---- the sending side
 

@@ -9,7 +9,7 @@ ghost use Rattle.wl_wire.specs.Message.{IsMessage, content, size};
 ghost use Rattle.wl_wire.specs.declared.error.MessageParseError.TheVariants as parse;
 ghost use Rattle.wl_wire.specs.Parse.{IsInline, IsThere, ReadsMessage, RefusesMessage, sender_of, opcode_of};
 ghost use Rattle.wl_link.specs.Link.{IsFresh, LimitSet, Flushed, Filled, Grown, Wants, Put, Placed, Wrote, ReadOne, looked_up, read_content, read_into, needed, has_room, ignoring, counted_answer, grown_capacity, with_incoming, after_first, FindsRoom, LacksBytes};
-ghost use Rattle.wl_link.specs.Kept.{FlushKeeps, FlushDrains, WriteKeeps};
+ghost use Rattle.wl_link.specs.NothingLost.{FlushKeeps, FlushDrains, WriteKeeps};
 ghost use Rattle.wl_link.specs.Sides.{ReadTakes};
 ghost use Rattle.wl_link.specs.Inside.WaitingBytes.{FitsUnder, grown_to, write_answer_of};
 

@@ -5,7 +5,7 @@
 
 ghost use Rattle.std.specs.Prelude.{◌≡◌, ◌≢◌, ◌+◌, ◌<◌, ◌≤◌, ℕ, Bool, true, false, [], ◌∷◌, ◌++◌, length, Vec, vec_len, OnErr, OnOk, IfOk};
 ghost use Rattle.std.specs.Int.{bit_at};
-ghost use Rattle.wl_link.specs.Inside.FreeTree.{word, as_bit, has_room, is_ready, lowest_bit, with_first, words_of, height, reads_of, IsTree, IsSomeTree, IsWholeTree, ClearsBelow, TakesLeast, HasFlag, HasHeight, IsLeastOf, is_one_word, KeepsFlags, ChangesFlag, AddsFlag, RoomMade};
+ghost use Rattle.wl_link.specs.Inside.FreeTree.{word, as_bit, has_capacity, is_ready, lowest_bit, with_first, words_of, height, reads_of, IsTree, IsSomeTree, IsWholeTree, ClearsBelow, TakesLeast, HasFlag, HasHeight, IsLeastOf, is_one_word, KeepsFlags, ChangesFlag, AddsFlag, RoomMade};
 
 use std::alloc::{AllocError, Global};
 
@@ -180,7 +180,7 @@ fn take_lowest(words: &mut Vec<u64>, end: usize, reads: &mut u32) -> Option<usiz
     ensures count { reads.new ≡ reads.old + 1 }
     ensures cleared { ClearsBelow end words.old.items result words.new.items }
     ensures len { vec_len words.new ≡ vec_len words.old }
-    ensures room { has_room words.new ≡ has_room words.old }
+    ensures room { has_capacity words.new ≡ has_capacity words.old }
 {
     let at = lowest(words, 0, reads)?;
     if at < end {
@@ -254,7 +254,7 @@ fn take_least_of_many(levels: &mut [Vec<u64>], end: usize, reads: &mut u32) -> O
 
 /// Appends a word. There is capacity for it.
 fn push_word(words: &mut Vec<u64>, word: u64)
-    requires { has_room words.old ≡ true }
+    requires { has_capacity words.old ≡ true }
     ensures items { words.new.items ≡ words.old.items ++ word ∷ [] }
     ensures len { vec_len words.new ≡ vec_len words.old + 1 }
 {

@@ -7,7 +7,7 @@
 //!
 //! | Calls | Code | Definitions, in `specs/` |
 //! |---|---|---|
-//! | of a `BufferedSocket` | `buffered_socket` | `Link`, `Kept` |
+//! | of a `BufferedSocket` | `buffered_socket` | `Link`, `NothingLost` |
 //! | of a `Transport`, and of `Memory`, the transport by script | `transport`, `memory` | `Exchange`, `Script` |
 //! | of an `ObjectMap`, and of `AllObjects` and `IntoObjects`, the walks over it | `object_map`, `all_objects`, `into_objects` | `Store`, `ObjectMap` |
 //!
@@ -17,7 +17,7 @@
 //!
 //! | Laws | Code | Definitions, in `specs/` |
 //! |---|---|---|
-//! | of calls: nothing is lost, messages come back, one outcome | `laws::calls` | `Kept`, `Sides`, `Outcome` |
+//! | of calls: nothing is lost, messages come back, one outcome | `laws::calls` | `NothingLost`, `Sides`, `Outcome` |
 //! | of readers: how both sessions read | `laws::readers` | `Reader`, `Puts`, `Served`, `Respect`, `Total`, `Stretch` |
 //! | of runs of calls | `laws::runs` | `Runs` |
 //! | of object ids | `laws::ids` | `Identity`, `Named` |
@@ -31,6 +31,7 @@ mod into_objects;
 pub mod laws;
 mod limit;
 mod memory;
+mod message_place;
 mod object;
 mod object_map;
 mod parcel;
@@ -43,6 +44,7 @@ pub use buffered_socket::BufferedSocket;
 pub use into_objects::IntoObjects;
 pub use limit::{DEFAULT_MAX_BUFFER_SIZE, INCOMING_LIMIT};
 pub use memory::{ArriveError, Memory};
+pub use message_place::{MessagePlace, empty_place};
 pub use object::Object;
 pub use object_map::{InsertError, NewError, ObjectMap, SERVER_ID_LIMIT};
 pub use transport::{MAX_BYTES_OUT, MAX_FDS_OUT, Transport};

@@ -69,7 +69,7 @@ announced_as table g = record { name = g.name; interface = name_of table g.inter
 
 -- the enabled globals of an offer that the client may see, as they are announced
 abbrev pub shown_of : {G C : Type 0} → (G → ClientParts → C → GlobalParts → Bool) → Offer G → ClientParts → C → List Announced
-shown_of views offer client info = map (announced_as offer.table) (shown views offer.globals client info)
+shown_of views offer client client_data = map (announced_as offer.table) (shown views offer.globals client client_data)
 
 -- the same globals, in whatever order
 abbrev pub AreSameGlobals : List Announced → List Announced → Type 0
@@ -95,13 +95,13 @@ module _ {T U G C : Type 0} where
   AnnouncesShown w id offer run s =
       (registry : Id) → Contains (registries_in (history run)) registry → IsAlwaysLeftAlone registry run
       → MatchOption s.part (Unit {0})
-      (λ p. p.is_killed ≡ false → AreSameGlobals (announced (log_of (history run)) registry) (shown_of w.views offer id p.info))
+      (λ p. p.is_killed ≡ false → AreSameGlobals (announced (log_of (history run)) registry) (shown_of w.views offer id p.client_data))
 
   -- so it is with each client that was inserted in the run, from then on
   abbrev pub EachAnnouncesShown : World T G C → List (Entry T U G C) → ServerState T U G C → Type 0
   EachAnnouncesShown w run after =
-      (id : ClientParts) (transport : T) (info : C) (earlier later : List (Entry T U G C)) (e : Entry T U G C) →
-      run ≡ earlier ++ e ∷ later → e.call ≡ Asked (step.InsertClient transport info) (reply.InsertClient (Ok id)) →
+      (id : ClientParts) (transport : T) (client_data : C) (earlier later : List (Entry T U G C)) (e : Entry T U G C) →
+      run ≡ earlier ++ e ∷ later → e.call ≡ Asked (step.InsertClient transport client_data) (reply.InsertClient (Ok id)) →
       AnnouncesShown w id after.offer (mine id later) (seen id after)
 
   -- steps of a new server, with these replies, are the calls of a run in which that is so

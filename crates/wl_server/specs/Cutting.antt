@@ -68,8 +68,8 @@ module _ {T U G C : Type 0} (a : Around G C) where
 -- are, something is served, by some answers to the sends.
 abbrev pub EachIsServed : {T U G C : Type 0} → World T G C → List (Entry T U G C) → ServerState T U G C → Type 0
 EachIsServed {T = T} {U = U} {G = G} {C = C} w run after =
-    (id : ClientParts) (transport : T) (info : C) (earlier later : List (Entry T U G C)) (e : Entry T U G C) →
-    run ≡ earlier ++ e ∷ later → e.call ≡ Asked (step.InsertClient transport info) (reply.InsertClient (Ok id)) →
+    (id : ClientParts) (transport : T) (client_data : C) (earlier later : List (Entry T U G C)) (e : Entry T U G C) →
+    run ≡ earlier ++ e ∷ later → e.call ≡ Asked (step.InsertClient transport client_data) (reply.InsertClient (Ok id)) →
     (p : Part T U C) → (seen id after).part ≡ Some p → (more : Queue) (finishes : List (Finish U)) →
     (answers : Answers) × (gave : List (Given (Told U))) × (end : ReaderState Answers (Core U C))
     × IsServed (around w id after.offer) (reader_part p) more answers finishes gave end

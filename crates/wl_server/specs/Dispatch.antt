@@ -155,24 +155,24 @@ module _ {H T U G C : Type 0} (w : World T G C) (answers : Answering H T U G C) 
     pub lacked_is : lacked ≡ first_lacked || last_lacked
 
   -- A client is dispatched, with one new reading. The answer is that of its dispatch.
-  pub record Serves (h : H) (before : ServerState T U G C) (run : List (Entry T U G C)) (lacked : Bool) (answer : Result ℕ IoFault) (h' : H)
+  pub record IsDispatched (h : H) (before : ServerState T U G C) (run : List (Entry T U G C)) (lacked : Bool) (answer : Result ℕ IoFault) (h' : H)
       (after : ServerState T U G C) : Type 0 where
     pub left : Reading
     pub fault : IoFault
-    pub served : RoundsEnd h new_reading before run lacked fault h' left after
+    pub rounds_end : RoundsEnd h new_reading before run lacked fault h' left after
     pub answer_is : answer ≡ dispatched fault left.read
 
 -- ---- clients one after another
 
 module _ {H T U G C : Type 0} (w : World T G C) (answers : Answering H T U G C) where
   -- Each of the clients is dispatched, in order, with a reading of its own. The sum of the counts is `total`.
-  pub data ServesEach : List ClientParts → H → ServerState T U G C → List (Entry T U G C) → Bool → ℕ → H → ServerState T U G C → Type 0 where
+  pub data EachIsDispatched : List ClientParts → H → ServerState T U G C → List (Entry T U G C) → Bool → ℕ → H → ServerState T U G C → Type 0 where
     none : {ids : List ClientParts} {h : H} {s : ServerState T U G C} {run : List (Entry T U G C)} {lacked : Bool} {total : ℕ}
-        → ids ≡ [] → run ≡ [] → lacked ≡ false → total ≡ 0 → ServesEach ids h s run lacked total h s
+        → ids ≡ [] → run ≡ [] → lacked ≡ false → total ≡ 0 → EachIsDispatched ids h s run lacked total h s
     more : {earlier ids : List ClientParts} {h h1 h' : H} {s s1 s' : ServerState T U G C} {first next run : List (Entry T U G C)} {before now lacked : Bool}
-        {count total : ℕ} (id : ClientParts) (answer : Result ℕ IoFault) → ServesEach earlier h s first before count h1 s1
-        → Serves w answers id h1 s1 next now answer h' s' → ids ≡ earlier ++ (id ∷ []) → run ≡ first ++ next → lacked ≡ before || now
-        → total ≡ total_with count answer → ServesEach ids h s run lacked total h' s'
+        {count total : ℕ} (id : ClientParts) (answer : Result ℕ IoFault) → EachIsDispatched earlier h s first before count h1 s1
+        → IsDispatched w answers id h1 s1 next now answer h' s' → ids ≡ earlier ++ (id ∷ []) → run ≡ first ++ next → lacked ≡ before || now
+        → total ≡ total_with count answer → EachIsDispatched ids h s run lacked total h' s'
 
 -- ---- the end of a dispatch
 
@@ -191,7 +191,7 @@ module _ {T U G C : Type 0} (w : World T G C) (before : ServerState T U G C) (ca
 
 -- A cleanup ends the dispatch. The dispatch is a run of calls, and all the laws of runs hold of it after each run that led
 -- to it. `after.refused` says whether memory was refused in its own calls; those of its handler do not count.
-pub record EndsDispatch {T U G C : Type 0} (w : World T G C) (before : ServerState T U G C) (served : List (Entry T U G C)) (lacked : Bool)
+pub record EndsDispatch {T U G C : Type 0} (w : World T G C) (before : ServerState T U G C) (calls : List (Entry T U G C)) (lacked : Bool)
     (mid : ServerState T U G C) (answer result : Result ℕ IoFault) (after : BackendState T U G C) : Type 0 where
   pub cleanup : Entry T U G C
   pub out : Reply T U
@@ -199,19 +199,19 @@ pub record EndsDispatch {T U G C : Type 0} (w : World T G C) (before : ServerSta
   pub cleanup_is : cleanup.call ≡ Asked step.Cleanup out
   pub result_is : result ≡ cleaned out answer
   pub refused : after.refused ≡ lacked || cleanup.refused
-  pub leads : Leads w before (served ++ (cleanup ∷ [])) after.server
-  pub accounted : IsWithinOffer w.sends → StayAccountedFor w before (served ++ (cleanup ∷ [])) after.server
-  pub cut : AreCut w before (served ++ (cleanup ∷ [])) after.server
+  pub leads : Leads w before (calls ++ (cleanup ∷ [])) after.server
+  pub accounted : IsWithinOffer w.sends → StayAccountedFor w before (calls ++ (cleanup ∷ [])) after.server
+  pub cut : AreCut w before (calls ++ (cleanup ∷ [])) after.server
 
 module _ {H T U G C : Type 0} (w : World T G C) (answers : Answering H T U G C) where
   -- what a dispatch of one client does
   abbrev pub DispatchesClient : ClientParts → H → ServerState T U G C → Result ℕ IoFault → H → BackendState T U G C → Type 0
   DispatchesClient id h before result h' after =
-      (served : List (Entry T U G C)) × (lacked : Bool) × (answer : Result ℕ IoFault) × (mid : ServerState T U G C)
-      × Serves w answers id h before served lacked answer h' mid × EndsDispatch w before served lacked mid answer result after
+      (calls : List (Entry T U G C)) × (lacked : Bool) × (answer : Result ℕ IoFault) × (mid : ServerState T U G C)
+      × IsDispatched w answers id h before calls lacked answer h' mid × EndsDispatch w before calls lacked mid answer result after
 
   -- what a dispatch of several clients does: the faults of single clients are dropped
   abbrev pub DispatchesAll : List ClientParts → H → ServerState T U G C → Result ℕ IoFault → H → BackendState T U G C → Type 0
   DispatchesAll ids h before result h' after =
-      (served : List (Entry T U G C)) × (lacked : Bool) × (total : ℕ) × (mid : ServerState T U G C)
-      × ServesEach w answers ids h before served lacked total h' mid × EndsDispatch w before served lacked mid (Ok total) result after
+      (calls : List (Entry T U G C)) × (lacked : Bool) × (total : ℕ) × (mid : ServerState T U G C)
+      × EachIsDispatched w answers ids h before calls lacked total h' mid × EndsDispatch w before calls lacked mid (Ok total) result after

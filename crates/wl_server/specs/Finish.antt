@@ -49,11 +49,11 @@ module _ {U C : Type 0} where
   -- ---- an end that is accepted
 
   -- no action is open any longer
-  abbrev pub closed : Core U C → Option IdParts → Option U → Core U C
-  closed c created u = record c { action = None; store = store_with_data c.store created u }
+  abbrev pub core_finished : Core U C → Option IdParts → Option U → Core U C
+  core_finished c created u = record c { action = None; store = store_with_data c.store created u }
 
-  abbrev pub closes : Core U C → Option IdParts → Option U → Verdict (Core U C) (Told U)
-  closes c created u = tells (closed c created u) []
+  abbrev pub finish_verdict : Core U C → Option IdParts → Option U → Verdict (Core U C) (Told U)
+  finish_verdict c created u = tells (core_finished c created u) []
 
   -- the sender is noted at once, if it left and had user data
   abbrev pub ending : ClientParts → IdParts → Object (Kept U) → Core U C → List (Told U)
@@ -65,8 +65,8 @@ module _ {U C : Type 0} where
   -- A destructor request ends its own sender, if that is still kept: the client is told that the number is free, and the
   -- object leaves. If there is no memory for its note or for the message, nothing is done, and the action stays open.
   abbrev pub ends : ClientParts → Core U C → IdParts → Option (Object (Kept U)) → Option IdParts → Option U → Verdict (Core U C) (Told U)
-  ends client c id None created u = closes c created u
-  ends client c id (Some x) created u = record (closes (without c id.number x) created u) {
+  ends client c id None created u = finish_verdict c created u
+  ends client c id (Some x) created u = record (finish_verdict (without c id.number x) created u) {
     puts = deletions id.number;
     asks = is_some x.value.user_data;
     starved = c;
@@ -81,7 +81,7 @@ module _ {U C : Type 0} where
   abbrev pub finishing : ClientParts → Core U C → Option OpenAction → Finish U → Option (Verdict (Core U C) (Told U))
   finishing client c (Some (opened.Request sender is_destructor created)) (OfRequest u) =
       unless_some (refusal c.is_killed created u) (ends_request client c sender is_destructor created u)
-  finishing client c (Some (opened.Bind object)) (OfBind u) = Some (closes c (Some object) (Some u))
+  finishing client c (Some (opened.Bind object)) (OfBind u) = Some (finish_verdict c (Some object) (Some u))
   finishing client c _ _ = None
 
 module _ {T U C : Type 0} where

@@ -126,10 +126,10 @@ module _ {G : Type 0} where
 
 -- ---- what a client sees
 
-module _ {G C : Type 0} (views : G → ClientParts → C → GlobalParts → Bool) (client : ClientParts) (info : C) where
+module _ {G C : Type 0} (views : G → ClientParts → C → GlobalParts → Bool) (client : ClientParts) (client_data : C) where
   -- the client may see the global that has a name
   abbrev pub is_visible : ℕ → Object (KeptGlobal G) → Bool
-  is_visible n x = views x.value.handler client info (global_at n x)
+  is_visible n x = views x.value.handler client client_data (global_at n x)
 
   -- and it is enabled
   abbrev pub is_shown : ℕ × Object (KeptGlobal G) → Bool
@@ -140,4 +140,4 @@ shown_as e = record { name = e.0; interface = e.1.interface; version = e.1.versi
 
 -- the enabled globals that a client may see, by ascending name
 abbrev pub shown : {G C : Type 0} → (G → ClientParts → C → GlobalParts → Bool) → Globals G → ClientParts → C → List Shown
-shown views globals client info = map shown_as (filter (is_shown views client info) (finmap.entries globals.store.objects))
+shown views globals client client_data = map shown_as (filter (is_shown views client client_data) (finmap.entries globals.store.objects))

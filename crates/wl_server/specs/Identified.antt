@@ -123,10 +123,10 @@ module _ {T U G C : Type 0} where
   -- each client that was inserted in the run has ids of its own, from its insertion on
   abbrev pub EachHasOwnIds : World T G C → List InterfaceRow → List (Entry T U G C) → ServerState T U G C → Type 0
   EachHasOwnIds w table run after =
-      (id : ClientParts) (transport : T) (info : C) (earlier later : List (Entry T U G C)) (e : Entry T U G C) →
-      run ≡ earlier ++ e ∷ later → e.call ≡ Asked (step.InsertClient transport info) (reply.InsertClient (Ok id)) →
+      (id : ClientParts) (transport : T) (client_data : C) (earlier later : List (Entry T U G C)) (e : Entry T U G C) →
+      run ≡ earlier ++ e ∷ later → e.call ≡ Asked (step.InsertClient transport client_data) (reply.InsertClient (Ok id)) →
       (link : LinkState T) × IsFresh transport (Some (offer_over (new_offer table) earlier).default_limit) link
-      × HasOwnIds w id (offer_over (new_offer table) (earlier ++ e ∷ [])) (just_inserted link info) (mine id later) (seen id after)
+      × HasOwnIds w id (offer_over (new_offer table) (earlier ++ e ∷ [])) (just_inserted link client_data) (mine id later) (seen id after)
 
   -- steps of a new server, with these replies, are the calls of a run in which that is so
   abbrev pub HaveOwnIds : World T G C → List InterfaceRow → List (RunEntry (Step T U G C) (Reply T U)) → ServerState T U G C → Type 0

@@ -2,7 +2,7 @@
 use Rattle.std.specs.Prelude.{◌≡◌, List, ◌∷◌, ◌++◌, Ok, MatchOption}
 use Rattle.wl_wire.specs.Table.{InterfaceRow}
 use Rattle.wl_link.specs.Exchange.{Queue}
-use Rattle.wl_link.specs.Kept.{NoZero, taken}
+use Rattle.wl_link.specs.NothingLost.{NoZero, taken}
 use Rattle.wl_link.specs.Puts.{messages_of}
 use Rattle.wl_link.specs.Runs.{RunEntry}
 use Rattle.wl_link.specs.Sides.{spelled_all}
@@ -32,8 +32,8 @@ module _ {T U G C : Type 0} where
   -- of what was put. For a client that was taken out, what waits is what was left at its end.
   abbrev pub EachLogIsSpelled : List (Entry T U G C) → ServerState T U G C → Type 0
   EachLogIsSpelled run after =
-      (id : ClientParts) (transport : T) (info : C) (earlier later : List (Entry T U G C)) (e : Entry T U G C) →
-      run ≡ earlier ++ e ∷ later → e.call ≡ Asked (step.InsertClient transport info) (reply.InsertClient (Ok id)) →
+      (id : ClientParts) (transport : T) (client_data : C) (earlier later : List (Entry T U G C)) (e : Entry T U G C) →
+      run ≡ earlier ++ e ∷ later → e.call ≡ Asked (step.InsertClient transport client_data) (reply.InsertClient (Ok id)) →
       (waits : Queue) × WaitsFor (seen id after) waits × LogIsSpelled (history (mine id later)) waits
 
   -- steps of a new server, with these replies, are the calls of a run in which that is so

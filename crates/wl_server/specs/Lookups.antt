@@ -45,7 +45,7 @@ abbrev pub global_info_of : {G : Type 0} → Object (KeptGlobal G) → GlobalInf
 global_info_of x = record { interface = x.interface; version = x.version; disabled = x.value.is_disabled }
 
 abbrev pub name_if : {G C : Type 0} → (G → ClientParts → C → GlobalParts → Bool) → ClientParts → C → ℕ → Object (KeptGlobal G) → Option ℕ
-name_if views client info n x = if is_visible views client info n x then Some n else None
+name_if views client client_data n x = if is_visible views client client_data n x then Some n else None
 
 module _ {T U G C : Type 0} (s : ServerState T U G C) where
   -- ---- clients and objects
@@ -67,7 +67,7 @@ module _ {T U G C : Type 0} (s : ServerState T U G C) where
   client_by id = option_map (λ p. id.client) (client_of id.client)
 
   abbrev pub client_data_of : ClientParts → Option C
-  client_data_of id = option_map (λ p. p.info) (client_of id)
+  client_data_of id = option_map (λ p. p.client_data) (client_of id)
 
   abbrev pub object_data_of : IdParts → Option U
   object_data_of id = and_then (object_of id) (λ x. x.value.user_data)
@@ -98,4 +98,4 @@ module _ {T U G C : Type 0} (s : ServerState T U G C) where
   -- the name of a kept global, enabled or not, for a stored client that may see it
   abbrev pub name_for : (G → ClientParts → C → GlobalParts → Bool) → GlobalParts → ClientParts → Option ℕ
   name_for views id client =
-      and_then (client_of client) (λ p. and_then (global_of s.offer.globals id) (name_if views client p.info id.name))
+      and_then (client_of client) (λ p. and_then (global_of s.offer.globals id) (name_if views client p.client_data id.name))

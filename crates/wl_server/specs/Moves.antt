@@ -21,9 +21,9 @@ pub data Move : Type 0 where
 abbrev pub Moved : Type 0
 Moved = Result (List Queue) ScriptError
 
-abbrev pub done : Result (Unit {0}) ScriptError → Moved
-done (Ok _) = Ok []
-done (Err e) = Err e
+abbrev pub nothing_taken : Result (Unit {0}) ScriptError → Moved
+nothing_taken (Ok _) = Ok []
+nothing_taken (Err e) = Err e
 
 abbrev pub taken : Result (Vec (Vec ℕ Global × Vec Token Global) Global) InvalidId → Moved
 taken (Ok sent) = Ok (map parcel sent.items)

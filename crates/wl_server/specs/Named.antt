@@ -46,14 +46,14 @@ module _ {T U G C : Type 0} where
   -- so it is with each client that was inserted before the point, from its insertion on
   abbrev pub EachKeepsNaming : World T G C → List InterfaceRow → List (Entry T U G C) → ServerState T U G C → List (Entry T U G C) → ServerState T U G C → Type 0
   EachKeepsNaming w table done point later after =
-      (id : ClientParts) (transport : T) (info : C) (earlier between : List (Entry T U G C)) (e : Entry T U G C) →
-      done ≡ earlier ++ e ∷ between → e.call ≡ Asked (step.InsertClient transport info) (reply.InsertClient (Ok id)) →
+      (id : ClientParts) (transport : T) (client_data : C) (earlier between : List (Entry T U G C)) (e : Entry T U G C) →
+      done ≡ earlier ++ e ∷ between → e.call ≡ Asked (step.InsertClient transport client_data) (reply.InsertClient (Ok id)) →
       (link : LinkState T) × IsFresh transport (Some (offer_over (new_offer table) earlier).default_limit) link
-      × KeepsNaming w id (offer_over (new_offer table) (earlier ++ e ∷ [])) (just_inserted link info) (mine id between) (seen id point) (mine id later) (seen id after)
+      × KeepsNaming w id (offer_over (new_offer table) (earlier ++ e ∷ [])) (just_inserted link client_data) (mine id between) (seen id point) (mine id later) (seen id after)
 
   -- so it is with each client that was inserted before the point
   abbrev pub EachNamesNoneAgain : List (Entry T U G C) → ServerState T U G C → ServerState T U G C → ServerState T U G C → Type 0
   EachNamesNoneAgain done point mid after =
-      (id : ClientParts) (transport : T) (info : C) (earlier since : List (Entry T U G C)) (e : Entry T U G C) →
-      done ≡ earlier ++ e ∷ since → e.call ≡ Asked (step.InsertClient transport info) (reply.InsertClient (Ok id)) →
+      (id : ClientParts) (transport : T) (client_data : C) (earlier since : List (Entry T U G C)) (e : Entry T U G C) →
+      done ≡ earlier ++ e ∷ since → e.call ≡ Asked (step.InsertClient transport client_data) (reply.InsertClient (Ok id)) →
       NamesNoneAgain (seen id point) (seen id mid) (seen id after)

@@ -54,8 +54,8 @@ module _ {T U G C : Type 0} where
   -- so it is with each client that was inserted in the run, from then on
   abbrev pub EachIsNoted : List (Entry T U G C) → ServerState T U G C → Type 0
   EachIsNoted run after =
-      (id : ClientParts) (transport : T) (info : C) (earlier later : List (Entry T U G C)) (e : Entry T U G C) →
-      run ≡ earlier ++ e ∷ later → e.call ≡ Asked (step.InsertClient transport info) (reply.InsertClient (Ok id)) →
+      (id : ClientParts) (transport : T) (client_data : C) (earlier later : List (Entry T U G C)) (e : Entry T U G C) →
+      run ≡ earlier ++ e ∷ later → e.call ≡ Asked (step.InsertClient transport client_data) (reply.InsertClient (Ok id)) →
       NotesEach (history (mine id later)) (seen id after)
 
   -- steps of a new server, with these replies, are the calls of a run in which that is so

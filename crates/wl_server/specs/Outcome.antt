@@ -146,17 +146,17 @@ module _ {T G C : Type 0} where
 
   -- the call inserts this client, with this transport and these data
   abbrev pub InsertsAs : {U : Type 0} → ClientParts → T → C → Entry T U G C → Type 0
-  InsertsAs id transport info e = e.call ≡ Asked (step.InsertClient transport info) (reply.InsertClient (Ok id))
+  InsertsAs id transport client_data e = e.call ≡ Asked (step.InsertClient transport client_data) (reply.InsertClient (Ok id))
 
   -- In each of two runs of a new server a client was inserted, with the same id, transport and data, and at the same offer.
   -- If its own calls and the shared ones are the same steps from then on, and memory is not refused to these, they have one
   -- outcome. What other clients do may differ, and whether memory is refused to them.
   abbrev pub ClientsHaveOneOutcome : Type 0 → World T G C → Type 0
   ClientsHaveOneOutcome U w =
-      (table : List InterfaceRow) (id : ClientParts) (transport : T) (info : C) (earlier later earlier' later' : List (Entry T U G C)) (e e' : Entry T U G C)
+      (table : List InterfaceRow) (id : ClientParts) (transport : T) (client_data : C) (earlier later earlier' later' : List (Entry T U G C)) (e e' : Entry T U G C)
       (after after' : ServerState T U G C) →
       Leads w (new_server table) (earlier ++ e ∷ later) after → Leads w (new_server table) (earlier' ++ e' ∷ later') after' →
-      InsertsAs id transport info e → InsertsAs id transport info e' →
+      InsertsAs id transport client_data e → InsertsAs id transport client_data e' →
       offer_over (new_offer table) earlier ≡ offer_over (new_offer table) earlier' →
       SameSteps (mine id later) (mine id later') → HasMemory (mine id later) → HasMemory (mine id later') →
       SameRun id (mine id later) (mine id later') × (seen id after ≡ seen id after')

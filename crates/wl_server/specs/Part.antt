@@ -18,7 +18,7 @@ use Rattle.wl_server.specs.Ids.{ClientParts, IdParts}
 -- wait for the next cleanup, in order. The client's id is not in here, since no step changes it.
 pub record Part (T U C : Type 0) : Type 0 where
   pub link : LinkState T
-  pub info : C
+  pub client_data : C
   pub store : Store (Kept U)
   pub last_serial : ℕ
   pub is_killed : Bool
@@ -97,9 +97,9 @@ module _ {T U C : Type 0} where
 
   -- a client in which nothing has happened
   abbrev pub fresh_part : LinkState T → C → Part T U C
-  fresh_part link info = record {
+  fresh_part link client_data = record {
     link = link;
-    info = info;
+    client_data = client_data;
     store = stored empty_store 1 display_object;
     last_serial = 0;
     is_killed = false;

@@ -37,7 +37,7 @@ use Rattle.wl_server.specs.Felt.{Cleaned, FlushedTo, FlushesLive, Hears, news, r
 use Rattle.wl_server.specs.Finish.{FinishesBind, FinishesRequest}
 use Rattle.wl_server.specs.Globals.{Offer, global_of, is_enabled}
 use Rattle.wl_server.specs.Ids.{ClientParts, GlobalParts, IdParts, same_client}
-use Rattle.wl_server.specs.Moves.{Accept, AcceptFault, Arrive, ArriveFault, Move, Moved, ScriptMoves, TakeSent, done, no_moves, taken}
+use Rattle.wl_server.specs.Moves.{Accept, AcceptFault, Arrive, ArriveFault, Move, Moved, ScriptMoves, TakeSent, no_moves, nothing_taken, taken}
 use Rattle.wl_server.specs.Objects.{Creates, DataSet, Destroys}
 use Rattle.wl_server.specs.Part.{Part, fresh_part, with_link}
 use Rattle.wl_server.specs.Reading.{Around, NextAction, action_content, new_reading}
@@ -119,15 +119,15 @@ module _ {T U G C : Type 0} (w : World T G C) (id : ClientParts) (offer : Offer 
 
   -- a new client, in which nothing has happened but its insertion
   abbrev pub Inserted : T → C → Seen T U C → Bool → List (Deed U) → Seen T U C → Type 0
-  Inserted transport info before lacked did after =
+  Inserted transport client_data before lacked did after =
       (link : LinkState T) × IsFresh transport (Some offer.default_limit) link
       × (lacked ≡ false) × (did ≡ Noted Initialized ∷ [])
-      × (after ≡ record { part = Some (fresh_part link info); made = before.made ++ Initialized ∷ [] })
+      × (after ≡ record { part = Some (fresh_part link client_data); made = before.made ++ Initialized ∷ [] })
 
   abbrev pub InsertedAs : T → C → Result ClientParts InsertClientError → Seen T U C → Bool → List (Deed U) → Seen T U C → Type 0
-  InsertedAs transport info (Ok new) before lacked did after =
-      MatchBool (same_client new id) (Inserted transport info before lacked did after) (Unfelt before lacked did after)
-  InsertedAs transport info (Err e) before lacked did after = Unfelt before lacked did after
+  InsertedAs transport client_data (Ok new) before lacked did after =
+      MatchBool (same_client new id) (Inserted transport client_data before lacked did after) (Unfelt before lacked did after)
+  InsertedAs transport client_data (Err e) before lacked did after = Unfelt before lacked did after
 
   -- ---- globals
 
@@ -135,7 +135,7 @@ module _ {T U G C : Type 0} (w : World T G C) (id : ClientParts) (offer : Offer 
   abbrev pub FeelsGlobal : InterfaceId → ℕ → G → Result GlobalParts GlobalError → Seen T U C → Bool → List (Deed U) → Seen T U C → Type 0
   FeelsGlobal i version handler (Ok g) before lacked did after =
       Feels before
-      (λ p q. Hears w.sends p (news offer.table p (w.views handler id p.info g) (record { name = g.name; interface = i; version = version }))
+      (λ p q. Hears w.sends p (news offer.table p (w.views handler id p.client_data g) (record { name = g.name; interface = i; version = version }))
       lacked did q)
       lacked did after
   FeelsGlobal i version handler (Err e) before lacked did after = Unfelt before lacked did after
@@ -188,8 +188,8 @@ module _ {T U G C : Type 0} (w : World T G C) (id : ClientParts) (offer : Offer 
   -- a step with its reply, whether memory was refused to this client, its deeds with this client, and what is held of it
   -- before and after
   abbrev pub PartStep : Step T U G C → Reply T U → Seen T U C → Bool → List (Deed U) → Seen T U C → Type 0
-  PartStep (step.InsertClient transport info) answer before lacked did after =
-      (r : _) × (answer ≡ reply.InsertClient r) × InsertedAs transport info r before lacked did after
+  PartStep (step.InsertClient transport client_data) answer before lacked did after =
+      (r : _) × (answer ≡ reply.InsertClient r) × InsertedAs transport client_data r before lacked did after
   PartStep (step.SetObjectData o u) answer before lacked did after =
       (r : _) × (answer ≡ reply.SetObjectData r)
       × OfClient (same_client o.client id) before (λ p q. Quietly lacked did (DataSet p o u r q)) (r ≡ Err _) lacked did after
@@ -244,13 +244,13 @@ module _ {T U G C : Type 0} (w : World T G C) (id : ClientParts) (offer : Offer 
       (r : _) × (answer ≡ reply.TakeNotes r) × NotesTaken r before lacked did after
   PartStep (step.Arrive target bytes tokens) answer before lacked did after =
       (r : _) × (answer ≡ reply.Arrive r)
-      × MovedFor target (Arrive (record { bytes = bytes.items; tokens = tokens.items })) (done r) before lacked did after
+      × MovedFor target (Arrive (record { bytes = bytes.items; tokens = tokens.items })) (nothing_taken r) before lacked did after
   PartStep (step.ArriveFault target f) answer before lacked did after =
-      (r : _) × (answer ≡ reply.ArriveFault r) × MovedFor target (ArriveFault f) (done r) before lacked did after
+      (r : _) × (answer ≡ reply.ArriveFault r) × MovedFor target (ArriveFault f) (nothing_taken r) before lacked did after
   PartStep (step.Accept target n) answer before lacked did after =
-      (r : _) × (answer ≡ reply.Accept r) × MovedFor target (Accept n) (done r) before lacked did after
+      (r : _) × (answer ≡ reply.Accept r) × MovedFor target (Accept n) (nothing_taken r) before lacked did after
   PartStep (step.AcceptFault target f) answer before lacked did after =
-      (r : _) × (answer ≡ reply.AcceptFault r) × MovedFor target (AcceptFault f) (done r) before lacked did after
+      (r : _) × (answer ≡ reply.AcceptFault r) × MovedFor target (AcceptFault f) (nothing_taken r) before lacked did after
   PartStep (step.TakeSent target) answer before lacked did after =
       (r : _) × (answer ≡ reply.TakeSent r) × MovedFor target TakeSent (taken r) before lacked did after
 

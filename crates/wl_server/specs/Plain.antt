@@ -205,7 +205,7 @@ module _ {T U G C : Type 0} where
   pub record RequestIsEnded (before : BackendState T U G C) (client : ClientParts) (sender : IdParts) (is_destructor : Bool) (created : Option IdParts) (u : Option U)
       (after : BackendState T U G C) : Type 0 where
     pub was_open : action_in before client ≡ Some (opened.Request sender is_destructor created)
-    pub is_closed : action_in after client ≡ None
+    pub is_finished : action_in after client ≡ None
     pub fits : DataFit before client created u
     pub gone : is_destructor ≡ true → object_of_client after client sender ≡ None
     pub made : (id : IdParts) → created ≡ Some id → is_ended is_destructor sender id ≡ false

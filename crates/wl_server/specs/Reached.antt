@@ -9,17 +9,17 @@ use Rattle.wl_server.specs.Server.{ServerState}
 use Rattle.wl_server.specs.Steps.{Entry}
 
 -- whether a step reads this client, or ends its action
-abbrev pub serves : {T U G C : Type 0} → ClientParts → Step T U G C → Bool
-serves id (step.NextAction target) = same_client target id
-serves id (step.NextActionWithin target _) = same_client target id
-serves id (step.FinishRequest target _) = same_client target id
-serves id (step.FinishBind target _) = same_client target id
-serves id _ = false
+abbrev pub reads_or_finishes : {T U G C : Type 0} → ClientParts → Step T U G C → Bool
+reads_or_finishes id (step.NextAction target) = same_client target id
+reads_or_finishes id (step.NextActionWithin target _) = same_client target id
+reads_or_finishes id (step.FinishRequest target _) = same_client target id
+reads_or_finishes id (step.FinishBind target _) = same_client target id
+reads_or_finishes id _ = false
 
 module _ {T U G C : Type 0} where
   -- a call that neither reads this client nor ends its action
   abbrev pub spares : ClientParts → Call T U G C → Bool
-  spares id (Asked s answer) = not (serves id s)
+  spares id (Asked s answer) = not (reads_or_finishes id s)
   spares id (Changed target t) = true
 
   abbrev pub AllSpare : ClientParts → List (Entry T U G C) → Type 0

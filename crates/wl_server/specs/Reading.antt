@@ -114,7 +114,7 @@ module _ {U G C : Type 0} (a : Around G C) where
   -- a new registry is told of each global that the client is shown, and from then on of each change
   abbrev pub registers : Core U C → ℕ → Verdict (Core U C) (Told U)
   registers c n =
-      replies (with_registry c n) (map (global_message a.table (new_at c n)) (shown a.views a.globals a.client c.info))
+      replies (with_registry c n) (map (global_message a.table (new_at c n)) (shown a.views a.globals a.client c.client_data))
       (Remembered (new_at c n) ∷ [])
 
   -- opcode 0 is `sync`, and 1 is `get_registry`
@@ -130,7 +130,7 @@ module _ {U G C : Type 0} (a : Around G C) where
   may_bind c g None version x = false
   may_bind c g (Some name) version x =
       bytes_eq name (name_of a.table x.interface.0)
-      && (nat_lt 0 version && (nat_le version x.version && is_visible a.views a.client c.info g x))
+      && (nat_lt 0 version && (nat_le version x.version && is_visible a.views a.client c.client_data g x))
 
   -- a new object of the global's interface and the version asked for is bound to it
   abbrev pub binds : Core U C → ℕ → ℕ → ℕ → Object (KeptGlobal G) → Verdict (Core U C) (Told U)

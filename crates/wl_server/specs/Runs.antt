@@ -83,7 +83,7 @@ pub record Own (T U G C : Type 0) : Type 0 where
 
 -- what is held of a client that was just inserted
 abbrev pub just_inserted : {T U C : Type 0} → LinkState T → C → Seen T U C
-just_inserted link info = record { part = Some (fresh_part link info); made = Initialized ∷ [] }
+just_inserted link client_data = record { part = Some (fresh_part link client_data); made = Initialized ∷ [] }
 
 module _ {T U G C : Type 0} where
   abbrev pub own_of : ClientParts → Entry T U G C → Own T U G C
@@ -117,14 +117,14 @@ module _ {T U G C : Type 0} where
   -- from the id that it got and the offer of that moment.
   abbrev pub EachAlone : World T G C → List InterfaceRow → List (Entry T U G C) → ServerState T U G C → Type 0
   EachAlone w table run after =
-      (id : ClientParts) (transport : T) (info : C) (earlier later : List (Entry T U G C)) (e : Entry T U G C) →
-      run ≡ earlier ++ e ∷ later → e.call ≡ Asked (step.InsertClient transport info) (reply.InsertClient (Ok id)) →
+      (id : ClientParts) (transport : T) (client_data : C) (earlier later : List (Entry T U G C)) (e : Entry T U G C) →
+      run ≡ earlier ++ e ∷ later → e.call ≡ Asked (step.InsertClient transport client_data) (reply.InsertClient (Ok id)) →
       (link : LinkState T) × IsFresh transport (Some (offer_over (new_offer table) earlier).default_limit) link
-      × Alone w id (offer_over (new_offer table) (earlier ++ e ∷ [])) (just_inserted link info) (mine id later) (seen id after)
+      × Alone w id (offer_over (new_offer table) (earlier ++ e ∷ [])) (just_inserted link client_data) (mine id later) (seen id after)
 
   -- a call inserts this client
   abbrev pub Inserts : ClientParts → Call T U G C → Type 0
-  Inserts new call = (transport : T) × (info : C) × (call ≡ Asked (step.InsertClient transport info) (reply.InsertClient (Ok new)))
+  Inserts new call = (transport : T) × (client_data : C) × (call ≡ Asked (step.InsertClient transport client_data) (reply.InsertClient (Ok new)))
 
   abbrev pub IsNotInserted : ClientParts → Call T U G C → Type 0
   IsNotInserted id call = (new : ClientParts) → Inserts new call → same_client new id ≡ false

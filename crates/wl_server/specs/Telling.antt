@@ -62,7 +62,7 @@ removal_message name registry = by_object registry 1 (arg.Uint name ∷ [])
 
 -- All that is held of a client but its link; and in `ended`, why it was killed in this call, if it was.
 pub record Core (U C : Type 0) : Type 0 where
-  pub info : C
+  pub client_data : C
   pub store : Store (Kept U)
   pub last_serial : ℕ
   pub is_killed : Bool
@@ -143,7 +143,7 @@ module _ {T U C : Type 0} where
   -- what is held of the client but its link, before a call
   abbrev pub core_of : Part T U C → Core U C
   core_of p = record {
-    info = p.info;
+    client_data = p.client_data;
     store = p.store;
     last_serial = p.last_serial;
     is_killed = p.is_killed;
@@ -160,7 +160,7 @@ module _ {T U C : Type 0} where
   abbrev pub part_of : ReaderState T (Core U C) → Part T U C
   part_of p = record {
     link = p.link;
-    info = p.core.info;
+    client_data = p.core.client_data;
     store = p.core.store;
     last_serial = p.core.last_serial;
     is_killed = p.core.is_killed;

@@ -10,10 +10,9 @@ use crate::client::Client;
 use crate::globals::KeptGlobal;
 use crate::notes::Note;
 use crate::notes::queues::NoteNumbers;
-use crate::reading::place::MessagePlace;
 use std::alloc::Global;
 use std::marker::Model;
-use wl_link::{DEFAULT_MAX_BUFFER_SIZE, ObjectMap};
+use wl_link::{DEFAULT_MAX_BUFFER_SIZE, MessagePlace, ObjectMap};
 use wl_wire::Protocol;
 
 /// A Wayland server: its clients, their objects, and its globals.
@@ -51,7 +50,7 @@ pub struct Backend<T, U, G, C> {
     pub(crate) numbers: NoteNumbers,
     /// What `memory_refused` returns.
     pub(crate) refused: bool,
-    /// The message that is being read. It is kept here so that its memory is used again.
+    /// The message that is being read. It is kept here so that none is made and dropped for each message.
     pub(crate) place: MessagePlace,
 }
 

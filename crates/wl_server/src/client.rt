@@ -27,7 +27,7 @@ pub struct Client<T, U, C> {
     /// Its connection: the transport, and the buffers of what was received and of what is to be sent.
     pub socket: BufferedSocket<T>,
     /// The program's data of the client.
-    pub info: C,
+    pub data: C,
     /// Its objects.
     pub objects: ClientObjects<U>,
     /// Whether it was killed. It is then kept until the next cleanup.
@@ -57,7 +57,7 @@ impl<T, U, C> Model for Client<T, U, C> {
       serial = c.serial;
       part = record {
         link = c.socket;
-        info = c.info;
+        client_data = c.data;
         store = c.objects.map.store;
         last_serial = c.objects.last_serial;
         is_killed = c.is_killed;

@@ -36,7 +36,7 @@ ghost use Rattle.wl_server.specs.Announced.{EachAnnouncesShown, HaveAnnouncement
 ghost use Rattle.wl_server.specs.Backend.{BackendState};
 ghost use Rattle.wl_server.specs.Bounded.{EachIsBounded, EachPartIsBounded, receives_over};
 ghost use Rattle.wl_server.specs.Cutting.{EachIsServed, GoesOn, HistoriesAreCut, IsServed};
-ghost use Rattle.wl_server.specs.Dispatch.{EndsDispatch, Serves, ServesEach, answering};
+ghost use Rattle.wl_server.specs.Dispatch.{EachIsDispatched, EndsDispatch, IsDispatched, answering};
 ghost use Rattle.wl_server.specs.Globals.{CreatesGlobal, Globals, Offer};
 ghost use Rattle.wl_server.specs.Ids.{ClientParts, GlobalParts};
 ghost use Rattle.wl_server.specs.Outcome.{ClientsHaveOneOutcome, OffersHaveOneOutcome, OwnRunsHaveOneOutcome, StepsHaveOneOutcome};
@@ -305,12 +305,12 @@ pub fn each_reading_receives_within_its_bound<
 >()
     ensures call { (before after : ServerState T U G C) (e : Entry T U G C) →
         OneStep (over T.sends T.receives G.views) before e after → EachIsBounded e }
-    ensures dispatch { (id : ClientParts) (h h' : H) (before mid : ServerState T U G C) (after : BackendState T U G C) (served : List (Entry T U G C))
+    ensures dispatch { (id : ClientParts) (h h' : H) (before mid : ServerState T U G C) (after : BackendState T U G C) (calls : List (Entry T U G C))
         (lacked : Bool) (answer result : Result ℕ IoFault) →
-        Serves (over T.sends T.receives G.views) (answering H.requests H.binds) id h before served lacked answer h' mid →
-        (ends : EndsDispatch (over T.sends T.receives G.views) before served lacked mid answer result after) →
-        receives_over id (served ++ ends.cleanup ∷ []) ≤ 64 }
-    ensures several { (ids : List ClientParts) (h h' : H) (before mid : ServerState T U G C) (served : List (Entry T U G C)) (lacked : Bool) (total : ℕ) →
-        ServesEach (over T.sends T.receives G.views) (answering H.requests H.binds) ids h before served lacked total h' mid →
-        EachPartIsBounded ids served }
+        IsDispatched (over T.sends T.receives G.views) (answering H.requests H.binds) id h before calls lacked answer h' mid →
+        (ends : EndsDispatch (over T.sends T.receives G.views) before calls lacked mid answer result after) →
+        receives_over id (calls ++ ends.cleanup ∷ []) ≤ 64 }
+    ensures several { (ids : List ClientParts) (h h' : H) (before mid : ServerState T U G C) (calls : List (Entry T U G C)) (lacked : Bool) (total : ℕ) →
+        EachIsDispatched (over T.sends T.receives G.views) (answering H.requests H.binds) ids h before calls lacked total h' mid →
+        EachPartIsBounded ids calls }
 {}

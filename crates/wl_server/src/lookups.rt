@@ -72,11 +72,11 @@ impl<T: Drop, U: Drop, G: Drop, C: Drop> Backend<T, U, G, C> {
     /// It stands for `wayland_backend::server::Handle::get_client_data`. The error is `InvalidId` if the client is not
     /// stored.
     pub fn get_client_data(&self, id: &ClientId) -> Result<&C, InvalidId>
-        ensures { MatchResult result (λ info. client_data_of self.now.server id.now ≡ Some info.now)
+        ensures { MatchResult result (λ d. client_data_of self.now.server id.now ≡ Some d.now)
             (λ _. client_data_of self.now.server id.now ≡ None) }
     {
         match self.client(id) {
-            Some(client) => Ok(&client.info),
+            Some(client) => Ok(&client.data),
             None => Err(InvalidId),
         }
     }

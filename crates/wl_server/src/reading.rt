@@ -10,7 +10,6 @@ pub mod finish;
 pub mod message;
 pub mod next_action;
 pub mod other;
-pub mod place;
 pub mod registry;
 pub mod request;
 pub mod respond;

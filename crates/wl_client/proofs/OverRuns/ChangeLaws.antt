@@ -44,7 +44,7 @@ use Rattle.wl_client.specs.declared.step.Step.{Step}
 use Rattle.wl_client.specs.declared.step.Step.TheVariants as step
 use Rattle.wl_client.specs.ObjectId.{IdParts}
 use Rattle.wl_client.specs.Events.{Converting, Converted, Outcome, Whole, Wrong, object_argument_of, is_destroyed, vacated, is_valid_new, made_object, with_object_argument, with_new_at, with_new_argument, convert_one, going_on, convert, start, DisplayEvent, Fails, Deletes, Unreadable, display_event, after_delete}
-use Rattle.wl_client.specs.Finish.{Closes, Finishes, FlushEnds, SessionFlushed, after_destructor, data_given, refusal, with_data_for, with_dead}
+use Rattle.wl_client.specs.Finish.{FinishesEvent, Finishes, FlushEnds, SessionFlushed, after_destructor, data_given, refusal, with_data_for, with_dead}
 use Rattle.wl_client.specs.Handed.{IsHandedIn, ended_notes, event_ids, ids_in, is_over, note_ids, notes_in, request_ids}
 use Rattle.wl_client.specs.Objects.{DataSet, DestroyedBy, destroyable}
 use Rattle.wl_client.specs.Handling.{Handling, Swallows, HandsOut, event_of, handed, handling, of_converted, of_display, of_event, opened_of, row_in}
@@ -668,7 +668,7 @@ module _ {T U : Type 0} where
       go None e = idle s
       go (Some x) e = (wrote (holding s) id.number (with_user_data u x) x (named_held s.store id x e) refl refl, λ failed. failed)
 
-  closes : (s : SessionState T U) (event : OpenEvent) (u : Option U) (answer : _) (after : SessionState T U) → Closes s event u answer after → Moves s [] after
+  closes : (s : SessionState T U) (event : OpenEvent) (u : Option U) (answer : _) (after : SessionState T U) → FinishesEvent s event u answer after → Moves s [] after
   closes s event u answer after (inl (is, same)) =
       let shut : SessionState T U = record s { open_event = None } in
       let ended = with_core s (after_destructor (core_of shut) event) in

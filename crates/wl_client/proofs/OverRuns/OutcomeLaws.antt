@@ -27,7 +27,7 @@ use Rattle.wl_client.specs.declared.step.Reply.TheVariants as reply
 use Rattle.wl_client.specs.declared.step.Step.{Step}
 use Rattle.wl_client.specs.declared.step.Step.TheVariants as step
 use Rattle.wl_client.specs.ObjectId.{IdParts}
-use Rattle.wl_client.specs.Finish.{Closes, Finishes, FlushEnds, refusal, SessionFlushed}
+use Rattle.wl_client.specs.Finish.{FinishesEvent, Finishes, FlushEnds, refusal, SessionFlushed}
 use Rattle.wl_client.specs.Objects.{DataSet, DestroyedBy, destroyable}
 use Rattle.wl_client.specs.Reading.{event_content}
 use Rattle.wl_client.proofs.OverRuns.ReadingLaws.{SameEnd, next_event_one, same_end}
@@ -155,7 +155,7 @@ module _ {T U : Type 0} where
 
   module _ (s : SessionState T U) (u : Option U) (a b : Result (Unit {0}) (FinishRefused U)) (x y : SessionState T U)
       (unasked : false ≡ refused_finish a) (unasked' : false ≡ refused_finish b) where
-    closes_one : (event : OpenEvent) → Closes s event u a x → Closes s event u b y → SameEnd a b x y
+    closes_one : (event : OpenEvent) → FinishesEvent s event u a x → FinishesEvent s event u b y → SameEnd a b x y
     closes_one event (inl (is, same)) (inl (is', same')) = same_end is is' same same'
     closes_one event (inr (notes, (is, same))) other = absurd (not_refused _ unasked (ap refused_finish is))
     closes_one event (inl h) (inr (notes, (is, same))) = absurd (not_refused _ unasked' (ap refused_finish is))

@@ -29,7 +29,7 @@ use Rattle.wl_client.specs.declared.event.OpenEvent.{OpenEvent}
 use Rattle.wl_client.specs.Cutting.{CutsFinish, CutsReading, GoesOn, IsServed, no_sends}
 use Rattle.wl_client.specs.Events.{error_of}
 use Rattle.wl_client.specs.Handling.{Handling, Swallows, HandsOut, Breaks, handed, handling}
-use Rattle.wl_client.specs.Finish.{Closes, Finishes, closed, refusal}
+use Rattle.wl_client.specs.Finish.{FinishesEvent, Finishes, core_finished, refusal}
 use Rattle.wl_client.specs.Reading.{NextEvent, answered, core_after, client, faulted, finish, finished, handed_by, objects_in, reader_state_of, receives_allowed, starved_to, verdict}
 use Rattle.wl_client.specs.Requests.{SessionMessage}
 use Rattle.wl_client.specs.Session.{Core, SessionState, core_of, with_core}
@@ -231,9 +231,9 @@ refused_not e same = true≢false (ap is_ok same)
 module _ {T U : Type 0} where
   -- an accepted finish closes the event
   abbrev pub Shuts : SessionState T U → Option U → SessionState T U → Type 0
-  Shuts s u after = (event : OpenEvent) × (s.open_event ≡ Some event) × (refusal event.created u ≡ None) × (after ≡ with_core s (closed (core_of s) event u))
+  Shuts s u after = (event : OpenEvent) × (s.open_event ≡ Some event) × (refusal event.created u ≡ None) × (after ≡ with_core s (core_finished (core_of s) event u))
 
-  closes_as : (s after : SessionState T U) (event : OpenEvent) (u : Option U) → Closes s event u (Ok tt) after → after ≡ with_core s (closed (core_of s) event u)
+  closes_as : (s after : SessionState T U) (event : OpenEvent) (u : Option U) → FinishesEvent s event u (Ok tt) after → after ≡ with_core s (core_finished (core_of s) event u)
   closes_as s after event u (inl (is, same)) = same
   closes_as s after event u (inr (notes, (is, same))) = absurd (refused_not _ is)
 

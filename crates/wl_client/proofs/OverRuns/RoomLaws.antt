@@ -23,7 +23,7 @@ use Rattle.wl_client.specs.declared.objects.Kept.{Kept}
 use Rattle.wl_client.specs.declared.event.OpenEvent.{OpenEvent}
 use Rattle.wl_client.specs.ObjectId.{IdParts}
 use Rattle.wl_client.specs.Events.{error_of}
-use Rattle.wl_client.specs.Finish.{closed, refusal, with_data_for, with_dead}
+use Rattle.wl_client.specs.Finish.{core_finished, refusal, with_data_for, with_dead}
 use Rattle.wl_client.specs.Handling.{Handling, Swallows, HandsOut, Breaks, handling}
 use Rattle.wl_client.specs.Reading.{EndsWithRoom, NextEvent, core_after, client, finish, finished, objects_in, reader_state_of, starved_to, verdict}
 use Rattle.wl_client.proofs.OverRuns.ReadingLaws.{keeps}
@@ -42,7 +42,7 @@ fed_blocks (Ok q) f some is = absurd (true≢false (ap is_ok (sym (byte_came q s
 fed_blocks (Err g) f would is = let same : g ≡ f = cc in sym same ∙ would
 
 -- an accepted finish closes the event, and keeps the error
-pub closed_keeps : {U : Type 0} (c : Core U) (event : OpenEvent) (u : Option U) → ((closed c event u).error ≡ c.error) × ((closed c event u).open_event ≡ None)
+pub closed_keeps : {U : Type 0} (c : Core U) (event : OpenEvent) (u : Option U) → ((core_finished c event u).error ≡ c.error) × ((core_finished c event u).open_event ≡ None)
 closed_keeps {U = U} c event u = at event.is_destructor (named c.store event.sender) event.created u
   where
     shut : Core U

@@ -32,7 +32,7 @@ use Rattle.wl_client.specs.declared.step.Step.{Step}
 use Rattle.wl_client.specs.declared.step.Step.TheVariants as step
 use Rattle.wl_client.specs.ObjectId.{IdParts}
 use Rattle.wl_client.specs.Events.{error_of}
-use Rattle.wl_client.specs.Finish.{Closes, Finishes, refusal}
+use Rattle.wl_client.specs.Finish.{FinishesEvent, Finishes, refusal}
 use Rattle.wl_client.specs.Handling.{Handling, Swallows, HandsOut, Breaks, handling, signature_in}
 use Rattle.wl_client.specs.Reading.{NextEvent, answered, client, event_content, faulted, handed_by, objects_in, reader_state_of, reads_on, receives_allowed, verdict}
 use Rattle.wl_client.proofs.OverRuns.ReadingLaws.{finish_as, finish_ends, keeps}
@@ -211,7 +211,7 @@ module _ {U : Type 0} where
       refl (ap (λ (a : Reply U). if_accepted u a) is) (ap events_by is)
       (λ w. let e : ◌≡◌ {A = Reply U} (reply.FinishEvent (Ok tt)) (reply.NextEvent (Err no_event.WouldBlock)) = sym is ∙ w in cc)
 
-  closes_refused : (s mid : SessionState Script U) (event : OpenEvent) (u : Option U) (e : FinishRefused U) → Closes s event u (Err e) mid → mid ≡ s
+  closes_refused : (s mid : SessionState Script U) (event : OpenEvent) (u : Option U) (e : FinishRefused U) → FinishesEvent s event u (Err e) mid → mid ≡ s
   closes_refused s mid event u e (inl (is, same)) = absurd (true≢false (sym (ap is_ok is)))
   closes_refused s mid event u e (inr (notes, (is, same))) = same
 

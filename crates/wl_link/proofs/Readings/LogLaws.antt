@@ -8,10 +8,10 @@ use Rattle.wl_wire.specs.declared.error.IoFault.{IoFault}
 use Rattle.wl_wire.specs.Message.{WireMessage}
 use Rattle.wl_link.specs.Exchange.{Queue, Sending, joined, nothing, IsWithinOffer}
 use Rattle.wl_link.specs.Link.{LinkState, count_of, counted_answer, spelled}
-use Rattle.wl_link.specs.Kept.{LosesNothing, gone, gone_by, queued_by, taken, taken_by}
+use Rattle.wl_link.specs.NothingLost.{LosesNothing, gone, gone_by, queued_by, taken, taken_by}
 use Rattle.wl_link.specs.Sides.{spelled_all}
 use Rattle.wl_link.proofs.Streams.StreamLaws.{spelled_all-append}
-use Rattle.wl_link.proofs.Calls.KeptLaws.{flush_kept, write_kept}
+use Rattle.wl_link.proofs.Calls.NothingLostLaws.{flush_kept, write_kept}
 use Rattle.wl_link.specs.Puts.{FlushesOut, PutBy, PutsOut, Said, lacks_memory, messages_of}
 use Rattle.wl_link.specs.Reader.{CarriesOut, Given, Gives, Halts, HandedOut, Handled, ReaderState, Queued, Reader, Reads, Received, Stops, Turn, Unread, Verdict, given_first, came_to, put_and_gave, queued_in, sends_in, stops, with_link}
 use Rattle.wl_link.specs.Served.{Finds}
@@ -104,11 +104,11 @@ module _ {T : Type 0} (sends : T → Queue → Result ℕ IoFault → T → Type
 
 module _ {T Core Event Finish : Type 0} (sends : T → Queue → Result ℕ IoFault → T → Type 0) (within : IsWithinOffer sends) (reader : Reader Core Event Finish) where
   -- what was put is what is gone and what waits more
-  abbrev pub KeptLog : LinkState T → List Sending → List (Given Event) → LinkState T → Type 0
-  KeptLog before es gave after = LosesNothing es before.outgoing (spelled_all (messages_of (queued_in gave))) after.outgoing
+  abbrev pub LogLosesNothing : LinkState T → List Sending → List (Given Event) → LinkState T → Type 0
+  LogLosesNothing before es gave after = LosesNothing es before.outgoing (spelled_all (messages_of (queued_in gave))) after.outgoing
 
   pub carries_kept : (v : Verdict Core Event) (before : LinkState T) (after : ReaderState T Core) (es : List Sending) (gave : List (Given Event)) (refused : Bool)
-      → CarriesOut sends reader v before es gave refused after → KeptLog before es gave after.link
+      → CarriesOut sends reader v before es gave refused after → LogLosesNothing before es gave after.link
   carries_kept v before after es gave refused (inl (first, others, put, wrote, mid, lacked, puts, flushes, split, end, is, was)) =
       let both = kept_then first others before.outgoing mid.outgoing after.link.outgoing (spelled_all (messages_of put)) nothing
       (puts_kept sends within v.puts before mid first put wrote puts) (flushes_kept sends within v.flushes lacked mid after.link others flushes) in
@@ -138,14 +138,14 @@ module _ {T Core Event Finish : Type 0} (sends : T → Queue → Result ℕ IoFa
       go true (inr (inr (lacks, (n, one, is)))) = ap gave_of is
       go false is = ap gave_of is
 
-  kept_nothing : (before after : LinkState T) (es : List Sending) (gave : List (Given Event)) → es ≡ [] → gave ≡ [] → after.outgoing ≡ before.outgoing → KeptLog before es gave after
+  kept_nothing : (before after : LinkState T) (es : List Sending) (gave : List (Given Event)) → es ≡ [] → gave ≡ [] → after.outgoing ≡ before.outgoing → LogLosesNothing before es gave after
   kept_nothing before after es gave none empty same =
-      subst (λ (g : List (Given Event)). KeptLog before es g after) (sym empty) (kept_still es before.outgoing after.outgoing none same)
+      subst (λ (g : List (Given Event)). LogLosesNothing before es g after) (sym empty) (kept_still es before.outgoing after.outgoing none same)
 
   -- a verdict that was carried out, and what followed it
   kept_heard : (p after : ReaderState T Core) (link : LinkState T) (v : Verdict Core Event) (es others : List Sending) (first : List (Given Event)) (lacked : Bool) (mid : ReaderState T Core)
       (out rest : Gives Event) → Finds sends reader p v link → CarriesOut sends reader v link es first lacked mid → out ≡ given_first first lacked rest
-      → KeptLog mid.link others rest.gave after.link → KeptLog p.link (es ++ others) out.gave after.link
+      → LogLosesNothing mid.link others rest.gave after.link → LogLosesNothing p.link (es ++ others) out.gave after.link
   kept_heard p after link v es others first lacked mid out rest found carried split more =
       let one = subst (λ (q : Queue). LosesNothing es q (spelled_all (messages_of (queued_in first))) mid.link.outgoing) (found_outgoing p v link found) (carries_kept v link mid es first lacked carried) in
       let both = kept_then es others p.link.outgoing mid.link.outgoing after.link.outgoing (spelled_all (messages_of (queued_in first))) (spelled_all (messages_of (queued_in rest.gave))) one more in
@@ -157,7 +157,7 @@ module _ {T Core Event Finish : Type 0} (sends : T → Queue → Result ℕ IoFa
 
   module _ (receives : T → ℕ → Result Queue IoFault → T → Type 0) (after : ReaderState T Core) where
     pub reads_kept : (left : ℕ) (p : ReaderState T Core) (turns : List Turn) (out : Gives Event) → Reads sends reader receives left p turns out after
-        → KeptLog p.link (sends_in turns) out.gave after.link
+        → LogLosesNothing p.link (sends_in turns) out.gave after.link
     reads_kept left p [] out (same, ends) = kept_nothing p.link after.link [] out.gave refl (nothing_put left p out ends) (ap (λ (x : ReaderState T Core). x.link.outgoing) same)
     reads_kept left p (Received r ∷ turns) out (on, lacks, (n, is, (link, filled, finds, h))) =
         subst (λ (q : Queue). LosesNothing (sends_in turns) q (spelled_all (messages_of (queued_in out.gave))) after.link.outgoing) (ap (λ (l : LinkState T). l.outgoing) filled.2)
@@ -166,7 +166,7 @@ module _ {T Core Event Finish : Type 0} (sends : T → Queue → Result ℕ IoFa
         go : (c : Result (Unit {0}) IoFault)
             → MatchResult c (λ _. Reads sends reader receives n (with_link p link) turns out after)
             (λ f. (turns ≡ []) × (out ≡ stops (Some f) (lacks_memory (Err f)) n) × (after ≡ record { core = reader.faulted p.core f; link = link }))
-            → (Reads sends reader receives n (with_link p link) turns out after → KeptLog link (sends_in turns) out.gave after.link) → KeptLog link (sends_in turns) out.gave after.link
+            → (Reads sends reader receives n (with_link p link) turns out after → LogLosesNothing link (sends_in turns) out.gave after.link) → LogLosesNothing link (sends_in turns) out.gave after.link
         go (Ok u) more goes = goes more
         go (Err f) (none, ends, same) goes =
             kept_nothing link after.link (sends_in turns) out.gave (ap sends_in none) (ap (λ (o : Gives Event). o.gave) ends) (ap (λ (x : ReaderState T Core). x.link.outgoing) same)

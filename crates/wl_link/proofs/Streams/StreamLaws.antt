@@ -18,8 +18,8 @@ use Rattle.wl_wire.proofs.Spelling.RoundTrip.{length-spelling, sender-spelling, 
 use Rattle.wl_wire.proofs.Spelling.FrontLaws.{length_front, opcode_front, sender_front}
 use Rattle.wl_link.specs.Exchange.{Queue, Sending, joined, nothing, IsWithinOffer}
 use Rattle.wl_link.specs.Link.{LinkState, with_transport, FlushedBy, WroteBy, with_came, after_first, ReadFound, ReadOne, spelled}
-use Rattle.wl_link.specs.Kept.{taken, NoZero, LosesNothing, queued_by}
-use Rattle.wl_link.proofs.Calls.KeptLaws.{flush_kept, write_kept, gone-taken}
+use Rattle.wl_link.specs.NothingLost.{taken, NoZero, LosesNothing, queued_by}
+use Rattle.wl_link.proofs.Calls.NothingLostLaws.{flush_kept, write_kept, gone-taken}
 use Rattle.wl_link.proofs.Calls.QueueLaws.{queue_is, joined_assoc, joined_nothing}
 use Rattle.wl_link.proofs.Calls.ReadLaws.{reads_enough, refused_though_read, read_under_other}
 use Rattle.wl_link.specs.Sides.{SenderCall, SenderRun, written_by, written, all_taken, NoneZero, ReceiverCall, ByFill, ByRead, ReceiverStep, ReceiverRun, brought_by, all_came, messages_read, spelled_all, IsReadable, StreamLaw, AllReadLaw, CuttingLaw, TakesFirst, ReadTakes}

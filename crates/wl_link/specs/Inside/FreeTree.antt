@@ -136,8 +136,8 @@ AddsFlag count before after =
 -- ---- capacity
 
 -- whether a vector has capacity for one item more
-abbrev pub has_room : {A Z : Type 0} → Vec A Z → Bool
-has_room v = nat_lt (vec_len v) (vec_capacity v)
+abbrev pub has_capacity : {A Z : Type 0} → Vec A Z → Bool
+has_capacity v = nat_lt (vec_len v) (vec_capacity v)
 
 module _ {Z : Type 0} where
   abbrev pub words_of : List (Vec ℕ Z) → List (List ℕ)
@@ -147,10 +147,10 @@ module _ {Z : Type 0} where
   -- each level has capacity for one word more, and so has one without words above them
   abbrev pub is_ready : List (Vec ℕ Z) → Bool
   is_ready [] = false
-  is_ready (words ∷ up) = has_room words && (vec_len words == 0 || is_ready up)
+  is_ready (words ∷ up) = has_capacity words && (vec_len words == 0 || is_ready up)
 
   -- each level has capacity for one word more; if there was no level without words, one is still wanted
   abbrev pub RoomMade : Bool → List (Vec ℕ Z) → List (Vec ℕ Z) → Type 0
   RoomMade true before after = is_ready after ≡ true
   RoomMade false before after =
-      (is_ready before ≡ false) × ((top : Vec ℕ Z) → vec_len top ≡ 0 → has_room top ≡ true → is_ready (after ++ top ∷ []) ≡ true)
+      (is_ready before ≡ false) × ((top : Vec ℕ Z) → vec_len top ≡ 0 → has_capacity top ≡ true → is_ready (after ++ top ∷ []) ≡ true)

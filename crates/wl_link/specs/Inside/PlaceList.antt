@@ -8,7 +8,7 @@ use Rattle.wl_link.specs.declared.object_map.NewError.{NewError}
 use Rattle.wl_link.specs.declared.object_map.NewError.TheVariants as new
 use Rattle.wl_link.specs.declared.object_map.Place.{Place}
 use Rattle.wl_link.specs.declared.object_map.Place.TheVariants.{Nowhere, Client, Server}
-use Rattle.wl_link.specs.Inside.FreeTree.{IsTree, IsHeight, words_of, has_room, is_ready}
+use Rattle.wl_link.specs.Inside.FreeTree.{IsTree, IsHeight, words_of, has_capacity, is_ready}
 use Rattle.wl_link.specs.Store.{Store, client_range, server_range}
 
 -- how many places there are after something is put at this one
@@ -87,7 +87,7 @@ module _ {A : Type 0} where
 
 -- whether there is capacity for one place more
 abbrev pub has_place_room : {A Y Z X : Type 0} → Vec A Y → Vec (Vec ℕ Z) X → Bool
-has_place_room slots levels = has_room slots && is_ready levels.items
+has_place_room slots levels = has_capacity slots && is_ready levels.items
 
 -- ---- both ranges
 

@@ -10,7 +10,7 @@ ghost use Rattle.wl_wire.specs.Message.{WireMessage};
 ghost use Rattle.wl_link.specs.Exchange.{Queue, Sending, IsFunction, IsReceiveFunction};
 ghost use Rattle.wl_link.specs.Script.{ScriptSends, ScriptReceives};
 ghost use Rattle.wl_link.specs.Link.{LinkState, Flushed, FlushedBy, Wrote, WroteBy, FilledBy, ReadOne};
-ghost use Rattle.wl_link.specs.Kept.{FlushKeeps, FlushDrains, WriteKeeps};
+ghost use Rattle.wl_link.specs.NothingLost.{FlushKeeps, FlushDrains, WriteKeeps};
 ghost use Rattle.wl_link.specs.Outcome.{SameCall, SameFill, SameRead};
 ghost use Rattle.wl_link.specs.Sides.{StreamLaw, AllReadLaw, CuttingLaw, ReadTakes, RoomLaw};
 

@@ -11,7 +11,7 @@ ghost use Rattle.wl_wire.specs.declared.error.IoFault.{IoFault};
 ghost use Rattle.wl_wire.specs.declared.error.IoFault.TheVariants as fault;
 ghost use Rattle.wl_link.specs.Exchange.{AlwaysAnswers, Queue, Sending, nothing, IsFunction, IsReceiveFunction};
 ghost use Rattle.wl_link.specs.Total.{EndsMalformed, AlwaysGoesOn, SomethingIsServed};
-ghost use Rattle.wl_link.specs.Kept.{LosesNothing};
+ghost use Rattle.wl_link.specs.NothingLost.{LosesNothing};
 ghost use Rattle.wl_link.specs.Link.{LinkState};
 ghost use Rattle.wl_link.specs.Puts.{PutsOut, Said, messages_of};
 ghost use Rattle.wl_link.specs.Outcome.{SamePut, SameReading};

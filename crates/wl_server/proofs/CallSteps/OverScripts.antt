@@ -51,7 +51,7 @@ module _ {U G C : Type 0} (views : G → ClientParts → C → GlobalParts → B
 
     part_step : (s : Step Script U G C) (answer : Reply Script U) (before : Seen Script U C) (lacked : Bool) (did : List (Deed U)) (after : Seen Script U C)
         → PartStep (by_script views) id offer s answer before lacked did after → PartStep (over_scripts views) id offer s answer before lacked did after
-    part_step (step.InsertClient transport info) answer before lacked did after h = h
+    part_step (step.InsertClient transport client_data) answer before lacked did after h = h
     part_step (step.SetObjectData o u) answer before lacked did after h = h
     part_step (step.CreateObject target i version u) answer before lacked did after h = h
     part_step (step.DestroyObject o) answer before lacked did after h = h

@@ -23,7 +23,7 @@ use Rattle.wl_server.specs.declared.runs.step.Step.TheVariants as step
 use Rattle.wl_server.specs.Backend.{BackendState}
 use Rattle.wl_server.specs.Bounded.{EachIsBounded, EachPartIsBounded, KeepsTo, receives_in, receives_over}
 use Rattle.wl_server.specs.Deeds.{Deed, Handed, came_in}
-use Rattle.wl_server.specs.Dispatch.{Answering, Answers, EndsDispatch, Handles, Last, Round, Rounds, Serves, ServesEach, more, no_action, none, not_ended}
+use Rattle.wl_server.specs.Dispatch.{Answering, Answers, EndsDispatch, Handles, Last, Round, Rounds, IsDispatched, EachIsDispatched, more, no_action, none, not_ended}
 use Rattle.wl_server.specs.Globals.{Offer}
 use Rattle.wl_server.specs.Ids.{ClientParts, same_client}
 use Rattle.wl_server.specs.Part.{Part}
@@ -37,7 +37,7 @@ use Rattle.wl_server.specs.Telling.{Core, Told, reader_part}
 use Rattle.wl_server.proofs.Dispatches.Waiting.{at_other, reads_of, spared_unread, stops_left}
 use Rattle.wl_server.proofs.OverRuns.Alone.IsolationLaw.{other_call, same_self}
 use Rattle.wl_server.proofs.OverRuns.Cut.RoomLaws.{no_more, none_sent, received, received_deeds}
-use Rattle.wl_server.proofs.OverRuns.Moves.BaseMoves.{Doings, Goes, Moves, born, cleaned, closed, ended, flushed, followed, found, found_none, handed_out, notes_taken, opens, received as received_move, relinked, remembered, stayed, taken_out, told, unfelt, went, within, wrote}
+use Rattle.wl_server.proofs.OverRuns.Moves.BaseMoves.{Doings, Goes, Moves, born, cleaned, finished, ended, flushed, followed, found, found_none, handed_out, notes_taken, opens, received as received_move, relinked, remembered, stayed, taken_out, told, unfelt, went, within, wrote}
 use Rattle.wl_server.proofs.OverRuns.Moves.BaseMovesLaw.{call_goes}
 
 -- ---- over a transport that never receives
@@ -67,7 +67,7 @@ module _ {T U C : Type 0} (sends : T → Queue → Result ℕ IoFault → T → 
   moves_quiet p q d (went n x waits holds is same) = came_of d _ is refl
   moves_quiet p q d (remembered n x holds registry is same) = came_of d _ is refl
   moves_quiet p q d (opens action h so is same) = came_of d _ is refl
-  moves_quiet p q d (closed is same) = came_of d _ is refl
+  moves_quiet p q d (finished is same) = came_of d _ is refl
   moves_quiet p q d (cleaned is same) = came_of d _ is refl
 
   goes_quiet : (s t : Seen T U C) (d : Doings U) → Goes sends never client s d t → d.came ≡ []
@@ -79,7 +79,7 @@ module _ {T U C : Type 0} (sends : T → Queue → Result ℕ IoFault → T → 
 -- ---- a call that does not read the client
 
 abbrev is_insertion : {T U G C : Type 0} → Call T U G C → Bool
-is_insertion (Asked (step.InsertClient transport info) answer) = true
+is_insertion (Asked (step.InsertClient transport client_data) answer) = true
 is_insertion _ = false
 
 module _ {T U G C : Type 0} (w : World T G C) (id : ClientParts) (offer : Offer G) (before after : Seen T U C) (lacked : Bool) (did : List (Deed U)) where
@@ -97,22 +97,22 @@ module _ {T U G C : Type 0} (w : World T G C) (id : ClientParts) (offer : Offer 
   felt call old h h' = go (concerns id call) refl
     where
       not_inserted : IsNotInserted id call
-      not_inserted new (transport, info, is) = absurd (true≢false (sym (ap is_insertion is) ∙ old))
+      not_inserted new (transport, client_data, is) = absurd (true≢false (sym (ap is_insertion is) ∙ old))
 
       go : (b : Bool) → concerns id call ≡ b → Quiet
       go true about = goes_quiet w.sends id before after _ (call_goes unheard id offer call before lacked did after about h')
       go false far = unfelt_quiet (other_call w id offer call before lacked did after not_inserted far h)
 
-  inserted_quiet : (transport : T) (info : C) (r : Result ClientParts InsertClientError) → InsertedAs w id offer transport info r before lacked did after → Quiet
-  inserted_quiet transport info (Ok new) h =
+  inserted_quiet : (transport : T) (client_data : C) (r : Result ClientParts InsertClientError) → InsertedAs w id offer transport client_data r before lacked did after → Quiet
+  inserted_quiet transport client_data (Ok new) h =
       elim (either_bool (same_client new id) h) [
         | inl (link, fresh, unlacked, did_so, same) ↦ ap came_in did_so
         | inr other ↦ unfelt_quiet other
       ]
-  inserted_quiet transport info (Err e) other = unfelt_quiet other
+  inserted_quiet transport client_data (Err e) other = unfelt_quiet other
 
   call_quiet : (call : Call T U G C) → reads_of id call ≡ false → PartCall w id offer call before lacked did after → Quiet
-  call_quiet (Asked (step.InsertClient transport info) answer) other (r, is, h) = inserted_quiet transport info r h
+  call_quiet (Asked (step.InsertClient transport client_data) answer) other (r, is, h) = inserted_quiet transport client_data r h
   call_quiet (Asked (step.SetObjectData o u) answer) other h = felt (Asked (step.SetObjectData o u) answer) refl h h
   call_quiet (Asked (step.CreateObject target i version u) answer) other h = felt (Asked (step.CreateObject target i version u) answer) refl h h
   call_quiet (Asked (step.DestroyObject o) answer) other h = felt (Asked (step.DestroyObject o) answer) refl h h
@@ -218,7 +218,7 @@ module _ {T U G C : Type 0} (w : World T G C) (id : ClientParts) (offer : Offer 
   keeps_to (Asked (step.NextAction target) answer) (r, left, is, h) =
       at_most_new (same_client target id) (receives_in did) left.receives_left (reads_bounded target new_reading (action_content r) left h)
   keeps_to (Asked (step.NextActionWithin target reading) answer) (r, left, is, h) = of_reply target reading left r answer is (reads_bounded target reading (action_content r) left h)
-  keeps_to (Asked (step.InsertClient transport info) answer) h = nothing (Asked (step.InsertClient transport info) answer) refl h
+  keeps_to (Asked (step.InsertClient transport client_data) answer) h = nothing (Asked (step.InsertClient transport client_data) answer) refl h
   keeps_to (Asked (step.SetObjectData o u) answer) h = nothing (Asked (step.SetObjectData o u) answer) refl h
   keeps_to (Asked (step.CreateObject target i version u) answer) h = nothing (Asked (step.CreateObject target i version u) answer) refl h
   keeps_to (Asked (step.DestroyObject o) answer) h = nothing (Asked (step.DestroyObject o) answer) refl h
@@ -321,23 +321,23 @@ module _ {H T U G C : Type 0} (w : World T G C) (answers : Answering H T U G C) 
       let is : receives_over id run ≡ receives_in (e.did id) + 0 = ap (receives_over id) run_is in omega (arith, read, is)
   last_spends h h' r r' before after run lacked f (not_ended why round fault_is) = round_spends h h' r r' before after run lacked (Some why) round
 
-  pub served_bounded : (h h' : H) (before after : ServerState T U G C) (run : List (Entry T U G C)) (lacked : Bool) (answer : Result ℕ IoFault)
-      → Serves w answers id h before run lacked answer h' after → receives_over id run ≤ 64
-  served_bounded h h' before after run lacked answer serves =
-      let s = serves.served in
+  pub run_bounded : (h h' : H) (before after : ServerState T U G C) (run : List (Entry T U G C)) (lacked : Bool) (answer : Result ℕ IoFault)
+      → IsDispatched w answers id h before run lacked answer h' after → receives_over id run ≤ 64
+  run_bounded h h' before after run lacked answer serves =
+      let s = serves.rounds_end in
       let first = rounds_spend h s.handler new_reading s.reading before s.mid s.first s.first_lacked s.rounds in
       let last = last_spends s.handler h' s.reading serves.left s.mid after s.last s.last_lacked serves.fault s.end in
       let both = over_split id run s.first s.last s.run_is in omega (arith, first, last, both)
 
   -- the cleanup at the end of a dispatch receives nothing
-  pub dispatch_bounded : (h h' : H) (before mid : ServerState T U G C) (after : BackendState T U G C) (served : List (Entry T U G C)) (lacked : Bool) (answer result : Result ℕ IoFault)
-      → Serves w answers id h before served lacked answer h' mid → (ends : EndsDispatch w before served lacked mid answer result after)
-      → receives_over id (served ++ ends.cleanup ∷ []) ≤ 64
-  dispatch_bounded h h' before mid after served lacked answer result serves ends =
-      let few = served_bounded h h' before mid served lacked answer serves in
+  pub dispatch_bounded : (h h' : H) (before mid : ServerState T U G C) (after : BackendState T U G C) (calls : List (Entry T U G C)) (lacked : Bool) (answer result : Result ℕ IoFault)
+      → IsDispatched w answers id h before calls lacked answer h' mid → (ends : EndsDispatch w before calls lacked mid answer result after)
+      → receives_over id (calls ++ ends.cleanup ∷ []) ≤ 64
+  dispatch_bounded h h' before mid after calls lacked answer result serves ends =
+      let few = run_bounded h h' before mid calls lacked answer serves in
       let other : reads_of id ends.cleanup.call ≡ false = ap (λ (c : Call T U G C). reads_of id c) ends.cleanup_is in
       let last = one_quiet w id mid after.server ends.cleanup other ends.cleans in
-      let both = over_both id served (ends.cleanup ∷ []) in omega (arith, few, last, both)
+      let both = over_both id calls (ends.cleanup ∷ []) in omega (arith, few, last, both)
 
 -- ---- clients one after another
 
@@ -351,11 +351,11 @@ module _ {T U G C : Type 0} where
 
 module _ {H T U G C : Type 0} (w : World T G C) (answers : Answering H T U G C) where
   pub parts_bounded : (ids : List ClientParts) (h h' : H) (before after : ServerState T U G C) (run : List (Entry T U G C)) (lacked : Bool) (total : ℕ)
-      → ServesEach w answers ids h before run lacked total h' after → EachPartIsBounded ids run
+      → EachIsDispatched w answers ids h before run lacked total h' after → EachPartIsBounded ids run
   parts_bounded ids h h' before after run lacked total (none no_ids nothing' unlacked no_total) =
       subst (λ (l : List ClientParts). EachPartIsBounded l run) (sym no_ids) nothing'
   parts_bounded ids h h' before after run lacked total (more {earlier = earlier} {h1 = h1} {s1 = s1} {first = first} {next = next} {before = was} {now = now} {count = count} id answer each serves ids_are run_is lacked_is total_is) =
       let first_parts = parts_bounded earlier h h1 before s1 first was count each in
-      let few = served_bounded w answers id h1 h' s1 after next now answer serves in
+      let few = run_bounded w answers id h1 h' s1 after next now answer serves in
       subst (λ (l : List ClientParts). EachPartIsBounded l run) (sym ids_are)
       (subst (λ (x : List (Entry T U G C)). EachPartIsBounded (earlier ++ (id ∷ [])) x) (sym run_is) (one_more_part earlier id first next first_parts few))

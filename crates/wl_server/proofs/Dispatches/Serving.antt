@@ -16,9 +16,9 @@ use Rattle.wl_server.specs.declared.runs.step.Reply.TheVariants as reply
 use Rattle.wl_server.specs.declared.runs.step.Step.{Step}
 use Rattle.wl_server.specs.declared.runs.step.Step.TheVariants as step
 use Rattle.wl_server.specs.Backend.{BackendState, Calls}
-use Rattle.wl_server.specs.Dispatch.{Answering, Answers, AreCut, DispatchesAll, DispatchesClient, EndsDispatch, Handles, Last, Serves, ServesEach, StayAccountedFor, Round, Rounds, RoundsEnd, after_cleanup, dispatched, fault_of_end, fault_of_reading, more, no_action, none, not_ended, refusal_in, total_with}
+use Rattle.wl_server.specs.Dispatch.{Answering, Answers, AreCut, DispatchesAll, DispatchesClient, EndsDispatch, Handles, Last, IsDispatched, EachIsDispatched, StayAccountedFor, Round, Rounds, RoundsEnd, after_cleanup, dispatched, fault_of_end, fault_of_reading, more, no_action, none, not_ended, refusal_in, total_with}
 use Rattle.wl_server.specs.Ids.{ClientParts}
-use Rattle.wl_server.specs.Inside.Dispatching.{CleansUp, Fewer, HasServed, HasServedEach, ServesAll, ServesOnce, ServesSome, waiting_of}
+use Rattle.wl_server.specs.Inside.Dispatching.{CleansUp, Fewer, RoundsSoFar, ClientsSoFar, MakesAllRounds, MakesRound, MakesRounds, waiting_of}
 use Rattle.wl_server.specs.PartStep.{World}
 use Rattle.wl_server.specs.Reached.{Reached}
 use Rattle.wl_server.specs.Reading.{new_reading}
@@ -100,12 +100,12 @@ module _ {H T U G C : Type 0} (w : World T G C) (answers : Answering H T U G C) 
 
   pub serves_last : (h : H) (r r' : Reading) (before left : BackendState T U G C) (error : ActionError) (f : IoFault) (after : BackendState T U G C) (was : Bool)
       → was ≡ before.refused → Calls w before (step.NextActionWithin id r) (reply.NextActionWithin (Err error) r') left → f ≡ fault_of_reading error → after ≡ keeping was left
-      → ServesOnce w answers id h r before (Some f) h r' after
+      → MakesRound w answers id h r before (Some f) h r' after
   serves_last h r r' before left error f after was was_is calls is kept =
       let (run, last) = last_by h r r' before left error calls in record {
         run = run;
         lacked = left.refused;
-        served = subst (λ (x : IoFault). Last w answers id h r before.server run left.refused x h r' after.server) (sym is)
+        round = subst (λ (x : IoFault). Last w answers id h r before.server run left.refused x h r' after.server) (sym is)
             (subst (λ (s : ServerState T U G C). Last w answers id h r before.server run left.refused (fault_of_reading error) h r' s) (sym (ap (λ (b : BackendState T U G C). b.server) kept)) last);
         refused = ap (λ (b : BackendState T U G C). b.refused) kept ∙ ap (λ (b : Bool). b || left.refused) was_is;
         fewer = λ none. absurd (true≢false (ap is_some none));
@@ -118,13 +118,13 @@ module _ {H T U G C : Type 0} (w : World T G C) (answers : Answering H T U G C) 
   pub serves_refused : (h h' : H) (r r' : Reading) (before found left : BackendState T U G C) (a : Action) (error : FinishError) (f : IoFault) (after : BackendState T U G C) (was read : Bool)
       → was ≡ before.refused → read ≡ found.refused → Calls w before (step.NextActionWithin id r) (reply.NextActionWithin (Ok a) r') found
       → (run : List (Entry T U G C)) × Handles w answers id h found a run left.refused (Some error) h' left.server → f ≡ fault_of_end error → after ≡ keeping (was || read) left
-      → ServesOnce w answers id h r before (Some f) h' r' after
+      → MakesRound w answers id h r before (Some f) h' r' after
   serves_refused h h' r r' before found left a error f after was read was_is read_is calls handles is kept =
       let (run, round) = round_by h h' r r' before found left.server a left.refused (Some error) calls handles in
       let last : Last w answers id h r before.server run (found.refused || left.refused) (fault_of_end error) h' r' left.server = not_ended error round refl in record {
         run = run;
         lacked = found.refused || left.refused;
-        served = subst (λ (x : IoFault). Last w answers id h r before.server run (found.refused || left.refused) x h' r' after.server) (sym is)
+        round = subst (λ (x : IoFault). Last w answers id h r before.server run (found.refused || left.refused) x h' r' after.server) (sym is)
             (subst (λ (s : ServerState T U G C). Last w answers id h r before.server run (found.refused || left.refused) (fault_of_end error) h' r' s)
             (sym (ap (λ (b : BackendState T U G C). b.server) kept)) last);
         refused = ap (λ (b : BackendState T U G C). b.refused) kept ∙ refused_both before.refused found.refused left.refused was read was_is read_is;
@@ -134,13 +134,13 @@ module _ {H T U G C : Type 0} (w : World T G C) (answers : Answering H T U G C) 
   pub serves_round : (h h' : H) (r r' : Reading) (before found left : BackendState T U G C) (a : Action) (after : BackendState T U G C) (was read : Bool)
       → was ≡ before.refused → read ≡ found.refused → Calls w before (step.NextActionWithin id r) (reply.NextActionWithin (Ok a) r') found
       → (run : List (Entry T U G C)) × Handles w answers id h found a run left.refused None h' left.server → after ≡ keeping (was || read) left
-      → ServesOnce w answers id h r before None h' r' after
+      → MakesRound w answers id h r before None h' r' after
   serves_round h h' r r' before found left a after was read was_is read_is calls handles kept =
       let (run, round) = round_by h h' r r' before found left.server a left.refused None calls handles in
       let server : after.server ≡ left.server = ap (λ (b : BackendState T U G C). b.server) kept in record {
         run = run;
         lacked = found.refused || left.refused;
-        served = subst (λ (s : ServerState T U G C). Round w answers id h r before.server run (found.refused || left.refused) None h' r' s) (sym server) round;
+        round = subst (λ (s : ServerState T U G C). Round w answers id h r before.server run (found.refused || left.refused) None h' r' s) (sym server) round;
         refused = ap (λ (b : BackendState T U G C). b.refused) kept ∙ refused_both before.refused found.refused left.refused was read was_is read_is;
         fewer = λ none.
             subst (λ (s : ServerState T U G C). Fewer id r before.server r' s) (sym server)
@@ -159,43 +159,43 @@ module _ {H T U G C : Type 0} (w : World T G C) (answers : Answering H T U G C) 
       (ap (λ (x : Bool). before || x) lacked_is ∙ sym (or_assoc before b c))
 
   -- nothing yet
-  pub served_none : (h : H) (r : Reading) (before : BackendState T U G C) → HasServed w answers id h r before h r before
-  served_none h r before = record { run = []; lacked = false; rounds = none refl refl; refused = sym (or_false before.refused) }
+  pub so_far_none : (h : H) (r : Reading) (before : BackendState T U G C) → RoundsSoFar w answers id h r before h r before
+  so_far_none h r before = record { run = []; lacked = false; rounds = none refl refl; refused = sym (or_false before.refused) }
 
   -- memory was refused so far, and then
   refused_so : (a b c d e : Bool) → c ≡ b || e → b ≡ a || d → c ≡ a || (d || e)
   refused_so a b c d e second first = second ∙ ap (λ (x : Bool). x || e) first ∙ or_assoc a d e
 
-  pub served_more : {h h1 h' : H} {r r1 r' : Reading} {before mid after : BackendState T U G C} {end : Option IoFault} → HasServed w answers id h r before h1 r1 mid
-      → ServesOnce w answers id h1 r1 mid end h' r' after → end ≡ None → HasServed w answers id h r before h' r' after
-  served_more {h} {h1} {h'} {r} {r1} {r'} {before} {mid} {after} {end} so_far one is = record {
+  pub so_far_more : {h h1 h' : H} {r r1 r' : Reading} {before mid after : BackendState T U G C} {end : Option IoFault} → RoundsSoFar w answers id h r before h1 r1 mid
+      → MakesRound w answers id h1 r1 mid end h' r' after → end ≡ None → RoundsSoFar w answers id h r before h' r' after
+  so_far_more {h} {h1} {h'} {r} {r1} {r'} {before} {mid} {after} {end} so_far one is = record {
     run = so_far.run ++ one.run;
     lacked = so_far.lacked || one.lacked;
-    rounds = more so_far.rounds (rw is at one.served) refl refl;
+    rounds = more so_far.rounds (rw is at one.round) refl refl;
     refused = refused_so before.refused mid.refused after.refused so_far.lacked one.lacked one.refused so_far.refused;
   }
 
-  pub served_joins : {h h1 h' : H} {r r1 r' : Reading} {before mid after : BackendState T U G C} {end : Option IoFault} → HasServed w answers id h r before h1 r1 mid
-      → ServesSome w answers id h1 r1 mid end h' r' after → end ≡ None → HasServed w answers id h r before h' r' after
-  served_joins {h} {h1} {h'} {r} {r1} {r'} {before} {mid} {after} {end} so_far some is = record {
+  pub so_far_joins : {h h1 h' : H} {r r1 r' : Reading} {before mid after : BackendState T U G C} {end : Option IoFault} → RoundsSoFar w answers id h r before h1 r1 mid
+      → MakesRounds w answers id h1 r1 mid end h' r' after → end ≡ None → RoundsSoFar w answers id h r before h' r' after
+  so_far_joins {h} {h1} {h'} {r} {r1} {r'} {before} {mid} {after} {end} so_far some is = record {
     run = so_far.run ++ some.run;
     lacked = so_far.lacked || some.lacked;
-    rounds = rounds_join h h1 h' r r1 r' before.server mid.server after.server so_far.run some.run so_far.lacked some.lacked so_far.rounds (rw is at some.served);
+    rounds = rounds_join h h1 h' r r1 r' before.server mid.server after.server so_far.run some.run so_far.lacked some.lacked so_far.rounds (rw is at some.rounds);
     refused = refused_so before.refused mid.refused after.refused so_far.lacked some.lacked some.refused so_far.refused;
   }
 
   -- a receive was used up
-  pub some_rounds : {h h' : H} {r r' : Reading} {before after : BackendState T U G C} → HasServed w answers id h r before h' r' after → r'.receives_left < r.receives_left
-      → ServesSome w answers id h r before None h' r' after
-  some_rounds so_far fewer = record { run = so_far.run; lacked = so_far.lacked; served = so_far.rounds; refused = so_far.refused; fewer = λ is. fewer }
+  pub some_rounds : {h h' : H} {r r' : Reading} {before after : BackendState T U G C} → RoundsSoFar w answers id h r before h' r' after → r'.receives_left < r.receives_left
+      → MakesRounds w answers id h r before None h' r' after
+  some_rounds so_far fewer = record { run = so_far.run; lacked = so_far.lacked; rounds = so_far.rounds; refused = so_far.refused; fewer = λ is. fewer }
 
   -- a fault ended them
-  pub some_end : {h h1 h' : H} {r r1 r' : Reading} {before mid after : BackendState T U G C} {end : Option IoFault} (f : IoFault) → HasServed w answers id h r before h1 r1 mid
-      → ServesOnce w answers id h1 r1 mid end h' r' after → end ≡ Some f → ServesSome w answers id h r before (Some f) h' r' after
+  pub some_end : {h h1 h' : H} {r r1 r' : Reading} {before mid after : BackendState T U G C} {end : Option IoFault} (f : IoFault) → RoundsSoFar w answers id h r before h1 r1 mid
+      → MakesRound w answers id h1 r1 mid end h' r' after → end ≡ Some f → MakesRounds w answers id h r before (Some f) h' r' after
   some_end {h} {h1} {h'} {r} {r1} {r'} {before} {mid} {after} {end} f so_far one is = record {
     run = so_far.run ++ one.run;
     lacked = so_far.lacked || one.lacked;
-    served = record {
+    rounds = record {
       handler = h1;
       reading = r1;
       mid = mid.server;
@@ -204,7 +204,7 @@ module _ {H T U G C : Type 0} (w : World T G C) (answers : Answering H T U G C) 
       first_lacked = so_far.lacked;
       last_lacked = one.lacked;
       rounds = so_far.rounds;
-      end = rw is at one.served;
+      end = rw is at one.round;
       run_is = refl;
       lacked_is = refl;
     };
@@ -213,16 +213,16 @@ module _ {H T U G C : Type 0} (w : World T G C) (answers : Answering H T U G C) 
   }
 
   pub all_end : {h h1 h' : H} {r1 r' : Reading} {before mid after : BackendState T U G C} {end : Option IoFault} {answer : Result ℕ IoFault} (f : IoFault)
-      → HasServed w answers id h new_reading before h1 r1 mid → ServesSome w answers id h1 r1 mid end h' r' after → end ≡ Some f → answer ≡ dispatched f r'.read
-      → ServesAll w answers id h before answer h' after
+      → RoundsSoFar w answers id h new_reading before h1 r1 mid → MakesRounds w answers id h1 r1 mid end h' r' after → end ≡ Some f → answer ≡ dispatched f r'.read
+      → MakesAllRounds w answers id h before answer h' after
   all_end {h} {h1} {h'} {r1} {r'} {before} {mid} {after} {end} {answer} f so_far some is answered =
-      let last : RoundsEnd w answers id h1 r1 mid.server some.run some.lacked f h' r' after.server = rw is at some.served in record {
+      let last : RoundsEnd w answers id h1 r1 mid.server some.run some.lacked f h' r' after.server = rw is at some.rounds in record {
         run = so_far.run ++ some.run;
         lacked = so_far.lacked || some.lacked;
-        served = record {
+        dispatched = record {
           left = r';
           fault = f;
-          served = record {
+          rounds_end = record {
             handler = last.handler;
             reading = last.reading;
             mid = last.mid;
@@ -276,14 +276,14 @@ module _ {H T U G C : Type 0} (w : World T G C) (answers : Answering H T U G C) 
   last_leads (not_ended why round is) = round_leads round
 
   serves_lead : {h h' : H} {before : ServerState T U G C} {run : List (Entry T U G C)} {lacked : Bool} {answer : Result ℕ IoFault} {after : ServerState T U G C}
-      → Serves w answers id h before run lacked answer h' after → Runs before run after
+      → IsDispatched w answers id h before run lacked answer h' after → Runs before run after
   serves_lead {h} {h'} {before} {run} {lacked} {answer} {after} x =
-      subst (λ (y : List (Entry T U G C)). Runs before y after) (sym x.served.run_is)
-      (join_runs w before x.served.mid after x.served.first x.served.last (rounds_lead x.served.rounds) (last_leads x.served.end))
+      subst (λ (y : List (Entry T U G C)). Runs before y after) (sym x.rounds_end.run_is)
+      (join_runs w before x.rounds_end.mid after x.rounds_end.first x.rounds_end.last (rounds_lead x.rounds_end.rounds) (last_leads x.rounds_end.end))
 
 module _ {H T U G C : Type 0} (w : World T G C) (answers : Answering H T U G C) where
   each_lead : {ids : List ClientParts} {h h' : H} {before : ServerState T U G C} {run : List (Entry T U G C)} {lacked : Bool} {total : ℕ} {after : ServerState T U G C}
-      → ServesEach w answers ids h before run lacked total h' after → Leads w before run after
+      → EachIsDispatched w answers ids h before run lacked total h' after → Leads w before run after
   each_lead {ids} {h} {h'} {before} {run} {lacked} {total} {after} (none no_ids no_run unlacked no_total) =
       subst (λ (y : List (Entry T U G C)). Leads w before y before) (sym no_run) refl
   each_lead {ids} {h} {h'} {before} {run} {lacked} {total} {after} (more {s1 = mid} {first = first} {next = next} id answer each serves ids_are run_is lacked_is total_is) =
@@ -314,10 +314,10 @@ module _ {T U G C : Type 0} (w : World T G C) where
         refused = ap (λ (b : BackendState T U G C). b.refused) kept ∙ ap (λ (b : Bool). b || left.refused) was_is ∙ ap (λ (b : Bool). before.refused || b) (sym refused);
       }
 
-  ends_dispatch : {mid after : BackendState T U G C} {answer result : Result ℕ IoFault} (before : ServerState T U G C) (served : List (Entry T U G C)) (lacked : Bool)
-      → Leads w before served mid.server → mid.refused ≡ lacked → CleansUp w mid answer result after → EndsDispatch w before served lacked mid.server answer result after
-  ends_dispatch {mid} {after} {answer} {result} before served lacked leads refused ends =
-      let whole = join_runs w before mid.server after.server served (ends.cleanup ∷ []) leads (after.server, ends.cleans, refl) in record {
+  ends_dispatch : {mid after : BackendState T U G C} {answer result : Result ℕ IoFault} (before : ServerState T U G C) (calls : List (Entry T U G C)) (lacked : Bool)
+      → Leads w before calls mid.server → mid.refused ≡ lacked → CleansUp w mid answer result after → EndsDispatch w before calls lacked mid.server answer result after
+  ends_dispatch {mid} {after} {answer} {result} before calls lacked leads refused ends =
+      let whole = join_runs w before mid.server after.server calls (ends.cleanup ∷ []) leads (after.server, ends.cleans, refl) in record {
         cleanup = ends.cleanup;
         out = ends.out;
         cleans = ends.cleans;
@@ -325,18 +325,18 @@ module _ {T U G C : Type 0} (w : World T G C) where
         result_is = ends.result_is;
         refused = ends.refused ∙ ap (λ (b : Bool). b || ends.cleanup.refused) refused;
         leads = whole;
-        accounted = λ within. stay_accounted within before after.server (served ++ (ends.cleanup ∷ [])) whole;
-        cut = cuts before after.server (served ++ (ends.cleanup ∷ []));
+        accounted = λ within. stay_accounted within before after.server (calls ++ (ends.cleanup ∷ [])) whole;
+        cut = cuts before after.server (calls ++ (ends.cleanup ∷ []));
       }
 
 module _ {H T U G C : Type 0} (w : World T G C) (answers : Answering H T U G C) where
   -- of one client
   pub dispatches_client : {h h' : H} {begun mid after : BackendState T U G C} {answer result : Result ℕ IoFault} (id : ClientParts) (before : BackendState T U G C)
-      → begun ≡ record before { refused = false } → ServesAll w answers id h begun answer h' mid → CleansUp w mid answer result after
+      → begun ≡ record before { refused = false } → MakesAllRounds w answers id h begun answer h' mid → CleansUp w mid answer result after
       → DispatchesClient w answers id h before.server result h' after
   dispatches_client {h} {h'} {begun} {mid} {after} {answer} {result} id before calm all ends =
       let from : begun.server ≡ before.server = ap (λ (b : BackendState T U G C). b.server) calm in
-      let serves = subst (λ (s : ServerState T U G C). Serves w answers id h s all.run all.lacked answer h' mid.server) from all.served in (
+      let serves = subst (λ (s : ServerState T U G C). IsDispatched w answers id h s all.run all.lacked answer h' mid.server) from all.dispatched in (
         all.run,
         all.lacked,
         answer,
@@ -347,21 +347,21 @@ module _ {H T U G C : Type 0} (w : World T G C) (answers : Answering H T U G C) 
       )
 
   -- of several
-  pub each_none : (ids : List ClientParts) (h : H) (before : BackendState T U G C) → ids ≡ [] → HasServedEach w answers ids h before 0 h before
+  pub each_none : (ids : List ClientParts) (h : H) (before : BackendState T U G C) → ids ≡ [] → ClientsSoFar w answers ids h before 0 h before
   each_none ids h before is = record { run = []; lacked = false; each = none is refl refl refl; refused = sym (or_false before.refused) }
 
   pub each_more : {earlier ids : List ClientParts} {h h1 h' : H} {before mid after : BackendState T U G C} {count total : ℕ} {answer : Result ℕ IoFault} (id : ClientParts)
-      → HasServedEach w answers earlier h before count h1 mid → ServesAll w answers id h1 mid answer h' after → ids ≡ earlier ++ (id ∷ []) → total ≡ total_with count answer
-      → HasServedEach w answers ids h before total h' after
+      → ClientsSoFar w answers earlier h before count h1 mid → MakesAllRounds w answers id h1 mid answer h' after → ids ≡ earlier ++ (id ∷ []) → total ≡ total_with count answer
+      → ClientsSoFar w answers ids h before total h' after
   each_more {earlier} {ids} {h} {h1} {h'} {before} {mid} {after} {count} {total} {answer} id so_far all ids_are total_is = record {
     run = so_far.run ++ all.run;
     lacked = so_far.lacked || all.lacked;
-    each = more id answer so_far.each all.served ids_are refl refl total_is;
+    each = more id answer so_far.each all.dispatched ids_are refl refl total_is;
     refused = all.refused ∙ ap (λ (x : Bool). x || all.lacked) so_far.refused ∙ or_assoc before.refused so_far.lacked all.lacked;
   }
 
   pub dispatches_all : {ids : List ClientParts} {h h' : H} {mid after : BackendState T U G C} {total : ℕ} {result : Result ℕ IoFault} (before : BackendState T U G C)
-      → HasServedEach w answers ids h (record before { refused = false }) total h' mid → CleansUp w mid (Ok total) result after
+      → ClientsSoFar w answers ids h (record before { refused = false }) total h' mid → CleansUp w mid (Ok total) result after
       → DispatchesAll w answers ids h before.server result h' after
   dispatches_all {ids} {h} {h'} {mid} {after} {total} {result} before each ends = (
     each.run,
@@ -373,19 +373,19 @@ module _ {H T U G C : Type 0} (w : World T G C) (answers : Answering H T U G C) 
   )
 
   pub each_begun : (h : H) (before begun : BackendState T U G C) → begun ≡ record before { refused = false }
-      → HasServedEach w answers [] h (record before { refused = false }) 0 h begun
+      → ClientsSoFar w answers [] h (record before { refused = false }) 0 h begun
   each_begun h before begun is =
-      subst (λ (b : BackendState T U G C). HasServedEach w answers [] h (record before { refused = false }) 0 h b) (sym is)
+      subst (λ (b : BackendState T U G C). ClientsSoFar w answers [] h (record before { refused = false }) 0 h b) (sym is)
       (each_none [] h (record before { refused = false }) refl)
 
   -- the next of the clients
   pub one_more : {h h1 h' : H} {before mid after : BackendState T U G C} {count total : ℕ} {answer : Result ℕ IoFault} (ids : List ClientParts) (n : ℕ) (id : ClientParts)
-      → n < length ids → id ≡ get_or ids n id → HasServedEach w answers (take n ids) h before count h1 mid → ServesAll w answers id h1 mid answer h' after
-      → total ≡ total_with count answer → HasServedEach w answers (take (n + 1) ids) h before total h' after
+      → n < length ids → id ≡ get_or ids n id → ClientsSoFar w answers (take n ids) h before count h1 mid → MakesAllRounds w answers id h1 mid answer h' after
+      → total ≡ total_with count answer → ClientsSoFar w answers (take (n + 1) ids) h before total h' after
   one_more ids n id below here so_far all total_is =
       each_more id so_far all (take_more ids n id below ∙ ap (λ (y : ClientParts). take n ids ++ y ∷ []) (sym here)) total_is
 
   pub all_served : {h h' : H} {before after : BackendState T U G C} {total : ℕ} (ids : List ClientParts) (n : ℕ) → length ids ≤ n
-      → HasServedEach w answers (take n ids) h before total h' after → HasServedEach w answers ids h before total h' after
+      → ClientsSoFar w answers (take n ids) h before total h' after → ClientsSoFar w answers ids h before total h' after
   all_served {h} {h'} {before} {after} {total} ids n all each =
-      subst (λ (xs : List ClientParts). HasServedEach w answers xs h before total h' after) (take_all n ids all) each
+      subst (λ (xs : List ClientParts). ClientsSoFar w answers xs h before total h' after) (take_all n ids all) each

@@ -54,7 +54,7 @@ use Rattle.wl_server.specs.Finish.{FinishesBind, FinishesOpen, FinishesOpenBind,
 use Rattle.wl_server.specs.Globals.{Offer, global_of, is_enabled}
 use Rattle.wl_server.specs.Ids.{ClientParts, GlobalParts, IdParts, same_client}
 use Rattle.wl_server.specs.Inside.Dispatching.{Fewer, waiting_of, waits}
-use Rattle.wl_server.specs.Moves.{Accept, AcceptFault, Arrive, ArriveFault, Move, Moved, TakeSent, done, taken}
+use Rattle.wl_server.specs.Moves.{Accept, AcceptFault, Arrive, ArriveFault, Move, Moved, TakeSent, nothing_taken, taken}
 use Rattle.wl_server.specs.Objects.{Creates, CreatesAt, DataSet, Destroys, destroyable, destroys}
 use Rattle.wl_server.specs.Part.{Part, last_possible_serial, named}
 use Rattle.wl_server.specs.PartStep.{Asked, Call, Changed, CleanedAs, FeelsGlobal, FeelsLoss, FlushedFor, InsertedAs, MovedFor, NotesTaken, OfClient, OnPart, PartCall, ReadsFor, Unfelt, World, around}
@@ -273,8 +273,8 @@ module _ {T U G C : Type 0} where
   spared_unread id _ spared = refl
 
 module _ {T U G C : Type 0} (w : World T G C) (id : ClientParts) (offer : Offer G) (before after : Seen T U C) (lacked : Bool) (did : List (Deed U)) where
-  inserted : (transport : T) (info : C) (r : Result ClientParts InsertClientError) → InsertedAs w id offer transport info r before lacked did after → NoMore before after lacked did
-  inserted transport info (Ok new) h =
+  inserted : (transport : T) (client_data : C) (r : Result ClientParts InsertClientError) → InsertedAs w id offer transport client_data r before lacked did after → NoMore before after lacked did
+  inserted transport client_data (Ok new) h =
       elim (either_bool (same_client new id) h) [
         | inl (link, (limit, limits, is), unlacked, did_so, same) ↦
             let now : waits after ≡ length link.incoming.bytes = ap (λ (s : Seen T U C). waits s) same in
@@ -282,12 +282,12 @@ module _ {T U G C : Type 0} (w : World T G C) (id : ClientParts) (offer : Offer 
             omega (arith, now, none)
         | inr unfelt ↦ unfelt_no_more before after lacked did unfelt
       ]
-  inserted transport info (Err e) unfelt = unfelt_no_more before after lacked did unfelt
+  inserted transport client_data (Err e) unfelt = unfelt_no_more before after lacked did unfelt
 
   feels_global : (i : InterfaceId) (version : ℕ) (handler : G) (r : Result GlobalParts GlobalError) → FeelsGlobal w id offer i version handler r before lacked did after
       → NoMore before after lacked did
   feels_global i version handler (Ok g) h = on_part before after lacked did _ _
-      (λ p q by. hears_keep w.sends p q (news offer.table p (w.views handler id p.info g) (record { name = g.name; interface = i; version = version })) lacked did by) h
+      (λ p q by. hears_keep w.sends p q (news offer.table p (w.views handler id p.client_data g) (record { name = g.name; interface = i; version = version })) lacked did by) h
   feels_global i version handler (Err e) unfelt = unfelt_no_more before after lacked did unfelt
 
   feels_loss : (g : GlobalParts) → FeelsLoss w id offer g before lacked did after → NoMore before after lacked did
@@ -326,7 +326,7 @@ module _ {T U G C : Type 0} (w : World T G C) (id : ClientParts) (offer : Offer 
 
   -- a call that is no reading of the client adds nothing to what waits of it
   pub adds_nothing : (call : Call T U G C) → reads_of id call ≡ false → PartCall w id offer call before lacked did after → NoMore before after lacked did
-  adds_nothing (Asked (step.InsertClient transport info) answer) other (r, is, h) = inserted transport info r h
+  adds_nothing (Asked (step.InsertClient transport client_data) answer) other (r, is, h) = inserted transport client_data r h
   adds_nothing (Asked (step.SetObjectData o u) answer) other (r, is, h) =
       of_client before after lacked did _ _ _ (λ p q (unlacked, none, by). data_keeps w.sends p q o u r by) h
   adds_nothing (Asked (step.CreateObject target i version u) answer) other (r, is, h) =
@@ -356,10 +356,10 @@ module _ {T U G C : Type 0} (w : World T G C) (id : ClientParts) (offer : Offer 
   adds_nothing (Asked step.Cleanup answer) other (r, is, h) = cleaned r h
   adds_nothing (Asked step.TakeNotes answer) other (r, is, h) = notes_taken r h
   adds_nothing (Asked (step.Arrive target bytes tokens) answer) other (r, is, h) =
-      moved target (Arrive (record { bytes = bytes.items; tokens = tokens.items })) (done r) h
-  adds_nothing (Asked (step.ArriveFault target f) answer) other (r, is, h) = moved target (ArriveFault f) (done r) h
-  adds_nothing (Asked (step.Accept target n) answer) other (r, is, h) = moved target (Accept n) (done r) h
-  adds_nothing (Asked (step.AcceptFault target f) answer) other (r, is, h) = moved target (AcceptFault f) (done r) h
+      moved target (Arrive (record { bytes = bytes.items; tokens = tokens.items })) (nothing_taken r) h
+  adds_nothing (Asked (step.ArriveFault target f) answer) other (r, is, h) = moved target (ArriveFault f) (nothing_taken r) h
+  adds_nothing (Asked (step.Accept target n) answer) other (r, is, h) = moved target (Accept n) (nothing_taken r) h
+  adds_nothing (Asked (step.AcceptFault target f) answer) other (r, is, h) = moved target (AcceptFault f) (nothing_taken r) h
   adds_nothing (Asked (step.TakeSent target) answer) other (r, is, h) = moved target TakeSent (taken r) h
   adds_nothing (Changed target t) other h =
       of_client before after lacked did _ _ _ (λ p q (unlacked, none, (t', becomes, same)). ap (λ (x : Part T U C). x.link.incoming) same) h

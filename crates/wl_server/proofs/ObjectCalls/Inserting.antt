@@ -89,43 +89,43 @@ module _ {T U G C : Type 0} (w : World T G C) where
   -- ---- what each client makes of it
 
   abbrev InsertedAt : ClientParts → Offer G → T → C → Bool → Seen T U C → Seen T U C → Type 0
-  InsertedAt id offer transport info b before after =
-      MatchBool b (Inserted w id offer transport info before false (did_at b (Noted Initialized ∷ [])) after)
+  InsertedAt id offer transport client_data b before after =
+      MatchBool b (Inserted w id offer transport client_data before false (did_at b (Noted Initialized ∷ [])) after)
       (Unfelt before false (did_at b (Noted Initialized ∷ [])) after)
 
-  as_new : (id : ClientParts) (offer : Offer G) (transport : T) (info : C) (gathered : List (Happening U)) (link : LinkState T) (b : Bool) (x y : Option (Stored T U C))
+  as_new : (id : ClientParts) (offer : Offer G) (transport : T) (client_data : C) (gathered : List (Happening U)) (link : LinkState T) (b : Bool) (x y : Option (Stored T U C))
       → b ≡ true → IsFresh transport (Some offer.default_limit) link → x ≡ None
-      → y ≡ Some (record { serial = id.serial; part = fresh_part link info; made = Initialized ∷ [] })
-      → InsertedAt id offer transport info b (seen_as gathered x) (seen_as gathered y)
-  as_new id offer transport info gathered link true x y is fresh none some = (
+      → y ≡ Some (record { serial = id.serial; part = fresh_part link client_data; made = Initialized ∷ [] })
+      → InsertedAt id offer transport client_data b (seen_as gathered x) (seen_as gathered y)
+  as_new id offer transport client_data gathered link true x y is fresh none some = (
     link,
     fresh,
     refl,
     refl,
     ap (seen_as gathered) some
-        ∙ ap (λ (m : List (Happening U)). let s : Seen T U C = record { part = Some (fresh_part link info); made = m ++ Initialized ∷ [] } in s)
+        ∙ ap (λ (m : List (Happening U)). let s : Seen T U C = record { part = Some (fresh_part link client_data); made = m ++ Initialized ∷ [] } in s)
         (sym (ap (λ (o : Option (Stored T U C)). let s : Seen T U C = seen_as gathered o in s.made) none ∙ append-nil gathered)),
   )
-  as_new id offer transport info gathered link false x y is fresh none some = absurd (false≢true is)
+  as_new id offer transport client_data gathered link false x y is fresh none some = absurd (false≢true is)
 
-  as_unfelt : (id : ClientParts) (offer : Offer G) (transport : T) (info : C) (b : Bool) (before after : Seen T U C) → b ≡ false → after ≡ before
-      → InsertedAt id offer transport info b before after
-  as_unfelt id offer transport info true before after is same = absurd (true≢false is)
-  as_unfelt id offer transport info false before after is same = (refl, refl, same)
+  as_unfelt : (id : ClientParts) (offer : Offer G) (transport : T) (client_data : C) (b : Bool) (before after : Seen T U C) → b ≡ false → after ≡ before
+      → InsertedAt id offer transport client_data b before after
+  as_unfelt id offer transport client_data true before after is same = absurd (true≢false is)
+  as_unfelt id offer transport client_data false before after is same = (refl, refl, same)
 
-  each_inserted : (offer : Offer G) (transport : T) (info : C) (clients clients' : List (Option (Stored T U C))) (notes : List (Note U)) (new : ClientParts) (s : Stored T U C)
-      → stored_at new.slot clients ≡ None → IsPut clients new.slot s clients' → IsInserted new.serial transport (Some offer.default_limit) info s → (id : ClientParts)
-      → InsertedAt id offer transport info (same_client new id) (held_of notes clients id) (held_of notes clients' id)
-  each_inserted offer transport info clients clients' notes new s free (here, others) (link, fresh, is) id =
+  each_inserted : (offer : Offer G) (transport : T) (client_data : C) (clients clients' : List (Option (Stored T U C))) (notes : List (Note U)) (new : ClientParts) (s : Stored T U C)
+      → stored_at new.slot clients ≡ None → IsPut clients new.slot s clients' → IsInserted new.serial transport (Some offer.default_limit) client_data s → (id : ClientParts)
+      → InsertedAt id offer transport client_data (same_client new id) (held_of notes clients id) (held_of notes clients' id)
+  each_inserted offer transport client_data clients clients' notes new s free (here, others) (link, fresh, is) id =
       elim (compare new id) [
-        | Are slot serial ↦ subst (λ (i : ClientParts). InsertedAt i offer transport info (same_client new i) (held_of notes clients i) (held_of notes clients' i))
+        | Are slot serial ↦ subst (λ (i : ClientParts). InsertedAt i offer transport client_data (same_client new i) (held_of notes clients i) (held_of notes clients' i))
             (same_parts new id slot serial)
-            (as_new new offer transport info (notes_of new notes) link (same_client new new) (client_at new clients) (client_at new clients') (same_self new) fresh
+            (as_new new offer transport client_data (notes_of new notes) link (same_client new new) (client_at new clients) (client_at new clients') (same_self new) fresh
             (ap (if_serial new.serial) free) (client_present new clients' s here serial' ∙ ap Some is))
-        | Slots slot ↦ as_unfelt id offer transport info (same_client new id) _ _ (same_slots new id slot)
+        | Slots slot ↦ as_unfelt id offer transport client_data (same_client new id) _ _ (same_slots new id slot)
             (ap (λ (x : Option (Option (Stored T U C))). seen_as (notes_of id notes) (if_serial id.serial (option_map_or (λ s. s) x None)))
             (others id.slot (λ e. other_of new.slot id.slot slot (sym e))))
-        | Serials slot differ ↦ as_unfelt id offer transport info (same_client new id) _ _ (same_serials new id slot differ)
+        | Serials slot differ ↦ as_unfelt id offer transport client_data (same_client new id) _ _ (same_serials new id slot differ)
             (ap (seen_as (notes_of id notes))
             (client_absent id clients' s (subst (λ (n : ℕ). slice_get clients' n ≡ Some (Some s)) slot here) (rw serial' differ)
             ∙ sym (ap (if_serial id.serial) (subst (λ (n : ℕ). stored_at n clients ≡ None) slot free))))
@@ -137,14 +137,14 @@ module _ {T U G C : Type 0} (w : World T G C) where
   -- ---- the step
 
   -- the client of this id was put at its slot
-  pub inserted : {was : Bool} (before : ServerState T U G C) (transport : T) (info : C) (new : ClientParts) (s : Stored T U C) (clients' : List (Option (Stored T U C)))
+  pub inserted : {was : Bool} (before : ServerState T U G C) (transport : T) (client_data : C) (new : ClientParts) (s : Stored T U C) (clients' : List (Option (Stored T U C)))
       → IsLeastFree before.clients new.slot → before.last_client < last_possible_serial → new.serial ≡ before.last_client + 1
-      → IsInserted new.serial transport (Some before.offer.default_limit) info s → IsPut before.clients new.slot s clients'
-      → Calls w (record { server = before; refused = was }) (step.InsertClient transport info) (reply.InsertClient (Ok new))
+      → IsInserted new.serial transport (Some before.offer.default_limit) client_data s → IsPut before.clients new.slot s clients'
+      → Calls w (record { server = before; refused = was }) (step.InsertClient transport client_data) (reply.InsertClient (Ok new))
       (record { server = record before { last_client = before.last_client + 1; clients = clients' }; refused = false })
-  inserted before transport info new s clients' free below serial is put = calls _ _ _ _ _ (
+  inserted before transport client_data new s clients' free below serial is put = calls _ _ _ _ _ (
     record {
-      call = Asked (step.InsertClient transport info) (reply.InsertClient (Ok new));
+      call = Asked (step.InsertClient transport client_data) (reply.InsertClient (Ok new));
       refused = false;
       lacks = λ id. false;
       did = λ id. did_at (same_client new id) (Noted Initialized ∷ []);
@@ -159,7 +159,7 @@ module _ {T U G C : Type 0} (w : World T G C) where
       order = tt;
       room = tt;
       refused = (λ h. absurd (false≢true h), λ h. was_refused h);
-      each = λ id. (Ok new, refl, each_inserted before.offer transport info before.clients clients' before.notes new s free.free put is id);
+      each = λ id. (Ok new, refl, each_inserted before.offer transport client_data before.clients clients' before.notes new s free.free put is id);
     },
   )
     where
@@ -168,10 +168,10 @@ module _ {T U G C : Type 0} (w : World T G C) where
       was_refused (inr (id, h)) = h
 
   -- no slot or no serial is left
-  pub not_inserted : {was : Bool} (before : ServerState T U G C) (transport : T) (info : C) → LacksSlot before.last_client before.clients
-      → Calls w (record { server = before; refused = was }) (step.InsertClient transport info) (reply.InsertClient (Err insert.Full)) (record { server = before; refused = false })
-  not_inserted before transport info lacks = calls _ _ _ _ _ (
-    record { call = Asked (step.InsertClient transport info) (reply.InsertClient (Err insert.Full)); refused = false; lacks = λ id. false; did = λ id. [] },
+  pub not_inserted : {was : Bool} (before : ServerState T U G C) (transport : T) (client_data : C) → LacksSlot before.last_client before.clients
+      → Calls w (record { server = before; refused = was }) (step.InsertClient transport client_data) (reply.InsertClient (Err insert.Full)) (record { server = before; refused = false })
+  not_inserted before transport client_data lacks = calls _ _ _ _ _ (
+    record { call = Asked (step.InsertClient transport client_data) (reply.InsertClient (Err insert.Full)); refused = false; lacks = λ id. false; did = λ id. [] },
     refl,
     refl,
     record {
@@ -191,11 +191,11 @@ module _ {T U G C : Type 0} (w : World T G C) where
       was_refused (inr (id, h)) = h
 
   -- there is no memory for the client of this id
-  starved_so : (before : ServerState T U G C) (transport : T) (info : C) (new : ClientParts) → IsLeastFree before.clients new.slot
+  starved_so : (before : ServerState T U G C) (transport : T) (client_data : C) (new : ClientParts) → IsLeastFree before.clients new.slot
       → before.last_client < last_possible_serial → new.serial ≡ before.last_client + 1
-      → StepOf w before (step.InsertClient transport info) (reply.InsertClient (Err insert.OutOfMemory)) true before
-  starved_so before transport info new free below serial = (
-    record { call = Asked (step.InsertClient transport info) (reply.InsertClient (Err insert.OutOfMemory)); refused = true; lacks = λ id. false; did = λ id. [] },
+      → StepOf w before (step.InsertClient transport client_data) (reply.InsertClient (Err insert.OutOfMemory)) true before
+  starved_so before transport client_data new free below serial = (
+    record { call = Asked (step.InsertClient transport client_data) (reply.InsertClient (Err insert.OutOfMemory)); refused = true; lacks = λ id. false; did = λ id. [] },
     refl,
     refl,
     record {
@@ -210,10 +210,10 @@ module _ {T U G C : Type 0} (w : World T G C) where
     },
   )
 
-  pub insertion_starved : {was : Bool} (before : ServerState T U G C) (transport : T) (info : C) (new : ClientParts) (clients' : List (Option (Stored T U C)))
+  pub insertion_starved : {was : Bool} (before : ServerState T U G C) (transport : T) (client_data : C) (new : ClientParts) (clients' : List (Option (Stored T U C)))
       → IsLeastFree before.clients new.slot → before.last_client < last_possible_serial → new.serial ≡ before.last_client + 1 → clients' ≡ before.clients
-      → Calls w (record { server = before; refused = was }) (step.InsertClient transport info) (reply.InsertClient (Err insert.OutOfMemory)) (record { server = record before { clients = clients' }; refused = true })
-  insertion_starved before transport info new clients' free below serial same =
+      → Calls w (record { server = before; refused = was }) (step.InsertClient transport client_data) (reply.InsertClient (Err insert.OutOfMemory)) (record { server = record before { clients = clients' }; refused = true })
+  insertion_starved before transport client_data new clients' free below serial same =
       calls _ _ _ _ _
-      (subst (λ (xs : List (Option (Stored T U C))). StepOf w before (step.InsertClient transport info) (reply.InsertClient (Err insert.OutOfMemory)) true (record before { clients = xs }))
-      (sym same) (starved_so before transport info new free below serial))
+      (subst (λ (xs : List (Option (Stored T U C))). StepOf w before (step.InsertClient transport client_data) (reply.InsertClient (Err insert.OutOfMemory)) true (record before { clients = xs }))
+      (sym same) (starved_so before transport client_data new free below serial))

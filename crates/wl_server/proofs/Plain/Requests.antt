@@ -490,7 +490,7 @@ module _ {T U G C : Type 0} (w : World T G C) (before after : BackendState T U G
       λ id. ap (λ (x : Option (Part T U C)). and_then x (λ p. named p.store id)) there in
       record {
         was_open = ap (λ (x : Option (Part T U C)). and_then x (λ p. p.action)) there ∙ e.was_open;
-        is_closed = ap (λ (x : Option (Part T U C)). and_then x (λ p. p.action)) now ∙ closed;
+        is_finished = ap (λ (x : Option (Part T U C)). and_then x (λ p. p.action)) now ∙ closed;
         fits = data_fit p there e.created e.fits;
         gone = λ ends. found e.sender ∙ made_none left e.created u e.sender (sender_gone p.store e.sender e.is_destructor o refl ends);
         made = λ id is differ.

@@ -23,8 +23,8 @@ use Rattle.wl_server.specs.declared.notes.Happening.{Happening}
 use Rattle.wl_server.specs.Inside.Carried.{IsCarried, told_notes}
 use Rattle.wl_server.specs.Inside.Client.{Does}
 use Rattle.wl_server.specs.Deeds.{Noted, left_if, notes_in}
-use Rattle.wl_server.specs.Finish.{FinishesOpen, Refuses, closed, data_given, ended_by, ending, ends, ends_request, refusal, store_with_data}
-use Rattle.wl_server.specs.Inside.Finishing.{EndsObject, EndsSender, is_out_of_memory, part_closed, part_without}
+use Rattle.wl_server.specs.Finish.{FinishesOpen, Refuses, core_finished, data_given, ended_by, ending, ends, ends_request, refusal, store_with_data}
+use Rattle.wl_server.specs.Inside.Finishing.{EndsObject, EndsSender, is_out_of_memory, part_finished, part_without}
 use Rattle.wl_server.specs.Objects.{unless_refused, without}
 use Rattle.wl_server.specs.Ids.{ClientParts, IdParts}
 use Rattle.wl_server.specs.Part.{end_note, id_at, id_of, named, note_of_end, registries_without, serial_of, with_link, with_user_data, Part}
@@ -162,7 +162,7 @@ module _ {U C : Type 0} where
 
   module _ (client : ClientParts) (c : Core U C) (id : IdParts) (x : Object (Kept U)) (created : Option IdParts) (u : Option U) where
     came_closing : (wrote : Result (Unit {0}) IoFault) → lacks_memory wrote ≡ false
-        → closing (closed (without c id.number x) created u) wrote ≡ came_to speaker (ends client c id (Some x) created u) wrote
+        → closing (core_finished (without c id.number x) created u) wrote ≡ came_to speaker (ends client c id (Some x) created u) wrote
     came_closing (Ok v) is = refl
     came_closing (Err fault.WouldBlock) is = refl
     came_closing (Err fault.Pipe) is = refl
@@ -173,7 +173,7 @@ module _ {U C : Type 0} where
     came_closing (Err (fault.Other n)) is = refl
 
     closing_store : (wrote : Result (Unit {0}) IoFault)
-        → (closing (closed (without c id.number x) created u) wrote).store ≡ store_with_data (removed c.store id.number) created u
+        → (closing (core_finished (without c id.number x) created u) wrote).store ≡ store_with_data (removed c.store id.number) created u
     closing_store (Ok v) = refl
     closing_store (Err f) = refl
 
@@ -203,9 +203,9 @@ module _ {T U C : Type 0} (sends : T → Queue → Result ℕ IoFault → T → 
   abbrev noting : Part T U C → List (Happening U) → Stored T U C
   noting p notes = record { serial = s.serial; part = p; made = s.made ++ notes }
 
-  -- the action is closed
+  -- the action is finished
   abbrev finished : Stored T U C → Stored T U C
-  finished mid = record mid { part = part_closed mid.part created u }
+  finished mid = record mid { part = part_finished mid.part created u }
 
   abbrev ReachedBy : Option (Object (Kept U)) → Bool → Stored T U C → Type 0
   ReachedBy o refused after = IsCarried sends (ends client (core_of s.part) sender o created u) s refused after
@@ -265,13 +265,13 @@ module _ {T U C : Type 0} (sends : T → Queue → Result ℕ IoFault → T → 
   )
     where
       core : Core U C
-      core = closed (without (core_of s.part) sender.number x) created u
+      core = core_finished (without (core_of s.part) sender.number x) created u
 
       note : List (Happening U)
       note = note_of_end client sender.number x
 
       gone : Stored T U C
-      gone = noting (part_closed (part_without s.part mid.part.link sender.number x) created u) note
+      gone = noting (part_finished (part_without s.part mid.part.link sender.number x) created u) note
 
       finished-is : finished mid ≡ gone
       finished-is = ap finished is
@@ -304,12 +304,12 @@ module _ {T U C : Type 0} (sends : T → Queue → Result ℕ IoFault → T → 
           → MatchResult wrote (λ _. after ≡ finished mid) (λ _. Does (finished mid) (λ p did q. Kills p ConnectionClosed did q) after)
           → ReachedBy o false after
       at None is h tells = (
-        closed (core_of s.part) created u,
+        core_finished (core_of s.part) created u,
         s.part.link,
         inl (Ok tt, s.part.link, [], false, puts_none sends s.part.link, (refl, refl, refl), refl, refl),
         subst (λ (w : Result (Unit {0}) IoFault). MatchResult w (λ _. after ≡ finished mid) (λ _. Does (finished mid) (λ p did q. Kills p ConnectionClosed did q) after))
             (inner wrote h.0) tells
-            ∙ ap finished h.1 ∙ quietly (part_closed s.part created u) [] refl,
+            ∙ ap finished h.1 ∙ quietly (part_finished s.part created u) [] refl,
       )
       at (Some x) is h tells = leaves x wrote mid after h tells
 

@@ -292,7 +292,7 @@ module _ {T U G C : Type 0} (sends : T → Queue → Result ℕ IoFault → T �
   abbrev pub Responds : Stored T U C → ClientObjects U → WireMessage → MessageRow → ClientObjects U → Response → Found → List (Argument IdParts Token) → Type 0
   Responds s objects m row objects' response f args =
       (x : Object (Kept U)) (c : Core U C) → held objects.map.store m.sender ≡ Some x
-      → request_to a (core_with c s.part.info objects) m x row ≡ response_to a (core_with c s.part.info objects') response f args
+      → request_to a (core_with c s.part.client_data objects) m x row ≡ response_to a (core_with c s.part.client_data objects') response f args
 
   known : (m : WireMessage) (row : MessageRow) (o : Option (Object (Kept U))) → row_in a.table o m.opcode ≡ Some row → (x : Object (Kept U)) × (o ≡ Some x)
   known m row None is = cc
@@ -301,7 +301,7 @@ module _ {T U G C : Type 0} (sends : T → Queue → Result ℕ IoFault → T �
   pub message_taken : (s : Stored T U C) (r r' : Reading) (link : LinkState T) (m : WireMessage) (row : MessageRow) (objects objects' : ClientObjects U)
       (response : Response) (f : Found) (args : List (Argument IdParts Token)) (to : MessageResult) (after : Stored T U C)
       → Live s.part → ReadsIn a.table s.part.store s.part.link (Ok m) link → row_in a.table (held s.part.store m.sender) m.opcode ≡ Some row
-      → core_with (core_of s.part) s.part.info objects ≡ core_of s.part → Responds s objects m row objects' response f args
+      → core_with (core_of s.part) s.part.client_data objects ≡ core_of s.part → Responds s objects m row objects' response f args
       → IsHandled sends (response_to a (core_of (gone_through s link objects').part) response f args) (gone_through s link objects') to after
       → length link.incoming.bytes < length s.part.link.incoming.bytes → r'.receives_left ≡ r.receives_left → r'.read ≡ counted r.read 1
       → HandlesMessage sends receives a s r to after r'

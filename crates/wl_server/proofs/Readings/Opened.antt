@@ -10,7 +10,7 @@ use Rattle.wl_server.specs.declared.notes.Happening.{Happening}
 use Rattle.wl_server.specs.Inside.Client.{Does}
 use Rattle.wl_server.specs.Deeds.{Deed}
 use Rattle.wl_server.specs.Finish.{FinishesBind, FinishesOpen, FinishesOpenBind, FinishesRequest, Refuses}
-use Rattle.wl_server.specs.Inside.Finishing.{part_closed}
+use Rattle.wl_server.specs.Inside.Finishing.{part_finished}
 use Rattle.wl_server.specs.Ids.{ClientParts, IdParts}
 use Rattle.wl_server.specs.Part.{Part}
 use Rattle.wl_server.specs.Server.{Stored}
@@ -69,11 +69,11 @@ module _ {T U C : Type 0} (s : Stored T U C) (u : U) where
       (opened.Request sender is_destructor created) is (refl, refl, refl, refl))
 
   pub a_bind : (object : IdParts) (after : Stored T U C) → s.part.action ≡ Some (opened.Bind object)
-      → after ≡ record s { part = part_closed s.part (Some object) (Some u) } → BindDoes (Ok tt) after
+      → after ≡ record s { part = part_finished s.part (Some object) (Some u) } → BindDoes (Ok tt) after
   a_bind object after is closed = (
     [],
-    part_closed s.part (Some object) (Some u),
-    is_open s u (Ok tt) false (λ a did q. FinishesOpenBind s.part a u (Ok tt) false did q) [] (part_closed s.part (Some object) (Some u)) (opened.Bind object) is (refl, refl, refl, refl),
-    closed ∙ ap (λ (made : List (Happening U)). let x : Stored T U C = record { serial = s.serial; part = part_closed s.part (Some object) (Some u); made = made } in x)
+    part_finished s.part (Some object) (Some u),
+    is_open s u (Ok tt) false (λ a did q. FinishesOpenBind s.part a u (Ok tt) false did q) [] (part_finished s.part (Some object) (Some u)) (opened.Bind object) is (refl, refl, refl, refl),
+    closed ∙ ap (λ (made : List (Happening U)). let x : Stored T U C = record { serial = s.serial; part = part_finished s.part (Some object) (Some u); made = made } in x)
         (sym (append-nil s.made)),
   )

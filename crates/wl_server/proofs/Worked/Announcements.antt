@@ -90,9 +90,9 @@ hidden_from_another : (g : Announced) → IsShown says client false (offer_of fa
 hidden_from_another g h =
     true≢false (sym (subst (λ (x : Object (KeptGlobal ℕ)). is_shown says client false (g.name, x) ≡ true) (sym (no_other false g.name h.global h.at).1) h.passes))
 
-disabled_for_all : (info : Bool) (g : Announced) → IsShown says client info (offer_of true) g → ⊥
-disabled_for_all info g h =
-    true≢false (sym (subst (λ (x : Object (KeptGlobal ℕ)). is_shown says client info (g.name, x) ≡ true) (sym (no_other true g.name h.global h.at).1) h.passes))
+disabled_for_all : (client_data : Bool) (g : Announced) → IsShown says client client_data (offer_of true) g → ⊥
+disabled_for_all client_data g h =
+    true≢false (sym (subst (λ (x : Object (KeptGlobal ℕ)). is_shown says client client_data (g.name, x) ≡ true) (sym (no_other true g.name h.global h.at).1) h.passes))
 
 -- announced to the one that may see it: as it has to be
 as_it_has_to_be : AreSameGlobals (announced (tells_of (at 2 1) one ∷ []) (at 2 1)) (shown_of says (offer_of false) client true)

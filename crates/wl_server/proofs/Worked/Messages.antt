@@ -62,7 +62,7 @@ abbrev pub other : ClientParts
 other = record { slot = 1; serial = 2 }
 
 abbrev pub says : ℕ → ClientParts → Bool → GlobalParts → Bool
-says handler id info global = info
+says handler id client_data global = client_data
 
 abbrev pub quad_global : Bool → Object (KeptGlobal ℕ)
 quad_global disabled = record { interface = quad_id; version = 3; value = record { serial = 1; handler = 7; is_disabled = disabled } }

@@ -37,7 +37,7 @@ module _ (globals : Globals ℕ) (c : Core ℕ Bool) where
   around = record { table = table; client = client; globals = globals; views = says }
 
   abbrev seeing : Bool → Core ℕ Bool
-  seeing info = record c { info = info }
+  seeing client_data = record c { client_data = client_data }
 
   -- ---- requests to a display
 
@@ -54,7 +54,7 @@ module _ (globals : Globals ℕ) (c : Core ℕ Bool) where
         store = stored c.store 2 (fresh_object registry_id 1 (c.last_serial + 1) None);
         last_serial = c.last_serial + 1;
         registries = c.registries ++ at 2 (c.last_serial + 1) ∷ [];
-      }) (map (global_message table (at 2 (c.last_serial + 1))) (shown says globals client c.info)) (Remembered (at 2 (c.last_serial + 1)) ∷ [])
+      }) (map (global_message table (at 2 (c.last_serial + 1))) (shown says globals client c.client_data)) (Remembered (at 2 (c.last_serial + 1)) ∷ [])
   a_registry valid = rw valid refl
 
   -- a new id of the server's range is not free to the client
@@ -68,7 +68,7 @@ module _ (globals : Globals ℕ) (c : Core ℕ Bool) where
   -- ---- requests to a registry
 
   abbrev may : Bool → Bool → Option (List ℕ) → ℕ → Bool
-  may info disabled name version = may_bind around (seeing info) 1 name version (quad_global disabled)
+  may client_data disabled name version = may_bind around (seeing client_data) 1 name version (quad_global disabled)
 
   binds_that_may_be : (may true false (Some (codes "quad")) 3 ≡ true) × (may true false (Some (codes "quad")) 1 ≡ true)
       × (may true true (Some (codes "quad")) 1 ≡ true)

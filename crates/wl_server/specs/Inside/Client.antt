@@ -15,6 +15,6 @@ module _ {T U C : Type 0} where
 
   -- nothing has happened in it but its insertion
   abbrev pub IsInserted : ℕ → T → Option ℕ → C → Stored T U C → Type 0
-  IsInserted serial transport limit info s =
+  IsInserted serial transport limit client_data s =
       (link : LinkState T) × IsFresh transport limit link
-      × (s ≡ record { serial = serial; part = fresh_part link info; made = Initialized ∷ [] })
+      × (s ≡ record { serial = serial; part = fresh_part link client_data; made = Initialized ∷ [] })

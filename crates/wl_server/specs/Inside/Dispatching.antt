@@ -6,7 +6,7 @@ use Rattle.wl_server.specs.declared.reading.action.Reading.{Reading}
 use Rattle.wl_server.specs.declared.runs.step.Reply.{Reply}
 use Rattle.wl_server.specs.declared.runs.step.Step.TheVariants as step
 use Rattle.wl_server.specs.Backend.{BackendState}
-use Rattle.wl_server.specs.Dispatch.{Answering, Last, Serves, ServesEach, Round, Rounds, RoundsEnd, cleaned}
+use Rattle.wl_server.specs.Dispatch.{Answering, EachIsDispatched, IsDispatched, Last, Round, Rounds, RoundsEnd, cleaned}
 use Rattle.wl_server.specs.Ids.{ClientParts}
 use Rattle.wl_server.specs.PartStep.{Asked, World}
 use Rattle.wl_server.specs.Server.{Seen, ServerState, seen}
@@ -27,42 +27,42 @@ module _ {T U G C : Type 0} where
 -- In each of these, `refused` says whether memory was refused in its own calls or in those of the dispatch before it.
 module _ {H T U G C : Type 0} (w : World T G C) (answers : Answering H T U G C) (id : ClientParts) where
   -- The client is read once, and an action is handled, if there is one. This fault ends the dispatch, or none does.
-  pub record ServesOnce (h : H) (r : Reading) (before : BackendState T U G C) (end : Option IoFault) (h' : H) (r' : Reading) (after : BackendState T U G C) : Type 0 where
+  pub record MakesRound (h : H) (r : Reading) (before : BackendState T U G C) (end : Option IoFault) (h' : H) (r' : Reading) (after : BackendState T U G C) : Type 0 where
     pub run : List (Entry T U G C)
     pub lacked : Bool
-    pub served : MatchOption end (Round w answers id h r before.server run lacked None h' r' after.server)
+    pub round : MatchOption end (Round w answers id h r before.server run lacked None h' r' after.server)
         (λ f. Last w answers id h r before.server run lacked f h' r' after.server)
     pub refused : after.refused ≡ before.refused || lacked
     pub fewer : end ≡ None → Fewer id r before.server r' after.server
 
   -- The same again and again, until a receive is used up or a fault ends the dispatch.
-  pub record ServesSome (h : H) (r : Reading) (before : BackendState T U G C) (end : Option IoFault) (h' : H) (r' : Reading) (after : BackendState T U G C) : Type 0 where
+  pub record MakesRounds (h : H) (r : Reading) (before : BackendState T U G C) (end : Option IoFault) (h' : H) (r' : Reading) (after : BackendState T U G C) : Type 0 where
     pub run : List (Entry T U G C)
     pub lacked : Bool
-    pub served : MatchOption end (Rounds w answers id h r before.server run lacked h' r' after.server)
+    pub rounds : MatchOption end (Rounds w answers id h r before.server run lacked h' r' after.server)
         (λ f. RoundsEnd w answers id h r before.server run lacked f h' r' after.server)
     pub refused : after.refused ≡ before.refused || lacked
     pub fewer : end ≡ None → r'.receives_left < r.receives_left
 
   -- rounds so far
-  pub record HasServed (h : H) (r : Reading) (before : BackendState T U G C) (h' : H) (r' : Reading) (after : BackendState T U G C) : Type 0 where
+  pub record RoundsSoFar (h : H) (r : Reading) (before : BackendState T U G C) (h' : H) (r' : Reading) (after : BackendState T U G C) : Type 0 where
     pub run : List (Entry T U G C)
     pub lacked : Bool
     pub rounds : Rounds w answers id h r before.server run lacked h' r' after.server
     pub refused : after.refused ≡ before.refused || lacked
 
-  pub record ServesAll (h : H) (before : BackendState T U G C) (answer : Result ℕ IoFault) (h' : H) (after : BackendState T U G C) : Type 0 where
+  pub record MakesAllRounds (h : H) (before : BackendState T U G C) (answer : Result ℕ IoFault) (h' : H) (after : BackendState T U G C) : Type 0 where
     pub run : List (Entry T U G C)
     pub lacked : Bool
-    pub served : Serves w answers id h before.server run lacked answer h' after.server
+    pub dispatched : IsDispatched w answers id h before.server run lacked answer h' after.server
     pub refused : after.refused ≡ before.refused || lacked
 
 -- clients so far, and the sum of their counts
-pub record HasServedEach {H T U G C : Type 0} (w : World T G C) (answers : Answering H T U G C) (ids : List ClientParts) (h : H) (before : BackendState T U G C)
+pub record ClientsSoFar {H T U G C : Type 0} (w : World T G C) (answers : Answering H T U G C) (ids : List ClientParts) (h : H) (before : BackendState T U G C)
     (total : ℕ) (h' : H) (after : BackendState T U G C) : Type 0 where
   pub run : List (Entry T U G C)
   pub lacked : Bool
-  pub each : ServesEach w answers ids h before.server run lacked total h' after.server
+  pub each : EachIsDispatched w answers ids h before.server run lacked total h' after.server
   pub refused : after.refused ≡ before.refused || lacked
 
 -- the cleanup at the end

@@ -29,8 +29,8 @@ lacks_finish (Err r) = is_out_of_memory r.error
 
 module _ {T U C : Type 0} where
   -- no action is open any longer, and the object that it made has its data
-  abbrev pub part_closed : Part T U C → Option IdParts → Option U → Part T U C
-  part_closed p created u = record p { action = None; store = store_with_data p.store created u }
+  abbrev pub part_finished : Part T U C → Option IdParts → Option U → Part T U C
+  part_finished p created u = record p { action = None; store = store_with_data p.store created u }
 
   -- the part without an object, with this link
   abbrev pub part_without : Part T U C → LinkState T → ℕ → Object (Kept U) → Part T U C

@@ -27,4 +27,4 @@ IsNews table g m = (m.opcode ≡ 0) × (m.args.items ≡ arg.Uint g.name ∷ arg
 abbrev pub HearsNew : {T U G C : Type 0} → (T → Queue → Result ℕ IoFault → T → Type 0) → (G → ClientParts → C → GlobalParts → Bool) → List InterfaceRow
     → GlobalParts → Object (KeptGlobal G) → ClientParts → Part T U C → Bool → List (Deed U) → Part T U C → Type 0
 HearsNew sends views table g x client p lacked did q =
-    Hears sends p (news table p (views x.value.handler client p.info g) (shown_as (g.name, x))) lacked did q
+    Hears sends p (news table p (views x.value.handler client p.client_data g) (shown_as (g.name, x))) lacked did q

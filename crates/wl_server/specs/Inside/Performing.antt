@@ -31,7 +31,7 @@ module _ {T U G C : Type 0} where
 
   -- it is about all clients, or a new one
   abbrev pub IsOfAll : Step T U G C → Type 0
-  IsOfAll (step.InsertClient transport info) = Unit {0}
+  IsOfAll (step.InsertClient transport client_data) = Unit {0}
   IsOfAll (step.Flush target) = Unit {0}
   IsOfAll (step.SetDefaultMaxBufferSize limit) = Unit {0}
   IsOfAll step.Cleanup = Unit {0}

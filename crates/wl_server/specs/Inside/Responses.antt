@@ -49,10 +49,10 @@ bind_of b = (b.global, (b.interface.now, (b.version, b.number)))
 
 -- the client of these data may bind the global so
 abbrev pub allows : {G C : Type 0} → Around G C → C → ℕ → Option (List ℕ) → ℕ → Object (KeptGlobal G) → Bool
-allows a info g None version x = false
-allows a info g (Some name) version x =
+allows a client_data g None version x = false
+allows a client_data g (Some name) version x =
     bytes_eq name (name_of a.table x.interface.0)
-    && (nat_lt 0 version && (nat_le version x.version && is_visible a.views a.client info g x))
+    && (nat_lt 0 version && (nat_le version x.version && is_visible a.views a.client client_data g x))
 
 -- the code and the text of the error
 abbrev pub code_of : Breach → ℕ
@@ -86,16 +86,16 @@ module _ {U G C : Type 0} (a : Around G C) where
   response_to c (response.Breaks b) f args = breaks a c (code_of b) (text_of a.table b)
   response_to c (response.Syncs id) f args = replies c (done_message (id_of id) ∷ deletions id.number) []
   response_to c (response.Registers id) f args =
-      replies c (map (global_message a.table (id_of id)) (shown a.views a.globals a.client c.info)) (Remembered (id_of id) ∷ [])
+      replies c (map (global_message a.table (id_of id)) (shown a.views a.globals a.client c.client_data)) (Remembered (id_of id) ∷ [])
   response_to c response.HandsOut f args = hands_out c (opened_of f) (found_with f args)
 
 module _ {U C : Type 0} where
   -- a client's core with these data and objects
   abbrev pub core_with : Core U C → C → ClientObjects U → Core U C
-  core_with c info objects =
-      record c { info = info; store = objects.map.store; last_serial = objects.last_serial; registries = objects.registries.items }
+  core_with c client_data objects =
+      record c { client_data = client_data; store = objects.map.store; last_serial = objects.last_serial; registries = objects.registries.items }
 
-module _ {T U G C : Type 0} (a : Around G C) (info : C) where
+module _ {T U G C : Type 0} (a : Around G C) (client_data : C) where
   -- a message was taken, and `response` is what is still to be done for it; or none was taken
   abbrev pub TookRequest : ClientObjects U → LinkState T → Result Response MessageParseError → Found → List (Argument IdParts Token)
       → ClientObjects U → LinkState T → Type 0
@@ -103,7 +103,7 @@ module _ {T U G C : Type 0} (a : Around G C) (info : C) where
       (m : WireMessage) × (row : MessageRow) × ReadsIn a.table objects.map.store before (Ok m) after
       × (row_in a.table (held objects.map.store m.sender) m.opcode ≡ Some row)
       × ((x : Object (Kept U)) (c : Core U C) → held objects.map.store m.sender ≡ Some x
-      → request_to a (core_with c info objects) m x row ≡ response_to a (core_with c info objects') response f args)
+      → request_to a (core_with c client_data objects) m x row ≡ response_to a (core_with c client_data objects') response f args)
   TookRequest objects before (Err e) f args objects' after =
       (after ≡ before) × (objects'.map.store ≡ objects.map.store) × (objects'.last_serial ≡ objects.last_serial)
       × (objects'.registries.items ≡ objects.registries.items) × NotTaken a.table objects.map.store before e

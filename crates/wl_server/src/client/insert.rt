@@ -76,16 +76,16 @@ impl<T: Drop, U: Drop, C: Drop> Client<T, U, C> {
         serial: u64,
         transport: T,
         max_buffer_size: usize,
-        info: C,
+        client_data: C,
         numbers: &mut NoteNumbers,
     ) -> Result<Self, OutOfMemory>
-        ensures { IfOk result (IsInserted serial transport (Some max_buffer_size) info) }
+        ensures { IfOk result (IsInserted serial transport (Some max_buffer_size) client_data) }
     {
         let (socket, map, made) = first_parts(alloc, transport, max_buffer_size, numbers)?;
         Ok(Client {
             serial,
             socket,
-            info,
+            data: client_data,
             objects: ClientObjects {
                 map,
                 last_serial: 0,
@@ -167,10 +167,10 @@ fn put_new<T: Drop, U: Drop, C: Drop>(
     id: &ClientId,
     transport: T,
     max_buffer_size: usize,
-    info: C,
+    client_data: C,
 ) -> Result<(), OutOfMemory>
     requires { id.now.slot ≤ length clients.old.items }
-    ensures put { IfOk result (λ _. (s : Stored T U C) × IsInserted id.now.serial transport (Some max_buffer_size) info s
+    ensures put { IfOk result (λ _. (s : Stored T U C) × IsInserted id.now.serial transport (Some max_buffer_size) client_data s
         × IsPut clients.old.items id.now.slot s clients.new.items) }
     ensures unchanged { OnErr result (clients.new.items ≡ clients.old.items) }
     ensures slots { vec_len clients.old ≤ 0x100000000 → vec_len clients.new ≤ 0x100000000 }
@@ -178,7 +178,14 @@ fn put_new<T: Drop, U: Drop, C: Drop>(
     let slot = id.slot() as usize;
     reserve_slot(clients, slot)?;
     let serial = id.serial();
-    let client = Client::new(alloc, serial, transport, max_buffer_size, info, numbers)?;
+    let client = Client::new(
+        alloc,
+        serial,
+        transport,
+        max_buffer_size,
+        client_data,
+        numbers,
+    )?;
     put_at(clients, slot, client);
     Ok(())
 }
@@ -196,8 +203,12 @@ impl<T: Transport + Drop, U: Drop, G: GlobalHandler<C> + Drop, C: Drop> Backend<
     /// - `OutOfMemory`: memory was refused.
     ///
     /// After an error nothing is changed, and the transport and the data are dropped.
-    pub fn insert_client(&mut self, transport: T, info: C) -> Result<ClientId, InsertClientError>
-        ensures { Calls (over T.sends T.receives G.views) self.old (step.InsertClient transport info) (reply.InsertClient result) self.new }
+    pub fn insert_client(
+        &mut self,
+        transport: T,
+        client_data: C,
+    ) -> Result<ClientId, InsertClientError>
+        ensures { Calls (over T.sends T.receives G.views) self.old (step.InsertClient transport client_data) (reply.InsertClient result) self.new }
     {
         let alloc = self.alloc();
         self.refused = false;
@@ -215,7 +226,7 @@ impl<T: Transport + Drop, U: Drop, G: GlobalHandler<C> + Drop, C: Drop> Backend<
             &id,
             transport,
             self.default_limit,
-            info,
+            client_data,
         ) {
             Ok(()) => {
                 self.free_from = slot as usize + 1;

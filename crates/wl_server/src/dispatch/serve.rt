@@ -2,7 +2,7 @@
 
 ghost use Rattle.std.specs.Prelude.{◌≡◌, ◌||◌, List};
 ghost use Rattle.wl_server.specs.Dispatch.{Handles, answering, dispatched, fault_of_end, fault_of_reading};
-ghost use Rattle.wl_server.specs.Inside.Dispatching.{ServesAll, ServesOnce, ServesSome};
+ghost use Rattle.wl_server.specs.Inside.Dispatching.{MakesAllRounds, MakesRound, MakesRounds};
 ghost use Rattle.wl_server.specs.PartStep.{over};
 ghost use Rattle.wl_server.specs.Steps.{Entry};
 
@@ -96,7 +96,7 @@ impl<T: Transport + Drop, U: Drop, G: GlobalHandler<C> + Drop, C: Drop> Backend<
         id: &ClientId,
         reading: &mut Reading,
     ) -> Option<IoFault>
-        ensures { ServesOnce (over T.sends T.receives G.views) (answering H.requests H.binds) id.now handler.old reading.old self.old result handler.new reading.new self.new }
+        ensures { MakesRound (over T.sends T.receives G.views) (answering H.requests H.binds) id.now handler.old reading.old self.old result handler.new reading.new self.new }
     {
         let mut refused = self.memory_refused();
         let action = match self.next_action_within(id, reading) {
@@ -123,7 +123,7 @@ impl<T: Transport + Drop, U: Drop, G: GlobalHandler<C> + Drop, C: Drop> Backend<
         id: &ClientId,
         reading: &mut Reading,
     ) -> Option<IoFault>
-        ensures { ServesSome (over T.sends T.receives G.views) (answering H.requests H.binds) id.now handler.old reading.old self.old result handler.new reading.new self.new }
+        ensures { MakesRounds (over T.sends T.receives G.views) (answering H.requests H.binds) id.now handler.old reading.old self.old result handler.new reading.new self.new }
     {
         let left = reading.receives_left;
         loop {
@@ -143,7 +143,7 @@ impl<T: Transport + Drop, U: Drop, G: GlobalHandler<C> + Drop, C: Drop> Backend<
         handler: &mut H,
         id: &ClientId,
     ) -> Result<usize, IoFault>
-        ensures { ServesAll (over T.sends T.receives G.views) (answering H.requests H.binds) id.now handler.old self.old result handler.new self.new }
+        ensures { MakesAllRounds (over T.sends T.receives G.views) (answering H.requests H.binds) id.now handler.old self.old result handler.new self.new }
     {
         let mut reading = Reading::new();
         loop {

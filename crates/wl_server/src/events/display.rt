@@ -1,6 +1,6 @@
 //! The messages that the server sends by itself.
 
-ghost use Rattle.std.specs.Prelude.{◌≡◌, ◌∷◌, ℕ, [], Some};
+ghost use Rattle.std.specs.Prelude.{◌≡◌, ◌∷◌, ℕ, [], Some, length};
 ghost use Rattle.wl_wire.specs.declared.argument.Argument.TheVariants as arg;
 ghost use Rattle.wl_wire.specs.Message.{content};
 ghost use Rattle.wl_link.specs.Link.{Wrote};
@@ -50,18 +50,14 @@ pub fn message_of_number(
     }
 }
 
-/// Writes a message with one argument, a number.
-pub fn put_number<T: Transport>(
-    alloc: Global,
-    socket: &mut BufferedSocket<T>,
-    sender_id: u32,
-    opcode: u16,
-    number: u32,
-) -> Result<(), IoFault>
-    ensures { Wrote T.sends socket.old (record { sender = sender_id; opcode = opcode; args = arg.Uint number ∷ [] }) result socket.new }
+/// Gives a message that has one argument this sender and this opcode. Its argument becomes this number.
+fn overwrite_message(message: &mut Message<u32, Token>, sender_id: u32, opcode: u16, number: u32)
+    requires { length message.old.args.items ≡ 1 }
+    ensures { content message.new ≡ record { sender = sender_id; opcode = opcode; args = arg.Uint number ∷ [] } }
 {
-    let message = message_of_number(alloc, sender_id, opcode, number);
-    socket.write_message(&message)
+    message.sender_id = sender_id;
+    message.opcode = opcode;
+    message.args.as_mut_slice()[0] = Argument::Uint(number);
 }
 
 /// Tells a client by `wl_display.delete_id` that a number is free again, if it is one of the client's own. For a number
@@ -76,7 +72,8 @@ pub fn put_delete_id<T: Transport>(
     if number >= SERVER_ID_LIMIT {
         return Ok(());
     }
-    put_number(alloc, socket, DISPLAY, DELETE_ID, number)
+    let message = message_of_number(alloc, DISPLAY, DELETE_ID, number);
+    socket.write_message(&message)
 }
 
 /// The message `wl_display.error`, for an error on the object of this number.
@@ -110,7 +107,7 @@ pub fn put_error<T: Transport>(
 }
 
 /// Tells a client by `wl_callback.done` that its callback of this number is done, and by `wl_display.delete_id` that the
-/// number is free again.
+/// number is free again. Of a number of the server's range only the first is told.
 pub fn put_done<T: Transport>(
     alloc: Global,
     socket: &mut BufferedSocket<T>,
@@ -118,9 +115,13 @@ pub fn put_done<T: Transport>(
 ) -> Result<(), IoFault>
     ensures { (serial : ℕ) → Puts T.sends socket.old (done_message (record { number = number; serial = serial }) ∷ deletions number) result socket.new }
 {
-    let wrote = put_number(alloc, socket, number, DONE, 0);
-    if let Err(fault) = wrote {
+    let mut message = message_of_number(alloc, number, DONE, 0);
+    if let Err(fault) = socket.write_message(&message) {
         return Err(fault);
     }
-    put_delete_id(alloc, socket, number)
+    if number >= SERVER_ID_LIMIT {
+        return Ok(());
+    }
+    overwrite_message(&mut message, DISPLAY, DELETE_ID, number);
+    socket.write_message(&message)
 }

@@ -1,6 +1,7 @@
 //! What the registries of a client are told.
 
-ghost use Rattle.std.specs.Prelude.{◌≡◌, IfOk, Some, map};
+ghost use Rattle.std.specs.Prelude.{◌≡◌, ◌∷◌, [], IfOk, Some, length, map};
+ghost use Rattle.wl_wire.specs.declared.argument.Argument.TheVariants as arg;
 ghost use Rattle.wl_wire.specs.Table.{name_of};
 ghost use Rattle.wl_server.specs.Globals.{shown_as};
 ghost use Rattle.wl_server.specs.Inside.News.{IsNews};
@@ -29,6 +30,49 @@ fn interface_name(
 {
     let name = String::from_str(alloc, protocol.name(interface))?;
     Ok(c_string(name))
+}
+
+/// A message `wl_registry.global` with this sender. Its arguments are still to be set.
+pub fn blank_global_message(alloc: Global, sender_id: u32) -> Message<u32, Token>
+    ensures sender { result.sender_id ≡ sender_id }
+    ensures opcode { result.opcode ≡ 0 }
+    ensures args { length result.args.items ≡ 3 }
+{
+    let mut args = SmallVec::new(alloc);
+    args.push_reserved(Argument::Uint(0));
+    args.push_reserved(Argument::Str(None));
+    args.push_reserved(Argument::Uint(0));
+    Message {
+        sender_id,
+        opcode: GLOBAL,
+        args,
+    }
+}
+
+/// Sets the arguments of a message `wl_registry.global`: the global's name, interface and version. The message has three
+/// arguments. The error says that there was no memory for the interface's name.
+pub fn set_global_args(
+    alloc: Global,
+    protocol: &Protocol,
+    message: &mut Message<u32, Token>,
+    name: u32,
+    interface: InterfaceId,
+    version: u32,
+) -> Result<(), OutOfMemory>
+    requires { length message.old.args.items ≡ 3 }
+    ensures news { IfOk result (λ _. message.new.args.items ≡ arg.Uint name ∷ arg.Str (Some (name_of protocol.now interface.0)) ∷ arg.Uint version ∷ []) }
+    ensures args { length message.new.args.items ≡ 3 }
+    ensures opcode { message.new.opcode ≡ message.old.opcode }
+    ensures sender { message.new.sender_id ≡ message.old.sender_id }
+{
+    let args = message.args.as_mut_slice();
+    // What the message says before is dropped first, so that no two names take memory at once.
+    args[1] = Argument::Str(None);
+    let text = interface_name(alloc, protocol, interface)?;
+    args[0] = Argument::Uint(name);
+    args[1] = Argument::Str(Some(text));
+    args[2] = Argument::Uint(version);
+    Ok(())
 }
 
 /// Writes the message once for each registry, with the registry as its sender. It stops at the first write that fails.
@@ -93,16 +137,16 @@ impl<'a> Announcement<'a> {
     fn new_message(&self, alloc: Global) -> Result<Message<u32, Token>, OutOfMemory>
         ensures { IfOk result (IsNews self.now.table self.now.global) }
     {
-        let text = interface_name(alloc, self.protocol, self.interface)?;
-        let mut args = SmallVec::new(alloc);
-        args.push_reserved(Argument::Uint(self.name));
-        args.push_reserved(Argument::Str(Some(text)));
-        args.push_reserved(Argument::Uint(self.version));
-        Ok(Message {
-            sender_id: 0,
-            opcode: GLOBAL,
-            args,
-        })
+        let mut message = blank_global_message(alloc, 0);
+        set_global_args(
+            alloc,
+            self.protocol,
+            &mut message,
+            self.name,
+            self.interface,
+            self.version,
+        )?;
+        Ok(message)
     }
 
     /// Tells each registry of the global. The interface's name is allocated once in all calls, and not at all if there is no

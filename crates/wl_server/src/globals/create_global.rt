@@ -41,7 +41,7 @@ fn tell_new_at<T: Transport + Drop, U: Drop, G: GlobalHandler<C>, C: Drop>(
     match client {
         Some(client) if !client.is_killed => {
             let client_id = ClientId::from_parts(slot, client.serial);
-            if !global.value.handler.can_view(&client_id, &client.info, id) {
+            if !global.value.handler.can_view(&client_id, &client.data, id) {
                 return false;
             }
             let alloc = client.alloc();

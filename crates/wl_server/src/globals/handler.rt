@@ -15,11 +15,11 @@ pub trait GlobalHandler<C> {
 
     ghost views: { Self → ClientParts → C → GlobalParts → Bool };
 
-    /// Whether the client may see the global. `info` is the program's data of the client.
+    /// Whether the client may see the global. `client_data` is the program's data of the client.
     ///
     /// Unlike in wayland-backend there is no default answer `true`: a program that hides no global uses `ShownToAll`.
-    fn can_view(&self, client: &ClientId, info: &C, global: &GlobalId) -> bool
-        ensures { result ≡ views self.now client.now info.now global.now };
+    fn can_view(&self, client: &ClientId, client_data: &C, global: &GlobalId) -> bool
+        ensures { result ≡ views self.now client.now client_data.now global.now };
 }
 
 /// A handler that shows its global to each client.
@@ -31,7 +31,7 @@ impl<C> GlobalHandler<C> for ShownToAll {
 
     ghost views = { λ _ _ _ _. true };
 
-    fn can_view(&self, _client: &ClientId, _info: &C, _global: &GlobalId) -> bool {
+    fn can_view(&self, _client: &ClientId, _client_data: &C, _global: &GlobalId) -> bool {
         true
     }
 }

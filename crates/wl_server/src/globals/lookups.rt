@@ -55,12 +55,12 @@ impl<T: Drop, U: Drop, G: GlobalHandler<C> + Drop, C: Drop> Backend<T, U, G, C> 
     pub fn global_name(&self, id: &GlobalId, client: &ClientId) -> Option<u32>
         ensures { result ≡ name_for self.now.server G.views id.now client.now }
     {
-        let info = &self.client(client)?.info;
+        let client_data = &self.client(client)?.data;
         let global = global_in(&self.globals, id)?;
         global
             .value
             .handler
-            .can_view(client, info, id)
+            .can_view(client, client_data, id)
             .then_some(id.name())
     }
 }

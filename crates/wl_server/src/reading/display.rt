@@ -26,7 +26,7 @@ const SYNC: u16 = 0;
 /// Handles a request to a display, and returns what is still to be done for it.
 pub fn display_request<'m, U: Drop, G: GlobalHandler<C>, C>(
     around: &Surroundings<'_, G>,
-    info: &C,
+    client_data: &C,
     objects: &mut ClientObjects<U>,
     message: &'m Message<u32, Token>,
 ) -> Response<'m>
@@ -34,16 +34,16 @@ pub fn display_request<'m, U: Drop, G: GlobalHandler<C>, C>(
     requires can_register { list_any (λ x. is_new_id (type_of x)) message.now.args.items ≡ true → vec_len objects.old.registries < vec_capacity objects.old.registries }
     ensures names { HasNames result }
     ensures responds { (c : Core U C) (f : FoundOf) (args : List (Arg IdParts TokenParts))
-        → request_verdict (around_of G.views around.now) (core_with c info.now objects.old) message.now.opcode message.now.args.items
-        ≡ response_to (around_of G.views around.now) (core_with c info.now objects.new) result f args }
+        → request_verdict (around_of G.views around.now) (core_with c client_data.now objects.old) message.now.opcode message.now.args.items
+        ≡ response_to (around_of G.views around.now) (core_with c client_data.now objects.new) result f args }
 {
     let Some(number) = new_id_in(message) else {
         return Response::Garbled;
     };
     if message.opcode == SYNC {
-        return sync(around, info, objects, number);
+        return sync(around, client_data, objects, number);
     }
-    get_registry(around, info, objects, number)
+    get_registry(around, client_data, objects, number)
 }
 
 /// The number of the message's new id, if that is its only argument.
@@ -59,16 +59,16 @@ fn new_id_in(message: &Message<u32, Token>) -> Option<u32>
 /// Makes a callback with this number. It is removed at once.
 fn sync<'m, U: Drop, G: GlobalHandler<C>, C>(
     around: &Surroundings<'_, G>,
-    info: &C,
+    client_data: &C,
     objects: &mut ClientObjects<U>,
     number: u32,
 ) -> Response<'m>
     requires { objects.old.map.reserved ≡ true }
     ensures names { HasNames result }
     ensures responds { (c : Core U C) (f : FoundOf) (args : List (Arg IdParts TokenParts))
-        → (let before : Core U C = core_with c info.now objects.old in
+        → (let before : Core U C = core_with c client_data.now objects.old in
         made_at (around_of G.views around.now) before number (syncs (around_of G.views around.now) before number))
-        ≡ response_to (around_of G.views around.now) (core_with c info.now objects.new) result f args }
+        ≡ response_to (around_of G.views around.now) (core_with c client_data.now objects.new) result f args }
 {
     match make_object(around.client, objects, WL_CALLBACK_INTERFACE, 1, number) {
         Some(id) => {
@@ -82,7 +82,7 @@ fn sync<'m, U: Drop, G: GlobalHandler<C>, C>(
 /// Makes a registry with this number.
 fn get_registry<'m, U: Drop, G: GlobalHandler<C>, C>(
     around: &Surroundings<'_, G>,
-    info: &C,
+    client_data: &C,
     objects: &mut ClientObjects<U>,
     number: u32,
 ) -> Response<'m>
@@ -90,9 +90,9 @@ fn get_registry<'m, U: Drop, G: GlobalHandler<C>, C>(
     requires can_register { vec_len objects.old.registries < vec_capacity objects.old.registries }
     ensures names { HasNames result }
     ensures responds { (c : Core U C) (f : FoundOf) (args : List (Arg IdParts TokenParts))
-        → (let before : Core U C = core_with c info.now objects.old in
+        → (let before : Core U C = core_with c client_data.now objects.old in
         made_at (around_of G.views around.now) before number (registers (around_of G.views around.now) before number))
-        ≡ response_to (around_of G.views around.now) (core_with c info.now objects.new) result f args }
+        ≡ response_to (around_of G.views around.now) (core_with c client_data.now objects.new) result f args }
 {
     match make_object(around.client, objects, WL_REGISTRY_INTERFACE, 1, number) {
         Some(id) => {

@@ -12,7 +12,7 @@ ghost use Rattle.wl_server.specs.Backend.{Calls};
 ghost use Rattle.wl_server.specs.Inside.Client.{Does};
 ghost use Rattle.wl_server.specs.Cutting.{CallIsCut};
 ghost use Rattle.wl_server.specs.Finish.{ended_by, FinishesBind, FinishesOpen, FinishesRequest, refusal};
-ghost use Rattle.wl_server.specs.Inside.Finishing.{EndsSender, lacks_finish, part_closed};
+ghost use Rattle.wl_server.specs.Inside.Finishing.{EndsSender, lacks_finish, part_finished};
 ghost use Rattle.wl_server.specs.Part.{note_of_end, registries_without};
 ghost use Rattle.wl_server.specs.PartStep.{Asked, over};
 ghost use Rattle.wl_server.specs.Plain.{EndsBind, EndsOpenRequest};
@@ -136,9 +136,9 @@ impl<T: Transport + Drop, U: Drop, C: Drop> Client<T, U, C> {
         Ok(wrote)
     }
 
-    /// Closes the open action, and gives the object that it made this user data, if that is still there.
-    fn close_action(&mut self, created: Option<ObjectId>, user_data: Option<U>)
-        ensures { self.new ≡ record self.old { part = part_closed self.old.part created user_data } }
+    /// Ends the open action, and gives the object that it made this user data, if that is still there.
+    fn finish_action(&mut self, created: Option<ObjectId>, user_data: Option<U>)
+        ensures { self.new ≡ record self.old { part = part_finished self.old.part created user_data } }
     {
         self.action = None;
         if let (Some(id), Some(user_data)) = (created, user_data) {
@@ -166,7 +166,7 @@ impl<T: Transport + Drop, U: Drop, C: Drop> Client<T, U, C> {
             let error = FinishError::OutOfMemory;
             return Err(FinishRefused { error, user_data });
         };
-        self.close_action(created, user_data);
+        self.finish_action(created, user_data);
         let _ = self.kill_unless_written(numbers, wrote);
         Ok(())
     }
@@ -211,7 +211,7 @@ impl<T: Transport + Drop, U: Drop, C: Drop> Client<T, U, C> {
         match action {
             OpenAction::Bind { object } => {
                 let object = *object;
-                self.close_action(Some(object), Some(user_data));
+                self.finish_action(Some(object), Some(user_data));
                 Ok(())
             }
             OpenAction::Request { .. } => {

@@ -27,7 +27,7 @@ use crate::reading::action::{Found, MessageEnd, NoAction, Reading};
 use crate::reading::request::request;
 use crate::reading::response::Response;
 use smallvec::SmallVec;
-use wl_link::{BufferedSocket, ObjectMap, Transport};
+use wl_link::{BufferedSocket, ObjectMap, Transport, empty_place};
 use wl_wire::{
     Argument, INLINE_ARGS, IoFault, Message, MessageDesc, MessageParseError, OutOfMemory, Protocol,
     Token,
@@ -135,7 +135,7 @@ fn take<'p, T: Drop, U: Drop>(
 fn take_request<'m, T: Drop, U: Drop, G: GlobalHandler<C> + Drop, C>(
     protocol: &'m Protocol,
     around: &Surroundings<'_, G>,
-    info: &C,
+    client_data: &C,
     objects: &mut ClientObjects<U>,
     socket: &mut BufferedSocket<T>,
     header: (u32, u16),
@@ -147,7 +147,7 @@ fn take_request<'m, T: Drop, U: Drop, G: GlobalHandler<C> + Drop, C>(
     requires header { IsHeader socket.old header }
     requires inline { INLINE_ARGS ≤ args.old.capacity }
     requires place { INLINE_ARGS ≤ message.old.args.capacity }
-    ensures took { TookRequest (around_of G.views around.now) info.now objects.old socket.old result found.new args.new.items objects.new socket.new }
+    ensures took { TookRequest (around_of G.views around.now) client_data.now objects.old socket.old result found.new args.new.items objects.new socket.new }
     ensures names { IfOk result HasNames }
     ensures fewer { OnOk result (length socket.new.incoming.bytes < length socket.old.incoming.bytes) }
     ensures inline { INLINE_ARGS ≤ args.new.capacity }
@@ -157,19 +157,7 @@ fn take_request<'m, T: Drop, U: Drop, G: GlobalHandler<C> + Drop, C>(
         Ok(desc) => desc,
         Err(error) => return Err(error),
     };
-    Ok(request(around, info, objects, desc, message, found, args))
-}
-
-/// Drops what is left of a message in its place, and the place's memory if it has more than the arguments that need no
-/// allocation.
-fn empty(message: &mut Message<u32, Token>)
-    ensures { INLINE_ARGS ≤ message.new.args.capacity }
-{
-    if message.args.spilled() {
-        message.args = SmallVec::new(*message.args.allocator());
-    } else {
-        message.args.clear();
-    }
+    Ok(request(around, client_data, objects, desc, message, found, args))
 }
 
 impl<T: Transport + Drop, U: Drop, C: Drop> Client<T, U, C> {
@@ -195,7 +183,7 @@ impl<T: Transport + Drop, U: Drop, C: Drop> Client<T, U, C> {
             return MessageEnd::Lacks;
         };
         let end = self.handle_at(numbers, around, reading, header, message, found, args);
-        empty(message);
+        empty_place(message);
         end
     }
 
@@ -221,7 +209,7 @@ impl<T: Transport + Drop, U: Drop, C: Drop> Client<T, U, C> {
         match take_request(
             around.protocol,
             around,
-            &self.info,
+            &self.data,
             &mut self.objects,
             &mut self.socket,
             header,

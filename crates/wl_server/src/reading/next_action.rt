@@ -26,9 +26,8 @@ use crate::notes::DisconnectReason;
 use crate::notes::queues::NoteNumbers;
 use crate::reading::Surroundings;
 use crate::reading::action::{Action, Found, MessageEnd, NoAction, Reading};
-use crate::reading::place::MessagePlace;
 use smallvec::SmallVec;
-use wl_link::Transport;
+use wl_link::{MessagePlace, Transport};
 use wl_wire::{Argument, INLINE_ARGS, IoFault, Message, Token};
 
 /// How many receives a reading makes at most, if the program sets no other number.

@@ -73,7 +73,7 @@ fn convert_request<U: Drop>(
 /// `args`, converted.
 pub fn other_request<'m, U: Drop, G: GlobalHandler<C>, C>(
     around: &Surroundings<'_, G>,
-    info: &C,
+    client_data: &C,
     objects: &mut ClientObjects<U>,
     desc: &'m MessageDesc,
     message: &mut Message<u32, Token>,
@@ -88,8 +88,8 @@ pub fn other_request<'m, U: Drop, G: GlobalHandler<C>, C>(
     ensures capacity { args.new.capacity ≡ args.old.capacity }
     ensures names { HasNames result }
     ensures responds { (x : ObjectOf (KeptOf U)) (c : Core U C) → held objects.old.map.store message.old.sender_id ≡ Some x
-        → request_verdict (around_of G.views around.now) (core_with c info.now objects.old) (content message.old) x (message_row desc.now)
-        ≡ response_to (around_of G.views around.now) (core_with c info.now objects.new) result found.new args.new.items }
+        → request_verdict (around_of G.views around.now) (core_with c client_data.now objects.old) (content message.old) x (message_row desc.now)
+        ≡ response_to (around_of G.views around.now) (core_with c client_data.now objects.new) result found.new args.new.items }
 {
     let number = message.sender_id;
     let opcode = message.opcode;

@@ -62,11 +62,11 @@ fn bind_in(message: &Message<u32, Token>) -> Option<Bind<'_>>
 /// Whether the client may bind the global in this way.
 fn may_bind<G: GlobalHandler<C>, C>(
     around: &Surroundings<'_, G>,
-    info: &C,
+    client_data: &C,
     bind: &Bind<'_>,
     global: &Object<KeptGlobal<G>>,
 ) -> bool
-    ensures { result ≡ allows (around_of G.views around.now) info.now bind.now.global bind.now.interface.now bind.now.version global.now }
+    ensures { result ≡ allows (around_of G.views around.now) client_data.now bind.now.global bind.now.interface.now bind.now.version global.now }
 {
     let Some(interface) = bind.interface else {
         return false;
@@ -78,14 +78,17 @@ fn may_bind<G: GlobalHandler<C>, C>(
         return false;
     }
     let id = GlobalId::from_parts(bind.global, global.value.serial);
-    global.value.handler.can_view(&around.client, info, &id)
+    global
+        .value
+        .handler
+        .can_view(&around.client, client_data, &id)
 }
 
 /// Handles a request to a registry, and returns what is still to be done for it. A bind that is handed out is in `found`
 /// then.
 pub fn registry_request<'m, U: Drop, G: GlobalHandler<C> + Drop, C>(
     around: &Surroundings<'_, G>,
-    info: &C,
+    client_data: &C,
     objects: &mut ClientObjects<U>,
     message: &'m Message<u32, Token>,
     found: &mut Found,
@@ -93,19 +96,19 @@ pub fn registry_request<'m, U: Drop, G: GlobalHandler<C> + Drop, C>(
     requires { list_any (λ x. is_new_id (type_of x)) message.now.args.items ≡ true → objects.old.map.reserved ≡ true }
     ensures names { HasNames result }
     ensures responds { (c : Core U C) (args : List (Arg IdParts TokenParts))
-        → request_verdict (around_of G.views around.now) (core_with c info.now objects.old) message.now.args.items
-        ≡ response_to (around_of G.views around.now) (core_with c info.now objects.new) result found.new args }
+        → request_verdict (around_of G.views around.now) (core_with c client_data.now objects.old) message.now.args.items
+        ≡ response_to (around_of G.views around.now) (core_with c client_data.now objects.new) result found.new args }
 {
     let Some(bind) = bind_in(message) else {
         return Response::Garbled;
     };
-    bind_to(around, info, objects, &bind, found)
+    bind_to(around, client_data, objects, &bind, found)
 }
 
 /// Binds a new object to the global that is asked for, if the client may do so.
 fn bind_to<'m, U: Drop, G: GlobalHandler<C> + Drop, C>(
     around: &Surroundings<'_, G>,
-    info: &C,
+    client_data: &C,
     objects: &mut ClientObjects<U>,
     bind: &Bind<'m>,
     found: &mut Found,
@@ -113,23 +116,23 @@ fn bind_to<'m, U: Drop, G: GlobalHandler<C> + Drop, C>(
     requires { objects.old.map.reserved ≡ true }
     ensures names { HasNames result }
     ensures responds { (c : Core U C) (args : List (Arg IdParts TokenParts))
-        → binds_to (around_of G.views around.now) (core_with c info.now objects.old) bind.now.global bind.now.interface.now bind.now.version bind.now.number (held around.now.globals.now.store bind.now.global)
-        ≡ response_to (around_of G.views around.now) (core_with c info.now objects.new) result found.new args }
+        → binds_to (around_of G.views around.now) (core_with c client_data.now objects.old) bind.now.global bind.now.interface.now bind.now.version bind.now.number (held around.now.globals.now.store bind.now.global)
+        ≡ response_to (around_of G.views around.now) (core_with c client_data.now objects.new) result found.new args }
 {
     let refused = Response::Breaks(Breach::RefusedBind(bind.global, bind.version, bind.interface));
     let Some(global) = around.globals.find(bind.global) else {
         return refused;
     };
-    if !may_bind(around, info, bind, global) {
+    if !may_bind(around, client_data, bind, global) {
         return refused;
     }
-    make_bound(around, info, objects, bind, global, found)
+    make_bound(around, client_data, objects, bind, global, found)
 }
 
 /// Makes an object that is bound to the global.
 fn make_bound<'m, U: Drop, G: GlobalHandler<C>, C>(
     around: &Surroundings<'_, G>,
-    info: &C,
+    client_data: &C,
     objects: &mut ClientObjects<U>,
     bind: &Bind<'m>,
     global: &Object<KeptGlobal<G>>,
@@ -138,9 +141,9 @@ fn make_bound<'m, U: Drop, G: GlobalHandler<C>, C>(
     requires { objects.old.map.reserved ≡ true }
     ensures names { HasNames result }
     ensures responds { (c : Core U C) (args : List (Arg IdParts TokenParts))
-        → (let before : Core U C = core_with c info.now objects.old in
+        → (let before : Core U C = core_with c client_data.now objects.old in
         made_at (around_of G.views around.now) before bind.now.number (binds (around_of G.views around.now) before bind.now.global bind.now.version bind.now.number global.now))
-        ≡ response_to (around_of G.views around.now) (core_with c info.now objects.new) result found.new args }
+        ≡ response_to (around_of G.views around.now) (core_with c client_data.now objects.new) result found.new args }
 {
     let number = bind.number;
     match make_object(

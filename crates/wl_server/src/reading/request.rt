@@ -32,7 +32,7 @@ use wl_wire::{
 /// in `found` then. Its arguments are taken out of the message, and they are in `args` then, converted.
 pub fn request<'m, U: Drop, G: GlobalHandler<C> + Drop, C>(
     around: &Surroundings<'_, G>,
-    info: &C,
+    client_data: &C,
     objects: &mut ClientObjects<U>,
     desc: &'m MessageDesc,
     message: &'m mut Message<u32, Token>,
@@ -48,18 +48,18 @@ pub fn request<'m, U: Drop, G: GlobalHandler<C> + Drop, C>(
     ensures capacity { args.new.capacity ≡ args.old.capacity }
     ensures names { HasNames result }
     ensures responds { (x : ObjectOf (KeptOf U)) (c : Core U C) → held objects.old.map.store message.old.sender_id ≡ Some x
-        → request_to (around_of G.views around.now) (core_with c info.now objects.old) (content message.old) x (message_row desc.now)
-        ≡ response_to (around_of G.views around.now) (core_with c info.now objects.new) result found.new args.new.items }
+        → request_to (around_of G.views around.now) (core_with c client_data.now objects.old) (content message.old) x (message_row desc.now)
+        ≡ response_to (around_of G.views around.now) (core_with c client_data.now objects.new) result found.new args.new.items }
 {
     let Some(object) = objects.map.find(message.sender_id) else {
         return Response::Garbled;
     };
     let interface = object.interface;
     if interface == WL_DISPLAY_INTERFACE {
-        return display_request(around, info, objects, message);
+        return display_request(around, client_data, objects, message);
     }
     if interface == WL_REGISTRY_INTERFACE {
-        return registry_request(around, info, objects, message, found);
+        return registry_request(around, client_data, objects, message, found);
     }
-    other_request(around, info, objects, desc, message, found, args)
+    other_request(around, client_data, objects, desc, message, found, args)
 }

@@ -152,11 +152,11 @@ impl<T: Transport + Drop, U: Drop, C: Drop> Client<T, U, C> {
     ) -> MessageEnd
         requires { Live self.old.part }
         ensures { (f : FoundOf) (args : List (Arg IdParts TokenParts)) → IsHandled T.sends
-            (replies (core_of self.old.part) (map (global_message around.now.protocol.now (id_of registry.now)) (shown G.views (around_of G.views around.now).globals around.now.client self.old.part.info))
+            (replies (core_of self.old.part) (map (global_message around.now.protocol.now (id_of registry.now)) (shown G.views (around_of G.views around.now).globals around.now.client self.old.part.client_data))
             (Remembered (id_of registry.now) ∷ [])) self.old (message_result result f args) self.new }
     {
         let alloc = self.alloc();
-        let wrote = put_globals(alloc, &mut self.socket, around, &self.info, registry);
+        let wrote = put_globals(alloc, &mut self.socket, around, &self.data, registry);
         self.replied(numbers, wrote)
     }
 

@@ -101,8 +101,8 @@ impl<U: Drop, G: GlobalHandler<C> + Drop, C: Drop> Backend<Memory, U, G, C> {
         ensures { Calls (over_scripts G.views) self.old step result self.new }
     {
         match step {
-            Step::InsertClient(transport, info) => {
-                Reply::InsertClient(self.insert_client(transport, info))
+            Step::InsertClient(transport, client_data) => {
+                Reply::InsertClient(self.insert_client(transport, client_data))
             }
             Step::Flush(client) => Reply::Flush(self.flush(client)),
             Step::SetDefaultMaxBufferSize(max_buffer_size) => {

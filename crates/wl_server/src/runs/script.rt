@@ -4,7 +4,7 @@
 
 ghost use Rattle.std.specs.Prelude.{◌≡◌, Ok};
 ghost use Rattle.wl_server.specs.Backend.{Calls};
-ghost use Rattle.wl_server.specs.Moves.{ScriptMoves, done};
+ghost use Rattle.wl_server.specs.Moves.{ScriptMoves, nothing_taken};
 ghost use Rattle.wl_server.specs.PartStep.{lacks_move, over_scripts};
 ghost use Rattle.wl_server.specs.Inside.Scripting.{arrived_as, move_of, reply_to, scripted_as, step_of};
 ghost use Rattle.wl_server.specs.declared.runs.step.Reply.TheVariants as reply;
@@ -54,7 +54,7 @@ fn scripted(answer: Result<(), OutOfMemory>) -> Result<(), ScriptError>
 
 /// Makes this call of the script.
 fn make_move(script: &mut Memory, call: ScriptCall) -> Result<(), ScriptError>
-    ensures { ScriptMoves script.old (move_of call) (done result) script.new }
+    ensures { ScriptMoves script.old (move_of call) (nothing_taken result) script.new }
 {
     match call {
         ScriptCall::Arrive(bytes, tokens) => arrived(script.arrive(bytes, tokens)),
@@ -66,7 +66,7 @@ fn make_move(script: &mut Memory, call: ScriptCall) -> Result<(), ScriptError>
 
 /// Whether memory was refused to a call of a script that was answered so.
 fn lacks_memory(answer: &Result<(), ScriptError>) -> bool
-    ensures { result ≡ lacks_move (done answer.now) }
+    ensures { result ≡ lacks_move (nothing_taken answer.now) }
 {
     matches!(answer, Err(ScriptError::OutOfMemory))
 }

@@ -15,10 +15,10 @@ use wl_wire::{
 pub struct Shown;
 
 impl GlobalHandler<bool> for Shown {
-    ghost views = { λ _ _ info _. info };
+    ghost views = { λ _ _ client_data _. client_data };
 
-    fn can_view(&self, _client: &ClientId, info: &bool, _global: &GlobalId) -> bool {
-        *info
+    fn can_view(&self, _client: &ClientId, client_data: &bool, _global: &GlobalId) -> bool {
+        *client_data
     }
 }
 

@@ -62,27 +62,27 @@ module _ {T U C : Type 0} where
   own_other false before R missing lacked did after other h = h
 
 module _ {T U G C : Type 0} (w : World T G C) (id : ClientParts) (offer : Offer G) where
-  inserted_other : (transport : T) (info : C) (r : Result ClientParts InsertClientError) (before : Seen T U C) (lacked : Bool) (did : List (Deed U)) (after : Seen T U C)
+  inserted_other : (transport : T) (client_data : C) (r : Result ClientParts InsertClientError) (before : Seen T U C) (lacked : Bool) (did : List (Deed U)) (after : Seen T U C)
       → ((new : ClientParts) → r ≡ Ok new → same_client new id ≡ false)
-      → InsertedAs w id offer transport info r before lacked did after → Unfelt before lacked did after
-  inserted_other transport info (Err e) before lacked did after other h = h
-  inserted_other transport info (Ok new) before lacked did after other h = at (same_client new id) (other new refl) h
+      → InsertedAs w id offer transport client_data r before lacked did after → Unfelt before lacked did after
+  inserted_other transport client_data (Err e) before lacked did after other h = h
+  inserted_other transport client_data (Ok new) before lacked did after other h = at (same_client new id) (other new refl) h
     where
-      at : (b : Bool) → b ≡ false → MatchBool b (Inserted w id offer transport info before lacked did after) (Unfelt before lacked did after)
+      at : (b : Bool) → b ≡ false → MatchBool b (Inserted w id offer transport client_data before lacked did after) (Unfelt before lacked did after)
           → Unfelt before lacked did after
       at true is h = absurd (true≢false is)
       at false is h = h
 
-  inserts_other : (transport : T) (info : C) (answer : Reply T U) (r : Result ClientParts InsertClientError) → answer ≡ reply.InsertClient r
-      → IsNotInserted {T = T} {U = U} {G = G} {C = C} id (Asked (step.InsertClient transport info) answer) → (new : ClientParts) → r ≡ Ok new → same_client new id ≡ false
-  inserts_other transport info answer r is other new e =
-      other new (transport, info, ap (λ (a : Reply T U). Asked (step.InsertClient transport info) a) (is ∙ ap reply.InsertClient e))
+  inserts_other : (transport : T) (client_data : C) (answer : Reply T U) (r : Result ClientParts InsertClientError) → answer ≡ reply.InsertClient r
+      → IsNotInserted {T = T} {U = U} {G = G} {C = C} id (Asked (step.InsertClient transport client_data) answer) → (new : ClientParts) → r ≡ Ok new → same_client new id ≡ false
+  inserts_other transport client_data answer r is other new e =
+      other new (transport, client_data, ap (λ (a : Reply T U). Asked (step.InsertClient transport client_data) a) (is ∙ ap reply.InsertClient e))
 
   -- a client of which nothing is held feels nothing of a step that does not insert it
   nothing_step : (s : Step T U G C) (answer : Reply T U) (lacked : Bool) (did : List (Deed U)) (after : Seen T U C)
       → IsNotInserted id (Asked s answer) → PartStep w id offer s answer nothing_seen lacked did after → Unfelt nothing_seen lacked did after
-  nothing_step (step.InsertClient transport info) answer lacked did after other (r, is, h) =
-      inserted_other transport info r nothing_seen lacked did after (inserts_other transport info answer r is other) h
+  nothing_step (step.InsertClient transport client_data) answer lacked did after other (r, is, h) =
+      inserted_other transport client_data r nothing_seen lacked did after (inserts_other transport client_data answer r is other) h
   nothing_step (step.SetObjectData o u) answer lacked did after other (r, is, h) = own_nothing _ _ lacked did after h
   nothing_step (step.CreateObject target i version u) answer lacked did after other (r, is, h) = own_nothing _ _ lacked did after h
   nothing_step (step.DestroyObject o) answer lacked did after other (r, is, h) = own_nothing _ _ lacked did after h
@@ -119,8 +119,8 @@ module _ {T U G C : Type 0} (w : World T G C) (id : ClientParts) (offer : Offer 
   -- a client feels nothing of a step that names another
   other_step : (s : Step T U G C) (answer : Reply T U) (before : Seen T U C) (lacked : Bool) (did : List (Deed U)) (after : Seen T U C)
       → IsNotInserted id (Asked s answer) → is_about id s ≡ false → PartStep w id offer s answer before lacked did after → Unfelt before lacked did after
-  other_step (step.InsertClient transport info) answer before lacked did after other far (r, is, h) =
-      inserted_other transport info r before lacked did after (inserts_other transport info answer r is other) h
+  other_step (step.InsertClient transport client_data) answer before lacked did after other far (r, is, h) =
+      inserted_other transport client_data r before lacked did after (inserts_other transport client_data answer r is other) h
   other_step (step.SetObjectData o u) answer before lacked did after other far (r, is, h) = own_other _ before _ _ lacked did after far h
   other_step (step.CreateObject target i version u) answer before lacked did after other far (r, is, h) = own_other _ before _ _ lacked did after far h
   other_step (step.DestroyObject o) answer before lacked did after other far (r, is, h) = own_other _ before _ _ lacked did after far h
@@ -164,7 +164,7 @@ module _ {T U G C : Type 0} where
   other_offer id offer (step.DisableGlobal g) answer far = absurd (true≢false far)
   other_offer id offer (step.RemoveGlobal g) answer far = absurd (true≢false far)
   other_offer id offer (step.SetDefaultMaxBufferSize limit) answer far = absurd (true≢false far)
-  other_offer id offer (step.InsertClient transport info) answer far = refl
+  other_offer id offer (step.InsertClient transport client_data) answer far = refl
   other_offer id offer (step.SetObjectData o u) answer far = refl
   other_offer id offer (step.CreateObject target i version u) answer far = refl
   other_offer id offer (step.DestroyObject o) answer far = refl
@@ -193,10 +193,10 @@ module _ {T U G C : Type 0} where
 
   pub numbered : (before : ServerState T U G C) (call : Call T U G C) (new : ClientParts) → NumbersClient before call → Inserts new call
       → InsertsNext before.last_client before.clients (Ok new)
-  numbered before call new by (transport, info, is) = subst (λ (c : Call T U G C). NumbersClient before c) is by
+  numbered before call new by (transport, client_data, is) = subst (λ (c : Call T U G C). NumbersClient before c) is by
 
   pub one_more : (call : Call T U G C) (new : ClientParts) → Inserts new call → inserted_by call ≡ 1
-  one_more call new (transport, info, is) = ap inserted_by is
+  one_more call new (transport, client_data, is) = ap inserted_by is
 
   -- of an id with a later serial nothing is held
   record Unborn (s : ServerState T U G C) : Type 0 where
@@ -272,43 +272,43 @@ module _ {T U G C : Type 0} where
 
   -- ---- the insertion
 
-  begins : (w : World T G C) (id : ClientParts) (offer : Offer G) (transport : T) (info : C) (before : Seen T U C) (lacked : Bool) (did : List (Deed U)) (after : Seen T U C)
+  begins : (w : World T G C) (id : ClientParts) (offer : Offer G) (transport : T) (client_data : C) (before : Seen T U C) (lacked : Bool) (did : List (Deed U)) (after : Seen T U C)
       (b : Bool) → b ≡ true → before ≡ nothing_seen
-      → MatchBool b (Inserted w id offer transport info before lacked did after) (Unfelt before lacked did after)
-      → (link : LinkState T) × IsFresh transport (Some offer.default_limit) link × (after ≡ just_inserted link info)
-  begins w id offer transport info before lacked did after false is nothing h = absurd (false≢true is)
-  begins w id offer transport info before lacked did after true is nothing (link, fresh, no_memory, deeds, same) =
-      (link, fresh, same ∙ ap (λ (s : Seen T U C). record { part = Some (fresh_part link info); made = s.made ++ Initialized ∷ [] }) nothing)
+      → MatchBool b (Inserted w id offer transport client_data before lacked did after) (Unfelt before lacked did after)
+      → (link : LinkState T) × IsFresh transport (Some offer.default_limit) link × (after ≡ just_inserted link client_data)
+  begins w id offer transport client_data before lacked did after false is nothing h = absurd (false≢true is)
+  begins w id offer transport client_data before lacked did after true is nothing (link, fresh, no_memory, deeds, same) =
+      (link, fresh, same ∙ ap (λ (s : Seen T U C). record { part = Some (fresh_part link client_data); made = s.made ++ Initialized ∷ [] }) nothing)
 
-  inserted_as : (w : World T G C) (id : ClientParts) (offer : Offer G) (transport : T) (info : C) (before : Seen T U C) (lacked : Bool) (did : List (Deed U)) (after : Seen T U C)
+  inserted_as : (w : World T G C) (id : ClientParts) (offer : Offer G) (transport : T) (client_data : C) (before : Seen T U C) (lacked : Bool) (did : List (Deed U)) (after : Seen T U C)
       → before ≡ nothing_seen
-      → PartStep w id offer (step.InsertClient transport info) (reply.InsertClient (Ok id)) before lacked did after
-      → (link : LinkState T) × IsFresh transport (Some offer.default_limit) link × (after ≡ just_inserted link info)
-  inserted_as w id offer transport info before lacked did after nothing (r, is, h) =
-      begins w id offer transport info before lacked did after (same_client id id) (same_self id) nothing
-      (subst (λ (r : Result ClientParts InsertClientError). InsertedAs w id offer transport info r before lacked did after) (sym (ap inserted_in is)) h)
+      → PartStep w id offer (step.InsertClient transport client_data) (reply.InsertClient (Ok id)) before lacked did after
+      → (link : LinkState T) × IsFresh transport (Some offer.default_limit) link × (after ≡ just_inserted link client_data)
+  inserted_as w id offer transport client_data before lacked did after nothing (r, is, h) =
+      begins w id offer transport client_data before lacked did after (same_client id id) (same_self id) nothing
+      (subst (λ (r : Result ClientParts InsertClientError). InsertedAs w id offer transport client_data r before lacked did after) (sym (ap inserted_in is)) h)
 
   new_unborn : (table : List InterfaceRow) → Unborn (new_server {T = T} {U = U} {G = G} {C = C} table)
   new_unborn table = record { each = λ id late. refl }
 
   pub each_alone : (w : World T G C) (table : List InterfaceRow) (run : List (Entry T U G C)) (after : ServerState T U G C)
       → Leads w (new_server table) run after → EachAlone w table run after
-  each_alone w table run after leads id transport info earlier later e is inserts =
+  each_alone w table run after leads id transport client_data earlier later e is inserts =
       let (mid, first, (next, by, rest)) =
       split_run w (new_server table) after earlier (e ∷ later) (subst (λ (r : List (Entry T U G C)). Leads w (new_server table) r after) is leads) in
       let offered = offer_run w (new_server table) mid earlier first in
       let born = unborn_run w (new_server table) mid earlier (new_unborn table) first in
-      let number : id.serial ≡ mid.last_client + 1 = (numbered mid e.call id by.client (transport, info, inserts)).2 in
-      let one : inserted_by e.call ≡ 1 = one_more e.call id (transport, info, inserts) in
+      let number : id.serial ≡ mid.last_client + 1 = (numbered mid e.call id by.client (transport, client_data, inserts)).2 in
+      let one : inserted_by e.call ≡ 1 = one_more e.call id (transport, client_data, inserts) in
       let grown : next.last_client ≡ mid.last_client + inserted_by e.call = by.last in
       let (link, fresh, begun_so) =
-      inserted_as w id mid.offer transport info (seen id mid) (e.lacks id) (e.did id) (seen id next) (born.each id (omega (arith, number)))
+      inserted_as w id mid.offer transport client_data (seen id mid) (e.lacks id) (e.did id) (seen id next) (born.each id (omega (arith, number)))
       (subst (λ (c : Call T U G C). PartCall w id mid.offer c (seen id mid) (e.lacks id) (e.did id) (seen id next)) inserts (by.each id)) in (
         link,
         subst (λ (o : Offer G). IsFresh transport (Some o.default_limit) link) offered fresh,
-        subst (λ (o : Offer G). Alone w id o (just_inserted link info) (mine id later) (seen id after))
+        subst (λ (o : Offer G). Alone w id o (just_inserted link client_data) (mine id later) (seen id after))
             (by.offer ∙ ap (λ (o : Offer G). offer_after o e.call) offered ∙ sym (offer_over_one (new_server {T = T} {U = U} {C = C} table).offer earlier e))
-            (subst (λ (s : Seen T U C). Alone w id next.offer s (mine id later) (seen id after)) {y = just_inserted link info} begun_so
+            (subst (λ (s : Seen T U C). Alone w id next.offer s (mine id later) (seen id after)) {y = just_inserted link client_data} begun_so
             (alone_run w id next after later (omega (arith, number, grown, one)) rest)),
       )
 

@@ -166,7 +166,7 @@ module _ {T U G C : Type 0} (w : World T G C) (id : ClientParts) (r : Id) where
       feels_follows offer (with_globals offer (with_created offer.globals i version handler (Ok g))) s _ (Unit {0}) lacked did t
       (λ p q heard.
       hears_leads offer (with_globals offer (with_created offer.globals i version handler (Ok g)))
-      (λ x. news offer.table x (w.views handler id x.info g) (record { name = g.name; interface = i; version = version })) p q lacked did
+      (λ x. news offer.table x (w.views handler id x.client_data g) (record { name = g.name; interface = i; version = version })) p q lacked did
       (λ log made was. global_watch w.views id r offer (part_scene p) i version handler g (is_free creates) log made was) heard) h
     where
       is_free : CreatesGlobal offer.table offer.globals i version (Ok g) → held offer.globals.store g.name ≡ None
@@ -185,8 +185,8 @@ module _ {T U G C : Type 0} (w : World T G C) (id : ClientParts) (r : Id) where
   global_follows offer i version handler (Err e) s lacked did t creates h = unfelt_follows offer s lacked did t h
 
   loss_follows : (offer : Offer G) (g : GlobalParts) (after : Globals G) (s : Seen T U C) (lacked : Bool) (did : List (Deed U)) (t : Seen T U C)
-      → ((info : C) (x : Object (KeptGlobal G)) → global_of offer.globals g ≡ Some x → Hides w.views id info offer g.name after)
-      → ((info : C) (hidden : is_enabled (global_of offer.globals g) ≡ false) → StaysShown w.views id info offer g hidden after)
+      → ((client_data : C) (x : Object (KeptGlobal G)) → global_of offer.globals g ≡ Some x → Hides w.views id client_data offer g.name after)
+      → ((client_data : C) (hidden : is_enabled (global_of offer.globals g) ≡ false) → StaysShown w.views id client_data offer g hidden after)
       → FeelsLoss w id offer g s lacked did t → Follows offer (with_globals offer after) s did t
   loss_follows offer g after s lacked did t hides stays h = go (is_enabled (global_of offer.globals g)) refl h
     where
@@ -202,7 +202,7 @@ module _ {T U G C : Type 0} (w : World T G C) (id : ClientParts) (r : Id) where
           feels_follows offer (with_globals offer after) s _ (Unit {0}) lacked did t
           (λ p q heard.
           hears_leads offer (with_globals offer after) (λ y. removals y g.name) p q lacked did
-          (λ log made was. loss_watch w.views id r offer (part_scene p) g.name after (hides p.info x is) log made was) heard) felt
+          (λ log made was. loss_watch w.views id r offer (part_scene p) g.name after (hides p.client_data x is) log made was) heard) felt
       go false off (no_memory, none, same) = record {
         watch = λ log made is.
             subst (λ (x : Seen T U C). SeenWatched (with_globals offer after) x (log ++ log_of did) (made ++ registries_in did)) (sym same)
@@ -214,7 +214,7 @@ module _ {T U G C : Type 0} (w : World T G C) (id : ClientParts) (r : Id) where
           still : (o : Option (Part T U C)) (log : List Said) (made : List Id) → MatchOption o (Unit {0}) (λ p. p.is_killed ≡ false → Watched offer p log made)
               → MatchOption o (Unit {0}) (λ p. p.is_killed ≡ false → Watched (with_globals offer after) p log made)
           still None log made is = tt
-          still (Some p) log made is = λ on. stay_watch w.views id r offer (part_scene p) g off after (stays p.info off) log made (is on)
+          still (Some p) log made is = λ on. stay_watch w.views id r offer (part_scene p) g off after (stays p.client_data off) log made (is on)
 
   -- ---- flushes, cleanups, notes, readings, moves
 
@@ -283,7 +283,7 @@ module _ {T U G C : Type 0} (w : World T G C) (id : ClientParts) (r : Id) where
   step_follows : (offer : Offer G) (call : Step T U G C) (answer : Reply T U) (s : Seen T U C) (lacked : Bool) (did : List (Deed U)) (t : Seen T U C)
       → is_about id call ≡ true → NumbersGlobal {T = T} {U = U} {C = C} offer (Asked call answer) → IsLeftAlone {T = T} {U = U} {G = G} {C = C} r (Asked call answer)
       → PartStep w id offer call answer s lacked did t → Follows offer (offer_after {T = T} {U = U} {C = C} offer (Asked call answer)) s did t
-  step_follows offer (step.InsertClient transport info) answer s lacked did t about numbered alone h = absurd (true≢false (sym about))
+  step_follows offer (step.InsertClient transport client_data) answer s lacked did t about numbered alone h = absurd (true≢false (sym about))
   step_follows offer (step.SetObjectData o u) answer s lacked did t about numbered alone (a, is, h) =
       of_client offer (same_client o.client id) s _ _ lacked did t (λ p q (no_memory, none, set). data_set_lives w.views id r offer p o u a did q none set) h
   step_follows offer (step.CreateObject target i version u) answer s lacked did t about numbered alone (a, is, h) =
@@ -303,11 +303,11 @@ module _ {T U G C : Type 0} (w : World T G C) (id : ClientParts) (r : Id) where
       → Follows offer (offer_after {T = T} {U = U} {C = C} offer (Asked (step.CreateGlobal i version handler) x)) s did t) (sym is)
       (λ creates. global_follows offer i version handler a s lacked did t creates h) numbered
   step_follows offer (step.DisableGlobal g) answer s lacked did t about numbered alone (is, h) =
-      loss_follows offer g (disabled offer.globals g) s lacked did t (λ info x kept. disabled_one w.views id info offer g x kept)
-      (λ info hidden. disabled_stays w.views id info offer g hidden) h
+      loss_follows offer g (disabled offer.globals g) s lacked did t (λ client_data x kept. disabled_one w.views id client_data offer g x kept)
+      (λ client_data hidden. disabled_stays w.views id client_data offer g hidden) h
   step_follows offer (step.RemoveGlobal g) answer s lacked did t about numbered alone (is, h) =
-      loss_follows offer g (freed offer.globals g) s lacked did t (λ info x kept. freed_one w.views id info offer g x kept)
-      (λ info hidden. freed_stays w.views id info offer g hidden) h
+      loss_follows offer g (freed offer.globals g) s lacked did t (λ client_data x kept. freed_one w.views id client_data offer g x kept)
+      (λ client_data hidden. freed_stays w.views id client_data offer g hidden) h
   step_follows offer (step.Flush target) answer s lacked did t about numbered alone (a, is, h) = flushed_follows offer target a s lacked did t h
   step_follows offer (step.SetDefaultMaxBufferSize limit) answer s lacked did t about numbered alone (is, h) = other_limit (unfelt_follows offer s lacked did t h)
     where
@@ -366,8 +366,8 @@ module _ {T U G C : Type 0} (w : World T G C) (id : ClientParts) (r : Id) where
       }
 
   -- a client to which nothing happened yet
-  begun_watched : (offer : Offer G) (link : LinkState T) (info : C) → SeenWatched offer (just_inserted link info) [] []
-  begun_watched offer link info on = record {
+  begun_watched : (offer : Offer G) (link : LinkState T) (client_data : C) → SeenWatched offer (just_inserted link client_data) [] []
+  begun_watched offer link client_data on = record {
     bounded = λ n x holds. most n x holds;
     listed = λ y among. absurd among;
     open_bounded = λ sender b created is. absurd (none_some is);
@@ -387,26 +387,26 @@ module _ {T U G C : Type 0} (w : World T G C) (id : ClientParts) (r : Id) where
             | inr other ↦ absurd (none_some (sym (stored_other empty_store 1 display_object n other ∙ held_empty n) ∙ holds))
           ]
 
-  own_announced : (offer : Offer G) (link : LinkState T) (info : C) (run : List (Own T U G C)) (t : Seen T U C) → AreMine id run → AreNumbered offer run
-      → IsAlwaysLeftAlone r run → Alone w id offer (just_inserted link info) run t → Contains (registries_in (history run)) r
+  own_announced : (offer : Offer G) (link : LinkState T) (client_data : C) (run : List (Own T U G C)) (t : Seen T U C) → AreMine id run → AreNumbered offer run
+      → IsAlwaysLeftAlone r run → Alone w id offer (just_inserted link client_data) run t → Contains (registries_in (history run)) r
       → MatchOption t.part (Unit {0})
-      (λ p. p.is_killed ≡ false → AreSameGlobals (announced (log_of (history run)) r) (shown_of w.views (own_offer offer run) id p.info))
-  own_announced offer link info run t own numbered left alone there =
-      of_watched t.part ((run_follows offer (just_inserted link info) run t own numbered left alone).watch [] [] (begun_watched offer link info))
+      (λ p. p.is_killed ≡ false → AreSameGlobals (announced (log_of (history run)) r) (shown_of w.views (own_offer offer run) id p.client_data))
+  own_announced offer link client_data run t own numbered left alone there =
+      of_watched t.part ((run_follows offer (just_inserted link client_data) run t own numbered left alone).watch [] [] (begun_watched offer link client_data))
     where
       of_watched : (o : Option (Part T U C))
           → MatchOption o (Unit {0}) (λ p. p.is_killed ≡ false → Watched (own_offer offer run) p (log_of (history run)) (registries_in (history run)))
           → MatchOption o (Unit {0})
-          (λ p. p.is_killed ≡ false → AreSameGlobals (announced (log_of (history run)) r) (shown_of w.views (own_offer offer run) id p.info))
+          (λ p. p.is_killed ≡ false → AreSameGlobals (announced (log_of (history run)) r) (shown_of w.views (own_offer offer run) id p.client_data))
       of_watched None is = tt
       of_watched (Some p) is = λ on g.
           let tells = (is on).tells (among_contains (registries_in (history run)) r there) in (
             λ told.
-                contains_among (shown_of w.views (own_offer offer run) id p.info) g
-                (shown_among w.views id p.info (own_offer offer run) g (tells.told g (among_contains (announced (log_of (history run)) r) g told))),
+                contains_among (shown_of w.views (own_offer offer run) id p.client_data) g
+                (shown_among w.views id p.client_data (own_offer offer run) g (tells.told g (among_contains (announced (log_of (history run)) r) g told))),
             λ shown'.
                 contains_among (announced (log_of (history run)) r) g
-                (tells.tells g (among_shown w.views id p.info (own_offer offer run) g (among_contains (shown_of w.views (own_offer offer run) id p.info) g shown'))),
+                (tells.tells g (among_shown w.views id p.client_data (own_offer offer run) g (among_contains (shown_of w.views (own_offer offer run) id p.client_data) g shown'))),
           )
 
 -- ---- of every client of a server
@@ -414,8 +414,8 @@ module _ {T U G C : Type 0} (w : World T G C) (id : ClientParts) (r : Id) where
 module _ {T U G C : Type 0} where
   pub each_announces : (w : World T G C) (table : List InterfaceRow) (run : List (Entry T U G C)) (after : ServerState T U G C) → Leads w (new_server table) run after
       → EachAnnouncesShown w run after
-  each_announces w table run after leads id transport info earlier later e split inserts r there left =
-      let (link, fresh, alone) = (is_isolated w table run after leads).each id transport info earlier later e split inserts in
+  each_announces w table run after leads id transport client_data earlier later e split inserts r there left =
+      let (link, fresh, alone) = (is_isolated w table run after leads).each id transport client_data earlier later e split inserts in
       let whole : run ≡ (earlier ++ e ∷ []) ++ later = split ∙ sym (append_assoc earlier (e ∷ []) later) in
       let (mid, first, rest) = split_run w (new_server table) after (earlier ++ e ∷ []) later (subst (λ (l : List (Entry T U G C)). Leads w (new_server table) l after) whole leads) in
       let at : mid.offer ≡ offer_over (new_offer table) (earlier ++ e ∷ []) = offer_run w (new_server table) mid (earlier ++ e ∷ []) first in
@@ -424,8 +424,8 @@ module _ {T U G C : Type 0} where
       let (numbered, ends) = mine_numbered id offer mid.last_client later after.offer after.last_client
       (subst (λ (o : Offer G). SharedAlone o mid.last_client later after.offer after.last_client) at shared) in
       subst (λ (o : Offer G). MatchOption (seen id after).part (Unit {0})
-      (λ p. p.is_killed ≡ false → AreSameGlobals (announced (log_of (history (mine id later))) r) (shown_of w.views o id p.info))) ends
-      (own_announced w id r offer link info (mine id later) (seen id after) (are_mine id later) numbered left alone there)
+      (λ p. p.is_killed ≡ false → AreSameGlobals (announced (log_of (history (mine id later))) r) (shown_of w.views o id p.client_data))) ends
+      (own_announced w id r offer link client_data (mine id later) (seen id after) (are_mine id later) numbered left alone there)
 
   pub have_announcements : (w : World T G C) (table : List InterfaceRow) (steps : List (RunEntry (Step T U G C) (Reply T U))) (after : ServerState T U G C)
       → Performs w (new_server table) steps after → HaveAnnouncements w table steps after

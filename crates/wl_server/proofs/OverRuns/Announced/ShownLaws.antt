@@ -33,35 +33,35 @@ module _ {G : Type 0} where
       go false None e = absurd (none_some e)
       go false (Some y) e = one (eqb y.value.serial g.serial) y e
 
-module _ {G C : Type 0} (views : G → ClientParts → C → GlobalParts → Bool) (client : ClientParts) (info : C) where
+module _ {G C : Type 0} (views : G → ClientParts → C → GlobalParts → Bool) (client : ClientParts) (client_data : C) where
   -- a global is shown under its name
   pub record IsShown (offer : Offer G) (g : Announced) : Type 0 where
     pub global : Object (KeptGlobal G)
     pub at : held offer.globals.store g.name ≡ Some global
-    pub passes : is_shown views client info (g.name, global) ≡ true
+    pub passes : is_shown views client client_data (g.name, global) ≡ true
     pub is : announced_as offer.table (shown_as (g.name, global)) ≡ g
 
-  pub among_shown : (offer : Offer G) (g : Announced) → IsAmong (shown_of views offer client info) g → IsShown offer g
+  pub among_shown : (offer : Offer G) (g : Announced) → IsAmong (shown_of views offer client client_data) g → IsShown offer g
   among_shown offer g among =
-      let (s, there, is) = among_map (announced_as offer.table) (shown views offer.globals client info) g among in
-      let (e, in_filter, same) = among_map shown_as (filter (is_shown views client info) (finmap.entries offer.globals.store.objects)) s there in
-      let (kept, passes) = among_filter (is_shown views client info) (finmap.entries offer.globals.store.objects) e in_filter in
+      let (s, there, is) = among_map (announced_as offer.table) (shown views offer.globals client client_data) g among in
+      let (e, in_filter, same) = among_map shown_as (filter (is_shown views client client_data) (finmap.entries offer.globals.store.objects)) s there in
+      let (kept, passes) = among_filter (is_shown views client client_data) (finmap.entries offer.globals.store.objects) e in_filter in
       let whole : announced_as offer.table (shown_as e) ≡ g = ap (announced_as offer.table) same ∙ is in
       let name : e.0 ≡ g.name = ap (λ (z : Announced). z.name) whole in
       record {
         global = e.1;
         at = ap (held offer.globals.store) (sym name)
             ∙ ((walk_of_entries offer.globals.store).each e.0 e.1).0 (contains_among (finmap.entries offer.globals.store.objects) e kept);
-        passes = subst (λ n. is_shown views client info (n, e.1) ≡ true) name passes;
+        passes = subst (λ n. is_shown views client client_data (n, e.1) ≡ true) name passes;
         is = subst (λ n. announced_as offer.table (shown_as (n, e.1)) ≡ g) name whole;
       }
 
-  pub shown_among : (offer : Offer G) (g : Announced) → IsShown offer g → IsAmong (shown_of views offer client info) g
+  pub shown_among : (offer : Offer G) (g : Announced) → IsShown offer g → IsAmong (shown_of views offer client client_data) g
   shown_among offer g h =
-      subst (λ z. IsAmong (shown_of views offer client info) z) h.is
-      (map_among (announced_as offer.table) (shown views offer.globals client info) (shown_as (g.name, h.global))
-      (map_among shown_as (filter (is_shown views client info) (finmap.entries offer.globals.store.objects)) (g.name, h.global)
-      (filter_among (is_shown views client info) (finmap.entries offer.globals.store.objects) (g.name, h.global)
+      subst (λ z. IsAmong (shown_of views offer client client_data) z) h.is
+      (map_among (announced_as offer.table) (shown views offer.globals client client_data) (shown_as (g.name, h.global))
+      (map_among shown_as (filter (is_shown views client client_data) (finmap.entries offer.globals.store.objects)) (g.name, h.global)
+      (filter_among (is_shown views client client_data) (finmap.entries offer.globals.store.objects) (g.name, h.global)
       (among_contains (finmap.entries offer.globals.store.objects) (g.name, h.global) (((walk_of_entries offer.globals.store).each g.name h.global).1 h.at)) h.passes)))
 
   module _ (offer : Offer G) (name : ℕ) where
@@ -84,19 +84,19 @@ module _ {G C : Type 0} (views : G → ClientParts → C → GlobalParts → Boo
       created_old g h =
           moved created g (stored_other offer.globals.store name x g.name (λ same. none_some (sym free ∙ ap (held offer.globals.store) (sym same) ∙ h.at))) h
 
-      pub created_new : is_shown views client info (name, x) ≡ true
+      pub created_new : is_shown views client client_data (name, x) ≡ true
           → IsShown (with_globals offer (record { store = stored offer.globals.store name x; last_serial = last })) (announced_as offer.table (shown_as (name, x)))
       created_new passes = record { global = x; at = stored_here offer.globals.store name x name refl; passes = passes; is = refl }
 
       pub created_only : (g : Announced) → IsShown (with_globals offer (record { store = stored offer.globals.store name x; last_serial = last })) g
-          → IsShown offer g ⊎ ((is_shown views client info (name, x) ≡ true) × (announced_as offer.table (shown_as (name, x)) ≡ g))
+          → IsShown offer g ⊎ ((is_shown views client client_data (name, x) ≡ true) × (announced_as offer.table (shown_as (name, x)) ≡ g))
       created_only g h =
           elim (cases_eq g.name name) [
             | inl same ↦
                 let is : x ≡ h.global = same_Some x h.global (sym (stored_here offer.globals.store name x g.name same) ∙ h.at) in
                 inr (
-                  subst (λ (y : Object (KeptGlobal G)). is_shown views client info (name, y) ≡ true) (sym is)
-                      (subst (λ n. is_shown views client info (n, h.global) ≡ true) same h.passes),
+                  subst (λ (y : Object (KeptGlobal G)). is_shown views client client_data (name, y) ≡ true) (sym is)
+                      (subst (λ n. is_shown views client client_data (n, h.global) ≡ true) same h.passes),
                   subst (λ (y : Object (KeptGlobal G)). announced_as offer.table (shown_as (name, y)) ≡ g) (sym is)
                       (subst (λ n. announced_as offer.table (shown_as (n, h.global)) ≡ g) same h.is),
                 )
@@ -106,7 +106,7 @@ module _ {G C : Type 0} (views : G → ClientParts → C → GlobalParts → Boo
     -- other globals are as they were, and what has the name is not shown
     pub record Hides (after : Globals G) : Type 0 where
       pub beside : (m : ℕ) → m ≢ name → held after.store m ≡ held offer.globals.store m
-      pub hidden : (x : Object (KeptGlobal G)) → held after.store name ≡ Some x → is_shown views client info (name, x) ≡ true → ⊥
+      pub hidden : (x : Object (KeptGlobal G)) → held after.store name ≡ Some x → is_shown views client client_data (name, x) ≡ true → ⊥
 
     module _ (after : Globals G) (hides : Hides after) where
       pub hidden_old : (g : Announced) → IsShown offer g → g.name ≢ name → IsShown (with_globals offer after) g
@@ -114,7 +114,7 @@ module _ {G C : Type 0} (views : G → ClientParts → C → GlobalParts → Boo
 
       hidden_other : (g : Announced) → With after g → g.name ≢ name
       hidden_other g h same =
-          hides.hidden h.global (ap (held after.store) (sym same) ∙ h.at) (subst (λ n. is_shown views client info (n, h.global) ≡ true) same h.passes)
+          hides.hidden h.global (ap (held after.store) (sym same) ∙ h.at) (subst (λ n. is_shown views client client_data (n, h.global) ≡ true) same h.passes)
 
       pub hidden_only : (g : Announced) → IsShown (with_globals offer after) g → IsShown offer g × (g.name ≢ name)
       hidden_only g h = (back after g (hides.beside g.name (hidden_other g h)) h, hidden_other g h)
@@ -124,7 +124,7 @@ module _ {G C : Type 0} (views : G → ClientParts → C → GlobalParts → Boo
       beside = λ m other. rewritten_other offer.globals.store name (as_disabled x) m other;
       hidden = λ y at passes. (
           let is : as_disabled x ≡ y = same_Some (as_disabled x) y (sym (rewritten_here offer.globals.store name (as_disabled x) name refl) ∙ at) in
-          true≢false (sym (subst (λ (z : Object (KeptGlobal G)). is_shown views client info (name, z) ≡ true) (sym is) passes))
+          true≢false (sym (subst (λ (z : Object (KeptGlobal G)). is_shown views client client_data (name, z) ≡ true) (sym is) passes))
           );
     }
 
@@ -154,7 +154,7 @@ module _ {G C : Type 0} (views : G → ClientParts → C → GlobalParts → Boo
     not_named x is a h same =
         let this : x ≡ h.global = same_Some x h.global (sym (global_held offer.globals g x is) ∙ ap (held offer.globals.store) (sym same) ∙ h.at) in
         let off : not x.value.is_disabled ≡ false = ap is_enabled (sym is) ∙ hidden in
-        let on : not x.value.is_disabled ≡ true = first_true (not x.value.is_disabled) _ (subst (λ (y : Object (KeptGlobal G)). is_shown views client info (a.name, y) ≡ true) (sym this) h.passes) in
+        let on : not x.value.is_disabled ≡ true = first_true (not x.value.is_disabled) _ (subst (λ (y : Object (KeptGlobal G)). is_shown views client client_data (a.name, y) ≡ true) (sym this) h.passes) in
         true≢false (sym on ∙ off)
       where
         first_true : (b c : Bool) → (b && c) ≡ true → b ≡ true

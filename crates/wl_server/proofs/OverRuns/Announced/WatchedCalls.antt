@@ -27,7 +27,7 @@ use Rattle.wl_server.proofs.OverRuns.Moves.DoingsLaws.{done_sends, told_deeds}
 use Rattle.wl_server.specs.Errors.{PostsError, posts}
 use Rattle.wl_server.specs.Events.{SendsEvent, SendsGranted, SentAs, SessionMessage, ends_closed, ends_sender, event_check, said}
 use Rattle.wl_server.specs.Felt.{FlushedTo, FlushesLive}
-use Rattle.wl_server.specs.Finish.{FinishesBind, FinishesRequest, Refuses, closed, closes, data_given, ended_by, ending, ends, refusal, store_with_data}
+use Rattle.wl_server.specs.Finish.{FinishesBind, FinishesRequest, Refuses, core_finished, finish_verdict, data_given, ended_by, ending, ends, refusal, store_with_data}
 use Rattle.wl_server.specs.Globals.{Offer}
 use Rattle.wl_server.specs.Ids.{ClientParts, GlobalParts, IdParts}
 use Rattle.wl_server.proofs.OverRuns.Moves.MovesOfCalls.{ended_named, granted_named, named_held, named_serial}
@@ -304,12 +304,12 @@ module _ {G C : Type 0} (views : G → ClientParts → C → GlobalParts → Boo
 
   -- ---- the end of an action
 
-  closed_still : (c : Core U C) (created : Option IdParts) (u : Option U) → Still (scene_of c) (scene_of (closed c created u))
+  closed_still : (c : Core U C) (created : Option IdParts) (u : Option U) → Still (scene_of c) (scene_of (core_finished c created u))
   closed_still c created u =
-      steady_then views client r offer (scene_of c) (scene_of (record c { action = None })) (scene_of (closed c created u))
+      steady_then views client r offer (scene_of c) (scene_of (record c { action = None })) (scene_of (core_finished c created u))
       (set_action_goes views client r offer (scene_of c) None (λ sender b made is. true≢false (sym (ap is_some is)))) (given created u)
     where
-      given : (created : Option IdParts) (u : Option U) → Still (scene_of (record c { action = None })) (scene_of (closed c created u))
+      given : (created : Option IdParts) (u : Option U) → Still (scene_of (record c { action = None })) (scene_of (core_finished c created u))
       given None u = steady_same views client r offer (scene_of (record c { action = None }))
       given (Some id) None = steady_same views client r offer (scene_of (record c { action = None }))
       given (Some id) (Some u) = go (named c.store id) refl
@@ -335,11 +335,11 @@ module _ {G C : Type 0} (views : G → ClientParts → C → GlobalParts → Boo
     ends_lives : (o : Option (Object (Kept U))) → ((x : Object (Kept U)) → o ≡ Some x → named p.store sender ≡ Some x)
         → Tells sends (ends client (core_of p) sender o created u) p.link lacked did q → Run p did q
     ends_lives None is tells' =
-        tells_lives views client r offer sends p (closes (core_of p) created u) p.link lacked did q
+        tells_lives views client r offer sends p (finish_verdict (core_of p) created u) p.link lacked did q
         (record { last = λ d killed'. killed'; starved = inl refl; silent = λ e. refl })
         (λ fits. record {
           live = λ on. on;
-          goes = λ on. steady_goes views client r offer (part_scene p) (scene_of (closed (core_of p) created u)) (closed_still (core_of p) created u);
+          goes = λ on. steady_goes views client r offer (part_scene p) (scene_of (core_finished (core_of p) created u)) (closed_still (core_of p) created u);
         })
         tells'
     ends_lives (Some x) is tells' =
@@ -350,10 +350,10 @@ module _ {G C : Type 0} (views : G → ClientParts → C → GlobalParts → Boo
           silent = λ e. (silent_ended client sender x (is_some (named e.store sender))).0;
         })
         (λ fits.
-        speaks_then (core_of p) (closed (without (core_of p) sender.number x) created u) (deletions sender.number)
-        (told_deeds (ending client sender x (closed (without (core_of p) sender.number x) created u))) refl
-        (silent_ended client sender x (is_some (named (closed (without (core_of p) sender.number x) created u).store sender))).1 (deletes_goes (part_scene p) sender.number)
-        (steady_then views client r offer (part_scene p) (scene_of (without (core_of p) sender.number x)) (scene_of (closed (without (core_of p) sender.number x) created u))
+        speaks_then (core_of p) (core_finished (without (core_of p) sender.number x) created u) (deletions sender.number)
+        (told_deeds (ending client sender x (core_finished (without (core_of p) sender.number x) created u))) refl
+        (silent_ended client sender x (is_some (named (core_finished (without (core_of p) sender.number x) created u).store sender))).1 (deletes_goes (part_scene p) sender.number)
+        (steady_then views client r offer (part_scene p) (scene_of (without (core_of p) sender.number x)) (scene_of (core_finished (without (core_of p) sender.number x) created u))
         (ends_still (core_of p) sender b created x open' (is x refl)) (closed_still (without (core_of p) sender.number x) created u)))
         tells'
 

@@ -76,17 +76,17 @@ module _ {G C : Type 0} (views : G → ClientParts → C → GlobalParts → Boo
     abbrev x : Object (KeptGlobal G)
     x = new_global i version g.serial handler
 
-    global_told : (log : List Said) → IsAmong s.registries r → views handler client s.info g ≡ true → TellsShown views client r offer s.info log
-        → TellsShown views client r created s.info (log ++ map (λ y. global_message offer.table y new) s.registries)
+    global_told : (log : List Said) → IsAmong s.registries r → views handler client s.client_data g ≡ true → TellsShown views client r offer s.client_data log
+        → TellsShown views client r created s.client_data (log ++ map (λ y. global_message offer.table y new) s.registries)
     global_told log among visible w = record {
       told = λ a there.
           elim (adding_only offer.table new r (announced log r) s.registries a (subst (λ (l : List Announced). IsAmong l a) whole there)) [
-            | inl old ↦ created_old views client s.info offer g.name x g.serial free a (w.told a old)
+            | inl old ↦ created_old views client s.client_data offer g.name x g.serial free a (w.told a old)
             | inr is ↦
-                subst (λ (z : Announced). IsShown views client s.info created z) is (created_new views client s.info offer g.name x g.serial free visible)
+                subst (λ (z : Announced). IsShown views client s.client_data created z) is (created_new views client s.client_data offer g.name x g.serial free visible)
           ];
       tells = λ a shown'. subst (λ (l : List Announced). IsAmong l a) (sym whole)
-          (elim (created_only views client s.info offer g.name x g.serial free a shown') [
+          (elim (created_only views client s.client_data offer g.name x g.serial free a shown') [
             | inl old ↦ adding_keeps offer.table new r (announced log r) s.registries a (w.tells a old)
             | inr (passes, is) ↦
                 subst (λ (z : Announced). IsAmong (announced_over r (announced log r) (map (λ y. global_message offer.table y new) s.registries)) z) is
@@ -98,11 +98,11 @@ module _ {G C : Type 0} (views : G → ClientParts → C → GlobalParts → Boo
             ≡ announced_over r (announced log r) (map (λ y. global_message offer.table y new) s.registries)
         whole = announced-append r [] log (map (λ y. global_message offer.table y new) s.registries)
 
-    global_hidden : (log : List Said) → views handler client s.info g ≡ false → TellsShown views client r offer s.info log → TellsShown views client r created s.info log
+    global_hidden : (log : List Said) → views handler client s.client_data g ≡ false → TellsShown views client r offer s.client_data log → TellsShown views client r created s.client_data log
     global_hidden log unseen w = record {
-      told = λ a there. created_old views client s.info offer g.name x g.serial free a (w.told a there);
+      told = λ a there. created_old views client s.client_data offer g.name x g.serial free a (w.told a there);
       tells = λ a shown'.
-          elim (created_only views client s.info offer g.name x g.serial free a shown') [
+          elim (created_only views client s.client_data offer g.name x g.serial free a shown') [
             | inl old ↦ w.tells a old
             | inr (passes, is) ↦ absurd (true≢false (sym passes ∙ unseen))
           ];
@@ -110,10 +110,10 @@ module _ {G C : Type 0} (views : G → ClientParts → C → GlobalParts → Boo
 
     pub global_watch : (log : List Said) (made : List Id) → Watched offer s log made
         → Watched (with_globals offer (with_created offer.globals i version handler (Ok g))) s
-        (log ++ (if views handler client s.info g then map (λ y. global_message offer.table y (record { name = g.name; interface = i; version = version })) s.registries else [])) made
-    global_watch log made w = go (views handler client s.info g) refl
+        (log ++ (if views handler client s.client_data g then map (λ y. global_message offer.table y (record { name = g.name; interface = i; version = version })) s.registries else [])) made
+    global_watch log made w = go (views handler client s.client_data g) refl
       where
-        go : (b : Bool) → views handler client s.info g ≡ b
+        go : (b : Bool) → views handler client s.client_data g ≡ b
             → Watched created s (log ++ cond b (map (λ y. global_message offer.table y new) s.registries) []) made
         go true visible =
             told_all views client r offer created s (λ y. global_message offer.table y new) (λ y. refl) log made (λ among tells'. global_told log among visible tells') w
@@ -124,28 +124,28 @@ module _ {G C : Type 0} (views : G → ClientParts → C → GlobalParts → Boo
   -- ---- a global is announced no more
 
   module _ (offer : Offer G) (s : Scene U C) (name : ℕ) (after : Globals G) where
-    loss_told : Hides views client s.info offer name after → (log : List Said) → IsAmong s.registries r → TellsShown views client r offer s.info log
-        → TellsShown views client r (with_globals offer after) s.info (log ++ map (removal_message name) s.registries)
+    loss_told : Hides views client s.client_data offer name after → (log : List Said) → IsAmong s.registries r → TellsShown views client r offer s.client_data log
+        → TellsShown views client r (with_globals offer after) s.client_data (log ++ map (removal_message name) s.registries)
     loss_told hides log among w = record {
       told = λ a there.
           let in-after = subst (λ (l : List Announced). IsAmong l a) whole there in
-          hidden_old views client s.info offer name after hides a (w.told a (removing_only name r (announced log r) s.registries a in-after))
+          hidden_old views client s.client_data offer name after hides a (w.told a (removing_only name r (announced log r) s.registries a in-after))
           (removing_removes name r (announced log r) s.registries a among in-after);
       tells = λ a shown'.
-          let (was, other) = hidden_only views client s.info offer name after hides a shown' in
+          let (was, other) = hidden_only views client s.client_data offer name after hides a shown' in
           subst (λ (l : List Announced). IsAmong l a) (sym whole) (removing_keeps name r (announced log r) s.registries a (w.tells a was) other);
     }
       where
         whole : announced (log ++ map (removal_message name) s.registries) r ≡ announced_over r (announced log r) (map (removal_message name) s.registries)
         whole = announced-append r [] log (map (removal_message name) s.registries)
 
-    pub loss_watch : Hides views client s.info offer name after → (log : List Said) (made : List Id) → Watched offer s log made
+    pub loss_watch : Hides views client s.client_data offer name after → (log : List Said) (made : List Id) → Watched offer s log made
         → Watched (with_globals offer after) s (log ++ map (removal_message name) s.registries) made
     loss_watch hides log made w =
         told_all views client r offer (with_globals offer after) s (removal_message name) (λ y. refl) log made (λ among tells'. loss_told hides log among tells') w
 
   pub stay_watch : (offer : Offer G) (s : Scene U C) (g : GlobalParts) (hidden : is_enabled (global_of offer.globals g) ≡ false) (after : Globals G)
-      → StaysShown views client s.info offer g hidden after → (log : List Said) (made : List Id) → Watched offer s log made → Watched (with_globals offer after) s log made
+      → StaysShown views client s.client_data offer g hidden after → (log : List Said) (made : List Id) → Watched offer s log made → Watched (with_globals offer after) s log made
   stay_watch offer s g hidden after stays log made w =
       told_none views client r offer (with_globals offer after) s log made
       (λ tells'. record { told = λ a there. stays.kept a (tells'.told a there); tells = λ a shown'. tells'.tells a (stays.only a shown') }) w

@@ -28,17 +28,17 @@ none_some e = true≢false (sym (ap is_some e))
 
 -- what of a client its registries depend on
 pub record Scene (U C : Type 0) : Type 0 where
-  pub info : C
+  pub client_data : C
   pub store : Store (Kept U)
   pub last_serial : ℕ
   pub action : Option OpenAction
   pub registries : List Id
 
 abbrev pub scene_of : {U C : Type 0} → Core U C → Scene U C
-scene_of c = record { info = c.info; store = c.store; last_serial = c.last_serial; action = c.action; registries = c.registries }
+scene_of c = record { client_data = c.client_data; store = c.store; last_serial = c.last_serial; action = c.action; registries = c.registries }
 
 abbrev pub part_scene : {T U C : Type 0} → Part T U C → Scene U C
-part_scene p = record { info = p.info; store = p.store; last_serial = p.last_serial; action = p.action; registries = p.registries }
+part_scene p = record { client_data = p.client_data; store = p.store; last_serial = p.last_serial; action = p.action; registries = p.registries }
 
 abbrev pub id_at_number : {U : Type 0} → ℕ → Object (Kept U) → Id
 id_at_number n x = record { number = n; serial = x.value.serial }
@@ -54,9 +54,9 @@ module _ {G C : Type 0} (views : G → ClientParts → C → GlobalParts → Boo
     pub positive : 0 < r.serial
 
   -- what is announced on it is what is shown
-  pub record TellsShown (offer : Offer G) (info : C) (log : List Said) : Type 0 where
-    pub told : (g : Announced) → IsAmong (announced log r) g → IsShown views client info offer g
-    pub tells : (g : Announced) → IsShown views client info offer g → IsAmong (announced log r) g
+  pub record TellsShown (offer : Offer G) (client_data : C) (log : List Said) : Type 0 where
+    pub told : (g : Announced) → IsAmong (announced log r) g → IsShown views client client_data offer g
+    pub tells : (g : Announced) → IsShown views client client_data offer g → IsAmong (announced log r) g
 
   -- What holds of the registry after these messages, where these registries were made. Before it is born it says nothing;
   -- once it was made it is kept, and what is announced on it is what is shown.
@@ -68,7 +68,7 @@ module _ {G C : Type 0} (views : G → ClientParts → C → GlobalParts → Boo
     pub silent : s.last_serial < r.serial → SaysNothing r log
     pub unborn : s.last_serial < r.serial → IsAmong made r → ⊥
     pub known : IsAmong made r → IsKnown s
-    pub tells : IsAmong made r → TellsShown offer s.info log
+    pub tells : IsAmong made r → TellsShown offer s.client_data log
 
   -- the registry was made, or is yet to be born
   abbrev pub IsOurs : {U : Type 0} → Scene U C → List Id → Type 0
@@ -354,7 +354,7 @@ module _ {G C : Type 0} (views : G → ClientParts → C → GlobalParts → Boo
       new_id = record { number = n; serial = s.last_serial + 1 }
 
       abbrev greeting : List Said
-      greeting = map (global_message offer.table new_id) (shown views offer.globals client s.info)
+      greeting = map (global_message offer.table new_id) (shown views offer.globals client s.client_data)
 
       abbrev after : Scene U C
       after = record s { store = stored s.store n x; last_serial = s.last_serial + 1; registries = s.registries ++ new_id ∷ [] }
@@ -364,7 +364,7 @@ module _ {G C : Type 0} (views : G → ClientParts → C → GlobalParts → Boo
       registers_other other = record {
         watch = λ log made w.
             let born = (born_goes s n x free serial).watch log made w in
-            let others = greeted_other offer.table r new_id (shown views offer.globals client s.info) other in
+            let others = greeted_other offer.table r new_id (shown views offer.globals client s.client_data) other in
             let old : IsAmong (made ++ new_id ∷ []) r → IsAmong made r = λ among. earlier (among_both made (new_id ∷ []) r among) in
             record {
               bounded = born.bounded;
@@ -412,7 +412,7 @@ module _ {G C : Type 0} (views : G → ClientParts → C → GlobalParts → Boo
             let fresh : announced (log ++ greeting) r ≡ shown_as_announced =
             announced-append r [] log greeting
             ∙ ap (λ (t : List Announced). announced_over r t greeting) ((w.silent later).same [])
-            ∙ subst (λ (i : Id). announced_over i [] greeting ≡ shown_as_announced) this (greeted offer.table new_id [] (shown views offer.globals client s.info)) in
+            ∙ subst (λ (i : Id). announced_over i [] greeting ≡ shown_as_announced) this (greeted offer.table new_id [] (shown views offer.globals client s.client_data)) in
             record {
               bounded = born.bounded;
               listed = λ y among. most w.listed y (among_both s.registries (new_id ∷ []) y among);
@@ -432,21 +432,21 @@ module _ {G C : Type 0} (views : G → ClientParts → C → GlobalParts → Boo
                 positive = omega (arith, number);
               };
               tells = λ among. record {
-                told = λ g in-log. among_shown views client s.info offer g (subst (λ (l : List Announced). IsAmong l g) fresh in-log);
-                tells = λ g shown'. subst (λ (l : List Announced). IsAmong l g) (sym fresh) (shown_among views client s.info offer g shown');
+                told = λ g in-log. among_shown views client s.client_data offer g (subst (λ (l : List Announced). IsAmong l g) fresh in-log);
+                tells = λ g shown'. subst (λ (l : List Announced). IsAmong l g) (sym fresh) (shown_among views client s.client_data offer g shown');
               };
             };
       }
         where
           shown_as_announced : List Announced
-          shown_as_announced = shown_of views offer client s.info
+          shown_as_announced = shown_of views offer client s.client_data
 
           most : ((y : Id) → IsAmong s.registries y → y.serial ≤ s.last_serial) → (y : Id) → IsAmong s.registries y ⊎ ((new_id ≡ y) ⊎ ⊥) → y.serial ≤ s.last_serial + 1
           most old y (inl among) = let before = old y among in omega (arith, before)
           most old y (inr (inl same)) = let so : s.last_serial + 1 ≡ y.serial = ap (λ (i : Id). i.serial) same in omega (arith, so)
           most old y (inr (inr none)) = absurd none
 
-      pub registers_goes : Goes s (map (global_message offer.table (record { number = n; serial = s.last_serial + 1 })) (shown views offer.globals client s.info))
+      pub registers_goes : Goes s (map (global_message offer.table (record { number = n; serial = s.last_serial + 1 })) (shown views offer.globals client s.client_data))
           (record { number = n; serial = s.last_serial + 1 } ∷ [])
           (record s { store = stored s.store n x; last_serial = s.last_serial + 1; registries = s.registries ++ record { number = n; serial = s.last_serial + 1 } ∷ [] })
       registers_goes = go (same_id new_id r) refl
@@ -460,7 +460,7 @@ module _ {G C : Type 0} (views : G → ClientParts → C → GlobalParts → Boo
   module _ {U : Type 0} (offer offer' : Offer G) (s : Scene U C) where
     -- all registries are told of it, each in a message of its own
     pub told_all : (message : Id → Said) → ((y : Id) → sender_of (message y) ≡ y) → (log : List Said) (made : List Id)
-        → (IsAmong s.registries r → TellsShown offer s.info log → TellsShown offer' s.info (log ++ map message s.registries))
+        → (IsAmong s.registries r → TellsShown offer s.client_data log → TellsShown offer' s.client_data (log ++ map message s.registries))
         → Watch offer s log made → Watch offer' s (log ++ map message s.registries) made
     told_all message by log made tells w = record {
       bounded = w.bounded;
@@ -477,7 +477,7 @@ module _ {G C : Type 0} (views : G → ClientParts → C → GlobalParts → Boo
     }
 
     -- none is told
-    pub told_none : (log : List Said) (made : List Id) → (TellsShown offer s.info log → TellsShown offer' s.info log) → Watch offer s log made → Watch offer' s log made
+    pub told_none : (log : List Said) (made : List Id) → (TellsShown offer s.client_data log → TellsShown offer' s.client_data log) → Watch offer s log made → Watch offer' s log made
     told_none log made tells w = record {
       bounded = w.bounded;
       listed = w.listed;

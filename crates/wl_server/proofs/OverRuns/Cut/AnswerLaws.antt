@@ -32,7 +32,7 @@ use Rattle.wl_server.specs.declared.notes.Happening.TheVariants.{Disconnected}
 use Rattle.wl_server.specs.Deeds.{Acted, Came, Deed, Handed, Noted, Put, Remembered, Sent, left_if}
 use Rattle.wl_server.proofs.OverRuns.Moves.DoingsLaws.{deeds_both, deeds_given}
 use Rattle.wl_server.specs.Errors.{bind_text, new_id_text, since_text}
-use Rattle.wl_server.specs.Finish.{closes, ended_by, ends, ends_request, finishing, refusal, unless_some}
+use Rattle.wl_server.specs.Finish.{finish_verdict, ended_by, ends, ends_request, finishing, refusal, unless_some}
 use Rattle.wl_server.specs.Ids.{IdParts}
 use Rattle.wl_server.specs.Part.{end_note, id_at, id_of, named}
 use Rattle.wl_server.specs.Reading.{Around, action_in, binds, binds_to, breaks, converted, display_request, exchanges_in, faulted, garbled, hands_out, made_at, may_bind, other_request, reads_on, registers, registry_request, replies, request, row_in, server, synced, syncs, takes, with_registry}
@@ -519,7 +519,7 @@ module _ {U G C : Type 0} (a : Around G C) where
       none false None = refl
       none false (Some d) = refl
 
-  bound_closes : (c : Core U C) (created : Option IdParts) (u : Option U) → c.is_killed ≡ false → c.ended ≡ None → Closes (closes c created u)
+  bound_closes : (c : Core U C) (created : Option IdParts) (u : Option U) → c.is_killed ≡ false → c.ended ≡ None → Closes (finish_verdict c created u)
   bound_closes c created u live unended = record {
     last = λ d. refl;
     live = live;
@@ -544,7 +544,7 @@ module _ {U G C : Type 0} (a : Around G C) where
       at : (b : Bool) → c.is_killed ≡ b → (action : Option OpenAction) (u : Finish U) → (if b then None else finishing a.client c action u) ≡ Some v → Closes v
       at true dead action u same = absurd (none_some same)
       at false live (Some (opened.Request sender d created)) (OfRequest o) same = request live sender d created o (refusal c.is_killed created o) same
-      at false live (Some (opened.Bind object)) (OfBind d) same = closed_by (closes c (Some object) (Some d)) (bound_closes c (Some object) (Some d) live unended) same
+      at false live (Some (opened.Bind object)) (OfBind d) same = closed_by (finish_verdict c (Some object) (Some d)) (bound_closes c (Some object) (Some d) live unended) same
       at false live action u same = absurd (none_some same)
 
   module _ {T : Type 0} (sends : T → Queue → Result ℕ IoFault → T → Type 0) where

@@ -7,7 +7,7 @@ use Rattle.wl_wire.specs.Table.{InterfaceRow}
 use Rattle.wl_link.specs.Exchange.{Queue}
 use Rattle.wl_link.proofs.Readings.HoldingLaws.{puts_hold}
 use Rattle.wl_link.specs.Link.{IsFresh, LinkState}
-use Rattle.wl_server.proofs.OverRuns.Moves.BaseMoves.{Doings, Goes, Moves, born, cleaned, closed, doings_of, ended, flushed, followed, found, found_none, handed_by, handed_out, notes_taken, opens, received, relinked, remembered, stayed, taken_out, told, unfelt, went, within, wrote}
+use Rattle.wl_server.proofs.OverRuns.Moves.BaseMoves.{Doings, Goes, Moves, born, cleaned, finished, doings_of, ended, flushed, followed, found, found_none, handed_by, handed_out, notes_taken, opens, received, relinked, remembered, stayed, taken_out, told, unfelt, went, within, wrote}
 use Rattle.wl_server.proofs.OverRuns.Moves.BaseMovesLaw.{call_goes}
 use Rattle.wl_server.specs.Cutting.{EachIsServed}
 use Rattle.wl_server.proofs.OverRuns.Cut.CuttingLaws.{some_served}
@@ -60,7 +60,7 @@ module _ {T U C : Type 0} (sends : T → Queue → Result ℕ IoFault → T → 
   moves_hold p q d (went n x waits kept is same) holds = subst Holds (sym same) holds
   moves_hold p q d (remembered n x kept registry is same) holds = subst Holds (sym same) holds
   moves_hold p q d (opens action h so is same) holds = subst Holds (sym same) holds
-  moves_hold p q d (closed is same) holds = subst Holds (sym same) holds
+  moves_hold p q d (finished is same) holds = subst Holds (sym same) holds
   moves_hold p q d (cleaned is same) holds = subst Holds (sym same) holds
 
   goes_hold : (s t : Seen T U C) (d : Doings U) → Goes sends receives client s d t → SeenHolds s → SeenHolds t
@@ -83,9 +83,9 @@ fresh_holds {T = T} transport limit link (l, limits, fresh) =
 module _ {T U G C : Type 0} where
   pub each_served : (w : World T G C) (table : List InterfaceRow) (run : List (Entry T U G C)) (after : ServerState T U G C) → Leads w (new_server table) run after
       → EachIsServed w run after
-  each_served w table run after leads id transport info earlier later e split inserts p there more finishes =
-      let (link, fresh, alone) = (is_isolated w table run after leads).each id transport info earlier later e split inserts in
+  each_served w table run after leads id transport client_data earlier later e split inserts p there more finishes =
+      let (link, fresh, alone) = (is_isolated w table run after leads).each id transport client_data earlier later e split inserts in
       some_served (around w id after.offer) (reader_part p) more finishes
       (holds_at (seen id after) p there
-      (run_holds w id (offer_over (new_offer table) (earlier ++ e ∷ [])) (just_inserted link info) (mine id later) (seen id after) (are_mine id later) alone
+      (run_holds w id (offer_over (new_offer table) (earlier ++ e ∷ [])) (just_inserted link client_data) (mine id later) (seen id after) (are_mine id later) alone
       (fresh_holds transport (Some (offer_over (new_offer table) earlier).default_limit) link fresh)))

@@ -14,7 +14,7 @@ use Rattle.wl_server.specs.declared.error.FinishError.{FinishError}
 use Rattle.wl_server.specs.declared.error.FinishError.TheVariants as finish
 use Rattle.wl_server.specs.declared.error.FinishRefused.{FinishRefused}
 use Rattle.wl_server.specs.Deeds.{Deed, Sent}
-use Rattle.wl_server.specs.Finish.{EndsRequest, FinishesBind, FinishesOpen, FinishesOpenBind, FinishesRequest, Refuses, closed, closes, ends_request, refusal}
+use Rattle.wl_server.specs.Finish.{EndsRequest, FinishesBind, FinishesOpen, FinishesOpenBind, FinishesRequest, Refuses, core_finished, finish_verdict, ends_request, refusal}
 use Rattle.wl_server.specs.Ids.{IdParts}
 use Rattle.wl_server.specs.Part.{Part}
 use Rattle.wl_server.specs.Reading.{Around, server}
@@ -100,9 +100,9 @@ module _ {T U G C : Type 0} (sends : T → Queue → Result ℕ IoFault → T �
       at (Some (opened.Bind object)) is_open (answer, no_memory, did_so, is) = (
         [],
         [],
-        record { core = closed (core_of before) (Some object) (Some u); link = before.link },
+        record { core = core_finished (core_of before) (Some object) (Some u); link = before.link },
         (
-          closes (core_of before) (Some object) (Some u),
+          finish_verdict (core_of before) (Some object) (Some u),
           rw is_open (rw live refl),
           inl ([], [], [], Ok tt, before.link, false, (refl, refl, refl, refl), (refl, refl, refl), refl, refl, refl, no_memory),
         ),

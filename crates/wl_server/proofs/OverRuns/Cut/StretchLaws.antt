@@ -43,7 +43,7 @@ use Rattle.wl_server.specs.Finish.{FinishesBind, FinishesRequest, refusal}
 use Rattle.wl_server.specs.Globals.{Offer}
 use Rattle.wl_server.specs.Ids.{ClientParts, GlobalParts}
 use Rattle.wl_server.proofs.OverRuns.Alone.IsolationLaw.{alone_run}
-use Rattle.wl_server.specs.Moves.{ArrivesWith, Becomes, done}
+use Rattle.wl_server.specs.Moves.{ArrivesWith, Becomes, nothing_taken}
 use Rattle.wl_server.specs.Moves as moves
 use Rattle.wl_server.specs.Part.{Part, with_link}
 use Rattle.wl_server.specs.PartStep.{Asked, Call, OfClient, PartCall, World, around, lacks_move, over_scripts}
@@ -161,7 +161,7 @@ module _ {T U C : Type 0} where
       ]
 
 -- a move that only memory refuses was made
-became : (before after : Script) (r : Result (Unit {0}) ScriptError) (t : Script) → false ≡ lacks_move (done r) → Becomes before after (done r) t → t ≡ after
+became : (before after : Script) (r : Result (Unit {0}) ScriptError) (t : Script) → false ≡ lacks_move (nothing_taken r) → Becomes before after (nothing_taken r) t → t ≡ after
 became before after (Ok u) t unasked moved = moved.1
 became before after (Err script.OutOfMemory) t unasked moved = absurd (true≢false (sym unasked))
 became before after (Err script.InvalidId) t unasked moved = absurd moved
@@ -367,7 +367,7 @@ module _ {G C : Type 0} (views : G → ClientParts → C → GlobalParts → Boo
         stepped s before after (Asked (step.Arrive target bytes tokens) answer) did _ _ _ about there h
         (λ q (unasked, none, (t, moved, to)).
         let chunk : Queue = record { bytes = bytes.items; tokens = tokens.items } in
-        let arrives = subst (λ (x : Result (Unit {0}) ScriptError). ArrivesWith s.link.transport chunk (done x) t) (ap arrive_answer (sym is ∙ taken)) moved in
+        let arrives = subst (λ (x : Result (Unit {0}) ScriptError). ArrivesWith s.link.transport chunk (nothing_taken x) t) (ap arrive_answer (sym is ∙ taken)) moved in
         acts_arrived s (Asked (step.Arrive target bytes tokens) answer) did q (Ok chunk) some (moved_on s (Ok chunk) t q arrives.2 to) none sound refl refl refl)
     step_acts s before after (Asked (step.ArriveFault target f) answer) did there about blocked (r, is, h) sound =
         stepped s before after (Asked (step.ArriveFault target f) answer) did _ _ _ about there h

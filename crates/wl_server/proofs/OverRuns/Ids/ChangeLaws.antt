@@ -16,7 +16,7 @@ use Rattle.wl_server.specs.declared.notes.DisconnectReason.{DisconnectReason}
 use Rattle.wl_server.specs.declared.notes.Happening.{Happening}
 use Rattle.wl_server.specs.declared.notes.Happening.TheVariants.{Destroyed, Disconnected, Initialized}
 use Rattle.wl_server.specs.Deeds.{IsAmong}
-use Rattle.wl_server.proofs.OverRuns.Moves.BaseMoves.{Doings, Goes, Moves, born, cleaned, closed, end_notes, ended, flushed, followed, found, found_none, handed_out, handing, joined, leaving, left_by, left_id, nothing_done, notes_taken, noting, opens, putting, received, receiving, relinked, remembered, sending, stayed, taken_out, told, unfelt, went, within, wrote}
+use Rattle.wl_server.proofs.OverRuns.Moves.BaseMoves.{Doings, Goes, Moves, born, cleaned, finished, end_notes, ended, flushed, followed, found, found_none, handed_out, handing, joined, leaving, left_by, left_id, nothing_done, notes_taken, noting, opens, putting, received, receiving, relinked, remembered, sending, stayed, taken_out, told, unfelt, went, within, wrote}
 use Rattle.wl_server.specs.Identified.{AreObjectsOf, IsHandedIn, IsNotedIn, has_data, is_over, waiting_of}
 use Rattle.wl_server.specs.Ids.{ClientParts, IdParts}
 use Rattle.wl_server.proofs.OverRuns.Ids.AmongLaws.{among_both, among_first, among_later}
@@ -298,7 +298,7 @@ module _ {T U C : Type 0} (sends : T → Queue → Result ℕ IoFault → T → 
   moves_change p q d empty (opens action h so is same) =
       changing_so p (record p { action = Some action }) q (record nothing_done { acted = h ∷ [] }) d is same
       (quiet p (record p { action = Some action }) (record nothing_done { acted = h ∷ [] }) empty refl refl refl refl (λ h among. absurd among))
-  moves_change p q d empty (closed is same) =
+  moves_change p q d empty (finished is same) =
       changing_so p (record p { action = None }) q nothing_done d is same (quiet p (record p { action = None }) nothing_done empty refl refl refl refl (λ h among. absurd among))
   moves_change p q d empty (cleaned is same) =
       changing_so p (record p { waiting = [] }) q (noting p.waiting) d is same (record {
@@ -329,7 +329,7 @@ module _ {T U C : Type 0} (sends : T → Queue → Result ℕ IoFault → T → 
   moves_take p q d (went n x waits holds is same) = ap (λ (x : Doings U). x.taken) is
   moves_take p q d (remembered n x holds registry is same) = ap (λ (x : Doings U). x.taken) is
   moves_take p q d (opens action h so is same) = ap (λ (x : Doings U). x.taken) is
-  moves_take p q d (closed is same) = ap (λ (x : Doings U). x.taken) is
+  moves_take p q d (finished is same) = ap (λ (x : Doings U). x.taken) is
   moves_take p q d (cleaned is same) = ap (λ (x : Doings U). x.taken) is
 
   -- ---- what is held of a client

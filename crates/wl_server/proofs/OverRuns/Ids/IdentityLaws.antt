@@ -168,18 +168,18 @@ module _ {T U G C : Type 0} (w : World T G C) (id : ClientParts) where
       )
 
   -- a client's run is one of changes, from its display alone on
-  pub begun_change : (offer : Offer G) (link : LinkState T) (info : C) (run : List (Own T U G C)) (t : Seen T U C) → AreMine id run → Alone w id offer (just_inserted link info) run t
-      → RunChanging offer (just_inserted link info) (objects.first_objects display_object) run t
-  begun_change offer link info run t own alone =
-      run_change offer (just_inserted link info) (objects.first_objects display_object) run t own refl (stored_other empty_store 1 display_object 0 (λ is. none_one is) ∙ held_empty 0) alone
+  pub begun_change : (offer : Offer G) (link : LinkState T) (client_data : C) (run : List (Own T U G C)) (t : Seen T U C) → AreMine id run → Alone w id offer (just_inserted link client_data) run t
+      → RunChanging offer (just_inserted link client_data) (objects.first_objects display_object) run t
+  begun_change offer link client_data run t own alone =
+      run_change offer (just_inserted link client_data) (objects.first_objects display_object) run t own refl (stored_other empty_store 1 display_object 0 (λ is. none_one is) ∙ held_empty 0) alone
     where
       none_one : ◌≡◌ {A = ℕ} 0 1 → ⊥
       none_one is = omega (arith, is)
 
   -- and those changes make its ids its own
-  unfoldable pub own_by : (offer : Offer G) (link : LinkState T) (info : C) (run : List (Own T U G C)) (t : Seen T U C)
-      → RunChanging offer (just_inserted link info) (objects.first_objects display_object) run t → HasOwnIds w id offer (just_inserted link info) run t
-  own_by offer link info run t changing =
+  unfoldable pub own_by : (offer : Offer G) (link : LinkState T) (client_data : C) (run : List (Own T U G C)) (t : Seen T U C)
+      → RunChanging offer (just_inserted link client_data) (objects.first_objects display_object) run t → HasOwnIds w id offer (just_inserted link client_data) run t
+  own_by offer link client_data run t changing =
       let identity = identity_law serial_of display_object refl changing.changes changing.kept
       (run_leads serial_of (OwnsExactly is_over) (objects.first_objects display_object) changing.kept changing.changes changing.ends) in
       record {
@@ -204,9 +204,9 @@ module _ {T U G C : Type 0} (w : World T G C) (id : ClientParts) where
             (run_owns serial_of is_over (objects.first_objects display_object) changing.kept changing.changes changing.ends));
       }
 
-  pub own_ids : (offer : Offer G) (link : LinkState T) (info : C) (run : List (Own T U G C)) (t : Seen T U C) → AreMine id run → Alone w id offer (just_inserted link info) run t
-      → HasOwnIds w id offer (just_inserted link info) run t
-  own_ids offer link info run t own alone = own_by offer link info run t (begun_change offer link info run t own alone)
+  pub own_ids : (offer : Offer G) (link : LinkState T) (client_data : C) (run : List (Own T U G C)) (t : Seen T U C) → AreMine id run → Alone w id offer (just_inserted link client_data) run t
+      → HasOwnIds w id offer (just_inserted link client_data) run t
+  own_ids offer link client_data run t own alone = own_by offer link client_data run t (begun_change offer link client_data run t own alone)
 
   -- ---- a run in two parts
 
@@ -266,9 +266,9 @@ module _ {T U G C : Type 0} where
   -- over every run of a new server, each client has ids of its own
   pub each_has_own_ids : (w : World T G C) (table : List InterfaceRow) (run : List (Entry T U G C)) (after : ServerState T U G C) → Leads w (new_server table) run after
       → EachHasOwnIds w table run after
-  each_has_own_ids w table run after leads id transport info earlier later e split inserts =
-      let (link, fresh, alone) = (is_isolated w table run after leads).each id transport info earlier later e split inserts in
-      (link, fresh, own_ids w id (offer_over (new_offer table) (earlier ++ e ∷ [])) link info (mine id later) (seen id after) (are_mine id later) alone)
+  each_has_own_ids w table run after leads id transport client_data earlier later e split inserts =
+      let (link, fresh, alone) = (is_isolated w table run after leads).each id transport client_data earlier later e split inserts in
+      (link, fresh, own_ids w id (offer_over (new_offer table) (earlier ++ e ∷ [])) link client_data (mine id later) (seen id after) (are_mine id later) alone)
 
   -- and over steps with their replies
   pub have_own_ids : (w : World T G C) (table : List InterfaceRow) (steps : List (RunEntry (Step T U G C) (Reply T U))) (after : ServerState T U G C)

@@ -26,24 +26,24 @@ use Rattle.wl_server.proofs.OverRuns.Ids.IdentityLaws.{InParts, in_parts, names_
 
 module _ {T U G C : Type 0} (w : World T G C) (id : ClientParts) where
   -- the parts of a client's run from its insertion on
-  from_begin : (offer : Offer G) (link : LinkState T) (info : C) (done : List (Own T U G C)) (point : Seen T U C) (later : List (Own T U G C)) (t : Seen T U C)
-      → AreMine id done → AreMine id later → Alone w id offer (just_inserted link info) done point → Alone w id (offer_through offer done) point later t
-      → InParts w id offer (just_inserted link info) (objects.first_objects display_object) done point later t
-  from_begin offer link info done point later t own more led alone =
-      in_parts w id offer (just_inserted link info) (objects.first_objects display_object) done point later t own more refl
+  from_begin : (offer : Offer G) (link : LinkState T) (client_data : C) (done : List (Own T U G C)) (point : Seen T U C) (later : List (Own T U G C)) (t : Seen T U C)
+      → AreMine id done → AreMine id later → Alone w id offer (just_inserted link client_data) done point → Alone w id (offer_through offer done) point later t
+      → InParts w id offer (just_inserted link client_data) (objects.first_objects display_object) done point later t
+  from_begin offer link client_data done point later t own more led alone =
+      in_parts w id offer (just_inserted link client_data) (objects.first_objects display_object) done point later t own more refl
       (stored_other empty_store 1 display_object 0 (λ is. none_one is) ∙ held_empty 0) led alone
     where
       none_one : ◌≡◌ {A = ℕ} 0 1 → ⊥
       none_one is = omega (arith, is)
 
-  own_named : (offer : Offer G) (link : LinkState T) (info : C) (done : List (Own T U G C)) (point : Seen T U C) (later : List (Own T U G C)) (t : Seen T U C)
-      → AreMine id done → AreMine id later → Alone w id offer (just_inserted link info) done point → Alone w id (offer_through offer done) point later t
-      → KeepsNaming w id offer (just_inserted link info) done point later t
+  own_named : (offer : Offer G) (link : LinkState T) (client_data : C) (done : List (Own T U G C)) (point : Seen T U C) (later : List (Own T U G C)) (t : Seen T U C)
+      → AreMine id done → AreMine id later → Alone w id offer (just_inserted link client_data) done point → Alone w id (offer_through offer done) point later t
+      → KeepsNaming w id offer (just_inserted link client_data) done point later t
   unfolding own_by
-  own_named offer link info done point later t own more led alone =
-      let parts = from_begin offer link info done point later t own more led alone in
+  own_named offer link client_data done point later t own more led alone =
+      let parts = from_begin offer link client_data done point later t own more led alone in
       record {
-        ids = own_by w id offer link info (done ++ later) t parts.whole;
+        ids = own_by w id offer link client_data (done ++ later) t parts.whole;
         first = parts.first;
         rest = parts.rest;
         split = parts.split;
@@ -61,12 +61,12 @@ module _ {T U G C : Type 0} (w : World T G C) (id : ClientParts) where
       }
 
   -- an id that names none at a later point names none behind it
-  none_again : (offer : Offer G) (link : LinkState T) (info : C) (done : List (Own T U G C)) (point : Seen T U C) (between : List (Own T U G C)) (mid : Seen T U C)
-      (later : List (Own T U G C)) (t : Seen T U C) → AreMine id done → AreMine id between → AreMine id later → Alone w id offer (just_inserted link info) done point
+  none_again : (offer : Offer G) (link : LinkState T) (client_data : C) (done : List (Own T U G C)) (point : Seen T U C) (between : List (Own T U G C)) (mid : Seen T U C)
+      (later : List (Own T U G C)) (t : Seen T U C) → AreMine id done → AreMine id between → AreMine id later → Alone w id offer (just_inserted link client_data) done point
       → Alone w id (offer_through offer done) point between mid → Alone w id (offer_through (offer_through offer done) between) mid later t
       → NamesNoneAgain point mid t
-  none_again offer link info done point between mid later t own next more led onward alone o named none =
-      let start = from_begin offer link info done point between mid own next led onward in
+  none_again offer link client_data done point between mid later t own next more led onward alone o named none =
+      let start = from_begin offer link client_data done point between mid own next led onward in
       let rest = in_parts w id (offer_through offer done) point start.there between mid later t next more start.are start.empty onward alone in
       let again = none_again_law serial_of display_object refl start.first rest.first rest.rest start.there rest.there rest.whole.kept
       (run_leads serial_of (OwnsExactly is_over) (objects.first_objects display_object) start.there start.first start.ends_first)
@@ -97,24 +97,24 @@ module _ {T U G C : Type 0} where
       through_more w id e run offer (concerns id e.call) refl (through w id run (offer_after offer e.call)) (through w id run offer)
 
   -- a client that was inserted is known from then on, and its own run leads on from each later point
-  record IsInserted (w : World T G C) (id : ClientParts) (offer : Offer G) (transport : T) (limit : Option ℕ) (info : C) (between : List (Entry T U G C)) (point : ServerState T U G C) : Type 0 where
+  record IsInserted (w : World T G C) (id : ClientParts) (offer : Offer G) (transport : T) (limit : Option ℕ) (client_data : C) (between : List (Entry T U G C)) (point : ServerState T U G C) : Type 0 where
     link : LinkState T
     fresh : IsFresh transport limit link
-    alone : Alone w id offer (just_inserted link info) (mine id between) (seen id point)
+    alone : Alone w id offer (just_inserted link client_data) (mine id between) (seen id point)
     given : id.serial ≤ point.last_client
     offered : point.offer ≡ offer_through offer (mine id between)
 
   inserted : (w : World T G C) (table : List InterfaceRow) (done : List (Entry T U G C)) (point : ServerState T U G C) → Leads w (new_server table) done point
-      → (id : ClientParts) (transport : T) (info : C) (earlier between : List (Entry T U G C)) (e : Entry T U G C) → done ≡ earlier ++ e ∷ between
-      → e.call ≡ Asked (step.InsertClient transport info) (reply.InsertClient (Ok id))
-      → IsInserted w id (offer_over (new_offer table) (earlier ++ e ∷ [])) transport (Some (offer_over (new_offer table) earlier).default_limit) info between point
-  inserted w table done point leads id transport info earlier between e split inserts =
-      let (link, fresh, alone) = each_alone w table done point leads id transport info earlier between e split inserts in
+      → (id : ClientParts) (transport : T) (client_data : C) (earlier between : List (Entry T U G C)) (e : Entry T U G C) → done ≡ earlier ++ e ∷ between
+      → e.call ≡ Asked (step.InsertClient transport client_data) (reply.InsertClient (Ok id))
+      → IsInserted w id (offer_over (new_offer table) (earlier ++ e ∷ [])) transport (Some (offer_over (new_offer table) earlier).default_limit) client_data between point
+  inserted w table done point leads id transport client_data earlier between e split inserts =
+      let (link, fresh, alone) = each_alone w table done point leads id transport client_data earlier between e split inserts in
       let (mid, first, (next, by, rest)) =
       split_run w (new_server table) point earlier (e ∷ between) (subst (λ (r : List (Entry T U G C)). Leads w (new_server table) r point) split leads) in
-      let number = (numbered mid e.call id by.client (transport, info, inserts)).2 in
+      let number = (numbered mid e.call id by.client (transport, client_data, inserts)).2 in
       let grown = by.last in
-      let one = one_more e.call id (transport, info, inserts) in
+      let one = one_more e.call id (transport, client_data, inserts) in
       let more = later_last w next point between rest in
       record {
         link = link;
@@ -128,25 +128,25 @@ module _ {T U G C : Type 0} where
 
   pub each_keeps_naming : (w : World T G C) (table : List InterfaceRow) (done later : List (Entry T U G C)) (point after : ServerState T U G C)
       → Leads w (new_server table) done point → Leads w point later after → EachKeepsNaming w table done point later after
-  each_keeps_naming w table done later point after leads others id transport info earlier between e split inserts =
-      let is = inserted w table done point leads id transport info earlier between e split inserts in (
+  each_keeps_naming w table done later point after leads others id transport client_data earlier between e split inserts =
+      let is = inserted w table done point leads id transport client_data earlier between e split inserts in (
         is.link,
         is.fresh,
-        own_named w id (offer_over (new_offer table) (earlier ++ e ∷ [])) is.link info (mine id between) (seen id point) (mine id later) (seen id after)
+        own_named w id (offer_over (new_offer table) (earlier ++ e ∷ [])) is.link client_data (mine id between) (seen id point) (mine id later) (seen id after)
             (are_mine id between) (are_mine id later) is.alone
             (subst (λ (o : Offer G). Alone w id o (seen id point) (mine id later) (seen id after)) is.offered (alone_run w id point after later is.given others)),
       )
 
   pub each_names_none_again : (w : World T G C) (table : List InterfaceRow) (done between later : List (Entry T U G C)) (point mid after : ServerState T U G C)
       → Leads w (new_server table) done point → Leads w point between mid → Leads w mid later after
-      → (id : ClientParts) (transport : T) (info : C) (earlier since : List (Entry T U G C)) (e : Entry T U G C) → done ≡ earlier ++ e ∷ since
-      → e.call ≡ Asked (step.InsertClient transport info) (reply.InsertClient (Ok id)) → NamesNoneAgain (seen id point) (seen id mid) (seen id after)
-  each_names_none_again w table done between later point mid after leads onward others id transport info earlier since e split inserts =
-      let is = inserted w table done point leads id transport info earlier since e split inserts in
+      → (id : ClientParts) (transport : T) (client_data : C) (earlier since : List (Entry T U G C)) (e : Entry T U G C) → done ≡ earlier ++ e ∷ since
+      → e.call ≡ Asked (step.InsertClient transport client_data) (reply.InsertClient (Ok id)) → NamesNoneAgain (seen id point) (seen id mid) (seen id after)
+  each_names_none_again w table done between later point mid after leads onward others id transport client_data earlier since e split inserts =
+      let is = inserted w table done point leads id transport client_data earlier since e split inserts in
       let last = later_last w point mid between onward in
       let given = is.given in
       let offered = offer_run w point mid between onward ∙ through w id between point.offer in
-      none_again w id (offer_over (new_offer table) (earlier ++ e ∷ [])) is.link info (mine id since) (seen id point) (mine id between) (seen id mid) (mine id later) (seen id after)
+      none_again w id (offer_over (new_offer table) (earlier ++ e ∷ [])) is.link client_data (mine id since) (seen id point) (mine id between) (seen id mid) (mine id later) (seen id after)
       (are_mine id since) (are_mine id between) (are_mine id later) is.alone
       (subst (λ (o : Offer G). Alone w id o (seen id point) (mine id between) (seen id mid)) is.offered (alone_run w id point mid between given onward))
       (subst (λ (o : Offer G). Alone w id o (seen id mid) (mine id later) (seen id after))

@@ -134,7 +134,7 @@ module _ {T U G C : Type 0} (w : World T G C) (id : ClientParts) (offer : Offer 
   covers_step (step.Accept target n) answer s lacked did t about h = λ x among. absurd among
   covers_step (step.AcceptFault target f) answer s lacked did t about h = λ x among. absurd among
   covers_step (step.TakeSent target) answer s lacked did t about h = λ x among. absurd among
-  covers_step (step.InsertClient transport info) answer s lacked did t about h = λ x among. absurd among
+  covers_step (step.InsertClient transport client_data) answer s lacked did t about h = λ x among. absurd among
 
   pub covers : (call : Call T U G C) (s : Seen T U C) (lacked : Bool) (did : List (Deed U)) (t : Seen T U C) → concerns id call ≡ true
       → PartCall w id offer call s lacked did t → Covers call did

@@ -6,8 +6,8 @@ use Rattle.wl_wire.specs.Message.{WireMessage}
 use Rattle.wl_wire.specs.Table.{InterfaceRow}
 use Rattle.wl_link.specs.Exchange.{Queue, Sending, nothing, IsWithinOffer}
 use Rattle.wl_link.specs.Exchange as queue
-use Rattle.wl_link.specs.Kept.{LosesNothing}
-use Rattle.wl_link.proofs.Calls.KeptLaws.{flush_kept, gone-taken}
+use Rattle.wl_link.specs.NothingLost.{LosesNothing}
+use Rattle.wl_link.proofs.Calls.NothingLostLaws.{flush_kept, gone-taken}
 use Rattle.wl_link.specs.Link.{LinkState, IsFresh}
 use Rattle.wl_link.proofs.Readings.LogLaws.{kept_still, kept_then, puts_kept}
 use Rattle.wl_link.specs.Puts.{Said, messages_of}
@@ -16,7 +16,7 @@ use Rattle.wl_link.specs.Sides.{spelled_all}
 use Rattle.wl_link.proofs.Streams.StreamLaws.{spelled_all-append}
 use Rattle.wl_server.specs.declared.runs.step.Reply.{Reply}
 use Rattle.wl_server.specs.declared.runs.step.Step.{Step}
-use Rattle.wl_server.proofs.OverRuns.Moves.BaseMoves.{Doings, Goes, Moves, born, cleaned, closed, doings_of, ended, flushed, followed, found, found_none, handed_by, handed_out, joined, notes_taken, opens, putting, received, relinked, remembered, sending, stayed, taken_out, told, unfelt, went, within, wrote}
+use Rattle.wl_server.proofs.OverRuns.Moves.BaseMoves.{Doings, Goes, Moves, born, cleaned, finished, doings_of, ended, flushed, followed, found, found_none, handed_by, handed_out, joined, notes_taken, opens, putting, received, relinked, remembered, sending, stayed, taken_out, told, unfelt, went, within, wrote}
 use Rattle.wl_server.proofs.OverRuns.Moves.BaseMovesLaw.{call_goes}
 use Rattle.wl_server.specs.Deeds.{log_of, sends_of}
 use Rattle.wl_server.proofs.OverRuns.Moves.DoingsLaws.{done_both}
@@ -89,7 +89,7 @@ module _ {T U C : Type 0} (sends : T → Queue → Result ℕ IoFault → T → 
   moves_keep p q d (went n x waits holds is same) = quiet_move p q _ d _ is same refl refl refl
   moves_keep p q d (remembered n x holds registry is same) = quiet_move p q _ d _ is same refl refl refl
   moves_keep p q d (opens action h so is same) = quiet_move p q _ d _ is same refl refl refl
-  moves_keep p q d (closed is same) = quiet_move p q _ d _ is same refl refl refl
+  moves_keep p q d (finished is same) = quiet_move p q _ d _ is same refl refl refl
   moves_keep p q d (cleaned is same) = quiet_move p q _ d _ is same refl refl refl
 
   -- ---- what is held of a client
@@ -151,10 +151,10 @@ module _ {T U G C : Type 0} (w : World T G C) (within' : IsWithinOffer w.sends) 
             (keeps_then waits first.after rest.after (doings_of (handed_by id e.call e.did) e.did) (doings_of [] (history run)) first.keeps rest.keeps));
       }
 
-  own_log : (offer : Offer G) (transport : T) (limit : Option ℕ) (link : LinkState T) (info : C) (run : List (Own T U G C)) (t : Seen T U C) → IsFresh transport limit link
-      → AreMine id run → Alone w id offer (just_inserted link info) run t → (waits : Queue) × WaitsFor t waits × LogIsSpelled (history run) waits
-  own_log offer transport limit link info run t (l, limits, fresh) own alone =
-      let kept = run_keeps offer (just_inserted link info) link.outgoing run t own refl alone in
+  own_log : (offer : Offer G) (transport : T) (limit : Option ℕ) (link : LinkState T) (client_data : C) (run : List (Own T U G C)) (t : Seen T U C) → IsFresh transport limit link
+      → AreMine id run → Alone w id offer (just_inserted link client_data) run t → (waits : Queue) × WaitsFor t waits × LogIsSpelled (history run) waits
+  own_log offer transport limit link client_data run t (l, limits, fresh) own alone =
+      let kept = run_keeps offer (just_inserted link client_data) link.outgoing run t own refl alone in
       let none : link.outgoing ≡ nothing = ap (λ (x : LinkState T). x.outgoing) fresh in
       let from : LosesNothing (sends_of (history run)) nothing (spelled_log (log_of (history run))) kept.after =
       subst (λ (q : Queue). LosesNothing (sends_of (history run)) q (spelled_log (log_of (history run))) kept.after) none kept.keeps in (
@@ -169,9 +169,9 @@ module _ {T U G C : Type 0} (w : World T G C) (within' : IsWithinOffer w.sends) 
 module _ {T U G C : Type 0} where
   pub each_log : (w : World T G C) → IsWithinOffer w.sends → (table : List InterfaceRow) (run : List (Entry T U G C)) (after : ServerState T U G C)
       → Leads w (new_server table) run after → EachLogIsSpelled run after
-  each_log w within' table run after leads id transport info earlier later e split inserts =
-      let (link, fresh, alone) = (is_isolated w table run after leads).each id transport info earlier later e split inserts in
-      own_log w within' id (offer_over (new_offer table) (earlier ++ e ∷ [])) transport (Some (offer_over (new_offer table) earlier).default_limit) link info (mine id later) (seen id after) fresh (are_mine id later) alone
+  each_log w within' table run after leads id transport client_data earlier later e split inserts =
+      let (link, fresh, alone) = (is_isolated w table run after leads).each id transport client_data earlier later e split inserts in
+      own_log w within' id (offer_over (new_offer table) (earlier ++ e ∷ [])) transport (Some (offer_over (new_offer table) earlier).default_limit) link client_data (mine id later) (seen id after) fresh (are_mine id later) alone
 
   pub have_logs : (w : World T G C) → IsWithinOffer w.sends → (table : List InterfaceRow) (steps : List (RunEntry (Step T U G C) (Reply T U))) (after : ServerState T U G C)
       → Performs w (new_server table) steps after → HaveSpelledLogs w table steps after

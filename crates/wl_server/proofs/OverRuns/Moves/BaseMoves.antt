@@ -181,7 +181,7 @@ pub data Moves {T U C : Type 0} (sends : T → Queue → Result ℕ IoFault → 
       → q ≡ record p { registries = p.registries ++ id_of (id_at client n x) ∷ [] } → Moves sends receives client p d q
   opens : {p q : Part T U C} {d : Doings U} (action : OpenAction) (h : Handed) → Opens client p action h
       → d ≡ record nothing_done { acted = h ∷ [] } → q ≡ record p { action = Some action } → Moves sends receives client p d q
-  closed : {p q : Part T U C} {d : Doings U} → d ≡ nothing_done → q ≡ record p { action = None } → Moves sends receives client p d q
+  finished : {p q : Part T U C} {d : Doings U} → d ≡ nothing_done → q ≡ record p { action = None } → Moves sends receives client p d q
   cleaned : {p q : Part T U C} {d : Doings U} → d ≡ noting p.waiting → q ≡ record p { waiting = [] } → Moves sends receives client p d q
 
 -- ---- what is held of a client id

@@ -26,7 +26,7 @@ use Rattle.wl_server.specs.declared.runs.step.Step.TheVariants as step
 use Rattle.wl_server.specs.HandedIds.{made_ids}
 use Rattle.wl_server.proofs.OverRuns.Moves.BaseMoves.{Doings, Goes, cleaned, doings_of, flushed, followed, handed_by, joined, leaving, left_by, left_id, nothing_done, notes_taken, noting, relinked, stayed, taken_out, unfelt, went, within}
 use Rattle.wl_server.specs.Deeds.{Deed, Noted, NoteTaken, left_if, notes_in}
-use Rattle.wl_server.proofs.OverRuns.Moves.DoingsLaws.{done, done_both, done_sends}
+use Rattle.wl_server.proofs.OverRuns.Moves.DoingsLaws.{doings_in, done_both, done_sends}
 use Rattle.wl_server.specs.Felt.{Cleaned, FlushedTo, FlushesLive, Hears, Stays, objects_leave}
 use Rattle.wl_server.specs.Globals.{Offer}
 use Rattle.wl_server.specs.Ids.{ClientParts, GlobalParts, IdParts, same_client}
@@ -62,20 +62,20 @@ none_some : {A : Type 0} {x : A} → None ≡ Some x → ⊥
 none_some e = true≢false (sym (ap is_some e))
 
 module _ {U : Type 0} where
-  done_noted : (notes : List (Happening U)) → done (map Noted notes) ≡ noting notes
+  done_noted : (notes : List (Happening U)) → doings_in (map Noted notes) ≡ noting notes
   done_noted [] = refl
   done_noted (h ∷ notes) = ap (λ (d : Doings U). record d { notes = h ∷ d.notes }) (done_noted notes)
 
-  done_taken : (notes : List (Happening U)) → done (map NoteTaken notes) ≡ record nothing_done { taken = notes }
+  done_taken : (notes : List (Happening U)) → doings_in (map NoteTaken notes) ≡ record nothing_done { taken = notes }
   done_taken [] = refl
   done_taken (h ∷ notes) = ap (λ (d : Doings U). record d { taken = h ∷ d.taken }) (done_taken notes)
 
   done_leaving : (client : ClientParts) (n : ℕ) (x : Object (Kept U)) (rest : List (Deed U))
-      → done (map Noted (note_of_end client n x) ++ (left_if (id_of (id_at client n x)) x.value.user_data ++ rest)) ≡ joined (leaving client false n x) (done rest)
+      → doings_in (map Noted (note_of_end client n x) ++ (left_if (id_of (id_at client n x)) x.value.user_data ++ rest)) ≡ joined (leaving client false n x) (doings_in rest)
   done_leaving client n x rest = go x.value.user_data
     where
-      go : (o : Option U) → done (map Noted (end_note (id_at client n x) o) ++ (left_if (id_of (id_at client n x)) o ++ rest))
-          ≡ joined (record nothing_done { left = left_id (id_of (id_at client n x)) o; notes = end_note (id_at client n x) o }) (done rest)
+      go : (o : Option U) → doings_in (map Noted (end_note (id_at client n x) o) ++ (left_if (id_of (id_at client n x)) o ++ rest))
+          ≡ joined (record nothing_done { left = left_id (id_of (id_at client n x)) o; notes = end_note (id_at client n x) o }) (doings_in rest)
       go None = refl
       go (Some u) = refl
 
@@ -92,7 +92,7 @@ module _ {T U C : Type 0} (sends : T → Queue → Result ℕ IoFault → T → 
 
   record Emptied (p : Part T U C) (entries : List (ℕ × Object (Kept U))) : Type 0 where
     after : Part T U C
-    moves : Leads p (done (objects_leave client entries)) after
+    moves : Leads p (doings_in (objects_leave client entries)) after
     none : (n : ℕ) → held after.store n ≡ None
     waiting : after.waiting ≡ p.waiting
     link : after.link ≡ p.link
@@ -136,10 +136,10 @@ module _ {T U C : Type 0} (sends : T → Queue → Result ℕ IoFault → T → 
 
   -- ---- what each client feels
 
-  stays_moves : (p : Part T U C) (lacked : Bool) (did : List (Deed U)) (q : Part T U C) → Stays p lacked did q → Leads p (done did) q
-  stays_moves p lacked did q (no_memory, none, same) = stayed (ap done none) same
+  stays_moves : (p : Part T U C) (lacked : Bool) (did : List (Deed U)) (q : Part T U C) → Stays p lacked did q → Leads p (doings_in did) q
+  stays_moves p lacked did q (no_memory, none, same) = stayed (ap doings_in none) same
 
-  hears_moves : (p : Part T U C) (messages : List Said) (lacked : Bool) (did : List (Deed U)) (q : Part T U C) → Hears sends p messages lacked did q → Leads p (done did) q
+  hears_moves : (p : Part T U C) (messages : List Said) (lacked : Bool) (did : List (Deed U)) (q : Part T U C) → Hears sends p messages lacked did q → Leads p (doings_in did) q
   hears_moves p messages lacked did q h =
       elim (either_bool p.is_killed h) [
         | inl s ↦ stays_moves p lacked did q s
@@ -148,18 +148,18 @@ module _ {T U C : Type 0} (sends : T → Queue → Result ℕ IoFault → T → 
       ]
 
   flushed_moves : (p : Part T U C) (answer : Result (Unit {0}) IoFault) (lacked : Bool) (did : List (Deed U)) (q : Part T U C) → FlushedTo sends p answer lacked did q
-      → Leads p (done did) q
-  flushed_moves p answer lacked did q (es, link, by, no_memory, did_so, same) = flushed es answer link by (ap done did_so ∙ done_sends es) same
+      → Leads p (doings_in did) q
+  flushed_moves p answer lacked did q (es, link, by, no_memory, did_so, same) = flushed es answer link by (ap doings_in did_so ∙ done_sends es) same
 
-  flushes_moves : (p : Part T U C) (lacked : Bool) (did : List (Deed U)) (q : Part T U C) → FlushesLive sends p lacked did q → Leads p (done did) q
+  flushes_moves : (p : Part T U C) (lacked : Bool) (did : List (Deed U)) (q : Part T U C) → FlushesLive sends p lacked did q → Leads p (doings_in did) q
   flushes_moves p lacked did q h =
       elim (either_bool p.is_killed h) [
         | inl s ↦ stays_moves p lacked did q s
         | inr (answer, f) ↦ flushed_moves p answer lacked did q f
       ]
 
-  transport_moves : (becomes : T → T → Type 0) (p : Part T U C) (did : List (Deed U)) (q : Part T U C) → did ≡ [] → WithTransport becomes p q → Leads p (done did) q
-  transport_moves becomes p did q none (t, b, same) = relinked (with_transport p.link t) refl refl (ap done none) same
+  transport_moves : (becomes : T → T → Type 0) (p : Part T U C) (did : List (Deed U)) (q : Part T U C) → did ≡ [] → WithTransport becomes p q → Leads p (doings_in did) q
+  transport_moves becomes p did q none (t, b, same) = relinked (with_transport p.link t) refl refl (ap doings_in none) same
 
   -- ---- what is held of a client
 
@@ -177,17 +177,17 @@ module _ {T U C : Type 0} (sends : T → Queue → Result ℕ IoFault → T → 
       go (Some p) is (q, r, same) =
           within p q is (moves p q r) (same ∙ ap (λ (n : List (Happening U)). record { part = Some q; made = s.made ++ n }) (sym notes))
 
-  unfelt_goes : (s : Seen T U C) (lacked : Bool) (did : List (Deed U)) (t : Seen T U C) → Unfelt s lacked did t → Run s (done did) t
-  unfelt_goes s lacked did t (no_memory, none, same) = unfelt (ap done none) same
+  unfelt_goes : (s : Seen T U C) (lacked : Bool) (did : List (Deed U)) (t : Seen T U C) → Unfelt s lacked did t → Run s (doings_in did) t
+  unfelt_goes s lacked did t (no_memory, none, same) = unfelt (ap doings_in none) same
 
   of_client : (b : Bool) (s : Seen T U C) (R : Part T U C → Part T U C → Type 0) (missing : Type 0) (lacked : Bool) (did : List (Deed U)) (t : Seen T U C)
-      → ((p q : Part T U C) → R p q → Leads p (done did) q) → OfClient b s R missing lacked did t → Run s (done did) t
-  of_client true s R missing lacked did t moves h = on_part s R missing lacked did t (done did) refl (λ none m. ap done none) moves h
+      → ((p q : Part T U C) → R p q → Leads p (doings_in did) q) → OfClient b s R missing lacked did t → Run s (doings_in did) t
+  of_client true s R missing lacked did t moves h = on_part s R missing lacked did t (doings_in did) refl (λ none m. ap doings_in none) moves h
   of_client false s R missing lacked did t moves h = unfelt_goes s lacked did t h
 
 module _ {T U G C : Type 0} (w : World T G C) (id : ClientParts) (offer : Offer G) where
   abbrev To : Seen T U C → List (Deed U) → Seen T U C → Type 0
-  To s did t = Goes w.sends w.receives id s (done did) t
+  To s did t = Goes w.sends w.receives id s (doings_in did) t
 
   creates_goes : (target : ClientParts) (i : InterfaceId) (version : ℕ) (u : U) (r : Result IdParts CreateError) (missing : Type 0) (s : Seen T U C) (lacked l : Bool)
       (did : List (Deed U)) (t : Seen T U C) → (missing → made_ids r ≡ [])
@@ -207,7 +207,7 @@ module _ {T U G C : Type 0} (w : World T G C) (id : ClientParts) (offer : Offer 
   global_goes : (i : InterfaceId) (version : ℕ) (handler : G) (r : Result GlobalParts GlobalError) (s : Seen T U C) (lacked : Bool) (did : List (Deed U)) (t : Seen T U C)
       → FeelsGlobal w id offer i version handler r s lacked did t → To s did t
   global_goes i version handler (Ok g) s lacked did t h =
-      on_part w.sends w.receives id s _ (Unit {0}) lacked did t (done did) refl (λ none m. ap done none)
+      on_part w.sends w.receives id s _ (Unit {0}) lacked did t (doings_in did) refl (λ none m. ap doings_in none)
       (λ p q heard. hears_moves w.sends w.receives id p _ lacked did q heard) h
   global_goes i version handler (Err e) s lacked did t h = unfelt_goes w.sends w.receives id s lacked did t h
 
@@ -215,7 +215,7 @@ module _ {T U G C : Type 0} (w : World T G C) (id : ClientParts) (offer : Offer 
   loss_goes g s lacked did t h =
       elim (either_bool _ h) [
         | inl felt ↦
-            on_part w.sends w.receives id s _ (Unit {0}) lacked did t (done did) refl (λ none m. ap done none)
+            on_part w.sends w.receives id s _ (Unit {0}) lacked did t (doings_in did) refl (λ none m. ap doings_in none)
             (λ p q heard. hears_moves w.sends w.receives id p _ lacked did q heard) felt
         | inr other ↦ unfelt_goes w.sends w.receives id s lacked did t other
       ]
@@ -223,7 +223,7 @@ module _ {T U G C : Type 0} (w : World T G C) (id : ClientParts) (offer : Offer 
   flushed_goes : (target : Option ClientParts) (answer : Result (Unit {0}) IoFault) (s : Seen T U C) (lacked : Bool) (did : List (Deed U)) (t : Seen T U C)
       → FlushedFor w id offer target answer s lacked did t → To s did t
   flushed_goes None answer s lacked did t (is, h) =
-      on_part w.sends w.receives id s _ (Unit {0}) lacked did t (done did) refl (λ none m. ap done none)
+      on_part w.sends w.receives id s _ (Unit {0}) lacked did t (doings_in did) refl (λ none m. ap doings_in none)
       (λ p q f. flushes_moves w.sends w.receives id p lacked did q f) h
   flushed_goes (Some target) answer s lacked did t h =
       of_client w.sends w.receives id (same_client target id) s _ _ lacked did t (λ p q f. flushed_moves w.sends w.receives id p answer lacked did q f) h
@@ -240,7 +240,7 @@ module _ {T U G C : Type 0} (w : World T G C) (id : ClientParts) (offer : Offer 
           × (out ≡ end.link.transport ∷ []) × (q ≡ None))
           ((lacked ≡ false) × (did ≡ map Noted p.waiting) × (out ≡ []) × (q ≡ Some (record p { waiting = [] }))) → To s did t
       go false live (no_memory, did_so, nobody, is) =
-          within p (record p { waiting = [] }) there (cleaned (ap done did_so ∙ done_noted p.waiting) refl)
+          within p (record p { waiting = [] }) there (cleaned (ap doings_in did_so ∙ done_noted p.waiting) refl)
           (same ∙ ap (λ (o : Option (Part T U C)). record { part = o; made = s.made ++ notes_in did }) is)
       go true killed (sent, answer, end, (es, link, by, no_memory, sent_so, end_so), did_so, handed, is) =
           let told : Part T U C = record p { waiting = [] } in
@@ -253,11 +253,11 @@ module _ {T U G C : Type 0} (w : World T G C) (id : ClientParts) (offer : Offer 
           taken_out p (with_link gone.after link) there killed
           (followed (cleaned {q = told} refl refl)
           (followed gone.moves (flushed {q = with_link gone.after link} es answer link (subst (λ (l : LinkState T). FlushedBy w.sends l es answer link) (sym gone.link) by) refl refl) refl)
-          (ap done did_so
+          (ap doings_in did_so
           ∙ done_both (map Noted p.waiting) (objects_leave id (finmap.entries p.store.objects) ++ sent)
-          ∙ ap (λ (d : Doings U). joined d (done (objects_leave id (finmap.entries p.store.objects) ++ sent))) (done_noted p.waiting)
+          ∙ ap (λ (d : Doings U). joined d (doings_in (objects_leave id (finmap.entries p.store.objects) ++ sent))) (done_noted p.waiting)
           ∙ ap (joined (noting p.waiting)) (done_both (objects_leave id (finmap.entries p.store.objects)) sent
-          ∙ ap (joined (done (objects_leave id (finmap.entries p.store.objects)))) (ap done sent_so ∙ done_sends es))))
+          ∙ ap (joined (doings_in (objects_leave id (finmap.entries p.store.objects)))) (ap doings_in sent_so ∙ done_sends es))))
           gone.none gone.waiting
           (same ∙ ap (λ (o : Option (Part T U C)). record { part = o; made = s.made ++ notes_in did }) is)
 
@@ -273,7 +273,7 @@ module _ {T U G C : Type 0} (w : World T G C) (id : ClientParts) (offer : Offer 
   taken_goes : (answer : Result (Vec (Note U) Global) OutOfMemory) (s : Seen T U C) (lacked : Bool) (did : List (Deed U)) (t : Seen T U C)
       → NotesTaken w id offer answer s lacked did t → To s did t
   taken_goes (Err e) s lacked did t h = unfelt_goes w.sends w.receives id s lacked did t h
-  taken_goes (Ok out) s lacked did t (all, no_memory, did_so, same) = notes_taken (ap done did_so ∙ done_taken s.made) same
+  taken_goes (Ok out) s lacked did t (all, no_memory, did_so, same) = notes_taken (ap doings_in did_so ∙ done_taken s.made) same
 
   moved_goes : (target : ClientParts) (m : Move) (answer : Moved) (s : Seen T U C) (lacked : Bool) (did : List (Deed U)) (t : Seen T U C)
       → MovedFor w id offer target m answer s lacked did t → To s did t
@@ -292,10 +292,10 @@ module _ {T U G C : Type 0} (w : World T G C) (id : ClientParts) (offer : Offer 
 
   step_goes : (call : Step T U G C) (answer : Reply T U) (s : Seen T U C) (lacked : Bool) (did : List (Deed U)) (t : Seen T U C)
       → is_about id call ≡ true → PartStep w id offer call answer s lacked did t → Handed (Asked call answer) s did t
-  step_goes (step.InsertClient transport info) answer s lacked did t about h = absurd (true≢false (sym about))
+  step_goes (step.InsertClient transport client_data) answer s lacked did t about h = absurd (true≢false (sym about))
   step_goes (step.SetObjectData o u) answer s lacked did t about (r, is, h) =
       of_client w.sends w.receives id (same_client o.client id) s _ _ lacked did t
-      (λ p q (no_memory, none, set). same_doings w.sends w.receives id p q nothing_done (done did) (ap done none) (data_set_moves w.sends w.receives id p o u r q set)) h
+      (λ p q (no_memory, none, set). same_doings w.sends w.receives id p q nothing_done (doings_in did) (ap doings_in none) (data_set_moves w.sends w.receives id p o u r q set)) h
   step_goes (step.CreateObject target i version u) answer s lacked did t about (r, is, h) =
       subst (λ (a : Reply T U). Handed (Asked (step.CreateObject target i version u) a) s did t) (sym is)
       (creates_goes target i version u r _ s lacked _ did t (λ unknown. ap made_ids unknown) h)
@@ -314,7 +314,7 @@ module _ {T U G C : Type 0} (w : World T G C) (id : ClientParts) (offer : Offer 
   step_goes (step.SetDefaultMaxBufferSize limit) answer s lacked did t about (is, h) = unfelt_goes w.sends w.receives id s lacked did t h
   step_goes (step.SetClientMaxBufferSize target limit) answer s lacked did t about (is, h) =
       of_client w.sends w.receives id (same_client target id) s _ _ lacked did t
-      (λ p q (no_memory, none, (link, (l, limits, set), same)). relinked link (ap (λ (k : LinkState T). k.outgoing) set) (ap (λ (k : LinkState T). k.outgoing_capacity) set) (ap done none) same) h
+      (λ p q (no_memory, none, (link, (l, limits, set), same)). relinked link (ap (λ (k : LinkState T). k.outgoing) set) (ap (λ (k : LinkState T). k.outgoing_capacity) set) (ap doings_in none) same) h
   step_goes (step.NextAction target) answer s lacked did t about (r, left, is, h) = reads_goes target _ _ left s lacked did t h
   step_goes (step.NextActionWithin target reading) answer s lacked did t about (r, left, is, h) = reads_goes target reading _ left s lacked did t h
   step_goes (step.FinishRequest target u) answer s lacked did t about (r, is, h) =

@@ -77,8 +77,8 @@ module _ {U : Type 0} where
   -- ---- deeds
 
   -- what deeds come to: the ids that they hand out are those of actions
-  abbrev pub done : List (Deed U) → Doings U
-  done did = doings_of (all_action_ids (acted_in did)) did
+  abbrev pub doings_in : List (Deed U) → Doings U
+  doings_in did = doings_of (all_action_ids (acted_in did)) did
 
   doings_both : (ids others : List (HandedId IdParts)) (a b : List (Deed U)) → doings_of (ids ++ others) (a ++ b) ≡ joined (doings_of ids a) (doings_of others b)
   doings_both ids others [] b = refl
@@ -94,25 +94,25 @@ module _ {U : Type 0} where
   acted_both : (a b : List (Deed U)) → acted_in (a ++ b) ≡ acted_in a ++ acted_in b
   acted_both a b = ap (λ (d : Doings U). d.acted) (doings_both [] [] a b)
 
-  pub done_both : (a b : List (Deed U)) → done (a ++ b) ≡ joined (done a) (done b)
+  pub done_both : (a b : List (Deed U)) → doings_in (a ++ b) ≡ joined (doings_in a) (doings_in b)
   done_both a b =
       ap (λ (ids : List (HandedId IdParts)). doings_of ids (a ++ b)) (ap all_action_ids (acted_both a b) ∙ ids_both (acted_in a) (acted_in b))
       ∙ doings_both (all_action_ids (acted_in a)) (all_action_ids (acted_in b)) a b
 
-  pub done_sends : (es : List Sending) → done (map Sent es) ≡ sending es
+  pub done_sends : (es : List Sending) → doings_in (map Sent es) ≡ sending es
   done_sends [] = refl
   done_sends (e ∷ es) = ap (λ (d : Doings U). record d { sends = e ∷ d.sends }) (done_sends es)
 
-  pub done_puts : (put : List Said) → done (map Put put) ≡ putting [] put
+  pub done_puts : (put : List Said) → doings_in (map Put put) ≡ putting [] put
   done_puts [] = refl
   done_puts (m ∷ put) = ap (λ (d : Doings U). record d { put = m ∷ d.put }) (done_puts put)
 
-  pub done_end : (o : Option DisconnectReason) → done (end_deeds o) ≡ noting (notes_in (end_deeds o))
+  pub done_end : (o : Option DisconnectReason) → doings_in (end_deeds o) ≡ noting (notes_in (end_deeds o))
   done_end None = refl
   done_end (Some reason) = refl
 
   -- the exchanges of a reading
-  pub done_turns : (turns : List Turn) → (es : List Sending) × (rs : List (Result Queue IoFault)) × (done (exchanges_in turns) ≡ exchanging es rs)
+  pub done_turns : (turns : List Turn) → (es : List Sending) × (rs : List (Result Queue IoFault)) × (doings_in (exchanges_in turns) ≡ exchanging es rs)
   done_turns [] = ([], [], refl)
   done_turns (Received r ∷ turns) =
       let (es, rs, is) = done_turns turns in (es, r ∷ rs, ap (λ (d : Doings U). record d { came = r ∷ d.came }) is)
@@ -120,14 +120,14 @@ module _ {U : Type 0} where
       let (fs, rs, is) = done_turns turns in (
         es ++ fs,
         rs,
-        done_both (map Sent es) (exchanges_in turns) ∙ ap (λ (d : Doings U). joined d (done (exchanges_in turns))) (done_sends es)
+        done_both (map Sent es) (exchanges_in turns) ∙ ap (λ (d : Doings U). joined d (doings_in (exchanges_in turns))) (done_sends es)
             ∙ ap (λ (d : Doings U). joined (sending es) d) is,
       )
   done_turns (Unread es ∷ turns) =
       let (fs, rs, is) = done_turns turns in (
         es ++ fs,
         rs,
-        done_both (map Sent es) (exchanges_in turns) ∙ ap (λ (d : Doings U). joined d (done (exchanges_in turns))) (done_sends es)
+        done_both (map Sent es) (exchanges_in turns) ∙ ap (λ (d : Doings U). joined d (doings_in (exchanges_in turns))) (done_sends es)
             ∙ ap (λ (d : Doings U). joined (sending es) d) is,
       )
 
@@ -158,33 +158,33 @@ module _ {U : Type 0} where
     end_of c = noting (notes_in (end_deeds c.ended))
 
     pub deeds_done : (exchanges : List (Deed U)) (gave : List (Given (Told U))) (c : Core U C)
-        → done (deeds_of exchanges gave c) ≡ joined (done exchanges) (joined (done (deeds_in gave)) (end_of c))
+        → doings_in (deeds_of exchanges gave c) ≡ joined (doings_in exchanges) (joined (doings_in (deeds_in gave)) (end_of c))
     deeds_done exchanges gave c =
         done_both exchanges (deeds_in gave ++ end_deeds c.ended)
-        ∙ ap (joined (done exchanges)) (done_both (deeds_in gave) (end_deeds c.ended) ∙ ap (joined (done (deeds_in gave))) (done_end c.ended))
+        ∙ ap (joined (doings_in exchanges)) (done_both (deeds_in gave) (end_deeds c.ended) ∙ ap (joined (doings_in (deeds_in gave))) (done_end c.ended))
 
     -- a verdict's, with what it put and what it gave
     pub verdict_done : (es : List Sending) (put : List Said) (made : List (Deed U)) (gave : List (Given (Told U))) (c : Core U C) → deeds_in gave ≡ map Put put ++ made
-        → done (deeds_of (map Sent es) gave c) ≡ joined (putting es put) (joined (done made) (end_of c))
+        → doings_in (deeds_of (map Sent es) gave c) ≡ joined (putting es put) (joined (doings_in made) (end_of c))
     verdict_done es put made gave c is =
         deeds_done (map Sent es) gave c
-        ∙ ap (λ (d : Doings U). joined d (joined (done (deeds_in gave)) (end_of c))) (done_sends es)
+        ∙ ap (λ (d : Doings U). joined d (joined (doings_in (deeds_in gave)) (end_of c))) (done_sends es)
         ∙ ap (λ (d : Doings U). joined (sending es) (joined d (end_of c)))
-        (ap done is ∙ done_both (map Put put) made ∙ ap (λ (d : Doings U). joined d (done made)) (done_puts put))
-        ∙ ap (joined (sending es)) (joined_assoc (putting [] put) (done made) (end_of c))
-        ∙ sym (joined_assoc (sending es) (putting [] put) (joined (done made) (end_of c)))
-        ∙ ap (λ (l : List Sending). joined (putting l put) (joined (done made) (end_of c))) (append-nil es)
+        (ap doings_in is ∙ done_both (map Put put) made ∙ ap (λ (d : Doings U). joined d (doings_in made)) (done_puts put))
+        ∙ ap (joined (sending es)) (joined_assoc (putting [] put) (doings_in made) (end_of c))
+        ∙ sym (joined_assoc (sending es) (putting [] put) (joined (doings_in made) (end_of c)))
+        ∙ ap (λ (l : List Sending). joined (putting l put) (joined (doings_in made) (end_of c))) (append-nil es)
 
     -- what a turn sent and gave, where it killed nobody, and then what the turns behind it did
     pub turns_done : (es : List Sending) (turns : List Turn) (first others : List (Given (Told U))) (c : Core U C) → IsQuiet (deeds_in first)
-        → joined (joined (sending es) (done (deeds_in first))) (done (deeds_of (exchanges_in turns) others c))
-        ≡ done (deeds_of (map Sent es ++ exchanges_in turns) (first ++ others) c)
+        → joined (joined (sending es) (doings_in (deeds_in first))) (doings_in (deeds_of (exchanges_in turns) others c))
+        ≡ doings_in (deeds_of (map Sent es ++ exchanges_in turns) (first ++ others) c)
     turns_done es turns first others c quiet =
         let (fs, rs, exchanged) = done_turns turns in
         let S : Doings U = sending es in
-        let A : Doings U = done (deeds_in first) in
-        let X : Doings U = done (exchanges_in turns) in
-        let B : Doings U = done (deeds_in others) in
+        let A : Doings U = doings_in (deeds_in first) in
+        let X : Doings U = doings_in (exchanges_in turns) in
+        let B : Doings U = doings_in (deeds_in others) in
         let E : Doings U = end_of c in
         let passed : joined A X ≡ joined X A =
         ap (joined A) exchanged ∙ exchanges_pass fs rs A quiet.0 quiet.1 ∙ ap (λ (d : Doings U). joined d A) (sym exchanged) in
@@ -193,6 +193,6 @@ module _ {U : Type 0} where
         ∙ ap (joined S) (sym (joined_assoc A X (joined B E)) ∙ ap (λ (d : Doings U). joined d (joined B E)) passed ∙ joined_assoc X A (joined B E))
         ∙ sym (joined_assoc S X (joined A (joined B E)))
         ∙ ap (λ (d : Doings U). joined d (joined A (joined B E))) (ap (λ (d : Doings U). joined d X) (sym (done_sends es)) ∙ sym (done_both (map Sent es) (exchanges_in turns)))
-        ∙ ap (joined (done (map Sent es ++ exchanges_in turns)))
-        (sym (joined_assoc A B E) ∙ ap (λ (d : Doings U). joined d E) (sym (done_both (deeds_in first) (deeds_in others)) ∙ ap done (sym (deeds_both first others))))
+        ∙ ap (joined (doings_in (map Sent es ++ exchanges_in turns)))
+        (sym (joined_assoc A B E) ∙ ap (λ (d : Doings U). joined d E) (sym (done_both (deeds_in first) (deeds_in others)) ∙ ap doings_in (sym (deeds_both first others))))
         ∙ sym (deeds_done (map Sent es ++ exchanges_in turns) (first ++ others) c)

@@ -31,12 +31,12 @@ use Rattle.wl_server.specs.declared.objects.Kept.{Kept}
 use Rattle.wl_server.specs.declared.notes.DisconnectReason.{DisconnectReason}
 use Rattle.wl_server.specs.declared.notes.DisconnectReason.TheVariants.{ConnectionClosed, ProtocolError as BrokeProtocol}
 use Rattle.wl_server.specs.HandedIds.{made_ids}
-use Rattle.wl_server.proofs.OverRuns.Moves.BaseMoves.{Doings, born, closed as shut, followed, handing, joined, leaving as leaves, left_id, nothing_done, noting, putting, sending, stayed, told, went, wrote}
+use Rattle.wl_server.proofs.OverRuns.Moves.BaseMoves.{Doings, born, finished as shut, followed, handing, joined, leaving as leaves, left_id, nothing_done, noting, putting, sending, stayed, told, went, wrote}
 use Rattle.wl_server.specs.Deeds.{Deed, Noted, Sent, left_if}
-use Rattle.wl_server.proofs.OverRuns.Moves.DoingsLaws.{IsQuiet, done, done_both, done_end, done_sends, joined_none, told_deeds}
+use Rattle.wl_server.proofs.OverRuns.Moves.DoingsLaws.{IsQuiet, doings_in, done_both, done_end, done_sends, joined_none, told_deeds}
 use Rattle.wl_server.specs.Errors.{PostsError, error_of, posts}
 use Rattle.wl_server.specs.Events.{SendsEvent, SendsGranted, SentAs, SessionMessage, argument_faults, checked_row, checked_sender, ends_closed, ends_sender, event_check, granted, said, wire_message}
-use Rattle.wl_server.specs.Finish.{FinishesBind, FinishesRequest, Refuses, closed, closes, data_given, ended_by, ending, ends, ends_request, refusal, store_with_data}
+use Rattle.wl_server.specs.Finish.{FinishesBind, FinishesRequest, Refuses, core_finished, finish_verdict, data_given, ended_by, ending, ends, ends_request, refusal, store_with_data}
 use Rattle.wl_server.specs.Ids.{ClientParts, IdParts}
 use Rattle.wl_server.proofs.OverRuns.Moves.MovesOfVerdicts.{Comes, Go, IsCalm, Lands, at, ends_killed, lands_at, lands_not, lands_then, same_doings, tells_moves}
 use Rattle.wl_server.specs.Objects.{Creates, DataSet, Destroys, destroyable, destroys, told_of_removed, new_object, without, without_noted}
@@ -85,7 +85,7 @@ module _ {U : Type 0} where
       go true = refl
       go false = ap (λ o. is_some (named_in serial_of (id_of id) o)) e
 
-  done_left : (id : Id) (u : Option U) → done (left_if id u) ≡ record nothing_done { left = left_id id u }
+  done_left : (id : Id) (u : Option U) → doings_in (left_if id u) ≡ record nothing_done { left = left_id id u }
   done_left id None = refl
   done_left id (Some u) = refl
 
@@ -167,8 +167,8 @@ module _ {T U C : Type 0} (sends : T → Queue → Result ℕ IoFault → T → 
   calm_core p live = refl
 
   -- a call that does nothing
-  stays : (p : Part T U C) (did : List (Deed U)) (q : Part T U C) → did ≡ [] → q ≡ p → Move p (done did) q
-  stays p did q none same = stayed (ap done none) same
+  stays : (p : Part T U C) (did : List (Deed U)) (q : Part T U C) → did ≡ [] → q ≡ p → Move p (doings_in did) q
+  stays p did q none same = stayed (ap doings_in none) same
 
   -- ---- data, and new objects
 
@@ -235,7 +235,7 @@ module _ {T U C : Type 0} (sends : T → Queue → Result ℕ IoFault → T → 
       go false e = e
 
   pub destroys_moves : (p : Part T U C) (id : IdParts) (answer : Result (Unit {0}) DestroyError) (lacked : Bool) (did : List (Deed U)) (q : Part T U C)
-      → Destroys sends client p id answer lacked did q → Move p (done did) q
+      → Destroys sends client p id answer lacked did q → Move p (doings_in did) q
   destroys_moves p id answer lacked did q h =
       elim (either_option (destroyable p id) h) [
         | inl (none, (is, no_memory, nothing, same)) ↦ stays p did q nothing same
@@ -267,7 +267,7 @@ module _ {T U C : Type 0} (sends : T → Queue → Result ℕ IoFault → T → 
   }
 
   pub posts_moves : (table : List InterfaceRow) (p : Part T U C) (id : IdParts) (code : ℕ) (text : List ℕ) (lacked : Bool) (did : List (Deed U)) (q : Part T U C)
-      → PostsError sends table p id code text lacked did q → Move p (done did) q
+      → PostsError sends table p id code text lacked did q → Move p (doings_in did) q
   posts_moves table p id code text lacked did q h =
       elim (either_bool (eqb id.number 0) h) [
         | inl (no_memory, none, same) ↦ stays p did q none same
@@ -276,12 +276,12 @@ module _ {T U C : Type 0} (sends : T → Queue → Result ℕ IoFault → T → 
             (posts_comes table (core_of p) id code text (calm_core p)) tells'
       ]
 
-  pub kills_moves : (p : Part T U C) (reason : DisconnectReason) (did : List (Deed U)) (q : Part T U C) → Kills p reason did q → Move p (done did) q
+  pub kills_moves : (p : Part T U C) (reason : DisconnectReason) (did : List (Deed U)) (q : Part T U C) → Kills p reason did q → Move p (doings_in did) q
   kills_moves p reason did q (is, same) =
       let ends = ends_killed sends receives client (core_of p) reason (calm_core p) in
-      subst (λ (e : Part T U C). Move p (done did) e) (sym same)
-      (same_doings sends receives client p (record p { is_killed = true }) (noting ends.notes) (done did)
-      (ap done is ∙ done_end (killed (core_of p) reason).ended ∙ ap noting ends.so) (ends.moves p.link))
+      subst (λ (e : Part T U C). Move p (doings_in did) e) (sym same)
+      (same_doings sends receives client p (record p { is_killed = true }) (noting ends.notes) (doings_in did)
+      (ap doings_in is ∙ done_end (killed (core_of p) reason).ended ∙ ap noting ends.so) (ends.moves p.link))
 
   -- ---- an event
 
@@ -320,26 +320,26 @@ module _ {T U C : Type 0} (sends : T → Queue → Result ℕ IoFault → T → 
 
     module _ (p : Part T U C) (b : Bool) (es : List Sending) (link : LinkState T) (answer : Result (Unit {0}) EventError) (lacked : Bool) (rest did : List (Deed U)) (q : Part T U C)
         (is : named p.store m.sender ≡ Some sender) (did_so : did ≡ map Sent es ++ rest) where
-      sent_first : done did ≡ joined (sending es) (done rest)
-      sent_first = ap done did_so ∙ done_both (map Sent es) rest ∙ ap (λ (d : Doings U). joined d (done rest)) (done_sends es)
+      sent_first : doings_in did ≡ joined (sending es) (doings_in rest)
+      sent_first = ap doings_in did_so ∙ done_both (map Sent es) rest ∙ ap (λ (d : Doings U). joined d (doings_in rest)) (done_sends es)
 
       broken_moves : (f : IoFault) → WroteBy sends p.link (wire_message m) es (Err f) link
-          → Tells sends (ends_closed client (core_of p) m sender b) link lacked rest q → Move p (done did) q
+          → Tells sends (ends_closed client (core_of p) m sender b) link lacked rest q → Move p (doings_in did) q
       broken_moves f by tells' =
           followed (told {p = p} {q = with_link p link} (said m ∷ []) es [] (Err f) link (put_none sends m p.link link es f by) refl refl)
           (tells_moves sends receives client (with_link p link) (ends_closed client (core_of p) m sender b) lacked rest q (ends_closed_comes (core_of p) b (calm_core p) is) tells')
           sent_first
 
       sent_moves : (w : Result (Unit {0}) IoFault) → WroteBy sends p.link (wire_message m) es w link → SentAs sends client p m sender b w link answer lacked rest q
-          → Move p (done did) q
+          → Move p (doings_in did) q
       sent_moves (Ok u) by (more, tells', is_ok', rest_so) =
           followed (told {p = p} {q = with_link p link} (said m ∷ []) es (said m ∷ []) (Ok tt) link (put_one sends m p.link link es by) refl refl)
           (tells_moves sends receives client (with_link p link) (ends_sender client (core_of p) m sender b) lacked more q (ends_sender_comes (core_of p) b (calm_core p) is) tells')
-          (sent_first ∙ ap (λ (ds : List (Deed U)). joined (sending es) (done ds)) rest_so
-          ∙ ap (λ (l : List Sending). joined (putting l (said m ∷ [])) (done more)) refl)
+          (sent_first ∙ ap (λ (ds : List (Deed U)). joined (sending es) (doings_in ds)) rest_so
+          ∙ ap (λ (l : List Sending). joined (putting l (said m ∷ [])) (doings_in more)) refl)
       sent_moves (Err fault.OutOfMemory) by (is_err, no_memory, none, same) =
           told (said m ∷ []) es [] (Err fault.OutOfMemory) link (put_none sends m p.link link es fault.OutOfMemory by)
-          (sent_first ∙ ap (λ (ds : List (Deed U)). joined (sending es) (done ds)) none ∙ ap (λ (l : List Sending). sending {U = U} l) (append-nil es)) same
+          (sent_first ∙ ap (λ (ds : List (Deed U)). joined (sending es) (doings_in ds)) none ∙ ap (λ (l : List Sending). sending {U = U} l) (append-nil es)) same
       sent_moves (Err fault.WouldBlock) by (tells', is_ok') = broken_moves fault.WouldBlock by tells'
       sent_moves (Err fault.Pipe) by (tells', is_ok') = broken_moves fault.Pipe by tells'
       sent_moves (Err fault.TooBig) by (tells', is_ok') = broken_moves fault.TooBig by tells'
@@ -348,13 +348,13 @@ module _ {T U C : Type 0} (sends : T → Queue → Result ℕ IoFault → T → 
       sent_moves (Err (fault.Other n)) by (tells', is_ok') = broken_moves (fault.Other n) by tells'
 
   sends_granted : (p : Part T U C) (m : SessionMessage) (sender : Object (Kept U)) (b : Bool) (answer : Result (Unit {0}) EventError) (lacked : Bool) (did : List (Deed U))
-      (q : Part T U C) → named p.store m.sender ≡ Some sender → SendsGranted sends client p m sender b answer lacked did q → Move p (done did) q
+      (q : Part T U C) → named p.store m.sender ≡ Some sender → SendsGranted sends client p m sender b answer lacked did q → Move p (doings_in did) q
   sends_granted p m sender b answer lacked did q is (inl (asks, is_err, no_memory, none, same)) = stays p did q none same
   sends_granted p m sender b answer lacked did q is (inr (es, rest, w, link, by, sent, did_so)) =
       sent_moves m sender p b es link answer lacked rest did q is did_so w by sent
 
   pub sends_moves : (table : List InterfaceRow) (p : Part T U C) (m : SessionMessage) (answer : Result (Unit {0}) EventError) (lacked : Bool) (did : List (Deed U)) (q : Part T U C)
-      → SendsEvent sends client table p m answer lacked did q → Move p (done did) q
+      → SendsEvent sends client table p m answer lacked did q → Move p (doings_in did) q
   sends_moves table p m answer lacked did q h =
       elim (either_bool p.is_killed h) [
         | inl (is, no_memory, none, same) ↦ stays p did q none same
@@ -363,7 +363,7 @@ module _ {T U C : Type 0} (sends : T → Queue → Result ℕ IoFault → T → 
     where
       checked : (r : Result (Object (Kept U) × Bool) EventError) → event_check client p.store table m ≡ r
           → MatchResult r (λ g. SendsGranted sends client p m g.0 g.1 answer lacked did q)
-          (λ e. (answer ≡ Err e) × (lacked ≡ false) × (did ≡ []) × (q ≡ p)) → Move p (done did) q
+          (λ e. (answer ≡ Err e) × (lacked ≡ false) × (did ≡ []) × (q ≡ p)) → Move p (doings_in did) q
       checked (Ok g) is h = sends_granted p m g.0 g.1 answer lacked did q (granted_named client p.store table m g is) h
       checked (Err e) is (is_err, no_memory, none, same) = stays p did q none same
 
@@ -382,10 +382,10 @@ module _ {T U C : Type 0} (sends : T → Queue → Result ℕ IoFault → T → 
   closes_moves : (p : Part T U C) (created : Option IdParts) (u : Option U) → Move p nothing_done (record p { action = None; store = store_with_data p.store created u })
   closes_moves p created u = followed (data_moves p created u) (shut refl refl) refl
 
-  closes_comes : (c : Core U C) (created : Option IdParts) (u : Option U) → Calm c → Come c (closes c created u)
+  closes_comes : (c : Core U C) (created : Option IdParts) (u : Option U) → Calm c → Come c (finish_verdict c created u)
   closes_comes c created u calm = record {
     made = [];
-    lands = lands_at sends receives client c [] (closed c created u) calm refl (λ l. closes_moves (at sends receives client c l) created u);
+    lands = lands_at sends receives client c [] (core_finished c created u) calm refl (λ l. closes_moves (at sends receives client c l) created u);
     events = λ e same. refl;
     quiet = (refl, refl);
     last = inl refl;
@@ -397,10 +397,10 @@ module _ {T U C : Type 0} (sends : T → Queue → Result ℕ IoFault → T → 
     abbrev ended_deeds : List (Deed U)
     ended_deeds = map Noted (note_of_end client id.number x) ++ left_if (id_of id) x.value.user_data
 
-    done_ended : done ended_deeds ≡ leaves client false id.number x
+    done_ended : doings_in ended_deeds ≡ leaves client false id.number x
     done_ended = go x.value.user_data
       where
-        go : (o : Option U) → done (map Noted (end_note (id_at client id.number x) o) ++ left_if (id_of id) o)
+        go : (o : Option U) → doings_in (map Noted (end_note (id_at client id.number x) o) ++ left_if (id_of id) o)
             ≡ record nothing_done { left = left_id (id_of (id_at client id.number x)) o; notes = end_note (id_at client id.number x) o }
         go None = refl
         go (Some v) = ap (λ (i : Id). record nothing_done { left = i ∷ []; notes = end_note (id_at client id.number x) (Some v) }) (sym (named_id client c.store id x is))
@@ -431,7 +431,7 @@ module _ {T U C : Type 0} (sends : T → Queue → Result ℕ IoFault → T → 
     ends_some_comes : Come c (ends client c id (Some x) created u)
     ends_some_comes = record {
       made = ended_deeds;
-      lands = lands_at sends receives client c ended_deeds (closed (without c id.number x) created u) calm refl
+      lands = lands_at sends receives client c ended_deeds (core_finished (without c id.number x) created u) calm refl
           (λ l. followed (went {q = at sends receives client (without c id.number x) l} id.number x false (named_held c.store id x is) refl refl)
           (closes_moves (at sends receives client (without c id.number x) l) created u)
           (done_ended ∙ sym (joined_none (leaves client false id.number x))));
@@ -447,11 +447,11 @@ module _ {T U C : Type 0} (sends : T → Queue → Result ℕ IoFault → T → 
   ends_comes c id (Some x) created u calm is = ends_some_comes c id x created u calm (is x refl)
 
   refuses_moves : {D : Type 0} (p : Part T U C) (d : D) (e : FinishError) (answer : Result (Unit {0}) (FinishRefused D)) (lacked : Bool) (did : List (Deed U)) (q : Part T U C)
-      → Refuses p d e answer lacked did q → Move p (done did) q
+      → Refuses p d e answer lacked did q → Move p (doings_in did) q
   refuses_moves p d e answer lacked did q (is, no_memory, none, same) = stays p did q none same
 
   pub finishes_moves : (p : Part T U C) (u : Option U) (answer : Result (Unit {0}) (FinishRefused (Option U))) (lacked : Bool) (did : List (Deed U)) (q : Part T U C)
-      → FinishesRequest sends client p u answer lacked did q → Move p (done did) q
+      → FinishesRequest sends client p u answer lacked did q → Move p (doings_in did) q
   finishes_moves p u answer lacked did q h =
       elim (either_option p.action h) [
         | inl (none, refuses) ↦ refuses_moves p u _ answer lacked did q refuses
@@ -466,13 +466,13 @@ module _ {T U C : Type 0} (sends : T → Queue → Result ℕ IoFault → T → 
       ]
 
   pub finishes_bind_moves : (p : Part T U C) (u : U) (answer : Result (Unit {0}) (FinishRefused U)) (lacked : Bool) (did : List (Deed U)) (q : Part T U C)
-      → FinishesBind p u answer lacked did q → Move p (done did) q
+      → FinishesBind p u answer lacked did q → Move p (doings_in did) q
   finishes_bind_moves p u answer lacked did q h =
       elim (either_option p.action h) [
         | inl (none, refuses) ↦ refuses_moves p u _ answer lacked did q refuses
         | inr (opened.Request sender b created, is, refuses) ↦ refuses_moves p u _ answer lacked did q refuses
         | inr (opened.Bind object, is, (is', no_memory, none, same)) ↦
-            subst (λ (e : Part T U C). Move p (done did) e) (sym same)
-            (same_doings sends receives client p (record p { action = None; store = store_with_data p.store (Some object) (Some u) }) nothing_done (done did) (ap done none)
+            subst (λ (e : Part T U C). Move p (doings_in did) e) (sym same)
+            (same_doings sends receives client p (record p { action = None; store = store_with_data p.store (Some object) (Some u) }) nothing_done (doings_in did) (ap doings_in none)
             (closes_moves p (Some object) (Some u)))
       ]

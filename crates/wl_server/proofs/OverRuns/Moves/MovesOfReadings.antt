@@ -21,7 +21,7 @@ use Rattle.wl_server.specs.declared.notes.DisconnectReason.TheVariants.{Connecti
 use Rattle.wl_server.specs.declared.notes.Happening.{Happening}
 use Rattle.wl_server.proofs.OverRuns.Moves.BaseMoves.{Doings, followed, joined, noting, putting, received, receiving, relinked, sending, stayed}
 use Rattle.wl_server.specs.Deeds.{Came, Deed, Handed, Put, Sent, notes_in}
-use Rattle.wl_server.proofs.OverRuns.Moves.DoingsLaws.{IsQuiet, deeds_done, done, done_both, done_puts, done_sends, end_of, joined_none, turns_done, verdict_done}
+use Rattle.wl_server.proofs.OverRuns.Moves.DoingsLaws.{IsQuiet, deeds_done, doings_in, done_both, done_puts, done_sends, end_of, joined_none, turns_done, verdict_done}
 use Rattle.wl_server.proofs.OverRuns.Moves.MovesOfRequests.{handles_comes, malformed_comes}
 use Rattle.wl_server.proofs.OverRuns.Moves.MovesOfVerdicts.{Comes, Ends, Go, IsCalm, carried, ends_killed, ends_not, notes_at_end, same_doings}
 use Rattle.wl_server.specs.Part.{Part}
@@ -61,8 +61,8 @@ module _ {U : Type 0} where
     ap (λ (d : Doings U). d.came) all ∙ quiet.1,
   )
     where
-      all : done (deeds_in gave) ≡ joined (putting [] put) (done made)
-      all = ap done is ∙ done_both (map Put put) made ∙ ap (λ (d : Doings U). joined d (done made)) (done_puts put)
+      all : doings_in (deeds_in gave) ≡ joined (putting [] put) (doings_in made)
+      all = ap doings_in is ∙ done_both (map Put put) made ∙ ap (λ (d : Doings U). joined d (doings_in made)) (done_puts put)
 
 module _ {U C : Type 0} where
   -- a client that is read is live
@@ -82,14 +82,14 @@ module _ {T U G C : Type 0} (sends : T → Queue → Result ℕ IoFault → T �
       → link.outgoing_capacity ≡ before.link.outgoing_capacity → Comes sends receives a.client before.core v → Calm before.core → (es : List Sending) (first : List (Given (Told U))) (lacked : Bool) (mid : ReaderState T (Core U C))
       → CarriesOut sends (server a) v link es first lacked mid
       → before.core.ended ≡ None
-      → Step (part_of before) (done (deeds_of (map Sent es) first mid.core)) (part_of mid) × Calm mid.core × IsQuiet (deeds_in first)
+      → Step (part_of before) (doings_in (deeds_of (map Sent es) first mid.core)) (part_of mid) × Calm mid.core × IsQuiet (deeds_in first)
   turn_moves before link v waits stays comes calm es first lacked mid by none =
       let c = carried sends receives a.client (server a) (λ d f. refl) before.core v comes calm link es first lacked mid by in
       let so : notes_at_end sends receives a.client mid.core ≡ c.notes =
       c.so ∙ ap (λ (o : Option _). notes_in (end_deeds {U = U} o) ++ c.notes) none in (
         followed (relinked link waits stays refl refl) c.moves
             (verdict_done es c.put c.made first mid.core c.deeds
-            ∙ ap (λ (n : List (Happening U)). joined (putting es c.put) (joined (done c.made) (noting n))) so),
+            ∙ ap (λ (n : List (Happening U)). joined (putting es c.put) (joined (doings_in c.made) (noting n))) so),
         c.calm,
         quiet_given c.put c.made first c.deeds c.quiet,
       )
@@ -122,32 +122,32 @@ module _ {T U G C : Type 0} (sends : T → Queue → Result ℕ IoFault → T �
   over_or_on left mid after (Unread es ∷ turns) rest h = inr h.0
 
   abbrev Read : ReaderState T (Core U C) → List Turn → Gives (Told U) → ReaderState T (Core U C) → Type 0
-  Read before turns out after = Step (part_of before) (done (deeds_of (exchanges_in turns) out.gave after.core)) (part_of after)
+  Read before turns out after = Step (part_of before) (doings_in (deeds_of (exchanges_in turns) out.gave after.core)) (part_of after)
 
   -- a turn, and then the rest
   then_moves : (left : ℕ) (before mid after : ReaderState T (Core U C)) (es : List Sending) (turns : List Turn) (first : List (Given (Told U))) (lacked : Bool)
       (rest out : Gives (Told U)) → out ≡ given_first first lacked rest
-      → Step (part_of before) (done (deeds_of (map Sent es) first mid.core)) (part_of mid) × Calm mid.core × IsQuiet (deeds_in first)
+      → Step (part_of before) (doings_in (deeds_of (map Sent es) first mid.core)) (part_of mid) × Calm mid.core × IsQuiet (deeds_in first)
       → Reads sends (server a) receives left mid turns rest after
       → (mid.core.ended ≡ None → Calm mid.core → Read mid turns rest after)
-      → Step (part_of before) (done (deeds_of (map Sent es ++ exchanges_in turns) out.gave after.core)) (part_of after)
+      → Step (part_of before) (doings_in (deeds_of (map Sent es ++ exchanges_in turns) out.gave after.core)) (part_of after)
   then_moves left before mid after es turns first lacked rest out split (turn, calm, quiet) reads more =
-      subst (λ (o : Gives (Told U)). Step (part_of before) (done (deeds_of (map Sent es ++ exchanges_in turns) o.gave after.core)) (part_of after)) (sym split)
+      subst (λ (o : Gives (Told U)). Step (part_of before) (doings_in (deeds_of (map Sent es ++ exchanges_in turns) o.gave after.core)) (part_of after)) (sym split)
       (elim (over_or_on left mid after turns rest reads) [
         | inl (none, same, nothing) ↦
-            subst (λ (e : ReaderState T (Core U C)). Step (part_of before) (done (deeds_of (map Sent es ++ exchanges_in turns) (first ++ rest.gave) e.core)) (part_of e)) (sym same)
-            (subst (λ (ts : List Turn). Step (part_of before) (done (deeds_of (map Sent es ++ exchanges_in ts) (first ++ rest.gave) mid.core)) (part_of mid)) (sym none)
-            (subst (λ (g : List (Given (Told U))). Step (part_of before) (done (deeds_of (map Sent es ++ []) (first ++ g) mid.core)) (part_of mid)) (sym nothing)
-            (subst (λ (g : List (Given (Told U))). Step (part_of before) (done (deeds_of (map Sent es ++ []) g mid.core)) (part_of mid)) (sym (append-nil first))
-            (subst (λ (xs : List (Deed U)). Step (part_of before) (done (deeds_of xs first mid.core)) (part_of mid)) (sym (append-nil (map Sent es))) turn))))
+            subst (λ (e : ReaderState T (Core U C)). Step (part_of before) (doings_in (deeds_of (map Sent es ++ exchanges_in turns) (first ++ rest.gave) e.core)) (part_of e)) (sym same)
+            (subst (λ (ts : List Turn). Step (part_of before) (doings_in (deeds_of (map Sent es ++ exchanges_in ts) (first ++ rest.gave) mid.core)) (part_of mid)) (sym none)
+            (subst (λ (g : List (Given (Told U))). Step (part_of before) (doings_in (deeds_of (map Sent es ++ []) (first ++ g) mid.core)) (part_of mid)) (sym nothing)
+            (subst (λ (g : List (Given (Told U))). Step (part_of before) (doings_in (deeds_of (map Sent es ++ []) g mid.core)) (part_of mid)) (sym (append-nil first))
+            (subst (λ (xs : List (Deed U)). Step (part_of before) (doings_in (deeds_of xs first mid.core)) (part_of mid)) (sym (append-nil (map Sent es))) turn))))
         | inr on ↦
             let none : mid.core.ended ≡ None = calm (live_of mid.core on) in
             followed
-            (same_doings sends receives a.client (part_of before) (part_of mid) (done (deeds_of (map Sent es) first mid.core)) (joined (sending es) (done (deeds_in first)))
+            (same_doings sends receives a.client (part_of before) (part_of mid) (doings_in (deeds_of (map Sent es) first mid.core)) (joined (sending es) (doings_in (deeds_in first)))
             (sym (deeds_done (map Sent es) first mid.core
-            ∙ ap (λ (d : Doings U). joined d (joined (done (deeds_in first)) (end_of mid.core))) (done_sends es)
-            ∙ ap (λ (o : Option _). joined (sending es) (joined (done (deeds_in first)) (noting (notes_in (end_deeds {U = U} o))))) none
-            ∙ ap (joined (sending es)) (joined_none (done (deeds_in first)))))
+            ∙ ap (λ (d : Doings U). joined d (joined (doings_in (deeds_in first)) (end_of mid.core))) (done_sends es)
+            ∙ ap (λ (o : Option _). joined (sending es) (joined (doings_in (deeds_in first)) (noting (notes_in (end_deeds {U = U} o))))) none
+            ∙ ap (joined (sending es)) (joined_none (doings_in (deeds_in first)))))
             turn)
             (more none calm)
             (sym (turns_done es turns first rest.gave after.core quiet))
@@ -156,10 +156,10 @@ module _ {T U G C : Type 0} (sends : T → Queue → Result ℕ IoFault → T �
   pub reads_moves : (left : ℕ) (before : ReaderState T (Core U C)) (turns : List Turn) (out : Gives (Told U)) (after : ReaderState T (Core U C))
       → before.core.ended ≡ None → Calm before.core → Reads sends (server a) receives left before turns out after → Read before turns out after
   reads_moves left before [] out after none calm (same, ends) =
-      subst (λ (e : ReaderState T (Core U C)). Step (part_of before) (done (deeds_of [] out.gave e.core)) (part_of e)) (sym same)
+      subst (λ (e : ReaderState T (Core U C)). Step (part_of before) (doings_in (deeds_of [] out.gave e.core)) (part_of e)) (sym same)
       (stayed
-      (ap (λ (g : List (Given (Told U))). done (deeds_of [] g before.core)) (gave_none left before out ends)
-      ∙ ap (λ (o : Option _). done (end_deeds {U = U} o)) none) refl)
+      (ap (λ (g : List (Given (Told U))). doings_in (deeds_of [] g before.core)) (gave_none left before out ends)
+      ∙ ap (λ (o : Option _). doings_in (end_deeds {U = U} o)) none) refl)
   reads_moves left before (Received r ∷ turns) out after none calm (on, lacks, (n, is, (link, filled, room, h))) =
       elim (either_result (counted_answer (count_of r)) h) [
         | inl (u, more) ↦
@@ -170,9 +170,9 @@ module _ {T U G C : Type 0} (sends : T → Queue → Result ℕ IoFault → T �
             let end : ReaderState T (Core U C) = record { core = faulted before.core f; link = link } in
             let so : notes_at_end sends receives a.client end.core ≡ ends.notes =
             ends.so ∙ ap (λ (o : Option _). notes_in (end_deeds {U = U} o) ++ ends.notes) none in
-            subst (λ (e : ReaderState T (Core U C)). Step (part_of before) (done (deeds_of (Came r ∷ exchanges_in turns) out.gave e.core)) (part_of e)) (sym same)
-            (subst (λ (ts : List Turn). Step (part_of before) (done (deeds_of (Came r ∷ exchanges_in ts) out.gave end.core)) (part_of end)) (sym over)
-            (subst (λ (o : Gives (Told U)). Step (part_of before) (done (deeds_of (Came r ∷ []) o.gave end.core)) (part_of end)) (sym stopped)
+            subst (λ (e : ReaderState T (Core U C)). Step (part_of before) (doings_in (deeds_of (Came r ∷ exchanges_in turns) out.gave e.core)) (part_of e)) (sym same)
+            (subst (λ (ts : List Turn). Step (part_of before) (doings_in (deeds_of (Came r ∷ exchanges_in ts) out.gave end.core)) (part_of end)) (sym over)
+            (subst (λ (o : Gives (Told U)). Step (part_of before) (doings_in (deeds_of (Came r ∷ []) o.gave end.core)) (part_of end)) (sym stopped)
             (followed (received r (counted_answer (count_of r)) link filled refl refl) (ends.moves link)
             (deeds_done (Came r ∷ []) [] end.core ∙ ap (λ (n : List (Happening U)). joined (receiving r) (noting n)) so))))
       ]
@@ -191,16 +191,16 @@ module _ {T U G C : Type 0} (sends : T → Queue → Result ℕ IoFault → T �
   -- ---- a reading
 
   pub next_action_moves : (r : Reading) (p : Part T U C) (answer : Result Handed ActionError) (r' : Reading) (lacked : Bool) (did : List (Deed U)) (q : Part T U C)
-      → NextAction sends receives a r p answer r' lacked did q → Step p (done did) q
+      → NextAction sends receives a r p answer r' lacked did q → Step p (doings_in did) q
   next_action_moves r p answer r' lacked did q h =
       elim (either_option p.action h) [
-        | inr (action, is_open, (is, same, no_memory, none, stays)) ↦ stayed (ap done none) stays
+        | inr (action, is_open, (is, same, no_memory, none, stays)) ↦ stayed (ap doings_in none) stays
         | inl (not_open, g) ↦
             elim (either_bool p.is_killed g) [
-              | inl (is, same, no_memory, none, stays) ↦ stayed (ap done none) stays
+              | inl (is, same, no_memory, none, stays) ↦ stayed (ap doings_in none) stays
               | inr (turns, out, end, reads, is, same, no_memory, did_so, after) ↦
-                  subst (λ (e : Part T U C). Step p (done did) e) (sym after)
-                  (subst (λ (ds : List (Deed U)). Step p (done ds) (part_of end)) (sym did_so)
+                  subst (λ (e : Part T U C). Step p (doings_in did) e) (sym after)
+                  (subst (λ (ds : List (Deed U)). Step p (doings_in ds) (part_of end)) (sym did_so)
                   (reads_moves r.receives_left (reader_part p) turns out end refl (λ live. refl) reads))
             ]
       ]

@@ -32,7 +32,7 @@ use Rattle.wl_server.specs.HandedIds.{created_ids}
 use Rattle.wl_server.specs.Deeds.{IsAmong, Acted, Deed, Handed, Remembered}
 use Rattle.wl_server.proofs.OverRuns.Moves.BaseMoves.{Doings, all_action_ids, born, followed, found, found_none, handed_out, handing, nothing_done, opens, remembered, stayed, went}
 use Rattle.wl_server.specs.Deeds as deeds
-use Rattle.wl_server.proofs.OverRuns.Moves.DoingsLaws.{IsQuiet, done, told_deeds}
+use Rattle.wl_server.proofs.OverRuns.Moves.DoingsLaws.{IsQuiet, doings_in, told_deeds}
 use Rattle.wl_server.specs.Errors.{error_of, fault_text, since_text}
 use Rattle.wl_server.specs.Globals.{global_at}
 use Rattle.wl_server.specs.Ids.{IdParts}
@@ -267,7 +267,7 @@ module _ {T U G C : Type 0} (sends : T → Queue → Result ℕ IoFault → T �
       x : Object (Kept U)
       x = made_object (objects_in c) registry_id 1
 
-      moves : (l : LinkState T) → Move (place c l) (done (Remembered (new_at a c n) ∷ [])) (place (with_registry a c n) l)
+      moves : (l : LinkState T) → Move (place c l) (doings_in (Remembered (new_at a c n) ∷ [])) (place (with_registry a c n) l)
       moves l =
           followed
           (dropped (place c l) (place made l) (New (made_id a.client (objects_in c) n registry_id) ∷ []) (makes_object c 1 (objects_in c) n registry_id valid l))

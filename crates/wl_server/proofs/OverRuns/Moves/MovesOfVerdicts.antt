@@ -15,7 +15,7 @@ use Rattle.wl_server.specs.declared.notes.Happening.{Happening}
 use Rattle.wl_server.specs.declared.notes.Happening.TheVariants.{Disconnected}
 use Rattle.wl_server.proofs.OverRuns.Moves.BaseMoves.{Doings, Moves, ended, end_notes, flushed, followed, joined, nothing_done, noting, putting, sending, stayed, told}
 use Rattle.wl_server.specs.Deeds.{Deed, Put, notes_in}
-use Rattle.wl_server.proofs.OverRuns.Moves.DoingsLaws.{IsQuiet, deeds_given, done, joined_assoc, joined_none, told_deeds, verdict_done}
+use Rattle.wl_server.proofs.OverRuns.Moves.DoingsLaws.{IsQuiet, deeds_given, doings_in, joined_assoc, joined_none, told_deeds, verdict_done}
 use Rattle.wl_server.specs.Ids.{ClientParts}
 use Rattle.wl_server.specs.Part.{Part}
 use Rattle.wl_server.specs.Telling.{Core, Finish, Tells, Told, closed_down, core_of, deeds_in, end_deeds, killed, part_of, speaker}
@@ -80,15 +80,15 @@ module _ {T U C : Type 0} (sends : T → Queue → Result ℕ IoFault → T → 
   -- with these deeds, which put nothing, and then perhaps the end of the client
   pub record Lands (c : Core U C) (made : List (Deed U)) (e : Core U C) : Type 0 where
     pub notes : List (Happening U)
-    pub moves : (l : LinkState T) → Go (at c l) (joined (done made) (noting notes)) (at e l)
+    pub moves : (l : LinkState T) → Go (at c l) (joined (doings_in made) (noting notes)) (at e l)
     pub so : notes_at_end e ≡ notes_at_end c ++ notes
     pub calm : IsCalm e
 
-  pub lands_at : (c : Core U C) (made : List (Deed U)) (e : Core U C) → IsCalm e → e.ended ≡ c.ended → ((l : LinkState T) → Go (at c l) (done made) (at e l))
+  pub lands_at : (c : Core U C) (made : List (Deed U)) (e : Core U C) → IsCalm e → e.ended ≡ c.ended → ((l : LinkState T) → Go (at c l) (doings_in made) (at e l))
       → Lands c made e
   lands_at c made e calm same moves = record {
     notes = [];
-    moves = λ l. same_doings (at c l) (at e l) (done made) (joined (done made) nothing_done) (joined_none (done made)) (moves l);
+    moves = λ l. same_doings (at c l) (at e l) (doings_in made) (joined (doings_in made) nothing_done) (joined_none (doings_in made)) (moves l);
     so = ap (λ (o : Option DisconnectReason). notes_in (end_deeds {U = U} o)) same ∙ sym (append-nil (notes_at_end c));
     calm = calm;
   }
@@ -99,7 +99,7 @@ module _ {T U C : Type 0} (sends : T → Queue → Result ℕ IoFault → T → 
   pub lands_then : (c m e : Core U C) (made : List (Deed U)) → Lands c made m → Ends m e → Lands c made e
   lands_then c m e made first second = record {
     notes = first.notes ++ second.notes;
-    moves = λ l. followed (first.moves l) (second.moves l) (sym (joined_assoc (done made) (noting first.notes) (noting second.notes)));
+    moves = λ l. followed (first.moves l) (second.moves l) (sym (joined_assoc (doings_in made) (noting first.notes) (noting second.notes)));
     so = second.so ∙ ap (λ (n : List (Happening U)). n ++ second.notes) first.so ∙ append_assoc (notes_at_end c) first.notes second.notes;
     calm = second.calm;
   }
@@ -169,7 +169,7 @@ module _ {T U C : Type 0} (sends : T → Queue → Result ℕ IoFault → T → 
     pub put : List Said
     pub made : List (Deed U)
     pub notes : List (Happening U)
-    pub moves : Go (at c link) (joined (putting es put) (joined (done made) (noting notes))) (part_of after)
+    pub moves : Go (at c link) (joined (putting es put) (joined (doings_in made) (noting notes))) (part_of after)
     pub deeds : deeds_in gave ≡ map Put put ++ made
     pub so : notes_at_end after.core ≡ notes_at_end c ++ notes
     pub calm : IsCalm after.core
@@ -193,7 +193,7 @@ module _ {T U C : Type 0} (sends : T → Queue → Result ℕ IoFault → T → 
           put = put;
           made = land.made;
           notes = land.lands.notes;
-          moves = subst (λ (e : Core U C). Go (at c link) (joined (putting es put) (joined (done land.made) (noting land.lands.notes))) (at e after.link)) (sym core)
+          moves = subst (λ (e : Core U C). Go (at c link) (joined (putting es put) (joined (doings_in land.made) (noting land.lands.notes))) (at e after.link)) (sym core)
               (followed spoken (land.lands.moves after.link) refl);
           deeds = ap deeds_in given ∙ deeds_given put (v.events (came_to reader v wrote)) ∙ ap (λ (did : List (Deed U)). map Put put ++ did) land.events;
           so = ap notes_at_end core ∙ land.lands.so;
@@ -206,8 +206,8 @@ module _ {T U C : Type 0} (sends : T → Queue → Result ℕ IoFault → T → 
           put = [];
           made = land.made;
           notes = land.lands.notes;
-          moves = subst (λ (e : ReaderState T (Core U C)). Go (at c link) (joined (putting es []) (joined (done land.made) (noting land.lands.notes))) (part_of e)) (sym same)
-              (subst (λ (l : List Sending). Go (at c link) (joined (putting l []) (joined (done land.made) (noting land.lands.notes))) (at v.starved link)) (sym none)
+          moves = subst (λ (e : ReaderState T (Core U C)). Go (at c link) (joined (putting es []) (joined (doings_in land.made) (noting land.lands.notes))) (part_of e)) (sym same)
+              (subst (λ (l : List Sending). Go (at c link) (joined (putting l []) (joined (doings_in land.made) (noting land.lands.notes))) (at v.starved link)) (sym none)
               (land.lands.moves link));
           deeds = ap deeds_in given ∙ land.events;
           so = ap (λ (e : ReaderState T (Core U C)). notes_at_end e.core) same ∙ land.lands.so;
@@ -222,11 +222,11 @@ module _ {T U C : Type 0} (sends : T → Queue → Result ℕ IoFault → T → 
 
   -- a verdict on a client's part, and its deeds
   pub tells_moves : (p : Part T U C) (v : Verdict (Core U C) (Told U)) (refused : Bool) (did : List (Deed U)) (after : Part T U C) → Comes (core_of p) v
-      → Tells sends v p.link refused did after → Go p (done did) after
+      → Tells sends v p.link refused did after → Go p (doings_in did) after
   tells_moves p v refused did after comes (es, gave, end, by, is, same) =
       let c = carried speaker (λ d f. refl) (core_of p) v comes (calm_core p) p.link es gave refused end by in
-      subst (λ (q : Part T U C). Go p (done did) q) (sym same)
-      (same_doings p (part_of end) (joined (putting es c.put) (joined (done c.made) (noting c.notes))) (done did)
-      (ap done is ∙ verdict_done es c.put c.made gave end.core c.deeds
-      ∙ ap (λ (n : List (Happening U)). joined (putting es c.put) (joined (done c.made) (noting n))) c.so)
+      subst (λ (q : Part T U C). Go p (doings_in did) q) (sym same)
+      (same_doings p (part_of end) (joined (putting es c.put) (joined (doings_in c.made) (noting c.notes))) (doings_in did)
+      (ap doings_in is ∙ verdict_done es c.put c.made gave end.core c.deeds
+      ∙ ap (λ (n : List (Happening U)). joined (putting es c.put) (joined (doings_in c.made) (noting n))) c.so)
       c.moves)

@@ -87,11 +87,11 @@ module _ {U : Type 0} where
 module _ {T U G C : Type 0} where
   pub each_note_is_of_an_end : (w : World T G C) (table : List InterfaceRow) (run : List (Entry T U G C)) (after : ServerState T U G C) → Leads w (new_server table) run after
       → EachNoteIsOfAnEnd run after
-  each_note_is_of_an_end w table run after leads id transport info earlier later e split inserts o u among =
-      let (link, fresh, alone) = (is_isolated w table run after leads).each id transport info earlier later e split inserts in
+  each_note_is_of_an_end w table run after leads id transport client_data earlier later e split inserts o u among =
+      let (link, fresh, alone) = (is_isolated w table run after leads).each id transport client_data earlier later e split inserts in
       let offer : Offer G = offer_over (new_offer table) (earlier ++ e ∷ []) in
-      let ids = own_ids w id offer link info (mine id later) (seen id after) (are_mine id later) alone in
-      let notes = each_is_noted w table run after leads id transport info earlier later e split inserts in
+      let ids = own_ids w id offer link client_data (mine id later) (seen id after) (are_mine id later) alone in
+      let notes = each_is_noted w table run after leads id transport client_data earlier later e split inserts in
       let told : List (Happening U) = taken_in (history (mine id later)) ++ ((seen id after).made ++ waiting_of (seen id after).part) in (
         (ids.noted o u among).0,
         Contains-permutation (destroyed_in told) (left_in (history (mine id later))) (id_of o)

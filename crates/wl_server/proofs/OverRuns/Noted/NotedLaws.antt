@@ -15,7 +15,7 @@ use Rattle.wl_server.specs.declared.notes.Happening.{Happening}
 use Rattle.wl_server.specs.declared.notes.Happening.TheVariants.{Destroyed, Disconnected, Initialized}
 use Rattle.wl_server.specs.declared.runs.step.Reply.{Reply}
 use Rattle.wl_server.specs.declared.runs.step.Step.{Step}
-use Rattle.wl_server.proofs.OverRuns.Moves.BaseMoves.{Doings, Goes, Moves, born, cleaned, closed, doings_of, end_notes, ended, flushed, followed, found, found_none, handed_by, handed_out, joined, left_id, notes_taken, opens, received, relinked, remembered, stayed, taken_out, told, unfelt, went, within, wrote}
+use Rattle.wl_server.proofs.OverRuns.Moves.BaseMoves.{Doings, Goes, Moves, born, cleaned, finished, doings_of, end_notes, ended, flushed, followed, found, found_none, handed_by, handed_out, joined, left_id, notes_taken, opens, received, relinked, remembered, stayed, taken_out, told, unfelt, went, within, wrote}
 use Rattle.wl_server.proofs.OverRuns.Moves.BaseMovesLaw.{call_goes}
 use Rattle.wl_server.proofs.OverRuns.Ids.ChangeLaws.{moves_take}
 use Rattle.wl_server.specs.Deeds.{left_in, taken_in}
@@ -174,7 +174,7 @@ module _ {T U C : Type 0} (sends : T → Queue → Result ℕ IoFault → T → 
       (ap (λ (y : Part T U C). y.is_killed) same)
   moves_note p q d none (remembered n x holds registry is same) = quiet p q _ d _ none is same refl refl refl refl
   moves_note p q d none (opens action h so is same) = quiet p q _ d _ none is same refl refl refl refl
-  moves_note p q d none (closed is same) = quiet p q _ d _ none is same refl refl refl refl
+  moves_note p q d none (finished is same) = quiet p q _ d _ none is same refl refl refl refl
   moves_note p q d none (cleaned is same) =
       subst (λ (y : Doings U). Noting p y q) (sym is)
       (subst (λ (y : Part T U C). Noting p (record (doings_of [] []) { notes = p.waiting }) y) (sym same)
@@ -287,10 +287,10 @@ module _ {T U G C : Type 0} (w : World T G C) (id : ClientParts) where
         none = rest.none;
       }
 
-  own_notes : (offer : Offer G) (link : LinkState T) (info : C) (run : List (Own T U G C)) (t : Seen T U C) → AreMine id run → HasOwnIds w id offer (just_inserted link info) run t
-      → Alone w id offer (just_inserted link info) run t → NotesEach (history run) t
-  own_notes offer link info run t own ids alone =
-      let notes = run_notes offer (just_inserted link info) run t own refl alone in
+  own_notes : (offer : Offer G) (link : LinkState T) (client_data : C) (run : List (Own T U G C)) (t : Seen T U C) → AreMine id run → HasOwnIds w id offer (just_inserted link client_data) run t
+      → Alone w id offer (just_inserted link client_data) run t → NotesEach (history run) t
+  own_notes offer link client_data run t own ids alone =
+      let notes = run_notes offer (just_inserted link client_data) run t own refl alone in
       record {
         destroyed = subst (λ (l : List Id). IsPermutation (left_in (history run)) l)
             (ap (λ (l : List Id). destroyed_in (taken_in (history run)) ++ l) (sym (destroyed_both t.made (waiting_of t.part)))
@@ -303,10 +303,10 @@ module _ {T U G C : Type 0} (w : World T G C) (id : ClientParts) where
 module _ {T U G C : Type 0} where
   pub each_is_noted : (w : World T G C) (table : List InterfaceRow) (run : List (Entry T U G C)) (after : ServerState T U G C) → Leads w (new_server table) run after
       → EachIsNoted run after
-  each_is_noted w table run after leads id transport info earlier later e split inserts =
-      let (link, fresh, alone) = (is_isolated w table run after leads).each id transport info earlier later e split inserts in
+  each_is_noted w table run after leads id transport client_data earlier later e split inserts =
+      let (link, fresh, alone) = (is_isolated w table run after leads).each id transport client_data earlier later e split inserts in
       let offer : Offer G = offer_over (new_offer table) (earlier ++ e ∷ []) in
-      own_notes w id offer link info (mine id later) (seen id after) (are_mine id later) (own_ids w id offer link info (mine id later) (seen id after) (are_mine id later) alone) alone
+      own_notes w id offer link client_data (mine id later) (seen id after) (are_mine id later) (own_ids w id offer link client_data (mine id later) (seen id after) (are_mine id later) alone) alone
 
   pub have_notes : (w : World T G C) (table : List InterfaceRow) (steps : List (RunEntry (Step T U G C) (Reply T U))) (after : ServerState T U G C)
       → Performs w (new_server table) steps after → HaveNotes w table steps after

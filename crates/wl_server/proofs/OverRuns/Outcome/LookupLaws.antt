@@ -73,7 +73,7 @@ module _ {T U G C : Type 0} (s t : ServerState T U G C) (same : SameServer s t) 
   answers_alike = record {
     object_info = λ id. ap (λ o. option_map (info_at id.number) o) (object_one id);
     client = λ id. ap (λ (c : Option (Part T U C)). option_map (λ p. id.client) c) (client_one id.client);
-    client_data = λ id. ap (λ (c : Option (Part T U C)). option_map (λ p. p.info) c) (client_one id);
+    client_data = λ id. ap (λ (c : Option (Part T U C)). option_map (λ p. p.client_data) c) (client_one id);
     object_data = λ id. ap (λ o. and_then o (λ x. x.value.user_data)) (object_one id);
     transport = λ id. ap (λ (c : Option (Part T U C)). option_map (λ p. p.link.transport) c) (client_one id);
     for_number = λ id i n. ap (λ (c : Option (Part T U C)). and_then c (λ p. and_then (held p.store n) (id_if id i n))) (client_one id);
@@ -82,5 +82,5 @@ module _ {T U G C : Type 0} (s t : ServerState T U G C) (same : SameServer s t) 
     global_info = λ id. ap (λ (o : Offer G). option_map global_info_of (global_of o.globals id)) same.offer;
     handler = λ id. ap (λ (o : Offer G). option_map (λ x. x.value.handler) (global_of o.globals id)) same.offer;
     name = λ views id client.
-        ap₂ (λ (o : Offer G) (c : Option (Part T U C)). and_then c (λ p. and_then (global_of o.globals id) (name_if views client p.info id.name))) same.offer (client_one client);
+        ap₂ (λ (o : Offer G) (c : Option (Part T U C)). and_then c (λ p. and_then (global_of o.globals id) (name_if views client p.client_data id.name))) same.offer (client_one client);
   }

@@ -75,7 +75,7 @@ module _ {T U G C : Type 0} where
     -- a client's own calls and the shared ones are answered alike, where their answers tell what all clients share
     pub shared_same : (s : Step T U G C) (p q : Reply T U) → is_about id s ≡ true → Ample s p → Ample s q → NumbersGlobal offer (Asked s p) → NumbersGlobal offer (Asked s q)
         → Answered (Asked s p) → Answered (Asked s q) → SharedSame s p q
-    shared_same (step.InsertClient transport info) p q own ample ample' n n' h g = absurd (true≢false (sym own))
+    shared_same (step.InsertClient transport client_data) p q own ample ample' n n' h g = absurd (true≢false (sym own))
     shared_same (step.CreateGlobal i version handler) p q own ample ample' n n' (r, is) (r', is') =
         let s : Step T U G C = step.CreateGlobal i version handler in
         let numbers = subst (λ (z : Reply T U). NumbersGlobal offer (Asked s z)) is n in

@@ -21,7 +21,7 @@ use Rattle.wl_server.specs.Deeds.{Deed, notes_in}
 use Rattle.wl_server.specs.Events.{SendsEvent, SessionMessage, session_content}
 use Rattle.wl_server.specs.Globals.{Offer, global_of, is_enabled}
 use Rattle.wl_server.specs.Ids.{ClientParts, GlobalParts, same_client}
-use Rattle.wl_server.specs.Moves.{Accept, AcceptFault, Arrive, ArriveFault, Moved, TakeSent, done, taken}
+use Rattle.wl_server.specs.Moves.{Accept, AcceptFault, Arrive, ArriveFault, Moved, TakeSent, nothing_taken, taken}
 use Rattle.wl_link.proofs.Calls.NumberLaws.{fresh_one}
 use Rattle.wl_server.proofs.OverRuns.Outcome.Determined.{IsDetermined}
 use Rattle.wl_server.specs.Outcome.{ArrivesSame, SameAnswer, SameCall, SameOutcome, SameReply, SameStep, SendsSame, SharedAnswer, SharedSame}
@@ -40,11 +40,11 @@ abbrev undone : Moved → Result (Unit {0}) ScriptError
 undone (Ok _) = Ok tt
 undone (Err e) = Err e
 
-undone_done : (r : Result (Unit {0}) ScriptError) → undone (done r) ≡ r
+undone_done : (r : Result (Unit {0}) ScriptError) → undone (nothing_taken r) ≡ r
 undone_done (Ok u) = refl
 undone_done (Err e) = refl
 
-done_one : (a b : Result (Unit {0}) ScriptError) → done a ≡ done b → a ≡ b
+done_one : (a b : Result (Unit {0}) ScriptError) → nothing_taken a ≡ nothing_taken b → a ≡ b
 done_one a b same = sym (undone_done a) ∙ ap undone same ∙ undone_done b
 
 module _ {T U : Type 0} where
@@ -115,18 +115,18 @@ module _ {T U G C : Type 0} (w : World T G C) (known : IsDetermined w) (id : Cli
   outcome : (own : Bool) (p q : Reply T U) → SameFelt d e x y → (own ≡ true → SameReply id p q) → Same own p q
   outcome own p q one same = record { reply = same; deeds = one.did; held = one.after }
 
-  inserted_one : (transport : T) (info : C) (r : Result ClientParts InsertClientError) → InsertedAs w id offer transport info r before false d x
-      → InsertedAs w id offer transport info r before false e y → SameFelt d e x y
-  inserted_one transport info (Ok new) h g =
+  inserted_one : (transport : T) (client_data : C) (r : Result ClientParts InsertClientError) → InsertedAs w id offer transport client_data r before false d x
+      → InsertedAs w id offer transport client_data r before false e y → SameFelt d e x y
+  inserted_one transport client_data (Ok new) h g =
       elim (both_bool (same_client new id) h g) [
         | inl ((link, fresh, unlacked, did, same), (link', fresh', unlacked', did', same')) ↦ record {
           did = did ∙ sym did';
-          after = same ∙ ap (λ (l : LinkState T). let s : Seen T U C = record { part = Some (fresh_part l info); made = before.made ++ Initialized ∷ [] } in s)
+          after = same ∙ ap (λ (l : LinkState T). let s : Seen T U C = record { part = Some (fresh_part l client_data); made = before.made ++ Initialized ∷ [] } in s)
               (fresh_one transport (Some offer.default_limit) link link' fresh fresh') ∙ sym same';
         }
         | inr (felt, felt') ↦ unfelt_one before d e x y felt felt'
       ]
-  inserted_one transport info (Err f) h g = unfelt_one before d e x y h g
+  inserted_one transport client_data (Err f) h g = unfelt_one before d e x y h g
 
   global_one : (i : _) (version : ℕ) (handler : G) (r : Result GlobalParts GlobalError) → FeelsGlobal w id offer i version handler r before false d x
       → FeelsGlobal w id offer i version handler r before false e y → SameFelt d e x y
@@ -175,10 +175,10 @@ module _ {T U G C : Type 0} (w : World T G C) (known : IsDetermined w) (id : Cli
   -- each step has one outcome
   pub step_one : (s : Step T U G C) (p q : Reply T U) → Ample s p → Ample s q → SharedSame s p q
       → PartStep w id offer s p before false d x → PartStep w id offer s q before false e y → Same (is_about id s) p q
-  step_one (step.InsertClient transport info) p q ample ample' shared (r, is, h) (r', is', g) =
+  step_one (step.InsertClient transport client_data) p q ample ample' shared (r, is, h) (r', is', g) =
       let answers : r ≡ r' = ap inserted_in (sym is ∙ shared ∙ is') in
-      let same = subst (λ z. InsertedAs w id offer transport info z before false e y) (sym answers) g in
-      outcome false p q (inserted_one transport info r h same) (λ own. absurd (true≢false (sym own)))
+      let same = subst (λ z. InsertedAs w id offer transport client_data z before false e y) (sym answers) g in
+      outcome false p q (inserted_one transport client_data r h same) (λ own. absurd (true≢false (sym own)))
   step_one (step.SetObjectData o u) p q ample ample' shared (r, is, h) (r', is', g) =
       let one = of_one before d e x y (same_client o.client id) _ _ _ _ (λ a b. a ∙ sym b)
       (λ s q q' f f'. with_answer (sets_one s o u r r' d e q q' f.1 f'.1 f.2 f'.2)) h g in
@@ -245,16 +245,16 @@ module _ {T U G C : Type 0} (w : World T G C) (known : IsDetermined w) (id : Cli
       let one = notes_taken_one r r' (subst (λ z. Ample step.TakeNotes z) is ample) (subst (λ z. Ample step.TakeNotes z) is' ample') h g in
       outcome true p q one.0 (λ own. same_reply id p q (reply.TakeNotes r) (reply.TakeNotes r') is is' one.1)
   step_one (step.Arrive target bytes tokens) p q ample ample' shared (r, is, h) (r', is', g) =
-      let one = moved_one target (Arrive (record { bytes = bytes.items; tokens = tokens.items })) (done r) (done r') h g in
+      let one = moved_one target (Arrive (record { bytes = bytes.items; tokens = tokens.items })) (nothing_taken r) (nothing_taken r') h g in
       outcome (same_client target id) p q one.0 (λ own. same_reply id p q _ _ is is' (ap reply.Arrive (done_one r r' (one.1 own))))
   step_one (step.ArriveFault target f) p q ample ample' shared (r, is, h) (r', is', g) =
-      let one = moved_one target (ArriveFault f) (done r) (done r') h g in
+      let one = moved_one target (ArriveFault f) (nothing_taken r) (nothing_taken r') h g in
       outcome (same_client target id) p q one.0 (λ own. same_reply id p q _ _ is is' (ap reply.ArriveFault (done_one r r' (one.1 own))))
   step_one (step.Accept target n) p q ample ample' shared (r, is, h) (r', is', g) =
-      let one = moved_one target (Accept n) (done r) (done r') h g in
+      let one = moved_one target (Accept n) (nothing_taken r) (nothing_taken r') h g in
       outcome (same_client target id) p q one.0 (λ own. same_reply id p q _ _ is is' (ap reply.Accept (done_one r r' (one.1 own))))
   step_one (step.AcceptFault target f) p q ample ample' shared (r, is, h) (r', is', g) =
-      let one = moved_one target (AcceptFault f) (done r) (done r') h g in
+      let one = moved_one target (AcceptFault f) (nothing_taken r) (nothing_taken r') h g in
       outcome (same_client target id) p q one.0 (λ own. same_reply id p q _ _ is is' (ap reply.AcceptFault (done_one r r' (one.1 own))))
   step_one (step.TakeSent target) p q ample ample' shared (r, is, h) (r', is', g) =
       let one = moved_one target TakeSent (taken r) (taken r') h g in
@@ -274,9 +274,9 @@ module _ {T U G C : Type 0} (w : World T G C) (known : IsDetermined w) (id : Cli
       at : (s' : Step T U G C) → ArrivesSame target (record { bytes = bytes.items; tokens = tokens.items }) s' → PartStep w id offer s' q before false e y
           → PartStep w id offer (step.Arrive target bytes tokens) q before false e y
       at (step.Arrive target' bytes' tokens') (same, chunks) h =
-          let chunk = subst (λ (c : Queue). (r : _) × (q ≡ reply.Arrive r) × MovedFor w id offer target' (Arrive c) (done r) before false e y) (sym chunks) h in
+          let chunk = subst (λ (c : Queue). (r : _) × (q ≡ reply.Arrive r) × MovedFor w id offer target' (Arrive c) (nothing_taken r) before false e y) (sym chunks) h in
           subst (λ (t : ClientParts). (r : _) × (q ≡ reply.Arrive r)
-          × MovedFor w id offer t (Arrive (record { bytes = bytes.items; tokens = tokens.items })) (done r) before false e y) (sym same) chunk
+          × MovedFor w id offer t (Arrive (record { bytes = bytes.items; tokens = tokens.items })) (nothing_taken r) before false e y) (sym same) chunk
       at s' same h = absurd same
   part_as s s' q same h = subst (λ (z : Step T U G C). PartStep w id offer z q before false e y) (sym same) h
 

@@ -47,20 +47,20 @@ module _ {T U G C : Type 0} where
       ∙ sym (offer_over_one (new_server {T = T} {U = U} {C = C} table).offer earlier e)) (mine_numbered w id next after later rest)
 
   -- the insertion of a client leaves the offer
-  inserted_offer : (offer : Offer G) (id : ClientParts) (transport : T) (info : C) (earlier : List (Entry T U G C)) (e : Entry T U G C) → InsertsAs id transport info e
+  inserted_offer : (offer : Offer G) (id : ClientParts) (transport : T) (client_data : C) (earlier : List (Entry T U G C)) (e : Entry T U G C) → InsertsAs id transport client_data e
       → offer_over offer (earlier ++ e ∷ []) ≡ offer_over offer earlier
-  inserted_offer offer id transport info earlier e inserts = offer_over_one offer earlier e ∙ ap (λ (c : Call T U G C). offer_after (offer_over offer earlier) c) inserts
+  inserted_offer offer id transport client_data earlier e inserts = offer_over_one offer earlier e ∙ ap (λ (c : Call T U G C). offer_after (offer_over offer earlier) c) inserts
 
   pub client_one : (w : World T G C) → IsDetermined w → ClientsHaveOneOutcome U w
-  client_one w known table id transport info earlier later earlier' later' e e' after after' leads leads' inserts inserts' offers same ample ample' =
-      let (link, fresh, alone) = each_alone w table (earlier ++ e ∷ later) after leads id transport info earlier later e refl inserts in
-      let (link', fresh', alone') = each_alone w table (earlier' ++ e' ∷ later') after' leads' id transport info earlier' later' e' refl inserts' in
+  client_one w known table id transport client_data earlier later earlier' later' e e' after after' leads leads' inserts inserts' offers same ample ample' =
+      let (link, fresh, alone) = each_alone w table (earlier ++ e ∷ later) after leads id transport client_data earlier later e refl inserts in
+      let (link', fresh', alone') = each_alone w table (earlier' ++ e' ∷ later') after' leads' id transport client_data earlier' later' e' refl inserts' in
       let offered : offer_over (new_offer table) (earlier' ++ e' ∷ []) ≡ offer_over (new_offer table) (earlier ++ e ∷ [])
-      = inserted_offer (new_offer table) id transport info earlier' e' inserts' ∙ sym offers ∙ sym (inserted_offer (new_offer table) id transport info earlier e inserts) in
+      = inserted_offer (new_offer table) id transport client_data earlier' e' inserts' ∙ sym offers ∙ sym (inserted_offer (new_offer table) id transport client_data earlier e inserts) in
       let fresh_there = subst (λ (o : Offer G). IsFresh transport (Some o.default_limit) link') (sym offers) fresh' in
       let links : link' ≡ link = fresh_one transport (Some (offer_over (new_offer table) earlier).default_limit) link' link fresh_there fresh in
-      let begun_there = subst (λ (l : LinkState T). Alone w id (offer_over (new_offer table) (earlier' ++ e' ∷ [])) (just_inserted l info) (mine id later') (seen id after')) links alone' in
-      let alone_there = subst (λ (o : Offer G). Alone w id o (just_inserted link info) (mine id later') (seen id after')) offered begun_there in
+      let begun_there = subst (λ (l : LinkState T). Alone w id (offer_over (new_offer table) (earlier' ++ e' ∷ [])) (just_inserted l client_data) (mine id later') (seen id after')) links alone' in
+      let alone_there = subst (λ (o : Offer G). Alone w id o (just_inserted link client_data) (mine id later') (seen id after')) offered begun_there in
       let numbers = subst (λ (o : Offer G). AreNumbered o (mine id later')) offered (later_numbered w table id earlier' later' e' after' leads') in
-      alone_one w known id (offer_over (new_offer table) (earlier ++ e ∷ [])) (just_inserted link info) (seen id after) (seen id after') (mine id later) (mine id later')
+      alone_one w known id (offer_over (new_offer table) (earlier ++ e ∷ [])) (just_inserted link client_data) (seen id after) (seen id after') (mine id later) (mine id later')
       (mine_own id later) same ample ample' (later_numbered w table id earlier later e after leads) numbers alone alone_there

@@ -112,7 +112,7 @@ module _ {T U G C : Type 0} (w : World T G C) (any : ClientParts) (offer : Offer
   -- replies that are the same to each client whose step it is are the same to the program
   pub whole_one : (s : Step T U G C) (p q : Reply T U) → ((id : ClientParts) → is_about id s ≡ true → SameReply id p q) → SharedSame s p q
       → Ample s p → Ample s q → Rises s p → Rises s q → PartStep w any offer s p before false d x → PartStep w any offer s q before false e y → WholeReply p q
-  whole_one (step.InsertClient transport info) p q one shared ample ample' rises rises' (r, is, h) (r', is', g) =
+  whole_one (step.InsertClient transport client_data) p q one shared ample ample' rises rises' (r, is, h) (r', is', g) =
       same_whole p q (reply.InsertClient r) (reply.InsertClient r') is is' (λ id. sym is ∙ shared ∙ is')
   whole_one (step.SetObjectData o u) p q one shared ample ample' rises rises' (r, is, h) (r', is', g) =
       same_whole p q (reply.SetObjectData r) (reply.SetObjectData r') is is' (let here = same_here o.client p q _ _ is is' (one o.client (same_self o.client)) in λ id. here)

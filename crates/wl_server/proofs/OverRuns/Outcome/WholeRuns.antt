@@ -28,7 +28,7 @@ module _ {T U G C : Type 0} where
 
   -- how many clients a step inserts
   inserted_one : (s : Step T U G C) (p q : Reply T U) → SharedSame s p q → inserted_by (Asked s p) ≡ inserted_by (Asked s q)
-  inserted_one (step.InsertClient transport info) p q shared = ap (λ (z : Reply T U). inserted_by {G = G} (Asked (step.InsertClient transport info) z)) shared
+  inserted_one (step.InsertClient transport client_data) p q shared = ap (λ (z : Reply T U). inserted_by {G = G} (Asked (step.InsertClient transport client_data) z)) shared
   inserted_one s p q shared = refl
 
   inserted_as : (s s' : Step T U G C) (q : Reply T U) → SameStep s s' → inserted_by (Asked s q) ≡ inserted_by (Asked s' q)
@@ -81,8 +81,8 @@ module _ {T U G C : Type 0} where
     whole_shared : (any : ClientParts) (k : Step T U G C) (p q : Reply T U) → Ample k p → Ample k q → NumbersClient s (Asked k p) → NumbersClient t (Asked k q)
         → NumbersGlobal s.offer (Asked k p) → NumbersGlobal s.offer (Asked k q) → PartStep w any s.offer k p (seen any s) false (d any) (x any)
         → PartStep w any s.offer k q (seen any s) false (e any) (y any) → SharedSame k p q
-    whole_shared any (step.InsertClient transport info) p q ample ample' c c' n n' (r, is, h) (r', is', g) =
-        let k : Step T U G C = step.InsertClient transport info in
+    whole_shared any (step.InsertClient transport client_data) p q ample ample' c c' n n' (r, is, h) (r', is', g) =
+        let k : Step T U G C = step.InsertClient transport client_data in
         let here = subst (λ (z : Reply T U). NumbersClient s (Asked k z)) is c in
         let there = subst (λ (z : Reply T U). NumbersClient t (Asked k z)) is' c' in
         let last = subst (λ (l : ℕ). InsertsNext l t.clients r') (sym same_server.last) there in

@@ -3,7 +3,7 @@ use Rattle.std.proofs.lemmas.List.{nil_from_length}
 use Rattle.wl_link.specs.Exchange.{Queue}
 use Rattle.wl_link.specs.Link.{offer_of}
 use Rattle.wl_link.specs.Inside.WaitingBytes.{beside}
-use Rattle.wl_link.proofs.Calls.KeptLaws.{flush_keeps, flush_drains}
+use Rattle.wl_link.proofs.Calls.NothingLostLaws.{flush_keeps, flush_drains}
 use Rattle.wl_link.proofs.Calls.FlushLaws.{some_bytes, offered, flush_done, flush_fails, flush_stops, flush_goes_on}
 use Rattle.wl_link.proofs.buffered_socket.BufferedSocket.flush_waiting.Goals as goal
 

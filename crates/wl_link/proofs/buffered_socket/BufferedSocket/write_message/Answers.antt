@@ -1,7 +1,7 @@
 use Rattle.std.proofs.Common.{OnOk, subst}
 use Rattle.wl_wire.specs.Message.{IsMessage, WireMessage}
 use Rattle.wl_wire.proofs.Pieces.{own_numbers}
-use Rattle.wl_link.specs.Kept.{WriteKeeps}
+use Rattle.wl_link.specs.NothingLost.{WriteKeeps}
 use Rattle.wl_link.specs.Link.{Wrote}
 use Rattle.wl_link.proofs.buffered_socket.BufferedSocket.write_message.Goals as goal
 

@@ -2,7 +2,7 @@ use Rattle.wl_wire.specs.MapIds.{numbered}
 use Rattle.wl_wire.specs.declared.error.MessageWriteError.{MessageWriteError}
 use Rattle.wl_link.specs.Inside.WaitingBytes.{Appended, waits}
 use Rattle.wl_link.proofs.Calls.WriteLaws.{wrote_answered}
-use Rattle.wl_link.proofs.Calls.KeptLaws.{write_keeps}
+use Rattle.wl_link.proofs.Calls.NothingLostLaws.{write_keeps}
 use Rattle.std.proofs.Common.{Result, subst}
 use Rattle.wl_link.proofs.buffered_socket.BufferedSocket.write_numbered.Goals as goal
 

@@ -1,4 +1,4 @@
-use Rattle.wl_link.proofs.Calls.KeptLaws.{flush_keeps, flush_drains}
+use Rattle.wl_link.proofs.Calls.NothingLostLaws.{flush_keeps, flush_drains}
 use Rattle.wl_link.proofs.laws.calls.flush_loses_nothing.Goals as goal
 
 pub returns-clause-kept : goal.returns-clause-kept

@@ -1,4 +1,4 @@
-use Rattle.wl_link.proofs.Calls.KeptLaws.{write_keeps}
+use Rattle.wl_link.proofs.Calls.NothingLostLaws.{write_keeps}
 use Rattle.wl_link.proofs.laws.calls.write_loses_nothing.Goals as goal
 
 pub returns : goal.returns

@@ -29,7 +29,7 @@ returns-in-Ok g c =
     (subst (λ n. IsLeastFree c.deref.result.now n) (sym (ap (λ (i : ClientParts). i.slot) c.from_parts-id.ensures)) c.in-Some.ensures)
     in
     rw (← c.self.view_is)
-    (inserted _ _ c.args.transport c.args.info c.from_parts-id.result s c.put_new.new.clients.items free (omega (arith, c.if-self.false))
+    (inserted _ _ c.args.transport c.args.client_data c.from_parts-id.result s c.put_new.new.clients.items free (omega (arith, c.if-self.false))
     (ap (λ (i : ClientParts). i.serial) c.from_parts-id.ensures) is put)
 
 pub returns-in-Err : goal.returns-in-Err

@@ -1,12 +1,12 @@
 use Rattle.std.proofs.Common.{refl}
 use Rattle.wl_server.specs.Dispatch.{answering}
 use Rattle.wl_server.specs.PartStep.{over}
-use Rattle.wl_server.proofs.Dispatches.Serving.{fewer_wait, served_more, served_none, some_end, some_rounds}
+use Rattle.wl_server.proofs.Dispatches.Serving.{fewer_wait, so_far_more, so_far_none, some_end, some_rounds}
 use Rattle.wl_server.proofs.backend.Backend.serve_some.Goals as goal
 
 pub loop-fault-init : goal.loop-fault-init
 loop-fault-init g c = record {
-  served = served_none (over g.T.Transport.sends g.T.Transport.receives g.G.GlobalHandler.views) (answering g.H.Handler.requests g.H.Handler.binds) c.args.id.now
+  so_far = so_far_none (over g.T.Transport.sends g.T.Transport.receives g.G.GlobalHandler.views) (answering g.H.Handler.requests g.H.Handler.binds) c.args.id.now
       c.args.handler.now c.args.reading.now c.args.self.now;
   left = refl;
 }
@@ -14,21 +14,21 @@ loop-fault-init g c = record {
 pub returns-in-Some : goal.returns-in-Some
 returns-in-Some g c =
     some_end (over g.T.Transport.sends g.T.Transport.receives g.G.GlobalHandler.views) (answering g.H.Handler.requests g.H.Handler.binds) c.args.id.now
-    c.in-Some.fault c.loop-fault.invariant.served c.serve_action.ensures c.in-Some.is
+    c.in-Some.fault c.loop-fault.invariant.so_far c.serve_action.ensures c.in-Some.is
 
 pub returns-then-reading-left : goal.returns-then-reading-left
 returns-then-reading-left g c =
     some_rounds (over g.T.Transport.sends g.T.Transport.receives g.G.GlobalHandler.views) (answering g.H.Handler.requests g.H.Handler.binds) c.args.id.now
-    (served_more (over g.T.Transport.sends g.T.Transport.receives g.G.GlobalHandler.views) (answering g.H.Handler.requests g.H.Handler.binds) c.args.id.now
-    c.loop-fault.invariant.served c.serve_action.ensures c.in_default.is) c.if-reading-left.true
+    (so_far_more (over g.T.Transport.sends g.T.Transport.receives g.G.GlobalHandler.views) (answering g.H.Handler.requests g.H.Handler.binds) c.args.id.now
+    c.loop-fault.invariant.so_far c.serve_action.ensures c.in_default.is) c.if-reading-left.true
 
 pub loop-fault-preserved : goal.loop-fault-preserved
 loop-fault-preserved g c =
     let kept = fewer_wait c.args.id.now c.loop-fault.reading c.loop-fault.self.server c.serve_action.new.reading c.serve_action.new.self.server c.args.reading.now.receives_left
     (c.serve_action.ensures.fewer c.in_default.is) c.loop-fault.invariant.left c.if-reading-left.false in
     record {
-      served = served_more (over g.T.Transport.sends g.T.Transport.receives g.G.GlobalHandler.views) (answering g.H.Handler.requests g.H.Handler.binds) c.args.id.now
-          c.loop-fault.invariant.served c.serve_action.ensures c.in_default.is;
+      so_far = so_far_more (over g.T.Transport.sends g.T.Transport.receives g.G.GlobalHandler.views) (answering g.H.Handler.requests g.H.Handler.binds) c.args.id.now
+          c.loop-fault.invariant.so_far c.serve_action.ensures c.in_default.is;
       left = kept.0;
     }
 

@@ -1,12 +1,12 @@
 use Rattle.std.proofs.Common.{◌≡◌}
 use Rattle.wl_server.specs.Dispatch.{answering}
-use Rattle.wl_server.specs.Inside.Dispatching.{HasServed, waiting_of}
+use Rattle.wl_server.specs.Inside.Dispatching.{RoundsSoFar, waiting_of}
 use Rattle.wl_server.specs.PartStep.{over}
 use Rattle.wl_server.proofs.backend.Backend.serve_some.Given as goal
 
 abbrev pub invariant-loop-fault : goal.invariant-loop-fault
 invariant-loop-fault g l = record {
-  served : HasServed (over g.T.Transport.sends g.T.Transport.receives g.G.GlobalHandler.views) (answering g.H.Handler.requests g.H.Handler.binds) l.id l.fn.handler l.fn.reading l.fn.self l.handler l.reading l.self;
+  so_far : RoundsSoFar (over g.T.Transport.sends g.T.Transport.receives g.G.GlobalHandler.views) (answering g.H.Handler.requests g.H.Handler.binds) l.id l.fn.handler l.fn.reading l.fn.self l.handler l.reading l.self;
   left : l.reading.receives_left ≡ l.fn.reading.receives_left;
 }
 

@@ -25,4 +25,4 @@ returns g c =
     (ends_done g.T.Transport.sends c.args.id.now c.args.self.now c.args.sender.now c.args.is_destructor c.args.created c.args.user_data c.in-Ok.wrote
     c.end_sender.new.self c.kill_unless_written.new.self c.in-Ok.ensures
     (subst (λ (s : Stored _ _ _). MatchResult c.in-Ok.wrote (λ _. c.kill_unless_written.new.self ≡ s) (λ _. Does s (λ p did q. Kills p ConnectionClosed did q) c.kill_unless_written.new.self))
-    c.close_action.ensures c.kill_unless_written.ensures.closed))
+    c.finish_action.ensures c.kill_unless_written.ensures.closed))

@@ -7,8 +7,8 @@ returns-in_default g c = no_bind c.args.self.now c.args.user_data (rw (← c.sel
 
 pub returns-in-Bind : goal.returns-in-Bind
 returns-in-Bind g c =
-    a_bind c.args.self.now c.args.user_data c.in-Bind.object c.close_action.new.self (rw (← c.self.view_is) (c.in-Some.is ∙ ap (λ a. Some a) c.in-Bind.is))
-    c.close_action.ensures
+    a_bind c.args.self.now c.args.user_data c.in-Bind.object c.finish_action.new.self (rw (← c.self.view_is) (c.in-Some.is ∙ ap (λ a. Some a) c.in-Bind.is))
+    c.finish_action.ensures
 
 pub returns-in-Request : goal.returns-in-Request
 returns-in-Request g c =

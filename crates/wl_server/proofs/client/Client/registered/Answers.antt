@@ -11,6 +11,6 @@ pub returns : goal.returns
 returns g c f args =
     rw (← c.self.view_is)
     (replied g.T.Transport.sends _ _ c.put_globals-wrote.new.socket
-    (map (global_message c.args.around.now.protocol.now (id_of c.args.registry.now)) (shown g.G.GlobalHandler.views (around_of g.G.GlobalHandler.views c.args.around.now).globals c.args.around.now.client c.self.inside.info))
+    (map (global_message c.args.around.now.protocol.now (id_of c.args.registry.now)) (shown g.G.GlobalHandler.views (around_of g.G.GlobalHandler.views c.args.around.now).globals c.args.around.now.client c.self.inside.data))
     (Remembered (id_of c.args.registry.now) ∷ []) c.put_globals-wrote.result c.replied.result f args (remembered_quiet _)
     (rw (← c.self.view_is) at c.requires) c.put_globals-wrote.ensures c.replied.ensures)

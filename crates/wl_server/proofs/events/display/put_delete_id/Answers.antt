@@ -1,4 +1,6 @@
-use Rattle.std.proofs.Common.{◌≡◌, false, true, nat_le, arith}
+use Rattle.std.proofs.Common.{◌≡◌, false, true, nat_le, arith, subst}
+use Rattle.wl_wire.specs.Message.{WireMessage}
+use Rattle.wl_link.specs.Link.{Wrote}
 use Rattle.wl_server.specs.Telling.{delete_message}
 use Rattle.wl_server.proofs.GlobalCalls.Putting.{puts_none, puts_one}
 use Rattle.wl_server.proofs.events.display.put_delete_id.Goals as goal
@@ -11,4 +13,5 @@ returns-then-number-ge-SERVER_ID_LIMIT g c =
 pub returns : goal.returns
 returns g c =
     let client : nat_le 0xFF000000 c.args.number ≡ false = grind (arith, c.if-number-ge-SERVER_ID_LIMIT.false) in
-    rw client (puts_one g.T.Transport.sends c.args.socket.now c.put_number.new.socket (delete_message c.args.number) c.put_number.result c.put_number.ensures)
+    let wrote = subst (λ (m : WireMessage). Wrote g.T.Transport.sends c.args.socket.now m c.write_message.result c.write_message.new.self) c.message_of_number-message.ensures c.write_message.ensures.wrote in
+    rw client (puts_one g.T.Transport.sends c.args.socket.now c.write_message.new.self (delete_message c.args.number) c.write_message.result wrote)

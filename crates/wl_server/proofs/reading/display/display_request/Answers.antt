@@ -5,7 +5,7 @@ use Rattle.wl_server.proofs.Readings.Requesting.{display_garbled, display_regist
 use Rattle.wl_server.proofs.reading.display.display_request.Goals as goal
 
 pub returns-in_default-clause-responds : goal.returns-in_default-clause-responds
-returns-in_default-clause-responds g c c' f args = display_garbled (around_of g.G.GlobalHandler.views c.args.around.now) (core_with c' c.args.info.now c.args.objects.now) c.args.message.now.opcode c.args.message.now.args.items (sym c.new_id_in.ensures ∙ c.in_default.is)
+returns-in_default-clause-responds g c c' f args = display_garbled (around_of g.G.GlobalHandler.views c.args.around.now) (core_with c' c.args.client_data.now c.args.objects.now) c.args.message.now.opcode c.args.message.now.args.items (sym c.new_id_in.ensures ∙ c.in_default.is)
 
 pub sync-requires : goal.sync-requires
 sync-requires g c = c.requires.can_make (one_new _ _ (sym c.new_id_in.ensures ∙ c.in-Some.is))
@@ -18,8 +18,8 @@ get_registry-requires-clause-can_register g c = c.requires.can_register (one_new
 
 pub returns-then-message-eq-SYNC-clause-responds : goal.returns-then-message-eq-SYNC-clause-responds
 returns-then-message-eq-SYNC-clause-responds g c c' f args =
-    display_sync (around_of g.G.GlobalHandler.views c.args.around.now) (core_with c' c.args.info.now c.args.objects.now) c.args.message.now.opcode c.args.message.now.args.items c.in-Some.number _ (sym c.new_id_in.ensures ∙ c.in-Some.is) c.if-message-eq-SYNC.true (c.sync.ensures.responds c' f args)
+    display_sync (around_of g.G.GlobalHandler.views c.args.around.now) (core_with c' c.args.client_data.now c.args.objects.now) c.args.message.now.opcode c.args.message.now.args.items c.in-Some.number _ (sym c.new_id_in.ensures ∙ c.in-Some.is) c.if-message-eq-SYNC.true (c.sync.ensures.responds c' f args)
 
 pub returns-clause-responds : goal.returns-clause-responds
 returns-clause-responds g c c' f args =
-    display_registry (around_of g.G.GlobalHandler.views c.args.around.now) (core_with c' c.args.info.now c.args.objects.now) c.args.message.now.opcode c.args.message.now.args.items c.in-Some.number _ (sym c.new_id_in.ensures ∙ c.in-Some.is) c.if-message-eq-SYNC.false (c.get_registry.ensures.responds c' f args)
+    display_registry (around_of g.G.GlobalHandler.views c.args.around.now) (core_with c' c.args.client_data.now c.args.objects.now) c.args.message.now.opcode c.args.message.now.args.items c.in-Some.number _ (sym c.new_id_in.ensures ∙ c.in-Some.is) c.if-message-eq-SYNC.false (c.get_registry.ensures.responds c' f args)

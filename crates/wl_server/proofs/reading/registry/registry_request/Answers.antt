@@ -6,5 +6,5 @@ use Rattle.wl_server.proofs.reading.registry.registry_request.Goals as goal
 
 pub returns-clause-responds : goal.returns-clause-responds
 returns-clause-responds g c c' args =
-    registry_bound (around_of g.G.GlobalHandler.views c.args.around.now) (core_with c' c.args.info.now c.args.objects.now) c.args.message.now.args.items
+    registry_bound (around_of g.G.GlobalHandler.views c.args.around.now) (core_with c' c.args.client_data.now c.args.objects.now) c.args.message.now.args.items
     (option_map bind_of c.bind_in.result) _ c.bind_in.ensures (rw c.in-Some.is (c.bind_to.ensures.responds c' args))

@@ -7,7 +7,7 @@ use Rattle.wl_server.specs.declared.runs.script.ScriptCall.TheVariants as call
 use Rattle.wl_server.specs.Inside.Client.{Does}
 use Rattle.wl_server.specs.Deeds.{Deed}
 use Rattle.wl_server.specs.Ids.{ClientParts, same_client}
-use Rattle.wl_server.specs.Moves.{ScriptMoves, done}
+use Rattle.wl_server.specs.Moves.{ScriptMoves, nothing_taken}
 use Rattle.wl_server.specs.PartStep.{Asked, OfClient, PartStep, WithTransport, lacks_move, over_scripts}
 use Rattle.wl_server.specs.Inside.Scripting.{Scripts, move_of, reply_to, step_of}
 use Rattle.wl_server.specs.Server.{Seen, ServerState, Stored}
@@ -18,7 +18,7 @@ use Rattle.wl_server.proofs.CleanupSteps.Taken.{slots_set}
 use Rattle.wl_server.proofs.runs.script.Backend+Memory+U+G+C.script.Goals as goal
 
 abbrev scripts : {U C : Type 0} → ScriptCall → Result (Unit {0}) ScriptError → Kind Script U C
-scripts x answer id p lacked did q = (lacked ≡ lacks_move (done answer)) × (did ≡ []) × WithTransport (λ t t'. ScriptMoves t (move_of x) (done answer) t') p q
+scripts x answer id p lacked did q = (lacked ≡ lacks_move (nothing_taken answer)) × (did ≡ []) × WithTransport (λ t t'. ScriptMoves t (move_of x) (nothing_taken answer) t') p q
 
 own : {T U G C : Type 0} (id : ClientParts) (x : ScriptCall) (answer : Result (Unit {0}) ScriptError)
     → IsOwn {T = T} {U = U} {G = G} {C = C} (Asked (step_of id x) (reply_to x answer))
@@ -30,7 +30,7 @@ own id (call.AcceptFault f) answer = record { offer = λ o. refl; last = refl; c
 -- the step is that of its script's call, whichever it is
 to : {U G C : Type 0} (views : _) (before : ServerState Script U G C) (target : ClientParts) (x : ScriptCall) (answer : Result (Unit {0}) ScriptError) (id : ClientParts) (lacked : Bool)
     (did : List (Deed U)) (b a : Seen Script U C)
-    → OfClient (same_client target id) b (λ p q. scripts x answer id p lacked did q) (done answer ≡ Err refused.InvalidId) lacked did a
+    → OfClient (same_client target id) b (λ p q. scripts x answer id p lacked did q) (nothing_taken answer ≡ Err refused.InvalidId) lacked did a
     → PartStep (over_scripts views) id before.offer (step_of target x) (reply_to x answer) b lacked did a
 to views before target (call.Arrive bytes tokens) answer id lacked did b a h = (answer, refl, h)
 to views before target (call.ArriveFault f) answer id lacked did b a h = (answer, refl, h)
@@ -38,7 +38,7 @@ to views before target (call.Accept n) answer id lacked did b a h = (answer, ref
 to views before target (call.AcceptFault f) answer id lacked did b a h = (answer, refl, h)
 
 does : {U C : Type 0} (id : ClientParts) (x : ScriptCall) (before after : Stored Script U C) (answer : Result (Unit {0}) ScriptError)
-    → Does before (λ p did q. (did ≡ []) × Scripts p (move_of x) (done answer) q) after → Does before (λ p did q. scripts x answer id p (lacks_move (done answer)) did q) after
+    → Does before (λ p did q. (did ≡ []) × Scripts p (move_of x) (nothing_taken answer) q) after → Does before (λ p did q. scripts x answer id p (lacks_move (nothing_taken answer)) did q) after
 does id x before after answer (did, q, (none, moves), is) = (did, q, (refl, none, moves), is)
 
 pub returns-in_default : goal.returns-in_default
@@ -47,7 +47,7 @@ returns-in_default g c =
     let before = held_by i.protocol i.globals.store i.last_global i.default_limit i.last_client i.clients.items i.notes.items in
     rw (← c.self.view_is)
     (none_stored (over_scripts g.G.GlobalHandler.views) before (step_of c.args.id.now c.args.call) (reply_to c.args.call (Err refused.InvalidId)) (own _ _ _) c.args.id.now
-    (scripts c.args.call (Err refused.InvalidId)) (done (Err refused.InvalidId) ≡ Err refused.InvalidId) (to g.G.GlobalHandler.views before c.args.id.now c.args.call (Err refused.InvalidId))
+    (scripts c.args.call (Err refused.InvalidId)) (nothing_taken (Err refused.InvalidId) ≡ Err refused.InvalidId) (to g.G.GlobalHandler.views before c.args.id.now c.args.call (Err refused.InvalidId))
     _ refl c.in_default.ensures.value refl)
 
 pub returns : goal.returns
@@ -57,11 +57,11 @@ returns g c =
     let answer = c.make_move-answer.result in
     rw (← c.self.view_is, c.lacks_memory-self-inside.ensures)
     (done_to (over_scripts g.G.GlobalHandler.views) before (step_of c.args.id.now c.args.call) (reply_to c.args.call answer) (own _ _ _) c.args.id.now (scripts c.args.call answer)
-    (done answer ≡ Err refused.InvalidId) (to g.G.GlobalHandler.views before c.args.id.now c.args.call answer)
-    _ c.in-Some.client.now _ (lacks_move (done answer)) refl c.in-Some.ensures.value (does c.args.id.now c.args.call _ _ answer
+    (nothing_taken answer ≡ Err refused.InvalidId) (to g.G.GlobalHandler.views before c.args.id.now c.args.call answer)
+    _ c.in-Some.client.now _ (lacks_move (nothing_taken answer)) refl c.in-Some.ensures.value (does c.args.id.now c.args.call _ _ answer
     (rw (← c.client.view_is)
-    (moved _ (λ t t'. ScriptMoves t (move_of c.args.call) (done answer) t') c.make_move-answer.new.script
-    (subst (λ (t : Script). ScriptMoves t (move_of c.args.call) (done answer) c.make_move-answer.new.script) c.transport_mut.ensures.value c.make_move-answer.ensures)))))
+    (moved _ (λ t t'. ScriptMoves t (move_of c.args.call) (nothing_taken answer) t') c.make_move-answer.new.script
+    (subst (λ (t : Script). ScriptMoves t (move_of c.args.call) (nothing_taken answer) c.make_move-answer.new.script) c.transport_mut.ensures.value c.make_move-answer.ensures)))))
 
 pub invariant_of-self-2 : goal.invariant_of-self-2
 invariant_of-self-2 g c = slots_set _ _ _ _ _ c.self.invariant

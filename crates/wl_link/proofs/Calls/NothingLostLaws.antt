@@ -9,7 +9,7 @@ use Rattle.wl_wire.specs.declared.error.IoFault.TheVariants as fault
 use Rattle.wl_wire.specs.Message.{WireMessage, size}
 use Rattle.wl_link.specs.Exchange.{Queue, Sending, Chain, joined, nothing, IsWithinOffer}
 use Rattle.wl_link.specs.Link.{LinkState, offer_size, offer_of, left_of, AfterSend, Flushes, FlushedBy, Flushed, Put, PlacedBy, WroteBy, Wrote, spelled, has_room, ignoring, needed, Wants, Grown}
-use Rattle.wl_link.specs.Kept.{taken_by, taken, gone_by, gone, NoZero, LosesNothing, queued_by, FlushKeeps, FlushDrains, WriteKeeps}
+use Rattle.wl_link.specs.NothingLost.{taken_by, taken, gone_by, gone, NoZero, LosesNothing, queued_by, FlushKeeps, FlushDrains, WriteKeeps}
 
 take_within : (n m : ℕ) (xs : List ℕ) → n ≤ length (take m xs) → take n (take m xs) ≡ take n xs
 take_within n m xs le = sym (take-append-le n (take m xs) (drop m xs) le) ∙ ap (λ (ys : List ℕ). take n ys) (take-append-drop m xs)

@@ -1,4 +1,6 @@
-//! The place that messages are read into.
+//! The place that messages are read into, and what empties it.
+
+ghost use Rattle.std.specs.Prelude.{◌≤◌};
 
 use smallvec::SmallVec;
 use std::alloc::Global;
@@ -7,8 +9,8 @@ use wl_wire::{INLINE_ARGS, Message, Token};
 
 /// The place that messages are read into.
 ///
-/// A server keeps one, so that none is made and dropped for each message. Between two readings it has no arguments. The
-/// contracts of the server's calls do not speak of what is in it.
+/// A session keeps one, so that none is made and dropped for each message. Between two readings it has no arguments. The
+/// contracts of a session's calls do not speak of what is in it.
 #[derive(Drop)]
 pub struct MessagePlace {
     /// The message.
@@ -36,5 +38,17 @@ impl MessagePlace {
                 args: SmallVec::new(alloc),
             },
         }
+    }
+}
+
+/// Drops what is left of a message in its place, and the place's memory if it has more than the arguments that need no
+/// allocation.
+pub fn empty_place(message: &mut Message<u32, Token>)
+    ensures { INLINE_ARGS ≤ message.new.args.capacity }
+{
+    if message.args.spilled() {
+        message.args = SmallVec::new(*message.args.allocator());
+    } else {
+        message.args.clear();
     }
 }
