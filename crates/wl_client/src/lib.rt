@@ -5,21 +5,23 @@
 //! were destroyed. The page of this crate, `README.md`, has an example, and the order in which refusals are decided.
 //!
 //! The `requires` and `ensures` lines of a function are its *contract*: what the caller has to see to, and what is proved
-//! of each call. `specs/Session` says what a session holds. The contract of each call is one relation between the session
-//! before it and after it:
+//! of each call. `specs/Session` says what a session holds. The contract of most calls is one relation between the session
+//! before it and after it; that of the others, such as `take_notes`, is written out there. The `ghost use` lines at the top
+//! of a file name the files in which the words of its contracts are defined: `Rattle.wl_client.specs.Session` is
+//! `specs/Session.antt`, and `Rattle.wl_link.specs.Reader` is that file of the crate `wl_link`.
 //!
 //! | Calls | Code | Relations, in `specs/` |
 //! |---|---|---|
 //! | `connect`, `take_notes`, the limit, `transport_mut`, .. | `backend`: read it first | `Session`, `Lending` |
-//! | `send_request`, `flush` | `request`, `send_request`, `flush` | `Requests`, `Finish` |
+//! | `send_request`, `flush` | `request`, `send_request`, `flush` | `Requests`, `Steps`, `Finish` |
 //! | `next_event` | `next_event`, `message`, `event`, `arguments`, `display` | `Reading`, `Handling`, `Events`, `Cutting` |
-//! | `finish_event` | `finish_event` | `Finish`, `Cutting` |
+//! | `finish_event` | `finish_event` | `Finish`, `Steps`, `Cutting` |
 //! | `info`, `get_data`, `set_data`, `destroy_object` | `objects` | `Objects` |
 //! | `replay` | `step`, `replay` | `Steps`, `Handed`, `Named`, `Noted`, `Replies`, `Stretches` |
 //!
-//! The functions of [`laws`] do nothing. Their contracts are the laws of runs of calls. Each contract names its statement:
+//! The functions of [`laws`] do nothing. Their contracts are the laws of runs of calls, in the words of these files:
 //! `Handed` and `Named` (ids), `Noted` (notes), `Failed` (errors), `Replies` (there is one outcome), `Cutting` and
-//! `Stretches` (it does not matter how bytes are cut).
+//! `Stretches` (it does not matter how bytes are cut; the words of a reader are in `Reader` and `Served` of `wl_link`).
 #![tactic(auto)]
 
 mod arguments;

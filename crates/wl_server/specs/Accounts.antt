@@ -1,4 +1,4 @@
--- What holds of each client of a server over a run: all the laws of runs, of one and the same history of deeds.
+-- What holds of each client of a server over a run: five laws, of one and the same history of deeds.
 use Rattle.std.specs.Prelude.{List, [], ◌∷◌, ◌++◌}
 use Rattle.wl_wire.specs.Table.{InterfaceRow}
 use Rattle.wl_link.specs.Runs.{RunEntry}
@@ -13,7 +13,7 @@ use Rattle.wl_server.specs.Runs.{AreOf, IsIsolated, Leads}
 use Rattle.wl_server.specs.Server.{ServerState, new_server}
 use Rattle.wl_server.specs.Steps.{Entry}
 
--- All laws of one run: each client is alone (`Runs`), has ids of its own (`Identified`), its log is what was sent and what
+-- Of a run: each client is alone (`Runs`), has ids of its own (`Identified`), its log is what was sent and what
 -- waits (`Logged`), its registries announce what it is shown (`Announced`), and its end is noted (`NotedOnce`). All of
 -- them speak of the same deeds.
 pub record IsAccountedFor {T U G C : Type 0} (w : World T G C) (table : List InterfaceRow) (run : List (Entry T U G C)) (after : ServerState T U G C) : Type 0 where
@@ -23,12 +23,12 @@ pub record IsAccountedFor {T U G C : Type 0} (w : World T G C) (table : List Int
   pub announcements : EachAnnouncesShown w run after
   pub notes : EachIsNoted run after
 
--- these steps of a new server, with these replies, are the calls of a run of which all laws hold
+-- these steps of a new server, with these replies, are the calls of a run of which these laws hold
 abbrev pub AreAccountedFor : {T U G C : Type 0} → World T G C → List InterfaceRow → List (RunEntry (Step T U G C) (Reply T U)) → ServerState T U G C → Type 0
 AreAccountedFor {T = T} {U = U} {G = G} {C = C} w table steps after =
     (run : List (Entry T U G C)) × AreOf steps run × Leads w (new_server table) run after × IsAccountedFor w table run after
 
--- Each run of a new server that led to `before` leads, with this call after it, to `after`, and all laws hold of it.
+-- Each run of a new server that led to `before` leads, with this call after it, to `after`, and these laws hold of it.
 abbrev pub StaysAccountedFor : {T U G C : Type 0} → World T G C → ServerState T U G C → Entry T U G C → ServerState T U G C → Type 0
 StaysAccountedFor {T = T} {U = U} {G = G} {C = C} w before e after =
     (table : List InterfaceRow) (run : List (Entry T U G C)) → Leads w (new_server table) run before

@@ -14,8 +14,8 @@ pub record BackendState (T U G C : Type 0) : Type 0 where
   pub server : ServerState T U G C
   pub refused : Bool
 
--- What a public call does: it is a step with this reply. And if a run of calls of a new server led here, all the laws of
--- runs hold of that run with this call after it, if the transport takes no more than it is offered.
+-- What a public call does: it is a step with this reply. And if a run of calls of a new server led here, the laws in
+-- `IsAccountedFor` hold of that run with this call after it, if the transport takes no more than it is offered.
 pub record Calls {T U G C : Type 0} (w : World T G C) (before : BackendState T U G C) (call : Step T U G C) (answer : Reply T U) (after : BackendState T U G C) : Type 0 where
   pub step : StepOf w before.server call answer after.refused after.server
   pub accounted : IsWithinOffer w.sends → StaysAccountedFor w before.server step.0 after.server

@@ -177,7 +177,7 @@ module _ {H T U G C : Type 0} (w : World T G C) (answers : Answering H T U G C) 
 -- ---- the end of a dispatch
 
 module _ {T U G C : Type 0} (w : World T G C) (before : ServerState T U G C) (calls : List (Entry T U G C)) (after : ServerState T U G C) where
-  -- each run of a new server that led to `before` leads, with these calls after it, to `after`, and all laws hold of it
+  -- each run of a new server that led to `before` leads, with these calls after it, to `after`, and is accounted for
   abbrev pub StayAccountedFor : Type 0
   StayAccountedFor =
       (table : List InterfaceRow) (run : List (Entry T U G C)) → Leads w (new_server table) run before
@@ -189,8 +189,8 @@ module _ {T U G C : Type 0} (w : World T G C) (before : ServerState T U G C) (ca
       (earlier later : List (Entry T U G C)) (e : Entry T U G C) (found left : ServerState T U G C) → calls ≡ earlier ++ e ∷ later
       → Leads w before earlier found → OneStep w found e left → Leads w left later after → IsCut w found e left e.call
 
--- A cleanup ends the dispatch. The dispatch is a run of calls, and all the laws of runs hold of it after each run that led
--- to it. `after.refused` says whether memory was refused in its own calls; those of its handler do not count.
+-- A cleanup ends the dispatch. The dispatch is a run of calls, and `IsAccountedFor` holds of it after each run that led to
+-- it. `after.refused` says whether memory was refused in its own calls; those of its handler do not count.
 pub record EndsDispatch {T U G C : Type 0} (w : World T G C) (before : ServerState T U G C) (calls : List (Entry T U G C)) (lacked : Bool)
     (mid : ServerState T U G C) (answer result : Result ℕ IoFault) (after : BackendState T U G C) : Type 0 where
   pub cleanup : Entry T U G C

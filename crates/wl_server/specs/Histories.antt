@@ -15,7 +15,7 @@ use Rattle.wl_server.specs.Stretches.{EachPartIsCut}
 
 module _ {U G C : Type 0} (views : G → ClientParts → C → GlobalParts → Bool) where
   -- The steps with these replies are the calls of entries that lead from one value of a server to another. They extend each
-  -- history of a new server that led to the first, even if transports were changed in it: all laws of runs hold of the
+  -- history of a new server that led to the first, even if transports were changed in it: `IsAccountedFor` holds of the
   -- history with these entries after it. Cutting does not matter to any part of it, whatever the deeds of the steps are.
   pub record Extends (before : ServerState Script U G C) (steps : List (RunEntry (Step Script U G C) (Reply Script U))) (after : ServerState Script U G C) : Type 0 where
     pub run : List (Entry Script U G C)

@@ -68,7 +68,7 @@ impl<T: Transport + Drop, U: Drop, G: GlobalHandler<C> + Drop, C: Drop> Backend<
     /// After the call `memory_refused` tells of the calls that the dispatch itself makes, and not of those that the
     /// handler makes.
     ///
-    /// A dispatch is a run of calls of the server, so all laws of such runs hold of it (`laws`).
+    /// A dispatch is a run of calls of the server, so the laws of such runs (`laws`) hold of it.
     pub fn dispatch_single_client<H: Handler<T, U, G, C>>(
         &mut self,
         handler: &mut H,

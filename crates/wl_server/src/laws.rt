@@ -218,9 +218,9 @@ pub fn calls_over_scripts_are_steps<U, G: GlobalHandler<C>, C>()
         Leads (over ScriptSends ScriptReceives G.views) before run after → Leads (over_scripts G.views) before run after }
 {}
 
-/// All laws of runs hold of one history of steps over the transport by script (clause `steps`).
+/// Five laws of runs hold of one history of steps over the transport by script (clause `steps`).
 ///
-/// These laws are isolation, identity, log, announcements, and notes. They hold of every history over that transport,
+/// They are isolation, identity, log, announcements, and notes. They hold of every history over that transport,
 /// too, in which a client's transport may be changed between the steps (clause `history`).
 pub fn each_client_of_a_script_is_accounted_for<U, G: GlobalHandler<C>, C>()
     ensures history { (table : List InterfaceRow) (run : List (Entry Script U G C)) (after : ServerState Script U G C) →

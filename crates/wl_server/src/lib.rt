@@ -3,33 +3,38 @@
 //! A [`Backend`] is a server. The page of this crate, `README.md`, has an example and the order in which errors are
 //! looked for.
 //!
-//! Each call has the contract `Calls` (`specs/Backend`), which says that the call is one step of its definition.
-//! `specs/Part` has what the server holds for one client. `specs/PartStep` has one line for each call, which says what
-//! the call does to that. `specs/Steps` says what it does to the whole server. The line in `specs/PartStep` names the
-//! relation of the call:
+//! Each call that is a step has the contract `Calls` (`specs/Backend`), which says that the call is one step of its
+//! definition. `specs/Server` has what the server holds, and `specs/Part` what it holds for one client. `specs/PartStep`
+//! has one line for each call, which says what the call does to that. `specs/Steps` says what it does to the whole server.
+//! The line in `specs/PartStep` names the relation of the call. A dispatch is many steps, and a look-up is none: they have
+//! contracts of their own.
+//!
+//! The `ghost use` lines at the top of a file name the files in which the words of its contracts are defined:
+//! `Rattle.wl_server.specs.Part` is `specs/Part.antt`, and `Rattle.wl_link.specs.Link` is that file of the crate `wl_link`.
 //!
 //! | Calls | Code | Relations, in `specs/` |
 //! |---|---|---|
-//! | `insert_client`, `kill_client`, `flush`, the limits, `transport_mut` | `client` | `PartStep`, `Felt`, `Telling` |
+//! | `insert_client`, `kill_client`, `flush`, the limits | `client::insert`, `client::kill`, `client::flush`, `client::limits` | `PartStep`, `Felt`, `Telling` |
+//! | `transport_mut` | `client::transport` | `Backend`, `Lending` |
 //! | `create_object`, `destroy_object`, `set_object_data` | `objects` | `Objects` |
 //! | `send_event`, `post_error` | `events` | `Events`, `Errors`, `Posted` |
-//! | `next_action`, `next_action_within` | `reading` | `Reading`, `Requests`, `Cutting`, `Room` |
+//! | `next_action`, `next_action_within` | `reading::next_action` | `Reading`, `Requests`, `Cutting`, `Room` |
 //! | `finish_request`, `finish_bind` | `reading::finish` | `Finish`, `Cutting` |
 //! | `dispatch_single_client`, `dispatch_all_clients`, [`Handler`] | `dispatch` | `Dispatch`, `Reached` |
-//! | `create_global`, `disable_global`, `remove_global` | `globals` | `Globals`, `Felt` |
+//! | `create_global`, `disable_global`, `remove_global` | `globals::create_global`, `globals::remove_global` | `PartStep`, `Globals`, `Felt` |
 //! | `cleanup`, `take_notes` | `notes` | `PartStep`, `Felt` |
 //! | look-ups, `with_all_clients`, `with_all_objects_for` | `lookups`, `globals::lookups` | `Lookups` |
-//! | `replay` | `runs` | `Runs`, `Histories` |
+//! | `replay` | `runs::replay` | `Runs`, `Histories`, `WholeOutcome` |
 //!
 //! The calls that programs use most have a second clause, `plain`. It says what the program finds of the object, the
 //! client or the notes after the call, in the words of the look-ups (`specs/Plain`). It follows from `Calls`.
 //!
 //! The laws of runs are the contracts of the functions of [`laws`]. A *run* is a list of calls, one after another. The
-//! statement of each law stands in a file of `specs/`: `Runs` (each client is alone), `Identified` and `Named` (ids),
-//! `Logged` (what was sent), `Announced` (globals), `NotedOnce` and `NotedEnds` (notes), `Accounts` (all of these of one
-//! history), `Cutting` and `Stretches` (it does not matter how the bytes are cut into receives), `Outcome` and
-//! `WholeOutcome` (there is one outcome), `Bounded` (how often is received). That a message always has room in the buffer
-//! (`Room`) is a clause of `next_action` itself.
+//! words of each law stand in a file of `specs/`: `Runs` (each client is alone), `Identified` (ids), `Logged` (what was
+//! sent), `Announced` (globals), `NotedOnce` (notes), `Accounts` (these five, of one history), `Named` (what any id names),
+//! `NotedEnds` (which objects notes tell of), `Cutting` and `Stretches` (it does not matter how the bytes are cut into
+//! receives), `Outcome` and `WholeOutcome` (there is one outcome), `Bounded` (how often is received). That a message
+//! always has room in the buffer (`Room`) is a clause of `next_action` itself.
 #![tactic(auto)]
 
 mod backend;
