@@ -87,8 +87,8 @@ module _ {U : Type 0} where
   has_data (Some x) = is_some x.value.user_data
 
   -- there may be no memory for the note of an object that the event ends
-  abbrev pub finished : Core U → OpenEvent → Option U → Verdict (Core U) SessionMessage
-  finished c event u = record {
+  abbrev pub finish_verdict : Core U → OpenEvent → Option U → Verdict (Core U) SessionMessage
+  finish_verdict c event u = record {
     core = core_finished c event u;
     puts = [];
     flushes = false;
@@ -100,7 +100,7 @@ module _ {U : Type 0} where
 
   -- the verdict if an event is finished with these data; `None` if no event is open, or they do not fit
   abbrev pub finish : Core U → Option WaylandError → Option OpenEvent → Option U → Option (Verdict (Core U) SessionMessage)
-  finish c None (Some event) u = if is_none (refusal event.created u) then Some (finished c event u) else None
+  finish c None (Some event) u = if is_none (refusal event.created u) then Some (finish_verdict c event u) else None
   finish c _ _ u = None
 
   -- ---- the reader

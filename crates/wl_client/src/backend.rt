@@ -46,7 +46,7 @@ pub struct Backend<T, U> {
     pub(crate) notes: Vec<Note>,
     /// Whether memory was refused in the last call that took `&mut self`.
     pub(crate) refused: bool,
-    /// The message that is being read. It is kept here so that none is made and dropped for each message.
+    /// The message that is being read. It is kept here, so that no new one is made for each message.
     pub(crate) place: MessagePlace,
 }
 

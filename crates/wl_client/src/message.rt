@@ -28,7 +28,7 @@ use crate::objects::Kept;
 use crate::protocol_error::{EventFault, fault_text, told_error};
 use smallvec::SmallVec;
 use std::alloc::Global;
-use wl_link::{BufferedSocket, ObjectMap, Transport, empty_place};
+use wl_link::{BufferedSocket, ObjectMap, Transport, clear_message};
 use wl_wire::{
     Argument, INLINE_ARGS, IoFault, Message, MessageDesc, MessageParseError, OutOfMemory, Protocol,
     ProtocolError, Text, Token,
@@ -286,7 +286,7 @@ impl<T: Transport + Drop, U: Drop> Backend<T, U> {
             &mut self.place.message,
             event,
         );
-        empty_place(&mut self.place.message);
+        clear_message(&mut self.place.message);
         match handled {
             Ok(end) => end,
             Err(error) => self.not_taken(error),

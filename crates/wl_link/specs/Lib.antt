@@ -8,7 +8,7 @@ pub mod ScriptLaws
 pub mod Link
 pub mod Lending
 pub mod Refusals
--- Laws of a link: what is kept, what is read back, that there is one outcome.
+-- Laws of a link: that nothing is lost, what is read back, that there is one outcome.
 pub mod NothingLost
 pub mod Outcome
 pub mod Sides

@@ -8,6 +8,7 @@
 //! | Calls | Code | Definitions, in `specs/` |
 //! |---|---|---|
 //! | of a `BufferedSocket` | `buffered_socket` | `Link`, `NothingLost` |
+//! | of a `MessagePlace`, into which messages are read | `message_place` | none |
 //! | of a `Transport`, and of `Memory`, the transport by script | `transport`, `memory` | `Exchange`, `Script` |
 //! | of an `ObjectMap`, and of `AllObjects` and `IntoObjects`, the walks over it | `object_map`, `all_objects`, `into_objects` | `Store`, `ObjectMap` |
 //!
@@ -44,7 +45,7 @@ pub use buffered_socket::BufferedSocket;
 pub use into_objects::IntoObjects;
 pub use limit::{DEFAULT_MAX_BUFFER_SIZE, INCOMING_LIMIT};
 pub use memory::{ArriveError, Memory};
-pub use message_place::{MessagePlace, empty_place};
+pub use message_place::{MessagePlace, clear_message};
 pub use object::Object;
 pub use object_map::{InsertError, NewError, ObjectMap, SERVER_ID_LIMIT};
 pub use transport::{MAX_BYTES_OUT, MAX_FDS_OUT, Transport};

@@ -1,6 +1,7 @@
-//! The place that messages are read into, and what empties it.
+//! The place that messages are read into, and the call that clears a message.
 
-ghost use Rattle.std.specs.Prelude.{◌≤◌};
+ghost use Rattle.std.specs.Prelude.{◌≡◌, []};
+ghost use Rattle.wl_wire.specs.declared.message.TheConstants.{INLINE_ARGS};
 
 use smallvec::SmallVec;
 use std::alloc::Global;
@@ -9,8 +10,9 @@ use wl_wire::{INLINE_ARGS, Message, Token};
 
 /// The place that messages are read into.
 ///
-/// A session keeps one, so that none is made and dropped for each message. Between two readings it has no arguments. The
-/// contracts of a session's calls do not speak of what is in it.
+/// A program that reads many messages keeps one place, so that no message is made and dropped for each read. The place always
+/// has the capacity that [`read_into`](crate::BufferedSocket::read_into) needs. Contracts do not speak of what is in it: the
+/// message counts as no part of what its owner holds.
 #[derive(Drop)]
 pub struct MessagePlace {
     /// The message.
@@ -41,10 +43,13 @@ impl MessagePlace {
     }
 }
 
-/// Drops what is left of a message in its place, and the place's memory if it has more than the arguments that need no
-/// allocation.
-pub fn empty_place(message: &mut Message<u32, Token>)
-    ensures { INLINE_ARGS ≤ message.new.args.capacity }
+/// Drops the arguments of a message. If their memory was allocated, it is freed, so that the next message is again read into
+/// the places that need none. The sender and the opcode stay.
+pub fn clear_message(message: &mut Message<u32, Token>)
+    ensures args { message.new.args.items ≡ [] }
+    ensures capacity { message.new.args.capacity ≡ INLINE_ARGS }
+    ensures sender { message.new.sender_id ≡ message.old.sender_id }
+    ensures opcode { message.new.opcode ≡ message.old.opcode }
 {
     if message.args.spilled() {
         message.args = SmallVec::new(*message.args.allocator());

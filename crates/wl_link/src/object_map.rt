@@ -80,11 +80,11 @@ impl<Data> Model for ObjectMap<Data> {
 
     ghost coded = { map_code Data.code };
 
-    ghost use Rattle.wl_link.specs.Inside.PlaceList.{has_place_room, store_of, Whole};
+    ghost use Rattle.wl_link.specs.Inside.PlaceList.{has_place_capacity, store_of, Whole};
 
     ghost view = { λ m. record {
       store = store_of m.clients.slots.items m.servers.slots.items;
-      reserved = has_place_room m.clients.slots m.clients.free.levels && has_place_room m.servers.slots m.servers.free.levels;
+      reserved = has_place_capacity m.clients.slots m.clients.free.levels && has_place_capacity m.servers.slots m.servers.free.levels;
       words_read = m.words_read;
     } };
 

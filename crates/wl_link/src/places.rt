@@ -4,7 +4,7 @@
 
 ghost use Rattle.std.specs.Prelude.{◌≡◌, ◌+◌, ◌<◌, ◌≤◌, [], length, true, false, None, Some, Err, OnOk, OnErr, IsSome, option_copied};
 ghost use Rattle.std.specs.Fn.{FnOnceReturnsAtMut};
-ghost use Rattle.wl_link.specs.Inside.PlaceList.{place, put_len, has_place_room, SetsPlace, PutsAt, PutsNew, LendsAt, IsFirstFree, ShowsFree, WordsReadIn, ReadsFew, entries_from};
+ghost use Rattle.wl_link.specs.Inside.PlaceList.{place, put_len, has_place_capacity, SetsPlace, PutsAt, PutsNew, LendsAt, IsFirstFree, ShowsFree, WordsReadIn, ReadsFew, entries_from};
 ghost use Rattle.wl_link.specs.declared.object_map.InsertError.TheVariants as insert;
 ghost use Rattle.wl_link.specs.declared.object_map.NewError.TheVariants as new;
 
@@ -68,7 +68,7 @@ impl<Data: Drop> Places<Data> {
         ensures found { result ≡ place self.old.slots.items at }
         ensures places { SetsPlace self.old.slots.items at None self.new.slots.items }
         ensures len { length self.new.slots.items ≡ length self.old.slots.items }
-        ensures room { has_place_room self.new.slots self.new.free.levels ≡ has_place_room self.old.slots self.old.free.levels }
+        ensures room { has_place_capacity self.new.slots self.new.free.levels ≡ has_place_capacity self.old.slots self.old.free.levels }
     {
         if at < self.slots.len() {
             let object = self.slots[at].take();
@@ -89,7 +89,7 @@ impl<Data: Drop> Places<Data> {
         ensures len { OnOk result (length self.new.slots.items ≡ put_len at (length self.old.slots.items)) }
         ensures err { OnErr result (self.new.slots.items ≡ self.old.slots.items) }
         ensures grows { OnErr result (at ≡ length self.old.slots.items) }
-        ensures full { OnErr result (has_place_room self.old.slots self.old.free.levels ≡ false) }
+        ensures full { OnErr result (has_place_capacity self.old.slots self.old.free.levels ≡ false) }
     {
         if at < self.slots.len() {
             self.slots[at] = Some(object);
@@ -111,7 +111,7 @@ impl<Data: Drop> Places<Data> {
         ensures places { OnOk result (SetsPlace self.old.slots.items at (Some object) self.new.slots.items) }
         ensures len { OnOk result (length self.new.slots.items ≡ put_len at (length self.old.slots.items)) }
         ensures err { OnErr result (self.new.slots.items ≡ self.old.slots.items) }
-        ensures full { OnErr result (has_place_room self.old.slots self.old.free.levels ≡ false) }
+        ensures full { OnErr result (has_place_capacity self.old.slots self.old.free.levels ≡ false) }
     {
         self.free.reserve()?;
         self.slots.push(Some(object))?;
@@ -127,8 +127,8 @@ impl<Data: Drop> Places<Data> {
         requires free { ShowsFree self.old.slots.items self.old.free.levels.items }
         ensures free { ShowsFree self.new.slots.items self.new.free.levels.items }
         ensures places { PutsAt self.old.slots.items at object result self.new.slots.items }
-        ensures full { result ≡ Err insert.OutOfMemory → has_place_room self.old.slots self.old.free.levels ≡ false }
-        ensures kept { OnErr result (has_place_room self.old.slots self.old.free.levels ≡ true → has_place_room self.new.slots self.new.free.levels ≡ true) }
+        ensures full { result ≡ Err insert.OutOfMemory → has_place_capacity self.old.slots self.old.free.levels ≡ false }
+        ensures kept { OnErr result (has_place_capacity self.old.slots self.old.free.levels ≡ true → has_place_capacity self.new.slots self.new.free.levels ≡ true) }
     {
         if at > self.slots.len() || self.find(at).is_some() {
             return Err(InsertError::NotFree);
@@ -155,9 +155,9 @@ impl<Data: Drop> Places<Data> {
         requires free { ShowsFree self.old.slots.items self.old.free.levels.items }
         ensures free { ShowsFree self.new.slots.items self.new.free.levels.items }
         ensures places { PutsNew self.old.slots.items first end object result self.new.slots.items }
-        ensures full { result ≡ Err new.OutOfMemory → has_place_room self.old.slots self.old.free.levels ≡ false }
-        ensures kept { OnErr result (has_place_room self.old.slots self.old.free.levels ≡ true
-            → has_place_room self.new.slots self.new.free.levels ≡ true) }
+        ensures full { result ≡ Err new.OutOfMemory → has_place_capacity self.old.slots self.old.free.levels ≡ false }
+        ensures kept { OnErr result (has_place_capacity self.old.slots self.old.free.levels ≡ true
+            → has_place_capacity self.new.slots self.new.free.levels ≡ true) }
         ensures words_read { WordsReadIn self.old.slots.items words_read.new }
         ensures few_words { ReadsFew self.old.slots.items words_read.new }
     {
@@ -191,7 +191,7 @@ impl<Data: Drop> Places<Data> {
         ensures free { ShowsFree self.new.slots.items self.new.free.levels.items }
         ensures called { LendsAt (FnOnceReturnsAtMut F.FnOnce f) self.old.slots.items at result self.new.slots.items }
         ensures len { length self.new.slots.items ≡ length self.old.slots.items }
-        ensures room { has_place_room self.new.slots self.new.free.levels ≡ has_place_room self.old.slots self.old.free.levels }
+        ensures room { has_place_capacity self.new.slots self.new.free.levels ≡ has_place_capacity self.old.slots self.old.free.levels }
     {
         if at < self.slots.len() {
             match &mut self.slots[at] {
@@ -208,8 +208,8 @@ impl<Data: Drop> Places<Data> {
         requires { ShowsFree self.old.slots.items self.old.free.levels.items }
         ensures free { ShowsFree self.new.slots.items self.new.free.levels.items }
         ensures items { self.new.slots.items ≡ self.old.slots.items }
-        ensures ok { OnOk result (has_place_room self.new.slots self.new.free.levels ≡ true) }
-        ensures err { OnErr result (has_place_room self.old.slots self.old.free.levels ≡ false) }
+        ensures ok { OnOk result (has_place_capacity self.new.slots self.new.free.levels ≡ true) }
+        ensures err { OnErr result (has_place_capacity self.old.slots self.old.free.levels ≡ false) }
     {
         self.free.reserve()?;
         self.slots.reserve(1)?;

@@ -50,7 +50,7 @@ pub struct Backend<T, U, G, C> {
     pub(crate) numbers: NoteNumbers,
     /// What `memory_refused` returns.
     pub(crate) refused: bool,
-    /// The message that is being read. It is kept here so that none is made and dropped for each message.
+    /// The message that is being read. It is kept here, so that no new one is made for each message.
     pub(crate) place: MessagePlace,
 }
 

@@ -69,6 +69,14 @@ impl CString {
         self.bytes.as_slice()
     }
 
+    /// The bytes, with their memory. It allocates nothing.
+    pub fn into_bytes(self) -> Vec<u8>
+        ensures bytes { result.items ≡ self }
+        ensures no_zero { HasNoZero self }
+    {
+        self.bytes
+    }
+
     /// The bytes as text, with U+FFFD in place of each piece that is not UTF-8.
     ///
     /// The error is `OutOfMemory` if there is no memory for the text.

@@ -668,13 +668,13 @@ module _ {T U : Type 0} where
       go None e = idle s
       go (Some x) e = (wrote (holding s) id.number (with_user_data u x) x (named_held s.store id x e) refl refl, λ failed. failed)
 
-  closes : (s : SessionState T U) (event : OpenEvent) (u : Option U) (answer : _) (after : SessionState T U) → FinishesEvent s event u answer after → Moves s [] after
-  closes s event u answer after (inl (is, same)) =
-      let shut : SessionState T U = record s { open_event = None } in
-      let ended = with_core s (after_destructor (core_of shut) event) in
+  finishes_event : (s : SessionState T U) (event : OpenEvent) (u : Option U) (answer : _) (after : SessionState T U) → FinishesEvent s event u answer after → Moves s [] after
+  finishes_event s event u answer after (inl (is, same)) =
+      let unopened : SessionState T U = record s { open_event = None } in
+      let ended = with_core s (after_destructor (core_of unopened) event) in
       quiet s _ after same
-      (both_move s ended (with_core s (with_data_for (core_of ended) event.created u)) [] [] (destructor shut event) (gives_data ended event.created u))
-  closes s event u answer after (inr (ends_sender, (is, same))) = quiet s s after same (idle s)
+      (both_move s ended (with_core s (with_data_for (core_of ended) event.created u)) [] [] (destructor unopened event) (gives_data ended event.created u))
+  finishes_event s event u answer after (inr (ends_sender, (is, same))) = quiet s s after same (idle s)
 
   finishes : (s : SessionState T U) (u : Option U) (answer : _) (after : SessionState T U) → Finishes s u answer after → Moves s [] after
   finishes s u answer after h =
@@ -682,7 +682,7 @@ module _ {T U : Type 0} where
         | inl (none, (is, same)) ↦ quiet s s after same (idle s)
         | inr (event, some, g) ↦
             elim (either_option (refusal event.created u) g) [
-              | inl (none, end) ↦ closes s event u answer after end
+              | inl (none, end) ↦ finishes_event s event u answer after end
               | inr (e, why, (is, same)) ↦ quiet s s after same (idle s)
             ]
       ]

@@ -155,10 +155,10 @@ module _ {T U : Type 0} where
 
   module _ (s : SessionState T U) (u : Option U) (a b : Result (Unit {0}) (FinishRefused U)) (x y : SessionState T U)
       (unasked : false ≡ refused_finish a) (unasked' : false ≡ refused_finish b) where
-    closes_one : (event : OpenEvent) → FinishesEvent s event u a x → FinishesEvent s event u b y → SameEnd a b x y
-    closes_one event (inl (is, same)) (inl (is', same')) = same_end is is' same same'
-    closes_one event (inr (notes, (is, same))) other = absurd (not_refused _ unasked (ap refused_finish is))
-    closes_one event (inl h) (inr (notes, (is, same))) = absurd (not_refused _ unasked' (ap refused_finish is))
+    event_finishes_one : (event : OpenEvent) → FinishesEvent s event u a x → FinishesEvent s event u b y → SameEnd a b x y
+    event_finishes_one event (inl (is, same)) (inl (is', same')) = same_end is is' same same'
+    event_finishes_one event (inr (notes, (is, same))) other = absurd (not_refused _ unasked (ap refused_finish is))
+    event_finishes_one event (inl h) (inr (notes, (is, same))) = absurd (not_refused _ unasked' (ap refused_finish is))
 
     finishes_one : Finishes s u a x → Finishes s u b y → SameEnd a b x y
     finishes_one h g =
@@ -166,7 +166,7 @@ module _ {T U : Type 0} where
           | inl (none, (is, same), (is', same')) ↦ same_end is is' same same'
           | inr (event, some, h', g') ↦
               elim (both_option (refusal event.created u) h' g') [
-                | inl (none, end, end') ↦ closes_one event end end'
+                | inl (none, end, end') ↦ event_finishes_one event end end'
                 | inr (e, why, (is, same), (is', same')) ↦ same_end is is' same same'
               ]
         ]

@@ -30,7 +30,7 @@ use Rattle.wl_client.specs.Cutting.{CutsFinish, CutsReading, GoesOn, IsServed, n
 use Rattle.wl_client.specs.Events.{error_of}
 use Rattle.wl_client.specs.Handling.{Handling, Swallows, HandsOut, Breaks, handed, handling}
 use Rattle.wl_client.specs.Finish.{FinishesEvent, Finishes, core_finished, refusal}
-use Rattle.wl_client.specs.Reading.{NextEvent, answered, core_after, client, faulted, finish, finished, handed_by, objects_in, reader_state_of, receives_allowed, starved_to, verdict}
+use Rattle.wl_client.specs.Reading.{NextEvent, answered, core_after, client, faulted, finish, finish_verdict, handed_by, objects_in, reader_state_of, receives_allowed, starved_to, verdict}
 use Rattle.wl_client.specs.Requests.{SessionMessage}
 use Rattle.wl_client.specs.Session.{Core, SessionState, core_of, with_core}
 use Rattle.wl_link.specs.Identity.{Objects}
@@ -229,21 +229,21 @@ refused_not : {U : Type 0} (e : FinishRefused U) → ◌≡◌ {A = Result (Unit
 refused_not e same = true≢false (ap is_ok same)
 
 module _ {T U : Type 0} where
-  -- an accepted finish closes the event
-  abbrev pub Shuts : SessionState T U → Option U → SessionState T U → Type 0
-  Shuts s u after = (event : OpenEvent) × (s.open_event ≡ Some event) × (refusal event.created u ≡ None) × (after ≡ with_core s (core_finished (core_of s) event u))
+  -- an accepted finish leaves no event open
+  abbrev pub IsFinished : SessionState T U → Option U → SessionState T U → Type 0
+  IsFinished s u after = (event : OpenEvent) × (s.open_event ≡ Some event) × (refusal event.created u ≡ None) × (after ≡ with_core s (core_finished (core_of s) event u))
 
-  closes_as : (s after : SessionState T U) (event : OpenEvent) (u : Option U) → FinishesEvent s event u (Ok tt) after → after ≡ with_core s (core_finished (core_of s) event u)
-  closes_as s after event u (inl (is, same)) = same
-  closes_as s after event u (inr (notes, (is, same))) = absurd (refused_not _ is)
+  finishes_as : (s after : SessionState T U) (event : OpenEvent) (u : Option U) → FinishesEvent s event u (Ok tt) after → after ≡ with_core s (core_finished (core_of s) event u)
+  finishes_as s after event u (inl (is, same)) = same
+  finishes_as s after event u (inr (notes, (is, same))) = absurd (refused_not _ is)
 
-  pub finish_as : (s after : SessionState T U) (u : Option U) → Finishes s u (Ok tt) after → Shuts s u after
+  pub finish_as : (s after : SessionState T U) (u : Option U) → Finishes s u (Ok tt) after → IsFinished s u after
   finish_as s after u h =
       elim (both_option s.open_event h h) [
         | inl (none, (is, same), again) ↦ absurd (refused_not _ is)
         | inr (event, some, g, again) ↦
             elim (both_option (refusal event.created u) g g) [
-              | inl (fits, end, again) ↦ (event, some, fits, closes_as s after event u end)
+              | inl (fits, end, again) ↦ (event, some, fits, finishes_as s after event u end)
               | inr (e, why, (is, same), again) ↦ absurd (refused_not _ is)
             ]
       ]
@@ -254,7 +254,7 @@ module _ {T U : Type 0} where
   finish_ends sends s after u live h =
       let (event, some, fits, same) = finish_as s after u h in
       let is = ap reader_state_of same in
-      let v : Verdict (Core U) SessionMessage = finished (core_of s) event u in
+      let v : Verdict (Core U) SessionMessage = finish_verdict (core_of s) event u in
       let takes : finish (core_of s) s.error s.open_event u ≡ Some v
       = ap₂ (λ (e : Option WaylandError) (o : Option OpenEvent). finish (core_of s) e o u) live some
       ∙ ap (λ (r : Option FinishError). let o : Option (Verdict (Core U) SessionMessage) = cond (is_none r) (Some v) None in o) fits in (
@@ -280,9 +280,9 @@ module _ {U : Type 0} where
   shut_verdict c None None u v is = absurd (none_some v is)
   shut_verdict c None (Some event) u v is = go (is_none (refusal event.created u)) is
     where
-      go : (b : Bool) → cond b (Some (finished c event u)) None ≡ Some v → (v.puts ≡ []) × (v.flushes ≡ false)
+      go : (b : Bool) → cond b (Some (finish_verdict c event u)) None ≡ Some v → (v.puts ≡ []) × (v.flushes ≡ false)
       go true same =
-          let w : finished c event u ≡ v = same_Some (finished c event u) v same in
+          let w : finish_verdict c event u ≡ v = same_Some (finish_verdict c event u) v same in
           (ap (λ (x : Verdict (Core U) SessionMessage). x.puts) (sym w), ap (λ (x : Verdict (Core U) SessionMessage). x.flushes) (sym w))
       go false same = absurd (none_some v same)
 

@@ -25,7 +25,7 @@ use Rattle.wl_client.specs.ObjectId.{IdParts}
 use Rattle.wl_client.specs.Events.{error_of}
 use Rattle.wl_client.specs.Finish.{core_finished, refusal, with_data_for, with_dead}
 use Rattle.wl_client.specs.Handling.{Handling, Swallows, HandsOut, Breaks, handling}
-use Rattle.wl_client.specs.Reading.{EndsWithRoom, NextEvent, core_after, client, finish, finished, objects_in, reader_state_of, starved_to, verdict}
+use Rattle.wl_client.specs.Reading.{EndsWithRoom, NextEvent, core_after, client, finish, finish_verdict, objects_in, reader_state_of, starved_to, verdict}
 use Rattle.wl_client.proofs.OverRuns.ReadingLaws.{keeps}
 use Rattle.wl_client.specs.Requests.{SessionMessage}
 use Rattle.wl_client.specs.Session.{Core, SessionState, named}
@@ -41,9 +41,9 @@ fed_blocks : (r : Result Queue IoFault) (f : IoFault) → IsFed r → counted_an
 fed_blocks (Ok q) f some is = absurd (true≢false (ap is_ok (sym (byte_came q some) ∙ is)))
 fed_blocks (Err g) f would is = let same : g ≡ f = cc in sym same ∙ would
 
--- an accepted finish closes the event, and keeps the error
-pub closed_keeps : {U : Type 0} (c : Core U) (event : OpenEvent) (u : Option U) → ((core_finished c event u).error ≡ c.error) × ((core_finished c event u).open_event ≡ None)
-closed_keeps {U = U} c event u = at event.is_destructor (named c.store event.sender) event.created u
+-- an accepted finish leaves no event open, and keeps the error
+pub finish_keeps : {U : Type 0} (c : Core U) (event : OpenEvent) (u : Option U) → ((core_finished c event u).error ≡ c.error) × ((core_finished c event u).open_event ≡ None)
+finish_keeps {U = U} c event u = at event.is_destructor (named c.store event.sender) event.created u
   where
     shut : Core U
     shut = record c { open_event = None }
@@ -151,10 +151,10 @@ module _ {T U : Type 0} (sends : T → Queue → Result ℕ IoFault → T → Ty
   shut_error c None None u v is = absurd (true≢false (ap is_none is))
   shut_error c None (Some event) u v is = go (is_none (refusal event.created u)) is
     where
-      go : (b : Bool) → cond b (Some (finished c event u)) None ≡ Some v → (v.puts ≡ []) × ((v.last v.core).error ≡ c.error) × (v.starved.error ≡ c.error)
+      go : (b : Bool) → cond b (Some (finish_verdict c event u)) None ≡ Some v → (v.puts ≡ []) × ((v.last v.core).error ≡ c.error) × (v.starved.error ≡ c.error)
       go true same =
-          let w : finished c event u ≡ v = same_Some (finished c event u) v same in
-          subst (λ (x : Verdict (Core U) SessionMessage). (x.puts ≡ []) × ((x.last x.core).error ≡ c.error) × (x.starved.error ≡ c.error)) w (refl, (closed_keeps c event u).0, refl)
+          let w : finish_verdict c event u ≡ v = same_Some (finish_verdict c event u) v same in
+          subst (λ (x : Verdict (Core U) SessionMessage). (x.puts ≡ []) × ((x.last x.core).error ≡ c.error) × (x.starved.error ≡ c.error)) w (refl, (finish_keeps c event u).0, refl)
       go false same = absurd (true≢false (ap is_none same))
 
   pub end_keeps : (p after : ReaderState T (Core U)) (u : Option U) (es : List Sending) (gave : List (Given SessionMessage)) → Ends sends client p u es gave false after

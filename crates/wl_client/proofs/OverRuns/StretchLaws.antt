@@ -37,7 +37,7 @@ use Rattle.wl_client.specs.Handling.{Handling, Swallows, HandsOut, Breaks, handl
 use Rattle.wl_client.specs.Reading.{NextEvent, answered, client, event_content, faulted, handed_by, objects_in, reader_state_of, reads_on, receives_allowed, verdict}
 use Rattle.wl_client.proofs.OverRuns.ReadingLaws.{finish_as, finish_ends, keeps}
 use Rattle.wl_client.specs.Requests.{SessionMessage}
-use Rattle.wl_client.proofs.OverRuns.RoomLaws.{NotEndedByPipe, closed_keeps, end_keeps, fed_keeps}
+use Rattle.wl_client.proofs.OverRuns.RoomLaws.{NotEndedByPipe, finish_keeps, end_keeps, fed_keeps}
 use Rattle.wl_client.specs.Session.{Core, SessionState, core_of}
 use Rattle.wl_client.specs.Steps.{Entry, Leads, StepOf}
 use Rattle.wl_client.specs.Stretches.{AllHeard, EachPartIsCut, EndsWaiting, IsHeard, IsRunServed, IsStretch, IsStretchWithin, SameLeft, arrived, arrived_by, events_by, events_of, finished, finished_by, if_accepted, left_in}
@@ -207,13 +207,13 @@ module _ {U : Type 0} where
   finish_acts s mid u answer is h (inl live) =
       let (event, some, fits, same) = finish_as s mid u h in
       acts_ended s mid (step.FinishEvent u) answer u live h
-      (inr (ap (λ (x : SessionState Script U). x.open_event) same ∙ (closed_keeps (core_of s) event u).1))
+      (inr (ap (λ (x : SessionState Script U). x.open_event) same ∙ (finish_keeps (core_of s) event u).1))
       refl (ap (λ (a : Reply U). if_accepted u a) is) (ap events_by is)
       (λ w. let e : ◌≡◌ {A = Reply U} (reply.FinishEvent (Ok tt)) (reply.NextEvent (Err no_event.WouldBlock)) = sym is ∙ w in cc)
 
-  closes_refused : (s mid : SessionState Script U) (event : OpenEvent) (u : Option U) (e : FinishRefused U) → FinishesEvent s event u (Err e) mid → mid ≡ s
-  closes_refused s mid event u e (inl (is, same)) = absurd (true≢false (sym (ap is_ok is)))
-  closes_refused s mid event u e (inr (notes, (is, same))) = same
+  finishes_refused : (s mid : SessionState Script U) (event : OpenEvent) (u : Option U) (e : FinishRefused U) → FinishesEvent s event u (Err e) mid → mid ≡ s
+  finishes_refused s mid event u e (inl (is, same)) = absurd (true≢false (sym (ap is_ok is)))
+  finishes_refused s mid event u e (inr (notes, (is, same))) = same
 
   refused_same : (s mid : SessionState Script U) (u : Option U) (e : FinishRefused U) → Finishes s u (Err e) mid → mid ≡ s
   refused_same s mid u e h =
@@ -221,7 +221,7 @@ module _ {U : Type 0} where
         | inl (none, (is, same), again) ↦ same
         | inr (event, some, g, again) ↦
             elim (both_option (refusal event.created u) g g) [
-              | inl (fits, end, _) ↦ closes_refused s mid event u e end
+              | inl (fits, end, _) ↦ finishes_refused s mid event u e end
               | inr (error, why, (is, same), _) ↦ same
             ]
       ]

@@ -86,8 +86,8 @@ module _ {A : Type 0} where
   ReadsFew places read = (most : ℕ) → 0 < most → length places ≤ 64 ^ most → read ≤ most
 
 -- whether there is capacity for one place more
-abbrev pub has_place_room : {A Y Z X : Type 0} → Vec A Y → Vec (Vec ℕ Z) X → Bool
-has_place_room slots levels = has_capacity slots && is_ready levels.items
+abbrev pub has_place_capacity : {A Y Z X : Type 0} → Vec A Y → Vec (Vec ℕ Z) X → Bool
+has_place_capacity slots levels = has_capacity slots && is_ready levels.items
 
 -- ---- both ranges
 

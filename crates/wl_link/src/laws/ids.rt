@@ -6,7 +6,7 @@
 ghost use Rattle.std.specs.Prelude.{ℕ, Bool};
 ghost use Rattle.wl_link.specs.Identity.{EndsOnceLaw, IdentityLaw};
 ghost use Rattle.wl_link.specs.Named.{NamedLaw, NoneAgainLaw};
-ghost use Rattle.wl_link.specs.declared.object.Object.{Object as HeldObject};
+ghost use Rattle.wl_link.specs.declared.object.Object.{Object};
 
 /// The identity law: an id names the object that it was made of, as long as that object is kept, and then none.
 ///
@@ -30,5 +30,5 @@ pub fn each_id_that_names_an_object_keeps_it<Data>()
 ///
 /// The objects have a flag that says whether they are over. The law also holds if only some of the objects are counted.
 pub fn no_object_ends_twice<Data>()
-    ensures { (serial_of : Data → ℕ) (is_over : Data → Bool) (counts : HeldObject Data → Bool) → EndsOnceLaw serial_of is_over counts }
+    ensures { (serial_of : Data → ℕ) (is_over : Data → Bool) (counts : Object Data → Bool) → EndsOnceLaw serial_of is_over counts }
 {}

@@ -482,7 +482,7 @@ module _ {T U G C : Type 0} (w : World T G C) (before after : BackendState T U G
   ended_as p q lacked did e there same =
       let now : (seen target after.server).part ≡ Some q = ap (λ (x : Seen T U C). x.part) same in
       let o : Option (Object (Kept U)) = ended_by p.store e.sender e.is_destructor in
-      let (store, closed) = ended_part w.sends target u p q e.sender e.created o lacked did (was_taken u lacked e.answer_is) e.tells in
+      let (store, none_open) = ended_part w.sends target u p q e.sender e.created o lacked did (was_taken u lacked e.answer_is) e.tells in
       let left : Store (Kept U) = left_by p.store e.sender.number o in
       let found : (id : IdParts) → and_then (seen target after.server).part (λ p. named p.store id) ≡ named (store_with_data left e.created u) id =
       λ id. ap (λ (x : Option (Part T U C)). and_then x (λ p. named p.store id)) now ∙ ap (λ (s : Store (Kept U)). named s id) store in
@@ -490,7 +490,7 @@ module _ {T U G C : Type 0} (w : World T G C) (before after : BackendState T U G
       λ id. ap (λ (x : Option (Part T U C)). and_then x (λ p. named p.store id)) there in
       record {
         was_open = ap (λ (x : Option (Part T U C)). and_then x (λ p. p.action)) there ∙ e.was_open;
-        is_finished = ap (λ (x : Option (Part T U C)). and_then x (λ p. p.action)) now ∙ closed;
+        is_finished = ap (λ (x : Option (Part T U C)). and_then x (λ p. p.action)) now ∙ none_open;
         fits = data_fit p there e.created e.fits;
         gone = λ ends. found e.sender ∙ made_none left e.created u e.sender (sender_gone p.store e.sender e.is_destructor o refl ends);
         made = λ id is differ.

@@ -70,10 +70,10 @@ module _ {T U C : Type 0} (s : Stored T U C) (u : U) where
 
   pub a_bind : (object : IdParts) (after : Stored T U C) → s.part.action ≡ Some (opened.Bind object)
       → after ≡ record s { part = part_finished s.part (Some object) (Some u) } → BindDoes (Ok tt) after
-  a_bind object after is closed = (
+  a_bind object after is part_is = (
     [],
     part_finished s.part (Some object) (Some u),
     is_open s u (Ok tt) false (λ a did q. FinishesOpenBind s.part a u (Ok tt) false did q) [] (part_finished s.part (Some object) (Some u)) (opened.Bind object) is (refl, refl, refl, refl),
-    closed ∙ ap (λ (made : List (Happening U)). let x : Stored T U C = record { serial = s.serial; part = part_finished s.part (Some object) (Some u); made = made } in x)
+    part_is ∙ ap (λ (made : List (Happening U)). let x : Stored T U C = record { serial = s.serial; part = part_finished s.part (Some object) (Some u); made = made } in x)
         (sym (append-nil s.made)),
   )

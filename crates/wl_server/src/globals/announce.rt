@@ -10,26 +10,30 @@ ghost use Rattle.wl_server.specs.Telling.{by_object, global_message};
 
 use crate::globals::KeptGlobal;
 use crate::objects::Registry;
-use crate::reading::texts::c_string;
 use smallvec::SmallVec;
 use std::alloc::Global;
 use std::marker::Model;
+use std::mem;
 use wl_link::{BufferedSocket, Object, Transport};
 use wl_wire::{Argument, CString, InterfaceId, IoFault, Message, OutOfMemory, Protocol, Token};
 
 /// The opcode of `wl_registry.global`.
 const GLOBAL: u16 = 0;
 
-/// The name of an interface, as an argument.
+/// The name of an interface, as an argument, in the memory of `bytes` if it is enough. What is in `bytes` is dropped.
 fn interface_name(
-    alloc: Global,
     protocol: &Protocol,
     interface: InterfaceId,
+    mut bytes: Vec<u8>,
 ) -> Result<CString, OutOfMemory>
     ensures { IfOk result (λ name. name ≡ name_of protocol.now interface.0) }
 {
-    let name = String::from_str(alloc, protocol.name(interface))?;
-    Ok(c_string(name))
+    bytes.clear();
+    bytes.extend_from_slice(protocol.name(interface).as_bytes())?;
+    match CString::new(bytes) {
+        Ok(name) => Ok(name),
+        Err(_) => unreachable!(),
+    }
 }
 
 /// A message `wl_registry.global` with this sender. Its arguments are still to be set.
@@ -66,9 +70,12 @@ pub fn set_global_args(
     ensures sender { message.new.sender_id ≡ message.old.sender_id }
 {
     let args = message.args.as_mut_slice();
-    // What the message says before is dropped first, so that no two names take memory at once.
-    args[1] = Argument::Str(None);
-    let text = interface_name(alloc, protocol, interface)?;
+    // The next name is put in the memory of the name that the message has.
+    let bytes = match mem::replace(&mut args[1], Argument::Str(None)) {
+        Argument::Str(Some(last)) => last.into_bytes(),
+        _ => Vec::new(alloc),
+    };
+    let text = interface_name(protocol, interface, bytes)?;
     args[0] = Argument::Uint(name);
     args[1] = Argument::Str(Some(text));
     args[2] = Argument::Uint(version);

@@ -27,7 +27,7 @@ use crate::reading::action::{Found, MessageEnd, NoAction, Reading};
 use crate::reading::request::request;
 use crate::reading::response::Response;
 use smallvec::SmallVec;
-use wl_link::{BufferedSocket, ObjectMap, Transport, empty_place};
+use wl_link::{BufferedSocket, ObjectMap, Transport, clear_message};
 use wl_wire::{
     Argument, INLINE_ARGS, IoFault, Message, MessageDesc, MessageParseError, OutOfMemory, Protocol,
     Token,
@@ -183,7 +183,7 @@ impl<T: Transport + Drop, U: Drop, C: Drop> Client<T, U, C> {
             return MessageEnd::Lacks;
         };
         let end = self.handle_at(numbers, around, reading, header, message, found, args);
-        empty_place(message);
+        clear_message(message);
         end
     }
 

@@ -34,7 +34,7 @@ pub fn posted_error(
 }
 
 /// The C string of a text without a zero byte.
-pub fn c_string(text: String) -> CString
+fn c_string(text: String) -> CString
     requires { holds_zero (string_bytes text) ≡ false }
     ensures { result ≡ string_bytes text }
 {

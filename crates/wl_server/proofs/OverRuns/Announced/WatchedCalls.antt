@@ -23,7 +23,7 @@ use Rattle.wl_server.specs.declared.objects.Kept.{Kept}
 use Rattle.wl_server.specs.declared.notes.DisconnectReason.{DisconnectReason}
 use Rattle.wl_server.proofs.OverRuns.Moves.BaseMoves.{Doings}
 use Rattle.wl_server.specs.Deeds.{Deed, Noted, Sent, left_if, log_of, registries_in}
-use Rattle.wl_server.proofs.OverRuns.Moves.DoingsLaws.{done_sends, told_deeds}
+use Rattle.wl_server.proofs.OverRuns.Moves.DoingsLaws.{doings_sends, told_deeds}
 use Rattle.wl_server.specs.Errors.{PostsError, posts}
 use Rattle.wl_server.specs.Events.{SendsEvent, SendsGranted, SentAs, SessionMessage, ends_closed, ends_sender, event_check, said}
 use Rattle.wl_server.specs.Felt.{FlushedTo, FlushesLive}
@@ -74,7 +74,7 @@ not_refused : {E : Type 0} (e : E) (answer : Result (Unit {0}) E) (refused : Boo
 not_refused e answer refused is fine = is ∙ ap (unless_refused e) fine
 
 silent_sends : (U : Type 0) (es : List Sending) → IsSilent {U = U} (map Sent es)
-silent_sends U es = (ap (λ (d : Doings U). d.put) (done_sends es), ap (λ (d : Doings U). d.registries) (done_sends es))
+silent_sends U es = (ap (λ (d : Doings U). d.put) (doings_sends es), ap (λ (d : Doings U). d.registries) (doings_sends es))
 
 destroyable_is : {T U C : Type 0} (p : Part T U C) (id : IdParts) (x : Object (Kept U)) → destroyable p id ≡ Some x → named p.store id ≡ Some x
 destroyable_is p id x e = go (eqb id.number 1) e
@@ -304,8 +304,8 @@ module _ {G C : Type 0} (views : G → ClientParts → C → GlobalParts → Boo
 
   -- ---- the end of an action
 
-  closed_still : (c : Core U C) (created : Option IdParts) (u : Option U) → Still (scene_of c) (scene_of (core_finished c created u))
-  closed_still c created u =
+  finish_still : (c : Core U C) (created : Option IdParts) (u : Option U) → Still (scene_of c) (scene_of (core_finished c created u))
+  finish_still c created u =
       steady_then views client r offer (scene_of c) (scene_of (record c { action = None })) (scene_of (core_finished c created u))
       (set_action_goes views client r offer (scene_of c) None (λ sender b made is. true≢false (sym (ap is_some is)))) (given created u)
     where
@@ -339,7 +339,7 @@ module _ {G C : Type 0} (views : G → ClientParts → C → GlobalParts → Boo
         (record { last = λ d killed'. killed'; starved = inl refl; silent = λ e. refl })
         (λ fits. record {
           live = λ on. on;
-          goes = λ on. steady_goes views client r offer (part_scene p) (scene_of (core_finished (core_of p) created u)) (closed_still (core_of p) created u);
+          goes = λ on. steady_goes views client r offer (part_scene p) (scene_of (core_finished (core_of p) created u)) (finish_still (core_of p) created u);
         })
         tells'
     ends_lives (Some x) is tells' =
@@ -354,7 +354,7 @@ module _ {G C : Type 0} (views : G → ClientParts → C → GlobalParts → Boo
         (told_deeds (ending client sender x (core_finished (without (core_of p) sender.number x) created u))) refl
         (silent_ended client sender x (is_some (named (core_finished (without (core_of p) sender.number x) created u).store sender))).1 (deletes_goes (part_scene p) sender.number)
         (steady_then views client r offer (part_scene p) (scene_of (without (core_of p) sender.number x)) (scene_of (core_finished (without (core_of p) sender.number x) created u))
-        (ends_still (core_of p) sender b created x open' (is x refl)) (closed_still (without (core_of p) sender.number x) created u)))
+        (ends_still (core_of p) sender b created x open' (is x refl)) (finish_still (without (core_of p) sender.number x) created u)))
         tells'
 
   pub finishes_lives : {T : Type 0} (sends : T → Queue → Result ℕ IoFault → T → Type 0) (p : Part T U C) (u : Option U) (answer : Result (Unit {0}) (FinishRefused (Option U)))
@@ -379,5 +379,5 @@ module _ {G C : Type 0} (views : G → ClientParts → C → GlobalParts → Boo
         | inr (opened.Request sender b created, is, refuses) ↦ refuses_lives p u _ answer lacked did q refuses
         | inr (opened.Bind object, is, (is', no_memory, none, same)) ↦
             quietly p q (record p { action = None; store = store_with_data p.store (Some object) (Some u) }) did (ap log_of none, ap registries_in none) same refl
-            (closed_still (core_of p) (Some object) (Some u))
+            (finish_still (core_of p) (Some object) (Some u))
       ]

@@ -12,7 +12,7 @@ use Rattle.wl_link.specs.Puts.{FlushesOut, PutsOut, Said, lacks_memory}
 use Rattle.wl_link.specs.Reader.{CarriesOut, Given, Reader, Turn, Verdict, came_to, ReaderState}
 use Rattle.wl_server.proofs.OverRuns.Moves.BaseMoves.{Doings}
 use Rattle.wl_server.specs.Deeds.{Deed, Put, Sent, log_of, registries_in}
-use Rattle.wl_server.proofs.OverRuns.Moves.DoingsLaws.{deeds_done, deeds_given, done_both, done_puts, done_sends, done_turns, told_deeds}
+use Rattle.wl_server.proofs.OverRuns.Moves.DoingsLaws.{deeds_done, deeds_given, doings_in_both, doings_puts, doings_sends, doings_turns, told_deeds}
 use Rattle.wl_server.specs.Globals.{Offer}
 use Rattle.wl_server.specs.Ids.{ClientParts, GlobalParts}
 use Rattle.wl_server.specs.Part.{Part}
@@ -55,10 +55,10 @@ module _ {U : Type 0} where
   -- ---- deeds of exchanges, and of what is given
 
   pub log_both : (a b : List (Deed U)) → log_of (a ++ b) ≡ log_of a ++ log_of b
-  log_both a b = ap (λ (d : Doings U). d.put) (done_both a b)
+  log_both a b = ap (λ (d : Doings U). d.put) (doings_in_both a b)
 
   pub registries_both : (a b : List (Deed U)) → registries_in (a ++ b) ≡ registries_in a ++ registries_in b
-  registries_both a b = ap (λ (d : Doings U). d.registries) (done_both a b)
+  registries_both a b = ap (λ (d : Doings U). d.registries) (doings_in_both a b)
 
   -- what is put, and the registries that are made, are the same in both
   pub record Tell (a b : List (Deed U)) : Type 0 where
@@ -70,27 +70,27 @@ module _ {U : Type 0} where
   given_put put events gave is none =
       ap log_of is ∙ log_both (map Put put) (told_deeds events)
       ∙ ap (λ (l : List Said). log_of {U = U} (map Put put) ++ l) none
-      ∙ append-nil (log_of {U = U} (map Put put)) ∙ ap (λ (d : Doings U). d.put) (done_puts {U = U} put)
+      ∙ append-nil (log_of {U = U} (map Put put)) ∙ ap (λ (d : Doings U). d.put) (doings_puts {U = U} put)
 
   given_made : (put : List Said) (events : List (Told U)) (gave : List (Given (Told U))) → deeds_in gave ≡ map Put put ++ told_deeds events
       → registries_in (deeds_in gave) ≡ registries_in (told_deeds events)
   given_made put events gave is =
       ap registries_in is ∙ registries_both (map Put put) (told_deeds events)
-      ∙ ap (λ (l : List Id). l ++ registries_in (told_deeds events)) (ap (λ (d : Doings U). d.registries) (done_puts {U = U} put))
+      ∙ ap (λ (l : List Id). l ++ registries_in (told_deeds events)) (ap (λ (d : Doings U). d.registries) (doings_puts {U = U} put))
 
   module _ {C : Type 0} where
     -- exchanges and the end of a client put nothing
     pub exchanged : (es : List Sending) (gave : List (Given (Told U))) (e : Core U C) → Tell (deeds_of (map Sent es) gave e) (deeds_in gave)
     exchanged es gave e =
         let all = deeds_done (map Sent es) gave e in record {
-          put = ap (λ (d : Doings U). d.put) all ∙ ap (λ (d : Doings U). d.put ++ (log_of (deeds_in gave) ++ [])) (done_sends es) ∙ append-nil (log_of (deeds_in gave));
-          made = ap (λ (d : Doings U). d.registries) all ∙ ap (λ (d : Doings U). d.registries ++ (registries_in (deeds_in gave) ++ [])) (done_sends es)
+          put = ap (λ (d : Doings U). d.put) all ∙ ap (λ (d : Doings U). d.put ++ (log_of (deeds_in gave) ++ [])) (doings_sends es) ∙ append-nil (log_of (deeds_in gave));
+          made = ap (λ (d : Doings U). d.registries) all ∙ ap (λ (d : Doings U). d.registries ++ (registries_in (deeds_in gave) ++ [])) (doings_sends es)
               ∙ append-nil (registries_in (deeds_in gave));
         }
 
     pub turned : (turns : List Turn) (gave : List (Given (Told U))) (e : Core U C) → Tell (deeds_of (exchanges_in turns) gave e) (deeds_in gave)
     turned turns gave e =
-        let (es, rs, is) = done_turns turns in record {
+        let (es, rs, is) = doings_turns turns in record {
           put = ap (λ (d : Doings U). d.put) (deeds_done (exchanges_in turns) gave e) ∙ ap (λ (d : Doings U). d.put ++ (log_of (deeds_in gave) ++ [])) is
               ∙ append-nil (log_of (deeds_in gave));
           made = ap (λ (d : Doings U). d.registries) (deeds_done (exchanges_in turns) gave e) ∙ ap (λ (d : Doings U). d.registries ++ (registries_in (deeds_in gave) ++ [])) is

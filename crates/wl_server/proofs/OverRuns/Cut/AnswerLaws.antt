@@ -472,8 +472,8 @@ module _ {U C : Type 0} where
     pub none : answers_in gave ≡ []
 
 module _ {U G C : Type 0} (a : Around G C) where
-  -- what such a verdict says
-  record Closes (v : Verdict (Core U C) (Told U)) : Type 0 where
+  -- what the verdict of an end says
+  record IsFinishVerdict (v : Verdict (Core U C) (Told U)) : Type 0 where
     last : (d : Core U C) → v.last d ≡ d
     live : v.core.is_killed ≡ false
     unopened : v.core.action ≡ None
@@ -481,18 +481,18 @@ module _ {U G C : Type 0} (a : Around G C) where
     quiet : (d : Core U C) → IsBeside (map HandedOut (v.events d))
     none : (d : Core U C) → answers_in (map HandedOut (v.events d)) ≡ []
 
-  closed_end : (v : Verdict (Core U C) (Told U)) → Closes v → (wrote : Result (Unit {0}) IoFault) → lacks_memory wrote ≡ false → IsSound (came_to (server a) v wrote)
-  closed_end v closes' (Ok u) ample = subst IsSound (sym (closes'.last v.core)) (inl (closes'.live, closes'.unended))
-  closed_end v closes' (Err f) ample =
-      subst IsSound (sym (came_broken a v f ample ∙ closes'.last (closed_down v.core))) (sound_killed v.core _ (inl (closes'.live, closes'.unended)) closes'.unopened)
+  finished_end : (v : Verdict (Core U C) (Told U)) → IsFinishVerdict v → (wrote : Result (Unit {0}) IoFault) → lacks_memory wrote ≡ false → IsSound (came_to (server a) v wrote)
+  finished_end v finish' (Ok u) ample = subst IsSound (sym (finish'.last v.core)) (inl (finish'.live, finish'.unended))
+  finished_end v finish' (Err f) ample =
+      subst IsSound (sym (came_broken a v f ample ∙ finish'.last (closed_down v.core))) (sound_killed v.core _ (inl (finish'.live, finish'.unended)) finish'.unopened)
 
   -- what is told of an object that is gone
   abbrev told_end : IdParts → Object (Kept U) → Bool → Option U → List (Told U)
   told_end id x b o = if b then [] else map Did (map Noted (end_note (id_at a.client id.number x) o) ++ left_if (id_of id) o)
 
-  ending_closes : (c : Core U C) (id : IdParts) (x : Option (Object (Kept U))) (created : Option IdParts) (u : Option U) → c.is_killed ≡ false → c.ended ≡ None
-      → Closes (ends a.client c id x created u)
-  ending_closes c id None created u live unended = record {
+  ending_is_finish : (c : Core U C) (id : IdParts) (x : Option (Object (Kept U))) (created : Option IdParts) (u : Option U) → c.is_killed ≡ false → c.ended ≡ None
+      → IsFinishVerdict (ends a.client c id x created u)
+  ending_is_finish c id None created u live unended = record {
     last = λ d. refl;
     live = live;
     unopened = refl;
@@ -500,7 +500,7 @@ module _ {U G C : Type 0} (a : Around G C) where
     quiet = λ d. refl;
     none = λ d. refl;
   }
-  ending_closes c id (Some x) created u live unended = record {
+  ending_is_finish c id (Some x) created u live unended = record {
     last = λ d. refl;
     live = live;
     unopened = refl;
@@ -519,8 +519,8 @@ module _ {U G C : Type 0} (a : Around G C) where
       none false None = refl
       none false (Some d) = refl
 
-  bound_closes : (c : Core U C) (created : Option IdParts) (u : Option U) → c.is_killed ≡ false → c.ended ≡ None → Closes (finish_verdict c created u)
-  bound_closes c created u live unended = record {
+  bound_is_finish : (c : Core U C) (created : Option IdParts) (u : Option U) → c.is_killed ≡ false → c.ended ≡ None → IsFinishVerdict (finish_verdict c created u)
+  bound_is_finish c created u live unended = record {
     last = λ d. refl;
     live = live;
     unopened = refl;
@@ -529,22 +529,22 @@ module _ {U G C : Type 0} (a : Around G C) where
     none = λ d. refl;
   }
 
-  taken_closes : (c : Core U C) (u : Finish U) (v : Verdict (Core U C) (Told U)) → c.ended ≡ None → takes a.client c u ≡ Some v → Closes v
-  taken_closes c u v unended is = at c.is_killed refl c.action u is
+  taken_is_finish : (c : Core U C) (u : Finish U) (v : Verdict (Core U C) (Told U)) → c.ended ≡ None → takes a.client c u ≡ Some v → IsFinishVerdict v
+  taken_is_finish c u v unended is = at c.is_killed refl c.action u is
     where
-      closed_by : (w : Verdict (Core U C) (Told U)) → Closes w → Some w ≡ Some v → Closes v
-      closed_by w closes' same = subst Closes (same_Some w v same) closes'
+      finish_by : (w : Verdict (Core U C) (Told U)) → IsFinishVerdict w → Some w ≡ Some v → IsFinishVerdict v
+      finish_by w finish' same = subst IsFinishVerdict (same_Some w v same) finish'
 
       request : (live : c.is_killed ≡ false) (sender : IdParts) (b : Bool) (created : Option IdParts) (o : Option U) (e : Option FinishError)
-          → unless_some e (ends_request a.client c sender b created o) ≡ Some v → Closes v
+          → unless_some e (ends_request a.client c sender b created o) ≡ Some v → IsFinishVerdict v
       request live sender b created o None same =
-          closed_by (ends_request a.client c sender b created o) (ending_closes c sender (ended_by c.store sender b) created o live unended) same
+          finish_by (ends_request a.client c sender b created o) (ending_is_finish c sender (ended_by c.store sender b) created o live unended) same
       request live sender b created o (Some e) same = absurd (none_some same)
 
-      at : (b : Bool) → c.is_killed ≡ b → (action : Option OpenAction) (u : Finish U) → (if b then None else finishing a.client c action u) ≡ Some v → Closes v
+      at : (b : Bool) → c.is_killed ≡ b → (action : Option OpenAction) (u : Finish U) → (if b then None else finishing a.client c action u) ≡ Some v → IsFinishVerdict v
       at true dead action u same = absurd (none_some same)
       at false live (Some (opened.Request sender d created)) (OfRequest o) same = request live sender d created o (refusal c.is_killed created o) same
-      at false live (Some (opened.Bind object)) (OfBind d) same = closed_by (finish_verdict c (Some object) (Some d)) (bound_closes c (Some object) (Some d) live unended) same
+      at false live (Some (opened.Bind object)) (OfBind d) same = finish_by (finish_verdict c (Some object) (Some d)) (bound_is_finish c (Some object) (Some d) live unended) same
       at false live action u same = absurd (none_some same)
 
   module _ {T : Type 0} (sends : T → Queue → Result ℕ IoFault → T → Type 0) where
@@ -552,11 +552,11 @@ module _ {U G C : Type 0} (a : Around G C) where
         → Ends sends (server a) p u es gave false after → EndsSo gave after.core
     ends_so p after u es gave unended (v, taken, inr (asks, was, none, is, same)) = absurd (true≢false (sym was))
     ends_so p after u es gave unended (v, taken, inl (first, others, put, wrote, mid, lacked, puts, flushed, split, core, is, was)) =
-        let closes' = taken_closes p.core u v unended taken in
+        let finish' = taken_is_finish p.core u v unended taken in
         let calm = both_false (lacks_memory wrote) lacked was in
         let end = came_to (server a) v wrote in
         record {
-          sound = subst IsSound (sym core) (closed_end v closes' wrote calm.0);
-          quiet = subst IsBeside (sym is) (beside_given put (v.events end) (closes'.quiet end));
-          none = ap answers_in is ∙ answers_given put (v.events end) ∙ closes'.none end;
+          sound = subst IsSound (sym core) (finished_end v finish' wrote calm.0);
+          quiet = subst IsBeside (sym is) (beside_given put (v.events end) (finish'.quiet end));
+          none = ap answers_in is ∙ answers_given put (v.events end) ∙ finish'.none end;
         }

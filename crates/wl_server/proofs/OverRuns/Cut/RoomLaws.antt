@@ -17,7 +17,7 @@ use Rattle.wl_server.specs.declared.runs.step.Reply.{Reply}
 use Rattle.wl_server.specs.declared.runs.step.Step.TheVariants as step
 use Rattle.wl_server.specs.Deeds.{IsAmong, came_in, Deed, Handed, Put, Sent}
 use Rattle.wl_server.proofs.OverRuns.Moves.BaseMoves.{Doings}
-use Rattle.wl_server.proofs.OverRuns.Moves.DoingsLaws.{deeds_both, done_both}
+use Rattle.wl_server.proofs.OverRuns.Moves.DoingsLaws.{deeds_both, doings_in_both}
 use Rattle.wl_server.specs.Globals.{Offer}
 use Rattle.wl_server.specs.Ids.{ClientParts, same_client}
 use Rattle.wl_server.proofs.OverRuns.Moves.MovesOfReadings.{gave_none}
@@ -49,7 +49,7 @@ nothing_came {U = U} did link none r among = absurd (subst (λ (ds : List (Deed 
 
 module _ {U : Type 0} where
   came_both : (did others : List (Deed U)) → came_in (did ++ others) ≡ came_in did ++ came_in others
-  came_both did others = ap (λ (d : Doings U). d.came) (done_both did others)
+  came_both did others = ap (λ (d : Doings U). d.came) (doings_in_both did others)
 
   pub none_sent : (es : List Sending) (did : List (Deed U)) → came_in (map Sent es ++ did) ≡ came_in did
   none_sent [] did = refl

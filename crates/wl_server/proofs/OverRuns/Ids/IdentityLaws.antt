@@ -19,7 +19,7 @@ use Rattle.wl_server.specs.declared.runs.step.Step.{Step}
 use Rattle.wl_server.specs.Deeds.{IsAmong, Deed, left_in, notes_in, taken_in}
 use Rattle.wl_server.proofs.OverRuns.Moves.BaseMoves.{Doings, doings_of, handed_by}
 use Rattle.wl_server.proofs.OverRuns.Moves.BaseMovesLaw.{call_goes}
-use Rattle.wl_server.proofs.OverRuns.Moves.DoingsLaws.{done_both}
+use Rattle.wl_server.proofs.OverRuns.Moves.DoingsLaws.{doings_in_both}
 use Rattle.wl_server.proofs.OverRuns.Ids.ChangeLaws.{CallChanging, goes_change, in_three}
 use Rattle.wl_server.proofs.OverRuns.Ids.ReplyLaws.{covers}
 use Rattle.wl_server.specs.Globals.{Offer, new_offer}
@@ -69,10 +69,10 @@ module _ {T U G C : Type 0} (w : World T G C) (id : ClientParts) where
     pub noted : (h : Happening U) → IsAmong (taken_in (history run) ++ (t.made ++ waiting_of t.part)) h → IsAmong (s.made ++ waiting_of s.part) h ⊎ IsNotedOver id changes h
 
   left_both : (a b : List (Deed U)) → left_in (a ++ b) ≡ left_in a ++ left_in b
-  left_both a b = ap (λ (d : Doings U). d.left) (done_both a b)
+  left_both a b = ap (λ (d : Doings U). d.left) (doings_in_both a b)
 
   taken_both : (a b : List (Deed U)) → taken_in (a ++ b) ≡ taken_in a ++ taken_in b
-  taken_both a b = ap (λ (d : Doings U). d.taken) (done_both a b)
+  taken_both a b = ap (λ (d : Doings U). d.taken) (doings_in_both a b)
 
   -- one more call
   pub change_more : (offer : Offer G) (s : Seen T U C) (o : Objects (Kept U)) (e : Own T U G C) (run : List (Own T U G C)) (mid t : Seen T U C)

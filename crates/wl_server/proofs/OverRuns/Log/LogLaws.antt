@@ -19,7 +19,7 @@ use Rattle.wl_server.specs.declared.runs.step.Step.{Step}
 use Rattle.wl_server.proofs.OverRuns.Moves.BaseMoves.{Doings, Goes, Moves, born, cleaned, finished, doings_of, ended, flushed, followed, found, found_none, handed_by, handed_out, joined, notes_taken, opens, putting, received, relinked, remembered, sending, stayed, taken_out, told, unfelt, went, within, wrote}
 use Rattle.wl_server.proofs.OverRuns.Moves.BaseMovesLaw.{call_goes}
 use Rattle.wl_server.specs.Deeds.{log_of, sends_of}
-use Rattle.wl_server.proofs.OverRuns.Moves.DoingsLaws.{done_both}
+use Rattle.wl_server.proofs.OverRuns.Moves.DoingsLaws.{doings_in_both}
 use Rattle.wl_server.specs.Globals.{Offer, new_offer}
 use Rattle.wl_server.specs.Ids.{ClientParts}
 use Rattle.wl_server.proofs.OverRuns.Alone.IsolationLaw.{are_isolated, is_isolated}
@@ -146,8 +146,8 @@ module _ {T U G C : Type 0} (w : World T G C) (within' : IsWithinOffer w.sends) 
       record {
         after = rest.after;
         waiting = rest.waiting;
-        keeps = subst (λ (es : List Sending). LosesNothing es waits (spelled_log (log_of (e.did ++ history run))) rest.after) (sym (ap (λ (d : Doings U). d.sends) (done_both e.did (history run))))
-            (subst (λ (ms : List Said). LosesNothing (sends_of e.did ++ sends_of (history run)) waits (spelled_log ms) rest.after) (sym (ap (λ (d : Doings U). d.put) (done_both e.did (history run))))
+        keeps = subst (λ (es : List Sending). LosesNothing es waits (spelled_log (log_of (e.did ++ history run))) rest.after) (sym (ap (λ (d : Doings U). d.sends) (doings_in_both e.did (history run))))
+            (subst (λ (ms : List Said). LosesNothing (sends_of e.did ++ sends_of (history run)) waits (spelled_log ms) rest.after) (sym (ap (λ (d : Doings U). d.put) (doings_in_both e.did (history run))))
             (keeps_then waits first.after rest.after (doings_of (handed_by id e.call e.did) e.did) (doings_of [] (history run)) first.keeps rest.keeps));
       }
 

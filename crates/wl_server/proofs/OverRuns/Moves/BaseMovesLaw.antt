@@ -26,7 +26,7 @@ use Rattle.wl_server.specs.declared.runs.step.Step.TheVariants as step
 use Rattle.wl_server.specs.HandedIds.{made_ids}
 use Rattle.wl_server.proofs.OverRuns.Moves.BaseMoves.{Doings, Goes, cleaned, doings_of, flushed, followed, handed_by, joined, leaving, left_by, left_id, nothing_done, notes_taken, noting, relinked, stayed, taken_out, unfelt, went, within}
 use Rattle.wl_server.specs.Deeds.{Deed, Noted, NoteTaken, left_if, notes_in}
-use Rattle.wl_server.proofs.OverRuns.Moves.DoingsLaws.{doings_in, done_both, done_sends}
+use Rattle.wl_server.proofs.OverRuns.Moves.DoingsLaws.{doings_in, doings_in_both, doings_sends}
 use Rattle.wl_server.specs.Felt.{Cleaned, FlushedTo, FlushesLive, Hears, Stays, objects_leave}
 use Rattle.wl_server.specs.Globals.{Offer}
 use Rattle.wl_server.specs.Ids.{ClientParts, GlobalParts, IdParts, same_client}
@@ -62,17 +62,17 @@ none_some : {A : Type 0} {x : A} → None ≡ Some x → ⊥
 none_some e = true≢false (sym (ap is_some e))
 
 module _ {U : Type 0} where
-  done_noted : (notes : List (Happening U)) → doings_in (map Noted notes) ≡ noting notes
-  done_noted [] = refl
-  done_noted (h ∷ notes) = ap (λ (d : Doings U). record d { notes = h ∷ d.notes }) (done_noted notes)
+  doings_noted : (notes : List (Happening U)) → doings_in (map Noted notes) ≡ noting notes
+  doings_noted [] = refl
+  doings_noted (h ∷ notes) = ap (λ (d : Doings U). record d { notes = h ∷ d.notes }) (doings_noted notes)
 
-  done_taken : (notes : List (Happening U)) → doings_in (map NoteTaken notes) ≡ record nothing_done { taken = notes }
-  done_taken [] = refl
-  done_taken (h ∷ notes) = ap (λ (d : Doings U). record d { taken = h ∷ d.taken }) (done_taken notes)
+  doings_taken : (notes : List (Happening U)) → doings_in (map NoteTaken notes) ≡ record nothing_done { taken = notes }
+  doings_taken [] = refl
+  doings_taken (h ∷ notes) = ap (λ (d : Doings U). record d { taken = h ∷ d.taken }) (doings_taken notes)
 
-  done_leaving : (client : ClientParts) (n : ℕ) (x : Object (Kept U)) (rest : List (Deed U))
+  doings_leaving : (client : ClientParts) (n : ℕ) (x : Object (Kept U)) (rest : List (Deed U))
       → doings_in (map Noted (note_of_end client n x) ++ (left_if (id_of (id_at client n x)) x.value.user_data ++ rest)) ≡ joined (leaving client false n x) (doings_in rest)
-  done_leaving client n x rest = go x.value.user_data
+  doings_leaving client n x rest = go x.value.user_data
     where
       go : (o : Option U) → doings_in (map Noted (end_note (id_at client n x) o) ++ (left_if (id_of (id_at client n x)) o ++ rest))
           ≡ joined (record nothing_done { left = left_id (id_of (id_at client n x)) o; notes = end_note (id_at client n x) o }) (doings_in rest)
@@ -128,7 +128,7 @@ module _ {T U C : Type 0} (sends : T → Queue → Result ℕ IoFault → T → 
       record {
         after = rest.after;
         moves = followed (went {q = mid} e.0 e.1 false (is.there e.0 e.1 (zero, omega arith, refl)) refl refl) rest.moves
-            (done_leaving client e.0 e.1 (objects_leave client entries));
+            (doings_leaving client e.0 e.1 (objects_leave client entries));
         none = rest.none;
         waiting = rest.waiting;
         link = rest.link;
@@ -149,7 +149,7 @@ module _ {T U C : Type 0} (sends : T → Queue → Result ℕ IoFault → T → 
 
   flushed_moves : (p : Part T U C) (answer : Result (Unit {0}) IoFault) (lacked : Bool) (did : List (Deed U)) (q : Part T U C) → FlushedTo sends p answer lacked did q
       → Leads p (doings_in did) q
-  flushed_moves p answer lacked did q (es, link, by, no_memory, did_so, same) = flushed es answer link by (ap doings_in did_so ∙ done_sends es) same
+  flushed_moves p answer lacked did q (es, link, by, no_memory, did_so, same) = flushed es answer link by (ap doings_in did_so ∙ doings_sends es) same
 
   flushes_moves : (p : Part T U C) (lacked : Bool) (did : List (Deed U)) (q : Part T U C) → FlushesLive sends p lacked did q → Leads p (doings_in did) q
   flushes_moves p lacked did q h =
@@ -240,7 +240,7 @@ module _ {T U G C : Type 0} (w : World T G C) (id : ClientParts) (offer : Offer 
           × (out ≡ end.link.transport ∷ []) × (q ≡ None))
           ((lacked ≡ false) × (did ≡ map Noted p.waiting) × (out ≡ []) × (q ≡ Some (record p { waiting = [] }))) → To s did t
       go false live (no_memory, did_so, nobody, is) =
-          within p (record p { waiting = [] }) there (cleaned (ap doings_in did_so ∙ done_noted p.waiting) refl)
+          within p (record p { waiting = [] }) there (cleaned (ap doings_in did_so ∙ doings_noted p.waiting) refl)
           (same ∙ ap (λ (o : Option (Part T U C)). record { part = o; made = s.made ++ notes_in did }) is)
       go true killed (sent, answer, end, (es, link, by, no_memory, sent_so, end_so), did_so, handed, is) =
           let told : Part T U C = record p { waiting = [] } in
@@ -254,10 +254,10 @@ module _ {T U G C : Type 0} (w : World T G C) (id : ClientParts) (offer : Offer 
           (followed (cleaned {q = told} refl refl)
           (followed gone.moves (flushed {q = with_link gone.after link} es answer link (subst (λ (l : LinkState T). FlushedBy w.sends l es answer link) (sym gone.link) by) refl refl) refl)
           (ap doings_in did_so
-          ∙ done_both (map Noted p.waiting) (objects_leave id (finmap.entries p.store.objects) ++ sent)
-          ∙ ap (λ (d : Doings U). joined d (doings_in (objects_leave id (finmap.entries p.store.objects) ++ sent))) (done_noted p.waiting)
-          ∙ ap (joined (noting p.waiting)) (done_both (objects_leave id (finmap.entries p.store.objects)) sent
-          ∙ ap (joined (doings_in (objects_leave id (finmap.entries p.store.objects)))) (ap doings_in sent_so ∙ done_sends es))))
+          ∙ doings_in_both (map Noted p.waiting) (objects_leave id (finmap.entries p.store.objects) ++ sent)
+          ∙ ap (λ (d : Doings U). joined d (doings_in (objects_leave id (finmap.entries p.store.objects) ++ sent))) (doings_noted p.waiting)
+          ∙ ap (joined (noting p.waiting)) (doings_in_both (objects_leave id (finmap.entries p.store.objects)) sent
+          ∙ ap (joined (doings_in (objects_leave id (finmap.entries p.store.objects)))) (ap doings_in sent_so ∙ doings_sends es))))
           gone.none gone.waiting
           (same ∙ ap (λ (o : Option (Part T U C)). record { part = o; made = s.made ++ notes_in did }) is)
 
@@ -273,7 +273,7 @@ module _ {T U G C : Type 0} (w : World T G C) (id : ClientParts) (offer : Offer 
   taken_goes : (answer : Result (Vec (Note U) Global) OutOfMemory) (s : Seen T U C) (lacked : Bool) (did : List (Deed U)) (t : Seen T U C)
       → NotesTaken w id offer answer s lacked did t → To s did t
   taken_goes (Err e) s lacked did t h = unfelt_goes w.sends w.receives id s lacked did t h
-  taken_goes (Ok out) s lacked did t (all, no_memory, did_so, same) = notes_taken (ap doings_in did_so ∙ done_taken s.made) same
+  taken_goes (Ok out) s lacked did t (all, no_memory, did_so, same) = notes_taken (ap doings_in did_so ∙ doings_taken s.made) same
 
   moved_goes : (target : ClientParts) (m : Move) (answer : Moved) (s : Seen T U C) (lacked : Bool) (did : List (Deed U)) (t : Seen T U C)
       → MovedFor w id offer target m answer s lacked did t → To s did t

@@ -94,40 +94,40 @@ module _ {U : Type 0} where
   acted_both : (a b : List (Deed U)) → acted_in (a ++ b) ≡ acted_in a ++ acted_in b
   acted_both a b = ap (λ (d : Doings U). d.acted) (doings_both [] [] a b)
 
-  pub done_both : (a b : List (Deed U)) → doings_in (a ++ b) ≡ joined (doings_in a) (doings_in b)
-  done_both a b =
+  pub doings_in_both : (a b : List (Deed U)) → doings_in (a ++ b) ≡ joined (doings_in a) (doings_in b)
+  doings_in_both a b =
       ap (λ (ids : List (HandedId IdParts)). doings_of ids (a ++ b)) (ap all_action_ids (acted_both a b) ∙ ids_both (acted_in a) (acted_in b))
       ∙ doings_both (all_action_ids (acted_in a)) (all_action_ids (acted_in b)) a b
 
-  pub done_sends : (es : List Sending) → doings_in (map Sent es) ≡ sending es
-  done_sends [] = refl
-  done_sends (e ∷ es) = ap (λ (d : Doings U). record d { sends = e ∷ d.sends }) (done_sends es)
+  pub doings_sends : (es : List Sending) → doings_in (map Sent es) ≡ sending es
+  doings_sends [] = refl
+  doings_sends (e ∷ es) = ap (λ (d : Doings U). record d { sends = e ∷ d.sends }) (doings_sends es)
 
-  pub done_puts : (put : List Said) → doings_in (map Put put) ≡ putting [] put
-  done_puts [] = refl
-  done_puts (m ∷ put) = ap (λ (d : Doings U). record d { put = m ∷ d.put }) (done_puts put)
+  pub doings_puts : (put : List Said) → doings_in (map Put put) ≡ putting [] put
+  doings_puts [] = refl
+  doings_puts (m ∷ put) = ap (λ (d : Doings U). record d { put = m ∷ d.put }) (doings_puts put)
 
-  pub done_end : (o : Option DisconnectReason) → doings_in (end_deeds o) ≡ noting (notes_in (end_deeds o))
-  done_end None = refl
-  done_end (Some reason) = refl
+  pub doings_end : (o : Option DisconnectReason) → doings_in (end_deeds o) ≡ noting (notes_in (end_deeds o))
+  doings_end None = refl
+  doings_end (Some reason) = refl
 
   -- the exchanges of a reading
-  pub done_turns : (turns : List Turn) → (es : List Sending) × (rs : List (Result Queue IoFault)) × (doings_in (exchanges_in turns) ≡ exchanging es rs)
-  done_turns [] = ([], [], refl)
-  done_turns (Received r ∷ turns) =
-      let (es, rs, is) = done_turns turns in (es, r ∷ rs, ap (λ (d : Doings U). record d { came = r ∷ d.came }) is)
-  done_turns (Handled es ∷ turns) =
-      let (fs, rs, is) = done_turns turns in (
+  pub doings_turns : (turns : List Turn) → (es : List Sending) × (rs : List (Result Queue IoFault)) × (doings_in (exchanges_in turns) ≡ exchanging es rs)
+  doings_turns [] = ([], [], refl)
+  doings_turns (Received r ∷ turns) =
+      let (es, rs, is) = doings_turns turns in (es, r ∷ rs, ap (λ (d : Doings U). record d { came = r ∷ d.came }) is)
+  doings_turns (Handled es ∷ turns) =
+      let (fs, rs, is) = doings_turns turns in (
         es ++ fs,
         rs,
-        done_both (map Sent es) (exchanges_in turns) ∙ ap (λ (d : Doings U). joined d (doings_in (exchanges_in turns))) (done_sends es)
+        doings_in_both (map Sent es) (exchanges_in turns) ∙ ap (λ (d : Doings U). joined d (doings_in (exchanges_in turns))) (doings_sends es)
             ∙ ap (λ (d : Doings U). joined (sending es) d) is,
       )
-  done_turns (Unread es ∷ turns) =
-      let (fs, rs, is) = done_turns turns in (
+  doings_turns (Unread es ∷ turns) =
+      let (fs, rs, is) = doings_turns turns in (
         es ++ fs,
         rs,
-        done_both (map Sent es) (exchanges_in turns) ∙ ap (λ (d : Doings U). joined d (doings_in (exchanges_in turns))) (done_sends es)
+        doings_in_both (map Sent es) (exchanges_in turns) ∙ ap (λ (d : Doings U). joined d (doings_in (exchanges_in turns))) (doings_sends es)
             ∙ ap (λ (d : Doings U). joined (sending es) d) is,
       )
 
@@ -160,17 +160,17 @@ module _ {U : Type 0} where
     pub deeds_done : (exchanges : List (Deed U)) (gave : List (Given (Told U))) (c : Core U C)
         → doings_in (deeds_of exchanges gave c) ≡ joined (doings_in exchanges) (joined (doings_in (deeds_in gave)) (end_of c))
     deeds_done exchanges gave c =
-        done_both exchanges (deeds_in gave ++ end_deeds c.ended)
-        ∙ ap (joined (doings_in exchanges)) (done_both (deeds_in gave) (end_deeds c.ended) ∙ ap (joined (doings_in (deeds_in gave))) (done_end c.ended))
+        doings_in_both exchanges (deeds_in gave ++ end_deeds c.ended)
+        ∙ ap (joined (doings_in exchanges)) (doings_in_both (deeds_in gave) (end_deeds c.ended) ∙ ap (joined (doings_in (deeds_in gave))) (doings_end c.ended))
 
     -- a verdict's, with what it put and what it gave
     pub verdict_done : (es : List Sending) (put : List Said) (made : List (Deed U)) (gave : List (Given (Told U))) (c : Core U C) → deeds_in gave ≡ map Put put ++ made
         → doings_in (deeds_of (map Sent es) gave c) ≡ joined (putting es put) (joined (doings_in made) (end_of c))
     verdict_done es put made gave c is =
         deeds_done (map Sent es) gave c
-        ∙ ap (λ (d : Doings U). joined d (joined (doings_in (deeds_in gave)) (end_of c))) (done_sends es)
+        ∙ ap (λ (d : Doings U). joined d (joined (doings_in (deeds_in gave)) (end_of c))) (doings_sends es)
         ∙ ap (λ (d : Doings U). joined (sending es) (joined d (end_of c)))
-        (ap doings_in is ∙ done_both (map Put put) made ∙ ap (λ (d : Doings U). joined d (doings_in made)) (done_puts put))
+        (ap doings_in is ∙ doings_in_both (map Put put) made ∙ ap (λ (d : Doings U). joined d (doings_in made)) (doings_puts put))
         ∙ ap (joined (sending es)) (joined_assoc (putting [] put) (doings_in made) (end_of c))
         ∙ sym (joined_assoc (sending es) (putting [] put) (joined (doings_in made) (end_of c)))
         ∙ ap (λ (l : List Sending). joined (putting l put) (joined (doings_in made) (end_of c))) (append-nil es)
@@ -180,7 +180,7 @@ module _ {U : Type 0} where
         → joined (joined (sending es) (doings_in (deeds_in first))) (doings_in (deeds_of (exchanges_in turns) others c))
         ≡ doings_in (deeds_of (map Sent es ++ exchanges_in turns) (first ++ others) c)
     turns_done es turns first others c quiet =
-        let (fs, rs, exchanged) = done_turns turns in
+        let (fs, rs, exchanged) = doings_turns turns in
         let S : Doings U = sending es in
         let A : Doings U = doings_in (deeds_in first) in
         let X : Doings U = doings_in (exchanges_in turns) in
@@ -192,7 +192,7 @@ module _ {U : Type 0} where
         ∙ joined_assoc S A (joined X (joined B E))
         ∙ ap (joined S) (sym (joined_assoc A X (joined B E)) ∙ ap (λ (d : Doings U). joined d (joined B E)) passed ∙ joined_assoc X A (joined B E))
         ∙ sym (joined_assoc S X (joined A (joined B E)))
-        ∙ ap (λ (d : Doings U). joined d (joined A (joined B E))) (ap (λ (d : Doings U). joined d X) (sym (done_sends es)) ∙ sym (done_both (map Sent es) (exchanges_in turns)))
+        ∙ ap (λ (d : Doings U). joined d (joined A (joined B E))) (ap (λ (d : Doings U). joined d X) (sym (doings_sends es)) ∙ sym (doings_in_both (map Sent es) (exchanges_in turns)))
         ∙ ap (joined (doings_in (map Sent es ++ exchanges_in turns)))
-        (sym (joined_assoc A B E) ∙ ap (λ (d : Doings U). joined d E) (sym (done_both (deeds_in first) (deeds_in others)) ∙ ap doings_in (sym (deeds_both first others))))
+        (sym (joined_assoc A B E) ∙ ap (λ (d : Doings U). joined d E) (sym (doings_in_both (deeds_in first) (deeds_in others)) ∙ ap doings_in (sym (deeds_both first others))))
         ∙ sym (deeds_done (map Sent es ++ exchanges_in turns) (first ++ others) c)

@@ -31,9 +31,9 @@ use Rattle.wl_server.specs.declared.objects.Kept.{Kept}
 use Rattle.wl_server.specs.declared.notes.DisconnectReason.{DisconnectReason}
 use Rattle.wl_server.specs.declared.notes.DisconnectReason.TheVariants.{ConnectionClosed, ProtocolError as BrokeProtocol}
 use Rattle.wl_server.specs.HandedIds.{made_ids}
-use Rattle.wl_server.proofs.OverRuns.Moves.BaseMoves.{Doings, born, finished as shut, followed, handing, joined, leaving as leaves, left_id, nothing_done, noting, putting, sending, stayed, told, went, wrote}
+use Rattle.wl_server.proofs.OverRuns.Moves.BaseMoves.{Doings, born, finished, followed, handing, joined, leaving as leaves, left_id, nothing_done, noting, putting, sending, stayed, told, went, wrote}
 use Rattle.wl_server.specs.Deeds.{Deed, Noted, Sent, left_if}
-use Rattle.wl_server.proofs.OverRuns.Moves.DoingsLaws.{IsQuiet, doings_in, done_both, done_end, done_sends, joined_none, told_deeds}
+use Rattle.wl_server.proofs.OverRuns.Moves.DoingsLaws.{IsQuiet, doings_in, doings_in_both, doings_end, doings_sends, joined_none, told_deeds}
 use Rattle.wl_server.specs.Errors.{PostsError, error_of, posts}
 use Rattle.wl_server.specs.Events.{SendsEvent, SendsGranted, SentAs, SessionMessage, argument_faults, checked_row, checked_sender, ends_closed, ends_sender, event_check, granted, said, wire_message}
 use Rattle.wl_server.specs.Finish.{FinishesBind, FinishesRequest, Refuses, core_finished, finish_verdict, data_given, ended_by, ending, ends, ends_request, refusal, store_with_data}
@@ -85,9 +85,9 @@ module _ {U : Type 0} where
       go true = refl
       go false = ap (λ o. is_some (named_in serial_of (id_of id) o)) e
 
-  done_left : (id : Id) (u : Option U) → doings_in (left_if id u) ≡ record nothing_done { left = left_id id u }
-  done_left id None = refl
-  done_left id (Some u) = refl
+  doings_left : (id : Id) (u : Option U) → doings_in (left_if id u) ≡ record nothing_done { left = left_id id u }
+  doings_left id None = refl
+  doings_left id (Some u) = refl
 
   told_left : (id : Id) (u : Option U) → told_deeds (map Did (left_if id u)) ≡ left_if id u
   told_left id None = refl
@@ -205,7 +205,7 @@ module _ {T U C : Type 0} (sends : T → Queue → Result ℕ IoFault → T → 
   without_lead c id x calm is =
       lands_at sends receives client c (left_if (id_of id) x.value.user_data) (without_noted client c id.number x) calm refl
       (λ l. went id.number x true (named_held c.store id x is)
-      (done_left (id_of id) x.value.user_data ∙ ap (λ (i : Id). record nothing_done { left = left_id i x.value.user_data }) (sym (named_id client c.store id x is))) refl)
+      (doings_left (id_of id) x.value.user_data ∙ ap (λ (i : Id). record nothing_done { left = left_id i x.value.user_data }) (sym (named_id client c.store id x is))) refl)
 
   -- and the deed stands among what is handed out, where it is gone
   leaving_told : (id : IdParts) (u : Option U) (store : Store (Kept U)) (e : Core U C) → e.store ≡ removed store id.number → told_deeds (told_of_removed id u e) ≡ left_if (id_of id) u
@@ -281,7 +281,7 @@ module _ {T U C : Type 0} (sends : T → Queue → Result ℕ IoFault → T → 
       let ends = ends_killed sends receives client (core_of p) reason (calm_core p) in
       subst (λ (e : Part T U C). Move p (doings_in did) e) (sym same)
       (same_doings sends receives client p (record p { is_killed = true }) (noting ends.notes) (doings_in did)
-      (ap doings_in is ∙ done_end (killed (core_of p) reason).ended ∙ ap noting ends.so) (ends.moves p.link))
+      (ap doings_in is ∙ doings_end (killed (core_of p) reason).ended ∙ ap noting ends.so) (ends.moves p.link))
 
   -- ---- an event
 
@@ -321,7 +321,7 @@ module _ {T U C : Type 0} (sends : T → Queue → Result ℕ IoFault → T → 
     module _ (p : Part T U C) (b : Bool) (es : List Sending) (link : LinkState T) (answer : Result (Unit {0}) EventError) (lacked : Bool) (rest did : List (Deed U)) (q : Part T U C)
         (is : named p.store m.sender ≡ Some sender) (did_so : did ≡ map Sent es ++ rest) where
       sent_first : doings_in did ≡ joined (sending es) (doings_in rest)
-      sent_first = ap doings_in did_so ∙ done_both (map Sent es) rest ∙ ap (λ (d : Doings U). joined d (doings_in rest)) (done_sends es)
+      sent_first = ap doings_in did_so ∙ doings_in_both (map Sent es) rest ∙ ap (λ (d : Doings U). joined d (doings_in rest)) (doings_sends es)
 
       broken_moves : (f : IoFault) → WroteBy sends p.link (wire_message m) es (Err f) link
           → Tells sends (ends_closed client (core_of p) m sender b) link lacked rest q → Move p (doings_in did) q
@@ -379,13 +379,13 @@ module _ {T U C : Type 0} (sends : T → Queue → Result ℕ IoFault → T → 
       go None e = stayed refl refl
       go (Some x) e = wrote id.number x u (named_held p.store id x e) refl refl
 
-  closes_moves : (p : Part T U C) (created : Option IdParts) (u : Option U) → Move p nothing_done (record p { action = None; store = store_with_data p.store created u })
-  closes_moves p created u = followed (data_moves p created u) (shut refl refl) refl
+  finish_moves : (p : Part T U C) (created : Option IdParts) (u : Option U) → Move p nothing_done (record p { action = None; store = store_with_data p.store created u })
+  finish_moves p created u = followed (data_moves p created u) (finished refl refl) refl
 
-  closes_comes : (c : Core U C) (created : Option IdParts) (u : Option U) → Calm c → Come c (finish_verdict c created u)
-  closes_comes c created u calm = record {
+  finish_comes : (c : Core U C) (created : Option IdParts) (u : Option U) → Calm c → Come c (finish_verdict c created u)
+  finish_comes c created u calm = record {
     made = [];
-    lands = lands_at sends receives client c [] (core_finished c created u) calm refl (λ l. closes_moves (at sends receives client c l) created u);
+    lands = lands_at sends receives client c [] (core_finished c created u) calm refl (λ l. finish_moves (at sends receives client c l) created u);
     events = λ e same. refl;
     quiet = (refl, refl);
     last = inl refl;
@@ -397,8 +397,8 @@ module _ {T U C : Type 0} (sends : T → Queue → Result ℕ IoFault → T → 
     abbrev ended_deeds : List (Deed U)
     ended_deeds = map Noted (note_of_end client id.number x) ++ left_if (id_of id) x.value.user_data
 
-    done_ended : doings_in ended_deeds ≡ leaves client false id.number x
-    done_ended = go x.value.user_data
+    doings_ended : doings_in ended_deeds ≡ leaves client false id.number x
+    doings_ended = go x.value.user_data
       where
         go : (o : Option U) → doings_in (map Noted (end_note (id_at client id.number x) o) ++ left_if (id_of id) o)
             ≡ record nothing_done { left = left_id (id_of (id_at client id.number x)) o; notes = end_note (id_at client id.number x) o }
@@ -433,8 +433,8 @@ module _ {T U C : Type 0} (sends : T → Queue → Result ℕ IoFault → T → 
       made = ended_deeds;
       lands = lands_at sends receives client c ended_deeds (core_finished (without c id.number x) created u) calm refl
           (λ l. followed (went {q = at sends receives client (without c id.number x) l} id.number x false (named_held c.store id x is) refl refl)
-          (closes_moves (at sends receives client (without c id.number x) l) created u)
-          (done_ended ∙ sym (joined_none (leaves client false id.number x))));
+          (finish_moves (at sends receives client (without c id.number x) l) created u)
+          (doings_ended ∙ sym (joined_none (leaves client false id.number x))));
       events = λ e same. ending_told e same;
       quiet = quiet_ended;
       last = inl refl;
@@ -443,7 +443,7 @@ module _ {T U C : Type 0} (sends : T → Queue → Result ℕ IoFault → T → 
 
   ends_comes : (c : Core U C) (id : IdParts) (o : Option (Object (Kept U))) (created : Option IdParts) (u : Option U) → Calm c
       → ((x : Object (Kept U)) → o ≡ Some x → named c.store id ≡ Some x) → Come c (ends client c id o created u)
-  ends_comes c id None created u calm is = closes_comes c created u calm
+  ends_comes c id None created u calm is = finish_comes c created u calm
   ends_comes c id (Some x) created u calm is = ends_some_comes c id x created u calm (is x refl)
 
   refuses_moves : {D : Type 0} (p : Part T U C) (d : D) (e : FinishError) (answer : Result (Unit {0}) (FinishRefused D)) (lacked : Bool) (did : List (Deed U)) (q : Part T U C)
@@ -474,5 +474,5 @@ module _ {T U C : Type 0} (sends : T → Queue → Result ℕ IoFault → T → 
         | inr (opened.Bind object, is, (is', no_memory, none, same)) ↦
             subst (λ (e : Part T U C). Move p (doings_in did) e) (sym same)
             (same_doings sends receives client p (record p { action = None; store = store_with_data p.store (Some object) (Some u) }) nothing_done (doings_in did) (ap doings_in none)
-            (closes_moves p (Some object) (Some u)))
+            (finish_moves p (Some object) (Some u)))
       ]

@@ -21,7 +21,7 @@ use Rattle.wl_server.specs.declared.notes.DisconnectReason.TheVariants.{Connecti
 use Rattle.wl_server.specs.declared.notes.Happening.{Happening}
 use Rattle.wl_server.proofs.OverRuns.Moves.BaseMoves.{Doings, followed, joined, noting, putting, received, receiving, relinked, sending, stayed}
 use Rattle.wl_server.specs.Deeds.{Came, Deed, Handed, Put, Sent, notes_in}
-use Rattle.wl_server.proofs.OverRuns.Moves.DoingsLaws.{IsQuiet, deeds_done, doings_in, done_both, done_puts, done_sends, end_of, joined_none, turns_done, verdict_done}
+use Rattle.wl_server.proofs.OverRuns.Moves.DoingsLaws.{IsQuiet, deeds_done, doings_in, doings_in_both, doings_puts, doings_sends, end_of, joined_none, turns_done, verdict_done}
 use Rattle.wl_server.proofs.OverRuns.Moves.MovesOfRequests.{handles_comes, malformed_comes}
 use Rattle.wl_server.proofs.OverRuns.Moves.MovesOfVerdicts.{Comes, Ends, Go, IsCalm, carried, ends_killed, ends_not, notes_at_end, same_doings}
 use Rattle.wl_server.specs.Part.{Part}
@@ -62,7 +62,7 @@ module _ {U : Type 0} where
   )
     where
       all : doings_in (deeds_in gave) ≡ joined (putting [] put) (doings_in made)
-      all = ap doings_in is ∙ done_both (map Put put) made ∙ ap (λ (d : Doings U). joined d (doings_in made)) (done_puts put)
+      all = ap doings_in is ∙ doings_in_both (map Put put) made ∙ ap (λ (d : Doings U). joined d (doings_in made)) (doings_puts put)
 
 module _ {U C : Type 0} where
   -- a client that is read is live
@@ -145,7 +145,7 @@ module _ {T U G C : Type 0} (sends : T → Queue → Result ℕ IoFault → T �
             followed
             (same_doings sends receives a.client (part_of before) (part_of mid) (doings_in (deeds_of (map Sent es) first mid.core)) (joined (sending es) (doings_in (deeds_in first)))
             (sym (deeds_done (map Sent es) first mid.core
-            ∙ ap (λ (d : Doings U). joined d (joined (doings_in (deeds_in first)) (end_of mid.core))) (done_sends es)
+            ∙ ap (λ (d : Doings U). joined d (joined (doings_in (deeds_in first)) (end_of mid.core))) (doings_sends es)
             ∙ ap (λ (o : Option _). joined (sending es) (joined (doings_in (deeds_in first)) (noting (notes_in (end_deeds {U = U} o))))) none
             ∙ ap (joined (sending es)) (joined_none (doings_in (deeds_in first)))))
             turn)

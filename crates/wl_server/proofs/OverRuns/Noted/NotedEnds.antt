@@ -39,7 +39,7 @@ use Rattle.wl_server.proofs.OverRuns.Alone.IsolationLaw.{are_isolated, is_isolat
 use Rattle.wl_server.proofs.OverRuns.Alone.OwnRuns.{are_mine}
 use Rattle.wl_server.proofs.OverRuns.Ids.IdentityLaws.{own_ids}
 use Rattle.wl_server.proofs.OverRuns.Moves.BaseMoves.{Doings}
-use Rattle.wl_server.proofs.OverRuns.Moves.DoingsLaws.{deeds_given, done_both, told_deeds}
+use Rattle.wl_server.proofs.OverRuns.Moves.DoingsLaws.{deeds_given, doings_in_both, told_deeds}
 use Rattle.wl_server.proofs.OverRuns.Moves.MovesOfCalls.{ended_named, named_serial}
 use Rattle.wl_server.proofs.OverRuns.Noted.NotedLaws.{destroyed_both, each_is_noted}
 
@@ -115,8 +115,8 @@ module _ {U : Type 0} where
 
   same_both : (a b : List (Deed U)) → SameEnds a → SameEnds b → SameEnds (a ++ b)
   same_both a b one two =
-      let left : left_in (a ++ b) ≡ left_in a ++ left_in b = ap (λ (d : Doings U). d.left) (done_both a b) in
-      let notes : notes_in (a ++ b) ≡ notes_in a ++ notes_in b = ap (λ (d : Doings U). d.notes) (done_both a b) in
+      let left : left_in (a ++ b) ≡ left_in a ++ left_in b = ap (λ (d : Doings U). d.left) (doings_in_both a b) in
+      let notes : notes_in (a ++ b) ≡ notes_in a ++ notes_in b = ap (λ (d : Doings U). d.notes) (doings_in_both a b) in
       left
       ∙ (ap (λ (l : List Id). l ++ left_in b) one ∙ ap (λ (l : List Id). destroyed_in (notes_in a) ++ l) two)
       ∙ sym (ap destroyed_in notes ∙ destroyed_both (notes_in a) (notes_in b))

@@ -19,7 +19,7 @@ use Rattle.wl_server.proofs.OverRuns.Moves.BaseMoves.{Doings, Goes, Moves, born,
 use Rattle.wl_server.proofs.OverRuns.Moves.BaseMovesLaw.{call_goes}
 use Rattle.wl_server.proofs.OverRuns.Ids.ChangeLaws.{moves_take}
 use Rattle.wl_server.specs.Deeds.{left_in, taken_in}
-use Rattle.wl_server.proofs.OverRuns.Moves.DoingsLaws.{done_both}
+use Rattle.wl_server.proofs.OverRuns.Moves.DoingsLaws.{doings_in_both}
 use Rattle.wl_server.specs.Globals.{Offer, new_offer}
 use Rattle.wl_server.specs.Identified.{HasOwnIds, waiting_of}
 use Rattle.wl_server.proofs.OverRuns.Ids.IdentityLaws.{own_ids}
@@ -271,7 +271,7 @@ module _ {T U G C : Type 0} (w : World T G C) (id : ClientParts) where
   run_notes offer s (e ∷ run) t own none (mid, by, alone) =
       let first = goes_note w.sends w.receives id s mid (doings_of (handed_by id e.call e.did) e.did) none (call_goes w id offer e.call s e.lacked e.did mid own.0 by) in
       let rest = run_notes (offer_after offer e.call) mid run t own.1 first.none alone in
-      let all = done_both e.did (history run) in
+      let all = doings_in_both e.did (history run) in
       let left : left_in (e.did ++ history run) ≡ left_in e.did ++ left_in (history run) = ap (λ (d : Doings U). d.left) all in
       let taken : taken_in (e.did ++ history run) ≡ taken_in e.did ++ taken_in (history run) = ap (λ (d : Doings U). d.taken) all in
       record {

@@ -36,16 +36,16 @@ use Rattle.wl_server.specs.Steps.{lacks_growth}
 -- ---- replies
 
 -- a move's answer is known by what is made of it
-abbrev undone : Moved → Result (Unit {0}) ScriptError
-undone (Ok _) = Ok tt
-undone (Err e) = Err e
+abbrev result_of : Moved → Result (Unit {0}) ScriptError
+result_of (Ok _) = Ok tt
+result_of (Err e) = Err e
 
-undone_done : (r : Result (Unit {0}) ScriptError) → undone (nothing_taken r) ≡ r
-undone_done (Ok u) = refl
-undone_done (Err e) = refl
+result_of_taken : (r : Result (Unit {0}) ScriptError) → result_of (nothing_taken r) ≡ r
+result_of_taken (Ok u) = refl
+result_of_taken (Err e) = refl
 
-done_one : (a b : Result (Unit {0}) ScriptError) → nothing_taken a ≡ nothing_taken b → a ≡ b
-done_one a b same = sym (undone_done a) ∙ ap undone same ∙ undone_done b
+nothing_taken_one : (a b : Result (Unit {0}) ScriptError) → nothing_taken a ≡ nothing_taken b → a ≡ b
+nothing_taken_one a b same = sym (result_of_taken a) ∙ ap result_of same ∙ result_of_taken b
 
 module _ {T U : Type 0} where
   -- what an insertion and what a creation answers
@@ -246,16 +246,16 @@ module _ {T U G C : Type 0} (w : World T G C) (known : IsDetermined w) (id : Cli
       outcome true p q one.0 (λ own. same_reply id p q (reply.TakeNotes r) (reply.TakeNotes r') is is' one.1)
   step_one (step.Arrive target bytes tokens) p q ample ample' shared (r, is, h) (r', is', g) =
       let one = moved_one target (Arrive (record { bytes = bytes.items; tokens = tokens.items })) (nothing_taken r) (nothing_taken r') h g in
-      outcome (same_client target id) p q one.0 (λ own. same_reply id p q _ _ is is' (ap reply.Arrive (done_one r r' (one.1 own))))
+      outcome (same_client target id) p q one.0 (λ own. same_reply id p q _ _ is is' (ap reply.Arrive (nothing_taken_one r r' (one.1 own))))
   step_one (step.ArriveFault target f) p q ample ample' shared (r, is, h) (r', is', g) =
       let one = moved_one target (ArriveFault f) (nothing_taken r) (nothing_taken r') h g in
-      outcome (same_client target id) p q one.0 (λ own. same_reply id p q _ _ is is' (ap reply.ArriveFault (done_one r r' (one.1 own))))
+      outcome (same_client target id) p q one.0 (λ own. same_reply id p q _ _ is is' (ap reply.ArriveFault (nothing_taken_one r r' (one.1 own))))
   step_one (step.Accept target n) p q ample ample' shared (r, is, h) (r', is', g) =
       let one = moved_one target (Accept n) (nothing_taken r) (nothing_taken r') h g in
-      outcome (same_client target id) p q one.0 (λ own. same_reply id p q _ _ is is' (ap reply.Accept (done_one r r' (one.1 own))))
+      outcome (same_client target id) p q one.0 (λ own. same_reply id p q _ _ is is' (ap reply.Accept (nothing_taken_one r r' (one.1 own))))
   step_one (step.AcceptFault target f) p q ample ample' shared (r, is, h) (r', is', g) =
       let one = moved_one target (AcceptFault f) (nothing_taken r) (nothing_taken r') h g in
-      outcome (same_client target id) p q one.0 (λ own. same_reply id p q _ _ is is' (ap reply.AcceptFault (done_one r r' (one.1 own))))
+      outcome (same_client target id) p q one.0 (λ own. same_reply id p q _ _ is is' (ap reply.AcceptFault (nothing_taken_one r r' (one.1 own))))
   step_one (step.TakeSent target) p q ample ample' shared (r, is, h) (r', is', g) =
       let one = moved_one target TakeSent (taken r) (taken r') h g in
       outcome (same_client target id) p q one.0 (λ own. same_reply id p q (reply.TakeSent r) (reply.TakeSent r') is is' (one.1 own))
