@@ -10,6 +10,7 @@ ghost use Rattle.wl_server.specs.Telling.{by_object, global_message};
 
 use crate::globals::KeptGlobal;
 use crate::objects::Registry;
+use crate::reading::texts::string_of_bytes;
 use smallvec::SmallVec;
 use std::alloc::Global;
 use std::marker::Model;
@@ -30,10 +31,7 @@ fn interface_name(
 {
     bytes.clear();
     bytes.extend_from_slice(protocol.name(interface).as_bytes())?;
-    match CString::new(bytes) {
-        Ok(name) => Ok(name),
-        Err(_) => unreachable!(),
-    }
+    Ok(string_of_bytes(bytes))
 }
 
 /// A message `wl_registry.global` with this sender. Its arguments are still to be set.
@@ -73,7 +71,7 @@ pub fn set_global_args(
     // The next name is put in the memory of the name that the message has.
     let bytes = match mem::replace(&mut args[1], Argument::Str(None)) {
         Argument::Str(Some(last)) => last.into_bytes(),
-        _ => Vec::new(alloc),
+        _other => Vec::new(alloc),
     };
     let text = interface_name(protocol, interface, bytes)?;
     args[0] = Argument::Uint(name);

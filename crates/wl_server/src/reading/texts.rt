@@ -33,15 +33,23 @@ pub fn posted_error(
     })
 }
 
+/// The C string of these bytes, none of which is zero.
+pub fn string_of_bytes(bytes: Vec<u8>) -> CString
+    requires { holds_zero bytes.items ≡ false }
+    ensures { result ≡ bytes.items }
+{
+    match CString::new(bytes) {
+        Ok(string) => string,
+        Err(_) => unreachable!(),
+    }
+}
+
 /// The C string of a text without a zero byte.
 fn c_string(text: String) -> CString
     requires { holds_zero (string_bytes text) ≡ false }
     ensures { result ≡ string_bytes text }
 {
-    match CString::new(text.into_bytes()) {
-        Ok(string) => string,
-        Err(_) => unreachable!(),
-    }
+    string_of_bytes(text.into_bytes())
 }
 
 /// The text for a new id that cannot be used.
