@@ -1,5 +1,5 @@
 -- Lines and words, computed from the definitions.
-use Rattle.std.proofs.Common.{◌≡◌, ◌≢◌, ◌<◌, ◌≤◌, ◌==◌, ◌∙◌, [], ◌∷◌, ◌++◌, List, ℕ, String, Global, Ok, Err, Some, None, true, false, arith, lit≤, lit<, refl, sym, ap, get_or, length, codes, string_bytes, pos, negsuc}
+use Rattle.std.proofs.Common.{◌≡◌, ◌≢◌, ◌<◌, ◌==◌, ◌∙◌, [], ◌∷◌, ◌++◌, List, ℕ, String, Global, Ok, Err, Some, None, true, false, arith, lit≤, lit<, refl, sym, ap, get_or, length, codes, string_bytes, pos, negsuc}
 use Rattle.std.specs.Fmt.{decimal, digits}
 use Rattle.std.specs.Str.{IsUtf8}
 use Rattle.std.proofs.lemmas.Bool.{eq-eqb, true≢false}
