@@ -8,7 +8,7 @@
 //! | Calls | Code | Definitions, in `specs/` |
 //! |---|---|---|
 //! | of a `BufferedSocket` | `buffered_socket` | `Link`, `NothingLost` |
-//! | of a `MessagePlace`, into which messages are read | `message_place` | none |
+//! | of a `MessagePlace`, into which messages are read, and `clear_message` | `message_place` | none |
 //! | of a `Transport`, and of `Memory`, the transport by script | `transport`, `memory` | `Exchange`, `Script` |
 //! | of an `ObjectMap`, and of `AllObjects` and `IntoObjects`, the walks over it | `object_map`, `all_objects`, `into_objects` | `Store`, `ObjectMap` |
 //!

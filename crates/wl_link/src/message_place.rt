@@ -11,8 +11,8 @@ use wl_wire::{INLINE_ARGS, Message, Token};
 /// The place that messages are read into.
 ///
 /// A program that reads many messages keeps one place, so that no message is made and dropped for each read. The place always
-/// has the capacity that [`read_into`](crate::BufferedSocket::read_into) needs. Contracts do not speak of what is in it: the
-/// message counts as no part of what its owner holds.
+/// has the capacity that [`read_into`](crate::BufferedSocket::read_into) needs. In contracts all places are the same value,
+/// whatever message is in them. So the contract of a call whose owner keeps a place does not say what the call leaves there.
 #[derive(Drop)]
 pub struct MessagePlace {
     /// The message.
@@ -43,8 +43,8 @@ impl MessagePlace {
     }
 }
 
-/// Drops the arguments of a message. If their memory was allocated, it is freed, so that the next message is again read into
-/// the places that need none. The sender and the opcode stay.
+/// Drops the arguments of a message. If the list of them is in allocated memory, that is freed too, so that the next message
+/// is again read into the `INLINE_ARGS` places that need none. The sender and the opcode stay.
 pub fn clear_message(message: &mut Message<u32, Token>)
     ensures args { message.new.args.items ≡ [] }
     ensures capacity { message.new.args.capacity ≡ INLINE_ARGS }

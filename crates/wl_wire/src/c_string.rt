@@ -69,7 +69,7 @@ impl CString {
         self.bytes.as_slice()
     }
 
-    /// The bytes, with their memory. It allocates nothing.
+    /// The bytes, as the vector that the string was made from. It allocates nothing.
     pub fn into_bytes(self) -> Vec<u8>
         ensures bytes { result.items ≡ self }
         ensures no_zero { HasNoZero self }
