@@ -140,7 +140,7 @@ module _ {T U : Type 0} (sends : T → Queue → Result ℕ IoFault → T → Ty
         | inl (none, p, q) ↦
             elim (both_option s.open_event p q) [
               | inr (event, some, p', q') ↦ absurd (true≢false (ap is_none (sym unopened ∙ some)))
-              | inl (shut, (turns, out, reads, is, gave, calm), again) ↦ (
+              | inl (none_open, (turns, out, reads, is, gave, calm), again) ↦ (
                 turns,
                 out,
                 reads,
@@ -274,11 +274,11 @@ module _ {T U : Type 0} where
 -- ---- something is served of whatever waits, and it is determined
 
 module _ {U : Type 0} where
-  shut_verdict : (c : Core U) (error : Option WaylandError) (event : Option OpenEvent) (u : Option U) (v : Verdict (Core U) SessionMessage) → finish c error event u ≡ Some v
+  finish_is_quiet : (c : Core U) (error : Option WaylandError) (event : Option OpenEvent) (u : Option U) (v : Verdict (Core U) SessionMessage) → finish c error event u ≡ Some v
       → (v.puts ≡ []) × (v.flushes ≡ false)
-  shut_verdict c (Some e) event u v is = absurd (none_some v is)
-  shut_verdict c None None u v is = absurd (none_some v is)
-  shut_verdict c None (Some event) u v is = go (is_none (refusal event.created u)) is
+  finish_is_quiet c (Some e) event u v is = absurd (none_some v is)
+  finish_is_quiet c None None u v is = absurd (none_some v is)
+  finish_is_quiet c None (Some event) u v is = go (is_none (refusal event.created u)) is
     where
       go : (b : Bool) → cond b (Some (finish_verdict c event u)) None ≡ Some v → (v.puts ≡ []) × (v.flushes ≡ false)
       go true same =
@@ -292,8 +292,8 @@ module _ {U : Type 0} where
     malformed = λ c link. carried_at_once sends client (client.malformed c) link refl refl;
     over = λ c link. (refl, λ u. refl);
     takes = λ c u v link is. (
-        let shut = shut_verdict c c.error c.open_event u v is in
-        carried_at_once sends client v link shut.0 shut.1
+        let quiet = finish_is_quiet c c.error c.open_event u v is in
+        carried_at_once sends client v link quiet.0 quiet.1
         );
   }
 

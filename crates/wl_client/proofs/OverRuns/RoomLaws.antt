@@ -45,8 +45,8 @@ fed_blocks (Err g) f would is = let same : g ≡ f = cc in sym same ∙ would
 pub finish_keeps : {U : Type 0} (c : Core U) (event : OpenEvent) (u : Option U) → ((core_finished c event u).error ≡ c.error) × ((core_finished c event u).open_event ≡ None)
 finish_keeps {U = U} c event u = at event.is_destructor (named c.store event.sender) event.created u
   where
-    shut : Core U
-    shut = record c { open_event = None }
+    unopened : Core U
+    unopened = record c { open_event = None }
 
     given_to : (d : Core U) (created : Option IdParts) (u : Option U) → ((with_data_for d created u).error ≡ d.error) × ((with_data_for d created u).open_event ≡ d.open_event)
     given_to d None u = (refl, refl)
@@ -54,11 +54,11 @@ finish_keeps {U = U} c event u = at event.is_destructor (named c.store event.sen
     given_to d (Some id) (Some v) = (refl, refl)
 
     at : (b : Bool) (x : Option (Object (Kept U))) (created : Option IdParts) (u : Option U)
-        → ((with_data_for (cond b (with_dead shut event.sender.number x) shut) created u).error ≡ c.error)
-        × ((with_data_for (cond b (with_dead shut event.sender.number x) shut) created u).open_event ≡ None)
-    at true None created u = given_to shut created u
-    at true (Some x) created u = given_to (with_dead shut event.sender.number (Some x)) created u
-    at false x created u = given_to shut created u
+        → ((with_data_for (cond b (with_dead unopened event.sender.number x) unopened) created u).error ≡ c.error)
+        × ((with_data_for (cond b (with_dead unopened event.sender.number x) unopened) created u).open_event ≡ None)
+    at true None created u = given_to unopened created u
+    at true (Some x) created u = given_to (with_dead unopened event.sender.number (Some x)) created u
+    at false x created u = given_to unopened created u
 
 module _ {T U : Type 0} (sends : T → Queue → Result ℕ IoFault → T → Type 0) (receives : T → ℕ → Result Queue IoFault → T → Type 0) where
   -- ---- what a message comes to
@@ -145,11 +145,11 @@ module _ {T U : Type 0} (sends : T → Queue → Result ℕ IoFault → T → Ty
           not (sym (ap (λ (x : ReaderState T (Core U)). x.core.error)
           (reads_nothing left p after turns out (ap (λ (o : Option WaylandError). is_none o && is_none p.core.open_event) some) reads)) ∙ is)
 
-  shut_error : (c : Core U) (error : Option WaylandError) (event : Option OpenEvent) (u : Option U) (v : Verdict (Core U) SessionMessage) → finish c error event u ≡ Some v
+  finish_error : (c : Core U) (error : Option WaylandError) (event : Option OpenEvent) (u : Option U) (v : Verdict (Core U) SessionMessage) → finish c error event u ≡ Some v
       → (v.puts ≡ []) × ((v.last v.core).error ≡ c.error) × (v.starved.error ≡ c.error)
-  shut_error c (Some e) event u v is = absurd (true≢false (ap is_none is))
-  shut_error c None None u v is = absurd (true≢false (ap is_none is))
-  shut_error c None (Some event) u v is = go (is_none (refusal event.created u)) is
+  finish_error c (Some e) event u v is = absurd (true≢false (ap is_none is))
+  finish_error c None None u v is = absurd (true≢false (ap is_none is))
+  finish_error c None (Some event) u v is = go (is_none (refusal event.created u)) is
     where
       go : (b : Bool) → cond b (Some (finish_verdict c event u)) None ≡ Some v → (v.puts ≡ []) × ((v.last v.core).error ≡ c.error) × (v.starved.error ≡ c.error)
       go true same =
@@ -160,10 +160,10 @@ module _ {T U : Type 0} (sends : T → Queue → Result ℕ IoFault → T → Ty
   pub end_keeps : (p after : ReaderState T (Core U)) (u : Option U) (es : List Sending) (gave : List (Given SessionMessage)) → Ends sends client p u es gave false after
       → NotEndedByPipe p.core → NotEndedByPipe after.core
   end_keeps p after u es gave (v, is, inr (asks, was, none, gives, same)) not =
-      let kept = shut_error p.core p.core.error p.core.open_event u v is in
+      let kept = finish_error p.core p.core.error p.core.open_event u v is in
       subst (λ (e : Option WaylandError). e ≢ Some (Io fault.Pipe)) (sym (ap (λ (x : ReaderState T (Core U)). x.core.error) same ∙ kept.2)) not
   end_keeps p after u es gave (v, is, inl (first, others, put, wrote, mid, lacked, puts, flushes, split, end, gives, was)) not =
-      let kept = shut_error p.core p.core.error p.core.open_event u v is in
+      let kept = finish_error p.core p.core.error p.core.open_event u v is in
       let none = subst (λ (ms : List Said). PutsOut sends p.link ms first put wrote mid) kept.0 puts in
       let core : after.core ≡ v.last v.core = end ∙ ap (comes_to client v) none.2 in
       subst (λ (e : Option WaylandError). e ≢ Some (Io fault.Pipe)) (sym (ap (λ (d : Core U). d.error) core ∙ kept.1)) not
@@ -176,6 +176,6 @@ module _ {T U : Type 0} (sends : T → Queue → Result ℕ IoFault → T → Ty
         | inl (none, p, q) ↦
             elim (both_option s.open_event p q) [
               | inr (event, some, (failed, unasked, same), again) ↦ absurd (none_ended live (sym (ap (λ (x : SessionState T U). x.error) same) ∙ is))
-              | inl (shut, (turns, out, reads, told, gave, calm), again) ↦ (none_came _ (reader_state_of s) (reader_state_of after) turns out reads live is).0
+              | inl (none_open, (turns, out, reads, told, gave, calm), again) ↦ (none_came _ (reader_state_of s) (reader_state_of after) turns out reads live is).0
             ]
       ]

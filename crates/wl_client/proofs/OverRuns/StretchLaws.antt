@@ -198,8 +198,8 @@ module _ {U : Type 0} where
 
   none_open : (s mid : SessionState Script U) (u : Option U) → Finishes s u (Ok tt) mid → s.open_event ≡ None → ⊥
   none_open s mid u h unopened =
-      let shuts = finish_as s mid u h in
-      true≢false (ap is_none (sym unopened ∙ shuts.1))
+      let finished = finish_as s mid u h in
+      true≢false (ap is_none (sym unopened ∙ finished.1))
 
   finish_acts : (s mid : SessionState Script U) (u : Option U) (answer : Reply U) → answer ≡ reply.FinishEvent (Ok tt) → Finishes s u (Ok tt) mid → Tidy (core_of s)
       → Acts s (step.FinishEvent u) answer mid
