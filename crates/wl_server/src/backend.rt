@@ -50,7 +50,8 @@ pub struct Backend<T, U, G, C> {
     pub(crate) numbers: NoteNumbers,
     /// What `memory_refused` returns.
     pub(crate) refused: bool,
-    /// The message that is being read. It is kept here, so that no new one is made for each message.
+    /// The message that is being read, and then what a sync is answered with. It is kept here, so that no message is made for
+    /// either.
     pub(crate) place: MessagePlace,
 }
 

@@ -172,7 +172,7 @@ module _ {T U G C : Type 0} (sends : T → Queue → Result ℕ IoFault → T �
   part_bounded r p answer r' lacked did q h =
       elim (either_option p.action h) [
         | inr (open', is_open, (is, same, calm, none', stays)) ↦ none_left did r r' none' same
-        | inl (shut, g) ↦
+        | inl (none_open, g) ↦
             elim (either_bool p.is_killed g) [
               | inl (is, same, calm, none', stays) ↦ none_left did r r' none' same
               | inr (turns, out, end, reads, is, left, calm, did_so, ends) ↦

@@ -32,7 +32,7 @@ use Rattle.wl_server.specs.declared.objects.Kept.{Kept}
 use Rattle.wl_server.specs.declared.reading.response.Response.{Response}
 use Rattle.wl_server.specs.Inside.Client.{Does}
 use Rattle.wl_server.specs.Ids.{IdParts}
-use Rattle.wl_server.specs.Inside.Responses.{core_with, response_to}
+use Rattle.wl_server.specs.Inside.Responses.{TookRequest, core_with, response_to}
 use Rattle.wl_server.specs.Deeds.{Deed, Handed, Sent, notes_in}
 use Rattle.wl_server.specs.Part.{Part}
 use Rattle.wl_server.specs.Reading.{Around, action_in, NextAction, ReadsNone, ReadsTo, answered, exchanges_in, faulted, read_on, reads_on, request, request_to, row_asks, row_in, server}
@@ -289,31 +289,27 @@ module _ {T U G C : Type 0} (sends : T → Queue → Result ℕ IoFault → T �
     made = s.made;
   }
 
-  abbrev pub Responds : Stored T U C → ClientObjects U → WireMessage → MessageRow → ClientObjects U → Response → Found → List (Argument IdParts Token) → Type 0
-  Responds s objects m row objects' response f args =
-      (x : Object (Kept U)) (c : Core U C) → held objects.map.store m.sender ≡ Some x
-      → request_to a (core_with c s.part.client_data objects) m x row ≡ response_to a (core_with c s.part.client_data objects') response f args
-
   known : (m : WireMessage) (row : MessageRow) (o : Option (Object (Kept U))) → row_in a.table o m.opcode ≡ Some row → (x : Object (Kept U)) × (o ≡ Some x)
   known m row None is = cc
   known m row (Some x) is = (x, refl)
 
-  pub message_taken : (s : Stored T U C) (r r' : Reading) (link : LinkState T) (m : WireMessage) (row : MessageRow) (objects objects' : ClientObjects U)
-      (response : Response) (f : Found) (args : List (Argument IdParts Token)) (to : MessageResult) (after : Stored T U C)
-      → Live s.part → ReadsIn a.table s.part.store s.part.link (Ok m) link → row_in a.table (held s.part.store m.sender) m.opcode ≡ Some row
-      → core_with (core_of s.part) s.part.client_data objects ≡ core_of s.part → Responds s objects m row objects' response f args
+  pub message_taken : (s : Stored T U C) (r r' : Reading) (link : LinkState T) (objects objects' : ClientObjects U) (response : Response) (f : Found) (args : List (Argument IdParts Token))
+      (to : MessageResult) (after : Stored T U C)
+      → Live s.part → core_with (core_of s.part) s.part.client_data objects ≡ core_of s.part
+      → TookRequest a s.part.client_data objects s.part.link (Ok response) f args objects' link
       → IsHandled sends (response_to a (core_of (gone_through s link objects').part) response f args) (gone_through s link objects') to after
       → length link.incoming.bytes < length s.part.link.incoming.bytes → r'.receives_left ≡ r.receives_left → r'.read ≡ counted r.read 1
       → HandlesMessage sends receives a s r to after r'
-  message_taken s r r' link m row objects objects' response f args to after live read is same responds handled fewer left count =
-      let k = known m row (held s.part.store m.sender) is in
+  message_taken s r r' link objects objects' response f args to after live same (m, row, read, is, responds) handled fewer left count =
+      let store : objects.map.store ≡ s.part.store = ap (λ (core : Core U C). core.store) same in
+      let k = known m row (held objects.map.store m.sender) is in
       let mid = gone_through s link objects' in
       let v = response_to a (core_of mid.part) response f args in
       let verdict : request_to a (core_of s.part) m k.0 row ≡ v
-      = subst (λ (core : Core U C). request_to a core m k.0 row ≡ v) same
-      (responds k.0 (core_of s.part) (ap (λ (core : Core U C). held core.store m.sender) same ∙ k.1)) in
-      let found : v ≡ (server a).handles (core_of s.part) m = sym verdict ∙ sym (ap₂ (request a (core_of s.part) m) k.1 is) in
-      message_handled s r r' live v link to after (m, read, found)
+      = subst (λ (core : Core U C). request_to a core m k.0 row ≡ v) same (responds k.0 (core_of s.part) k.1) in
+      let there : row_in a.table (held s.part.store m.sender) m.opcode ≡ Some row = rw (← store) is in
+      let found : v ≡ (server a).handles (core_of s.part) m = sym verdict ∙ sym (ap₂ (request a (core_of s.part) m) (ap (λ (core : Core U C). held core.store m.sender) (sym same) ∙ k.1) there) in
+      message_handled s r r' live v link to after (m, rw (← store) read, found)
       (from_there sends v (linked s link) mid after to refl refl refl handled) fewer left count
 
   -- ---- receives

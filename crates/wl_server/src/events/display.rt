@@ -1,6 +1,6 @@
 //! The messages that the server sends by itself.
 
-ghost use Rattle.std.specs.Prelude.{◌≡◌, ◌∷◌, ℕ, [], Some, length};
+ghost use Rattle.std.specs.Prelude.{◌≡◌, ◌∷◌, ℕ, [], Some};
 ghost use Rattle.wl_wire.specs.declared.argument.Argument.TheVariants as arg;
 ghost use Rattle.wl_wire.specs.Message.{content};
 ghost use Rattle.wl_link.specs.Link.{Wrote};
@@ -10,7 +10,7 @@ ghost use Rattle.wl_server.specs.Telling.{deletions, done_message, error_message
 
 use smallvec::SmallVec;
 use std::alloc::Global;
-use wl_link::{BufferedSocket, SERVER_ID_LIMIT, Transport};
+use wl_link::{BufferedSocket, SERVER_ID_LIMIT, Transport, clear_message};
 use wl_wire::{Argument, CString, IoFault, Message, Token};
 
 /// The number of the display.
@@ -50,14 +50,14 @@ pub fn message_of_number(
     }
 }
 
-/// Gives a message that has one argument this sender and this opcode. Its argument becomes this number.
+/// Drops what is in a message, and gives it this sender, this opcode, and one argument, a number.
 fn overwrite_message(message: &mut Message<u32, Token>, sender_id: u32, opcode: u16, number: u32)
-    requires { length message.old.args.items ≡ 1 }
     ensures { content message.new ≡ record { sender = sender_id; opcode = opcode; args = arg.Uint number ∷ [] } }
 {
+    clear_message(message);
     message.sender_id = sender_id;
     message.opcode = opcode;
-    message.args.as_mut_slice()[0] = Argument::Uint(number);
+    message.args.push_reserved(Argument::Uint(number));
 }
 
 /// Tells a client by `wl_display.delete_id` that a number is free again, if it is one of the client's own. For a number
@@ -108,20 +108,22 @@ pub fn put_error<T: Transport>(
 
 /// Tells a client by `wl_callback.done` that its callback of this number is done, and by `wl_display.delete_id` that the
 /// number is free again. Of a number of the server's range only the first is told.
+///
+/// `message` is overwritten with what is told, so that no message is made for it.
 pub fn put_done<T: Transport>(
-    alloc: Global,
+    message: &mut Message<u32, Token>,
     socket: &mut BufferedSocket<T>,
     number: u32,
 ) -> Result<(), IoFault>
     ensures { (serial : ℕ) → Puts T.sends socket.old (done_message (record { number = number; serial = serial }) ∷ deletions number) result socket.new }
 {
-    let mut message = message_of_number(alloc, number, DONE, 0);
-    if let Err(fault) = socket.write_message(&message) {
+    overwrite_message(message, number, DONE, 0);
+    if let Err(fault) = socket.write_message(message) {
         return Err(fault);
     }
     if number >= SERVER_ID_LIMIT {
         return Ok(());
     }
-    overwrite_message(&mut message, DISPLAY, DELETE_ID, number);
-    socket.write_message(&message)
+    overwrite_message(message, DISPLAY, DELETE_ID, number);
+    socket.write_message(message)
 }

@@ -21,7 +21,8 @@ use wl_wire::{Argument, CString, InterfaceId, IoFault, Message, OutOfMemory, Pro
 /// The opcode of `wl_registry.global`.
 const GLOBAL: u16 = 0;
 
-/// The name of an interface, as an argument, in the memory of `bytes` if it is enough. What is in `bytes` is dropped.
+/// The name of an interface, as an argument. It is put into the memory of `bytes`, which grows if it is too small. What
+/// was in `bytes` is dropped.
 fn interface_name(
     protocol: &Protocol,
     interface: InterfaceId,

@@ -1,8 +1,10 @@
 //! What a reading hands out, how much it may read, and what became of a message.
 
-ghost use Rattle.std.specs.Prelude.{◌≡◌};
+ghost use Rattle.std.specs.Prelude.{◌≡◌, None, false};
 ghost use Rattle.wl_server.specs.Deeds.{handed};
 ghost use Rattle.wl_server.specs.Inside.ReadingLoop.{found_with};
+ghost use Rattle.wl_server.specs.Part.{null_id};
+ghost use Rattle.wl_server.specs.declared.reading.action.Found.TheVariants as found;
 
 use crate::ids::global_id::GlobalId;
 use crate::ids::object_id::ObjectId;
@@ -82,7 +84,9 @@ pub enum Found {
 
 impl Found {
     /// The value before an action is found: a request of no object.
-    pub fn none() -> Self {
+    pub fn none() -> Self
+        ensures { result ≡ found.Request (null_id record { slot = 0; serial = 0 }) 0 false None }
+    {
         Found::Request(ObjectId::null(), 0, false, None)
     }
 

@@ -25,6 +25,7 @@ use crate::objects::{ClientObjects, Kept};
 use crate::reading::Surroundings;
 use crate::reading::action::{Found, MessageEnd, NoAction, Reading};
 use crate::reading::request::request;
+use crate::reading::respond::open_action;
 use crate::reading::response::Response;
 use smallvec::SmallVec;
 use wl_link::{BufferedSocket, ObjectMap, Transport, clear_message};
@@ -206,7 +207,7 @@ impl<T: Transport + Drop, U: Drop, C: Drop> Client<T, U, C> {
         ensures inline { INLINE_ARGS ≤ args.new.capacity }
     {
         let read = reading.read;
-        match take_request(
+        let taken = take_request(
             around.protocol,
             around,
             &self.data,
@@ -216,12 +217,21 @@ impl<T: Transport + Drop, U: Drop, C: Drop> Client<T, U, C> {
             message,
             found,
             args,
-        ) {
-            Ok(response) => {
-                reading.read = read.saturating_add(1);
-                self.respond(numbers, around, &response, found)
+        );
+        let response = match taken {
+            Ok(response) => response,
+            Err(error) => return self.not_taken(numbers, around, error),
+        };
+        reading.read = read.saturating_add(1);
+        match response {
+            Response::Garbled => MessageEnd::Ends(self.garbled(numbers)),
+            Response::Breaks(breach) => MessageEnd::Ends(self.ends_by(numbers, around, &breach)),
+            Response::Syncs(callback) => self.synced(numbers, message, &callback),
+            Response::Registers(registry) => self.registered(numbers, around, &registry),
+            Response::HandsOut => {
+                self.action = Some(open_action(found));
+                MessageEnd::Acts
             }
-            Err(error) => self.not_taken(numbers, around, error),
         }
     }
 

@@ -1,4 +1,4 @@
-//! What the server does after a request was handled: it writes to the client, kills it, or hands an action out.
+//! What the server may do after a request was handled: it writes to the client, kills it, or opens an action.
 //!
 //! A client is *live* as long as it is stored and not killed.
 
@@ -16,9 +16,9 @@ ghost use Rattle.wl_server.specs.Globals.{shown};
 ghost use Rattle.wl_server.specs.Ids.{IdParts};
 ghost use Rattle.wl_server.specs.Part.{id_of};
 ghost use Rattle.wl_server.specs.Reading.{breaks, garbled, replies};
-ghost use Rattle.wl_server.specs.Inside.Responses.{HasName, HasNames, code_of, opened_of, response_to, text_of};
-ghost use Rattle.wl_server.specs.Telling.{Kills, core_of, global_message};
-ghost use Rattle.wl_server.specs.Inside.ReadingLoop.{Acts, Ended, IsHandled, Live, around_of, message_result};
+ghost use Rattle.wl_server.specs.Inside.Responses.{HasName, code_of, opened_of, text_of};
+ghost use Rattle.wl_server.specs.Telling.{Kills, core_of, deletions, done_message, global_message};
+ghost use Rattle.wl_server.specs.Inside.ReadingLoop.{Ended, IsHandled, Live, around_of, message_result};
 
 use crate::client::Client;
 use crate::events::display::{DISPLAY, put_done};
@@ -29,11 +29,11 @@ use crate::notes::DisconnectReason;
 use crate::notes::queues::NoteNumbers;
 use crate::reading::Surroundings;
 use crate::reading::action::{Found, MessageEnd, NoAction, OpenAction};
-use crate::reading::response::{Breach, Response};
+use crate::reading::response::Breach;
 use crate::reading::texts::{bind_text, fault_text, new_id_text, since_text};
 use std::alloc::Global;
 use wl_link::Transport;
-use wl_wire::{CString, IoFault, OutOfMemory, Protocol, WL_DISPLAY_INTERFACE};
+use wl_wire::{CString, IoFault, Message, OutOfMemory, Protocol, Token, WL_DISPLAY_INTERFACE};
 
 /// The code and the text of the error that is posted for a breach of the protocol.
 #[cold]
@@ -65,7 +65,7 @@ fn breach_error(
 }
 
 /// The open action: what is needed to finish the action that was found.
-fn open_action(found: &Found) -> OpenAction
+pub fn open_action(found: &Found) -> OpenAction
     ensures { result ≡ opened_of found.now }
 {
     match found {
@@ -98,7 +98,7 @@ impl<T: Transport + Drop, U: Drop, C: Drop> Client<T, U, C> {
     /// for the text, the client is killed with the reason `ConnectionClosed`.
     #[cold]
     #[inline(never)]
-    fn ends_by<G: GlobalHandler<C>>(
+    pub fn ends_by<G: GlobalHandler<C>>(
         &mut self,
         numbers: &mut NoteNumbers,
         around: &Surroundings<'_, G>,
@@ -144,7 +144,7 @@ impl<T: Transport + Drop, U: Drop, C: Drop> Client<T, U, C> {
     }
 
     /// Tells a new registry of a live client of the globals.
-    fn registered<G: GlobalHandler<C> + Drop>(
+    pub fn registered<G: GlobalHandler<C> + Drop>(
         &mut self,
         numbers: &mut NoteNumbers,
         around: &Surroundings<'_, G>,
@@ -160,31 +160,20 @@ impl<T: Transport + Drop, U: Drop, C: Drop> Client<T, U, C> {
         self.replied(numbers, wrote)
     }
 
-    /// Does what is still to be done for a request of a live client. If it is handed out, it was found so.
-    pub fn respond<G: GlobalHandler<C> + Drop>(
+    /// Tells a live client that its callback is done, which is already removed. `message` is overwritten with what it is
+    /// told.
+    pub fn synced(
         &mut self,
         numbers: &mut NoteNumbers,
-        around: &Surroundings<'_, G>,
-        response: &Response<'_>,
-        found: &Found,
+        message: &mut Message<u32, Token>,
+        callback: &ObjectId,
     ) -> MessageEnd
-        requires live { Live self.old.part }
-        requires names { HasNames response.now }
-        ensures { (args : List (Arg IdParts TokenParts)) → IsHandled T.sends (response_to (around_of G.views around.now) (core_of self.old.part) response.now found.now args) self.old (message_result result found.now args) self.new }
+        requires { Live self.old.part }
+        ensures { (f : FoundOf) (args : List (Arg IdParts TokenParts)) → IsHandled T.sends
+            (replies (core_of self.old.part) (done_message (id_of callback.now) ∷ deletions callback.now.number) [])
+            self.old (message_result result f args) self.new }
     {
-        match response {
-            Response::Garbled => MessageEnd::Ends(self.garbled(numbers)),
-            Response::Breaks(breach) => MessageEnd::Ends(self.ends_by(numbers, around, breach)),
-            Response::Syncs(callback) => {
-                let alloc = self.alloc();
-                let wrote = put_done(alloc, &mut self.socket, callback.protocol_id());
-                self.replied(numbers, wrote)
-            }
-            Response::Registers(registry) => self.registered(numbers, around, registry),
-            Response::HandsOut => {
-                self.action = Some(open_action(found));
-                MessageEnd::Acts
-            }
-        }
+        let wrote = put_done(message, &mut self.socket, callback.protocol_id());
+        self.replied(numbers, wrote)
     }
 }

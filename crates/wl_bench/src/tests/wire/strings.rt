@@ -52,6 +52,17 @@ fn string_log(alloc: Global, bytes: &[u8]) -> Result<String, Fail> {
     Ok(hex_line(alloc, text.as_bytes())?)
 }
 
+/// The bytes that are got back of the string of these, in hex.
+fn bytes_log(alloc: Global, bytes: &[u8]) -> Result<String, Fail> {
+    let bytes = string(alloc, bytes)??.into_bytes();
+    Ok(hex_line(alloc, &bytes)?)
+}
+
+#[test]
+fn strings_give_their_bytes_back(rt: HostRuntime) -> Result<(), Fail> {
+    tells(&rt, bytes_log(rt.alloc(), b"trains"), "74 72 61 69 6e 73")
+}
+
 /// Whether these bytes are refused as a string.
 fn is_refused(alloc: Global, bytes: &[u8]) -> Result<bool, Fail> {
     Ok(string(alloc, bytes)? == Err(ZeroByte))

@@ -1,12 +1,36 @@
 use Rattle.std.proofs.Common.{refl}
+use Rattle.wl_server.specs.declared.reading.response.Response.TheVariants as response
 use Rattle.wl_server.specs.Inside.ReadingLoop.{around_of}
+use Rattle.wl_server.proofs.Readings.Handling.{handed_out}
 use Rattle.wl_server.proofs.Readings.OneMessage.{message_taken}
 use Rattle.wl_server.proofs.client.Client.handle_at.Goals as goal
 
-pub returns-in-Ok-clause-handles : goal.returns-in-Ok-clause-handles
-returns-in-Ok-clause-handles g c =
-    let took = c.in-Ok.ensures.took in
-    rw (← c.self.view_is)
-    (message_taken g.T.Transport.sends g.T.Transport.receives (around_of g.G.GlobalHandler.views c.args.around.now) _ c.args.reading.now _ c.take_request.new.socket took.0 took.1
-    c.self.inside.objects c.take_request.new.objects c.in-Ok.response c.take_request.new.found c.take_request.new.args.items
-    _ _ (rw (← c.self.view_is) at c.requires.live) took.2 took.3 refl took.4 (c.respond.ensures c.take_request.new.args.items) c.in-Ok.ensures.fewer refl c.saturating_add-reading.ensures)
+pub returns-in-Garbled-clause-handles : goal.returns-in-Garbled-clause-handles
+returns-in-Garbled-clause-handles g c = rw (← c.self.view_is)
+    (message_taken g.T.Transport.sends g.T.Transport.receives (around_of g.G.GlobalHandler.views c.args.around.now) _ c.args.reading.now _ c.take_request-taken.new.socket
+    c.self.inside.objects c.take_request-taken.new.objects response.Garbled c.take_request-taken.new.found c.take_request-taken.new.args.items _ _
+    (rw (← c.self.view_is) at c.requires.live) refl (rw c.in-Garbled.is at c.in-Ok.ensures.took) c.garbled.ensures c.in-Ok.ensures.fewer refl c.saturating_add-reading.ensures)
+
+pub returns-in-Breaks-clause-handles : goal.returns-in-Breaks-clause-handles
+returns-in-Breaks-clause-handles g c = rw (← c.self.view_is)
+    (message_taken g.T.Transport.sends g.T.Transport.receives (around_of g.G.GlobalHandler.views c.args.around.now) _ c.args.reading.now _ c.take_request-taken.new.socket
+    c.self.inside.objects c.take_request-taken.new.objects (response.Breaks c.in-Breaks.breach) c.take_request-taken.new.found c.take_request-taken.new.args.items _ _
+    (rw (← c.self.view_is) at c.requires.live) refl (rw c.in-Breaks.is at c.in-Ok.ensures.took) c.ends_by.ensures c.in-Ok.ensures.fewer refl c.saturating_add-reading.ensures)
+
+pub returns-in-Syncs-clause-handles : goal.returns-in-Syncs-clause-handles
+returns-in-Syncs-clause-handles g c = rw (← c.self.view_is)
+    (message_taken g.T.Transport.sends g.T.Transport.receives (around_of g.G.GlobalHandler.views c.args.around.now) _ c.args.reading.now _ c.take_request-taken.new.socket
+    c.self.inside.objects c.take_request-taken.new.objects (response.Syncs c.in-Syncs.callback) c.take_request-taken.new.found c.take_request-taken.new.args.items _ _
+    (rw (← c.self.view_is) at c.requires.live) refl (rw c.in-Syncs.is at c.in-Ok.ensures.took) (c.synced.ensures c.take_request-taken.new.found c.take_request-taken.new.args.items) c.in-Ok.ensures.fewer refl c.saturating_add-reading.ensures)
+
+pub returns-in-Registers-clause-handles : goal.returns-in-Registers-clause-handles
+returns-in-Registers-clause-handles g c = rw (← c.self.view_is)
+    (message_taken g.T.Transport.sends g.T.Transport.receives (around_of g.G.GlobalHandler.views c.args.around.now) _ c.args.reading.now _ c.take_request-taken.new.socket
+    c.self.inside.objects c.take_request-taken.new.objects (response.Registers c.in-Registers.registry) c.take_request-taken.new.found c.take_request-taken.new.args.items _ _
+    (rw (← c.self.view_is) at c.requires.live) refl (rw c.in-Registers.is at c.in-Ok.ensures.took) (c.registered.ensures c.take_request-taken.new.found c.take_request-taken.new.args.items) c.in-Ok.ensures.fewer refl c.saturating_add-reading.ensures)
+
+pub returns-in-HandsOut-clause-handles : goal.returns-in-HandsOut-clause-handles
+returns-in-HandsOut-clause-handles g c = rw (← c.self.view_is, c.open_action.ensures)
+    (message_taken g.T.Transport.sends g.T.Transport.receives (around_of g.G.GlobalHandler.views c.args.around.now) _ c.args.reading.now _ c.take_request-taken.new.socket
+    c.self.inside.objects c.take_request-taken.new.objects response.HandsOut c.take_request-taken.new.found c.take_request-taken.new.args.items _ _
+    (rw (← c.self.view_is) at c.requires.live) refl (rw c.in-HandsOut.is at c.in-Ok.ensures.took) (handed_out g.T.Transport.sends _ _ _) c.in-Ok.ensures.fewer refl c.saturating_add-reading.ensures)
