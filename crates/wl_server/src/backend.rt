@@ -50,8 +50,8 @@ pub struct Backend<T, U, G, C> {
     pub(crate) numbers: NoteNumbers,
     /// What `memory_refused` returns.
     pub(crate) refused: bool,
-    /// The message that is being read, and then what a sync is answered with. It is kept here, so that no message is made for
-    /// either.
+    /// The place of the message that is being read. A sync is answered from it, too. It is kept here, so that no message is
+    /// made for either.
     pub(crate) place: MessagePlace,
 }
 

@@ -38,7 +38,7 @@ use Rattle.wl_server.specs.Part.{Part}
 use Rattle.wl_server.specs.Reading.{Around, action_in, NextAction, ReadsNone, ReadsTo, answered, exchanges_in, faulted, read_on, reads_on, request, request_to, row_asks, row_in, server}
 use Rattle.wl_server.specs.Server.{Stored}
 use Rattle.wl_server.specs.Telling.{Core, Kills, Told, core_of, deeds_in, deeds_of, end_deeds, part_of, reader_part}
-use Rattle.wl_server.specs.Inside.ReadingLoop.{Acts, Ended, EndsAs, Fills, ReadsOn, WentOn, HasNoNote, IsHandled, IsSilent, LacksIn, LacksMore, Live, NotTaken, ReadsIn, MessageResult, HandlesMessage, answer_of, counted, linked, refused_of, stored_as}
+use Rattle.wl_server.specs.Inside.ReadingLoop.{Acts, Ended, EndsAs, Fills, ReadsOn, WentOn, HasNoNote, IsHandled, IsSilent, LacksIn, LacksMore, Live, NotTaken, MessageResult, HandlesMessage, answer_of, counted, linked, refused_of, stored_as}
 use Rattle.wl_server.proofs.Readings.Handling.{from_there}
 use Rattle.wl_server.proofs.Readings.Notes.{notes_append, notes_of_sends}
 use Rattle.wl_server.proofs.ObjectCalls.Posting.{kills_is}

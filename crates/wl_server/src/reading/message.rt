@@ -188,7 +188,8 @@ impl<T: Transport + Drop, U: Drop, C: Drop> Client<T, U, C> {
         end
     }
 
-    /// Does the same as `handle_message` for a message with this header, and leaves in `message` what is left of the message.
+    /// Does the same as `handle_message` for a message with this header, but does not clear `message`: what is left of the
+    /// request is still in it, or the answer to a sync.
     fn handle_at<G: GlobalHandler<C> + Drop>(
         &mut self,
         numbers: &mut NoteNumbers,

@@ -1,8 +1,9 @@
-//! What the server may do after a request was handled: it writes to the client, kills it, or opens an action.
+//! What the server may do after a request was handled: it writes to the client, or kills it. Also what is kept of an action
+//! while it is open.
 //!
 //! A client is *live* as long as it is stored and not killed.
 
-ghost use Rattle.std.specs.Prelude.{◌≡◌, ◌∷◌, map, List, [], false, Err, Some, IfOk, MatchResult};
+ghost use Rattle.std.specs.Prelude.{◌≡◌, ◌∷◌, map, List, [], false, Err, IfOk, MatchResult};
 ghost use Rattle.wl_wire.specs.declared.argument.Argument.{Argument as Arg};
 ghost use Rattle.wl_wire.specs.declared.argument.Token.{Token as TokenParts};
 ghost use Rattle.wl_wire.specs.declared.error.IoFault.TheVariants as io;
@@ -160,8 +161,9 @@ impl<T: Transport + Drop, U: Drop, C: Drop> Client<T, U, C> {
         self.replied(numbers, wrote)
     }
 
-    /// Tells a live client that its callback is done, which is already removed. `message` is overwritten with what it is
-    /// told.
+    /// Tells a live client that its callback is done, and that the callback's number is free again if it is one of the
+    /// client's own. The callback is already removed. If a write fails, the client is killed. `message` is overwritten with
+    /// what the client is told.
     pub fn synced(
         &mut self,
         numbers: &mut NoteNumbers,

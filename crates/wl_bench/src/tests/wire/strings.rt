@@ -52,7 +52,7 @@ fn string_log(alloc: Global, bytes: &[u8]) -> Result<String, Fail> {
     Ok(hex_line(alloc, text.as_bytes())?)
 }
 
-/// The bytes that are got back of the string of these, in hex.
+/// The bytes that the string of these gives back, in hex.
 fn bytes_log(alloc: Global, bytes: &[u8]) -> Result<String, Fail> {
     let bytes = string(alloc, bytes)??.into_bytes();
     Ok(hex_line(alloc, &bytes)?)

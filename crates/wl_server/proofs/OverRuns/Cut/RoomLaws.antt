@@ -154,7 +154,7 @@ module _ {T U G C : Type 0} (sends : T → Queue → Result ℕ IoFault → T �
   next_action_room reading p answer left refused did q h =
       elim (either_option p.action h) [
         | inr (action, is_open, (is, same, calm, none, stays)) ↦ nothing_came did q.link none
-        | inl (shut, g) ↦
+        | inl (none_open, g) ↦
             elim (either_bool p.is_killed g) [
               | inl (is, same, calm, none, stays) ↦ nothing_came did q.link none
               | inr (turns, out, end, reads, is, same, calm, did_so, after) ↦
