@@ -54,9 +54,14 @@ pub fn message_of_number(
 fn overwrite_message(message: &mut Message<u32, Token>, sender_id: u32, opcode: u16, number: u32)
     ensures { content message.new ≡ record { sender = sender_id; opcode = opcode; args = arg.Uint number ∷ [] } }
 {
-    clear_message(message);
     message.sender_id = sender_id;
     message.opcode = opcode;
+    // A sync has one argument, and so has its first answer: it is replaced where it stands.
+    if message.args.len() == 1 {
+        message.args.as_mut_slice()[0] = Argument::Uint(number);
+        return;
+    }
+    clear_message(message);
     message.args.push_reserved(Argument::Uint(number));
 }
 

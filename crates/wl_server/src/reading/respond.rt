@@ -133,11 +133,10 @@ impl<T: Transport + Drop, U: Drop, C: Drop> Client<T, U, C> {
             (λ f. (result ≡ came.Ends (record { fault = io.Pipe; refused = lacks_memory (Err f) }))
             × Does self.old (λ p did q. Kills p ConnectionClosed did q) self.new) }
     {
-        let is_written = wrote.is_ok();
-        let refused = self.kill_unless_written(numbers, wrote);
-        if is_written {
+        if wrote.is_ok() {
             return MessageEnd::Continues;
         }
+        let refused = self.kill_unless_written(numbers, wrote);
         MessageEnd::Ends(NoAction {
             fault: IoFault::Pipe,
             refused,
