@@ -1,0 +1,5 @@
+//! The tests of `wl_bench`: lines that drive a server, recordings of them, and bytes as text.
+
+mod commands;
+mod hex;
+mod recordings;

@@ -1,0 +1,19 @@
+//! The tests of `wl_client`: runs of a client over a script, each compared with what its calls have to answer.
+//!
+//! A run is a list of `Act`s, and `log_of` makes its calls. `IdsExhausted` and `SerialsExhausted` come after 4278190079
+//! objects and after 2^64 - 1 serials, which no test reaches.
+
+mod acts;
+mod cuts;
+mod drill;
+mod drills;
+mod events;
+mod faults;
+mod objects;
+mod replayed;
+mod requests;
+mod steps;
+mod texts;
+mod told;
+mod transports;
+mod values;

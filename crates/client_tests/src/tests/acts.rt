@@ -1,0 +1,477 @@
+//! What a run has a client do, as plain data, and the calls of it.
+
+ghost use Rattle.std.specs.Prelude.{◌<◌};
+
+use super::steps::{Call, replay};
+use super::told::*;
+use super::values::{Child, Object, Request, message};
+use std::alloc::{AllocError, Global};
+use std::fmt::Write;
+use std::process::Abort;
+use std::test::Fail;
+use test_kit::cuts::{Cut, Stream};
+use test_kit::log::row_tells;
+use test_kit::message::padded;
+use test_kit::quad::quad_table;
+use wl_client::{Backend, EventError, ObjectId};
+use wl_link::Memory;
+use wl_wire::{IoFault, Message, Token};
+
+/// A client whose objects have numbers as their data.
+type Client = Backend<Memory, u32>;
+
+/// A call of a client, a look at it, or what its script is given.
+#[derive(Clone, Copy)]
+pub enum Act {
+    /// Sets the limit of the buffers.
+    Limit(usize),
+    /// Sends a request.
+    Send(Request),
+    /// Sends a request with these data and this wish for the object that it makes.
+    SendWith(Request, Child),
+    /// Sends a request for which there has to be no memory.
+    SendInWant(Request),
+    /// The registry and a `quad` of version 3.
+    Bound,
+    /// Sends what waits.
+    Flush,
+    /// Reads the next event.
+    Next,
+    /// Reads, and finishes each event, until nothing more is there or a reading fails.
+    Serve,
+    /// Finishes the open event, with these data for the object that it made.
+    Finish(Option<u32>),
+    /// Gives an object these data.
+    SetData(Object, u32),
+    /// Destroys an object.
+    Destroy(Object),
+    /// Takes the notes.
+    Notes,
+    /// Runs the steps.
+    Replay(&'static [Call]),
+    /// Looks at something.
+    Look(Look),
+    /// Gives the script something.
+    Script(Cue),
+}
+
+/// What is looked at.
+#[derive(Clone, Copy)]
+pub enum Look {
+    /// The version of an object.
+    Info(Object),
+    /// The data of an object.
+    Data(Object),
+    /// The text of an object's id.
+    Text(Object),
+    /// The session's error.
+    LastError,
+    /// How many arrivals the script has left.
+    Arrivals,
+    /// What was sent, a send a line.
+    Sent,
+    /// How many bytes and descriptors were sent, a send a line.
+    Lengths,
+}
+
+/// What a script is given.
+#[derive(Clone, Copy)]
+pub enum Cue {
+    /// Bytes that are to arrive.
+    Arrive(&'static [u8]),
+    /// Bytes that are to arrive with a descriptor.
+    ArriveWith(&'static [u8], i32),
+    /// Bytes that are to arrive, and zeros after them, of that length in all, in chunks of 4096.
+    ArriveInChunks(&'static [u8], usize),
+    /// The same, each byte by itself.
+    ArriveBytewise(&'static [u8], usize),
+    /// A stream that is to arrive, cut so.
+    ArriveCut(Stream, Cut),
+    /// A fault after what is to arrive.
+    ArriveFault(IoFault),
+    /// A fault after the answers to sends.
+    AcceptFault(IoFault),
+    /// Forgets what was sent.
+    TakeSent,
+}
+
+/// Fails if the line was not written, or if the client's last call was refused memory.
+fn told(client: &Client, written: Result<(), AllocError>) -> Result<(), Fail> {
+    if client.memory_refused() {
+        return Err(Fail::new("memory was refused"));
+    }
+    match written {
+        Ok(()) => Ok(()),
+        Err(_) => Err(Fail::new("there was no memory for the line")),
+    }
+}
+
+/// Sets the limit of the buffers.
+fn limit(client: &mut Client, bytes: usize) -> Result<(), Fail> {
+    client.set_max_buffer_size(Some(bytes));
+    told(client, Ok(()))
+}
+
+/// Sends the request, with these data and this wish for the object that it makes.
+fn send_with(
+    alloc: Global,
+    client: &mut Client,
+    log: &mut String,
+    request: Request,
+    child: Child,
+) -> Result<(), Fail> {
+    let message = message(alloc, request)?;
+    let answer = client.send_request(message, child.0, child.1);
+    let written = write_sent(log, &answer);
+    told(client, written)
+}
+
+/// Sends the request.
+fn send(
+    alloc: Global,
+    client: &mut Client,
+    log: &mut String,
+    request: Request,
+) -> Result<(), Fail> {
+    send_with(alloc, client, log, request, request.child())
+}
+
+/// Sends the request, and fails if there was memory for it.
+fn send_in_want(
+    alloc: Global,
+    client: &mut Client,
+    log: &mut String,
+    request: Request,
+) -> Result<(), Fail> {
+    let message = message(alloc, request)?;
+    let child = request.child();
+    let answer = client.send_request(message, child.0, child.1);
+    write_sent(log, &answer)?;
+    if client.memory_refused() {
+        Ok(())
+    } else {
+        Err(Fail::new("the want of memory is not told"))
+    }
+}
+
+/// Sends the requests of the registry and of a `quad` of version 3.
+fn bound(alloc: Global, client: &mut Client, log: &mut String) -> Result<(), Fail> {
+    send(alloc, client, log, Request::GetRegistry)?;
+    send(alloc, client, log, Request::Bind)
+}
+
+/// Sends what waits.
+fn flush(client: &mut Client, log: &mut String) -> Result<(), Fail> {
+    let answer = client.flush();
+    let written = write_flushed(log, &answer);
+    told(client, written)
+}
+
+/// Reads the next event.
+fn next(client: &mut Client, log: &mut String) -> Result<(), Fail> {
+    let answer = client.next_event();
+    let written = write_read(log, &answer);
+    told(client, written)
+}
+
+/// Finishes the open event, with these data for the object that it made.
+fn finish(client: &mut Client, log: &mut String, data: Option<u32>) -> Result<(), Fail> {
+    let answer = client.finish_event(data);
+    let written = write_finished(log, &answer);
+    told(client, written)
+}
+
+/// What a reading comes to.
+#[derive(Clone, Copy)]
+enum Came {
+    /// An event, which is open now.
+    Event,
+    /// Nothing yet: something is still to arrive.
+    NotYet,
+    /// Nothing more, or a fault.
+    Nothing,
+}
+
+/// Tells the answer to a reading, and what it comes to. Of a reading that would block it tells nothing if something is still to
+/// arrive.
+fn comes_to(
+    client: &Client,
+    log: &mut String,
+    answer: &Result<Message<ObjectId, Token>, EventError>,
+) -> Result<Came, Fail> {
+    let would_block = matches!(answer, Err(EventError::WouldBlock));
+    if would_block && client.transport().arrivals_left() > 0 {
+        return Ok(Came::NotYet);
+    }
+    let written = write_read(log, answer);
+    told(client, written)?;
+    if answer.is_ok() {
+        Ok(Came::Event)
+    } else {
+        Ok(Came::Nothing)
+    }
+}
+
+/// Reads once.
+fn read_once(client: &mut Client, log: &mut String) -> Result<Came, Fail> {
+    let answer = client.next_event();
+    comes_to(client, log, &answer)
+}
+
+/// Reads once, and finishes the event; whether there may be more to read.
+fn serve_once(client: &mut Client, log: &mut String) -> Result<bool, Fail> {
+    match read_once(client, log)? {
+        Came::Event => {
+            finish(client, log, None)?;
+            Ok(true)
+        }
+        Came::NotYet => Ok(true),
+        Came::Nothing => Ok(false),
+    }
+}
+
+/// Reads, and finishes each event, until nothing more is there or a reading fails.
+fn serve(client: &mut Client, log: &mut String) -> Result<(), Fail> {
+    for _ in 0..1000 {
+        if !serve_once(client, log)? {
+            return Ok(());
+        }
+    }
+    Err(Fail::new("there is more to read"))
+}
+
+/// Gives the object these data.
+fn set_data(client: &mut Client, log: &mut String, object: Object, data: u32) -> Result<(), Fail> {
+    let answer = client.set_data(&object.id(), data);
+    let written = write_done(log, &answer);
+    told(client, written)
+}
+
+/// Destroys the object.
+fn destroy(client: &mut Client, log: &mut String, object: Object) -> Result<(), Fail> {
+    let answer = client.destroy_object(&object.id());
+    let written = write_destroyed(log, &answer);
+    told(client, written)
+}
+
+/// Takes the notes.
+fn notes(client: &mut Client, log: &mut String) -> Result<(), Fail> {
+    let notes = client.take_notes();
+    let written = write_notes(log, notes.as_slice());
+    told(client, written)
+}
+
+/// Tells the version of the object.
+fn info(client: &Client, log: &mut String, object: Object) -> Result<(), Fail> {
+    let written = match client.info(&object.id()) {
+        Ok(info) => writeln!(log, "version {}", info.version),
+        Err(error) => writeln!(log, "{error}"),
+    };
+    told(client, written)
+}
+
+/// Tells the data of the object.
+fn data(client: &Client, log: &mut String, object: Object) -> Result<(), Fail> {
+    let written = match client.get_data(&object.id()) {
+        Ok(data) => writeln!(log, "data {data}"),
+        Err(error) => writeln!(log, "{error}"),
+    };
+    told(client, written)
+}
+
+/// Tells the text of the object's id.
+fn text(alloc: Global, client: &Client, log: &mut String, object: Object) -> Result<(), Fail> {
+    let text = object.id().display(alloc, client.protocol())?;
+    let written = writeln!(log, "{text}");
+    told(client, written)
+}
+
+/// Tells the session's error.
+fn last_error(client: &Client, log: &mut String) -> Result<(), Fail> {
+    let written = match client.last_error() {
+        Some(error) => writeln!(log, "{error}"),
+        None => writeln!(log, "no error"),
+    };
+    told(client, written)
+}
+
+/// Appends the bytes to what is to arrive.
+fn arrive(alloc: Global, client: &mut Client, bytes: &[u8]) -> Result<(), Fail> {
+    let bytes = Vec::from_slice(alloc, bytes)?;
+    client.transport_mut().arrive(bytes, Vec::new(alloc))?;
+    Ok(())
+}
+
+/// Appends the bytes with the descriptor to what is to arrive.
+fn arrive_with(
+    alloc: Global,
+    client: &mut Client,
+    bytes: &[u8],
+    descriptor: i32,
+) -> Result<(), Fail> {
+    let bytes = Vec::from_slice(alloc, bytes)?;
+    let tokens = Vec::from_slice(alloc, &[Token(descriptor)])?;
+    client.transport_mut().arrive(bytes, tokens)?;
+    Ok(())
+}
+
+/// Appends the bytes and zeros after them, of that length in all, to what is to arrive, in chunks of that size.
+fn arrive_in_chunks(
+    alloc: Global,
+    client: &mut Client,
+    bytes: &[u8],
+    len: usize,
+    size: usize,
+) -> Result<(), Fail>
+    requires { 0 < size }
+{
+    for chunk in padded(alloc, bytes, len)?.chunks(size) {
+        arrive(alloc, client, chunk)?;
+    }
+    Ok(())
+}
+
+/// Appends the bytes to what is to arrive, in chunks of that size.
+fn arrive_chunks(alloc: Global, client: &mut Client, bytes: &[u8], size: usize) -> Result<(), Fail>
+    requires { 0 < size }
+{
+    for chunk in bytes.chunks(size) {
+        arrive(alloc, client, chunk)?;
+    }
+    Ok(())
+}
+
+/// Appends the stream to what is to arrive, cut so.
+fn arrive_cut(alloc: Global, client: &mut Client, stream: Stream, cut: Cut) -> Result<(), Fail> {
+    let bytes = stream.bytes(alloc)?;
+    match cut {
+        Cut::Whole => arrive(alloc, client, bytes.as_slice()),
+        Cut::At(place) => {
+            let (front, back) = bytes.as_slice().split_at(place.min(bytes.len()));
+            arrive(alloc, client, front)?;
+            arrive(alloc, client, back)
+        }
+        Cut::Bytewise => arrive_chunks(alloc, client, bytes.as_slice(), 1),
+    }
+}
+
+/// Appends the fault to what is to arrive.
+fn arrive_fault(client: &mut Client, fault: IoFault) -> Result<(), Fail> {
+    client.transport_mut().arrive_fault(fault)?;
+    Ok(())
+}
+
+/// Appends the fault to the answers to sends.
+fn accept_fault(client: &mut Client, fault: IoFault) -> Result<(), Fail> {
+    client.transport_mut().accept_fault(fault)?;
+    Ok(())
+}
+
+/// Forgets what was sent.
+fn take_sent(client: &mut Client) -> Result<(), Fail> {
+    client.transport_mut().take_sent();
+    Ok(())
+}
+
+/// Tells how many arrivals the script has left.
+fn arrivals(client: &Client, log: &mut String) -> Result<(), Fail> {
+    let left = client.transport().arrivals_left();
+    let written = writeln!(log, "{left} arrivals");
+    told(client, written)
+}
+
+/// Tells what was sent, a send a line.
+fn sent(client: &Client, log: &mut String) -> Result<(), Fail> {
+    let written = write_taken(log, client.transport().sent());
+    told(client, written)
+}
+
+/// Tells how many bytes and descriptors were sent, a send a line.
+fn lengths(client: &Client, log: &mut String) -> Result<(), Fail> {
+    let written = write_lengths(log, client.transport().sent());
+    told(client, written)
+}
+
+/// Tells what is there.
+fn look_at(alloc: Global, client: &Client, log: &mut String, look: Look) -> Result<(), Fail> {
+    match look {
+        Look::Info(object) => info(client, log, object),
+        Look::Data(object) => data(client, log, object),
+        Look::Text(object) => text(alloc, client, log, object),
+        Look::LastError => last_error(client, log),
+        Look::Arrivals => arrivals(client, log),
+        Look::Sent => sent(client, log),
+        Look::Lengths => lengths(client, log),
+    }
+}
+
+/// Gives the script what it is given.
+fn play(alloc: Global, client: &mut Client, cue: Cue) -> Result<(), Fail> {
+    match cue {
+        Cue::Arrive(bytes) => arrive(alloc, client, bytes),
+        Cue::ArriveWith(bytes, descriptor) => arrive_with(alloc, client, bytes, descriptor),
+        Cue::ArriveInChunks(bytes, len) => arrive_in_chunks(alloc, client, bytes, len, 4096),
+        Cue::ArriveBytewise(bytes, len) => arrive_in_chunks(alloc, client, bytes, len, 1),
+        Cue::ArriveCut(stream, cut) => arrive_cut(alloc, client, stream, cut),
+        Cue::ArriveFault(fault) => arrive_fault(client, fault),
+        Cue::AcceptFault(fault) => accept_fault(client, fault),
+        Cue::TakeSent => take_sent(client),
+    }
+}
+
+/// Makes the call, and tells its answer.
+fn perform(alloc: Global, client: &mut Client, log: &mut String, act: Act) -> Result<(), Fail> {
+    match act {
+        Act::Limit(bytes) => limit(client, bytes),
+        Act::Send(request) => send(alloc, client, log, request),
+        Act::SendWith(request, child) => send_with(alloc, client, log, request, child),
+        Act::SendInWant(request) => send_in_want(alloc, client, log, request),
+        Act::Bound => bound(alloc, client, log),
+        Act::Flush => flush(client, log),
+        Act::Next => next(client, log),
+        Act::Serve => serve(client, log),
+        Act::Finish(data) => finish(client, log, data),
+        Act::SetData(object, data) => set_data(client, log, object, data),
+        Act::Destroy(object) => destroy(client, log, object),
+        Act::Notes => notes(client, log),
+        Act::Replay(calls) => replay(alloc, client, log, calls),
+        Act::Look(look) => look_at(alloc, client, log, look),
+        Act::Script(cue) => play(alloc, client, cue),
+    }
+}
+
+/// A client of the table of `quad` in which nothing has happened, over an empty script.
+fn connected(alloc: Global) -> Result<Client, Fail> {
+    let table = quad_table(alloc)?;
+    Ok(Backend::connect(alloc, table, Memory::new(alloc))?)
+}
+
+/// What the acts tell, one after the other.
+fn log_by(alloc: Global, client: &mut Client, acts: &[Act]) -> Result<String, Fail> {
+    let mut log = String::new(alloc);
+    for act in acts {
+        perform(alloc, client, &mut log, *act)?;
+    }
+    Ok(log)
+}
+
+/// What the acts tell of a client in which nothing has happened.
+pub fn log_of(alloc: Global, acts: &[Act]) -> Result<String, Fail> {
+    let mut client = connected(alloc)?;
+    log_by(alloc, &mut client, acts)
+}
+
+/// A row of a table of runs: what a failing one is named, its acts, and what they have to tell.
+pub struct Row {
+    pub name: &'static str,
+    pub acts: &'static [Act],
+    pub told: &'static str,
+}
+
+/// Fails if a run of a client in which nothing has happened tells something else than its row says.
+pub fn rows_tell(rt: &(impl Eprint + AllocGlobal), rows: &[Row]) -> Result<(), Fail> {
+    for row in rows {
+        row_tells(rt, row.name, log_of(rt.alloc(), row.acts), row.told)?;
+    }
+    Ok(())
+}

@@ -1,0 +1,175 @@
+//! Each allocation is refused in turn: runs of a client that judge themselves, whichever it is.
+//!
+//! With ample memory a run answers what it has to. If one allocation is refused (`./refusal-drill` refuses each in turn),
+//! the replies before that step are the same, and the same call again, and all after it, answers as with ample memory.
+//! If the test itself asked for that memory, it ends with the want, and nothing is judged.
+
+use super::steps::{Call, steps};
+use super::told::write_reply;
+use std::alloc::Global;
+use std::process::Abort;
+use std::test::Fail;
+use test_kit::quad::quad_table;
+use wl_client::{Backend, Reply, Step, Stopped};
+use wl_link::Memory;
+
+/// A client whose objects have numbers as their data.
+type Client = Backend<Memory, u32>;
+
+/// A call, and what its reply tells if there is memory.
+pub type Entry = (Call, &'static str);
+
+/// A run.
+#[derive(Clone, Copy)]
+pub struct Run {
+    /// What a failing test names.
+    pub name: &'static str,
+    /// Its calls.
+    pub entries: &'static [Entry],
+    /// The session's error in the end.
+    pub error: &'static str,
+    /// How many receives may fail, and how many sends.
+    pub counts: (usize, usize),
+}
+
+/// The steps.
+fn steps_of(alloc: Global, entries: &[Entry]) -> Result<Vec<Step<u32>>, Fail> {
+    let mut calls = Vec::new(alloc);
+    for entry in entries {
+        calls.push(entry.0)?;
+    }
+    steps(alloc, calls.as_slice())
+}
+
+/// What the reply tells.
+fn text_of(alloc: Global, told: &Reply<u32>) -> Result<String, Fail> {
+    let mut text = String::new(alloc);
+    write_reply(&mut text, told)?;
+    Ok(text)
+}
+
+/// Fails if the reply does not tell this.
+fn judge(
+    rt: &(impl Abort + AllocGlobal),
+    run: &Run,
+    told: &Reply<u32>,
+    text: &str,
+) -> Result<(), Fail> {
+    let told = text_of(rt.alloc(), told)?;
+    assert_eq!(rt; told.as_str(), text, "{}", run.name);
+    Ok(())
+}
+
+/// Fails if the replies are not those of the steps, one by one.
+fn judge_all(
+    rt: &(impl Abort + AllocGlobal),
+    run: &Run,
+    entries: &[Entry],
+    replies: &[Reply<u32>],
+) -> Result<(), Fail> {
+    for (entry, told) in entries.iter().zip(replies) {
+        judge(rt, run, told, entry.1)?;
+    }
+    Ok(())
+}
+
+/// Fails if memory was refused, or the replies are not those of all these steps.
+fn judge_whole(
+    rt: &(impl Abort + AllocGlobal),
+    client: &Client,
+    run: &Run,
+    entries: &[Entry],
+    replies: &[Reply<u32>],
+) -> Result<(), Fail> {
+    assert!(rt; !client.memory_refused(), "{}", run.name);
+    judge_all(rt, run, entries, replies)
+}
+
+/// Makes the steps, for which there is memory now: they answer as ever.
+fn go_on(
+    rt: &(impl Abort + AllocGlobal),
+    client: &mut Client,
+    run: &Run,
+    entries: &[Entry],
+) -> Result<(), Fail> {
+    match client.replay(steps_of(rt.alloc(), entries)?) {
+        Ok(replies) => judge_whole(rt, client, run, entries, replies.as_slice()),
+        Err(_) => Err(Fail::new("memory was refused again")),
+    }
+}
+
+/// Fails if the run was not stopped by a want of memory, or does not go on as it has to.
+fn judge_stopped(
+    rt: &(impl Abort + AllocGlobal),
+    client: &mut Client,
+    run: &Run,
+    stopped: &Stopped<u32>,
+) -> Result<(), Fail> {
+    assert!(rt; client.memory_refused(), "{}", run.name);
+    judge_all(rt, run, run.entries, stopped.replies.as_slice())?;
+    let rest = run.entries.get(stopped.step..).unwrap_or(&[]);
+    go_on(rt, client, run, rest)
+}
+
+/// Makes the run, and fails if it is not as it has to be; whether memory was refused.
+fn play(rt: &(impl Abort + AllocGlobal), client: &mut Client, run: &Run) -> Result<bool, Fail> {
+    match client.replay(steps_of(rt.alloc(), run.entries)?) {
+        Ok(replies) => {
+            judge_whole(rt, client, run, run.entries, replies.as_slice())?;
+            Ok(false)
+        }
+        Err(stopped) => {
+            judge_stopped(rt, client, run, &stopped)?;
+            Ok(true)
+        }
+    }
+}
+
+/// What the session's error tells.
+fn error_of(alloc: Global, client: &Client) -> Result<String, Fail> {
+    let mut text = String::new(alloc);
+    match client.last_error() {
+        Some(error) => write!(text, "{error}")?,
+        None => write!(text, "no error")?,
+    }
+    Ok(text)
+}
+
+/// Makes the run, and fails if it is not as it has to be, or leaves another error. If there was no memory for the
+/// error's text, the want is the error.
+fn play_to(rt: &(impl Abort + AllocGlobal), client: &mut Client, run: &Run) -> Result<(), Fail> {
+    let was_refused = play(rt, client, run)?;
+    let told = error_of(rt.alloc(), client)?;
+    if !was_refused || told.as_str() != "Io error: out of memory" {
+        assert_eq!(rt; told.as_str(), run.error, "{}", run.name);
+    }
+    Ok(())
+}
+
+/// A new client, or none if memory was refused.
+fn made(alloc: Global) -> Result<Option<Client>, Fail> {
+    let table = quad_table(alloc)?;
+    Ok(Backend::connect(alloc, table, Memory::new(alloc)).ok())
+}
+
+/// A new client, for which there is memory now.
+fn made_again(alloc: Global) -> Result<Client, Fail> {
+    match made(alloc)? {
+        Some(client) => Ok(client),
+        None => Err(Fail::new("memory was refused again")),
+    }
+}
+
+/// A new client; if memory was refused it is made once more.
+fn connected(alloc: Global) -> Result<Client, Fail> {
+    match made(alloc)? {
+        Some(client) => Ok(client),
+        None => made_again(alloc),
+    }
+}
+
+/// Makes the run of a new client, and fails if it is not as it has to be.
+pub fn drill(rt: &(impl Abort + AllocGlobal), run: &Run) -> Result<(), Fail> {
+    let mut client = connected(rt.alloc())?;
+    play_to(rt, &mut client, run)
+}

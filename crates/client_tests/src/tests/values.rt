@@ -1,0 +1,227 @@
+//! Objects, requests and arrivals of the runs, as plain data.
+
+use smallvec::SmallVec;
+use std::alloc::Global;
+use std::test::Fail;
+use test_kit::quad::{GIVE, JOIN, LINK, MAKE, PAIR, QUAD};
+use wl_client::ObjectId;
+use wl_wire::{
+    Argument, ByteArray, CString, INLINE_ARGS, InterfaceId, Message, Token, WL_CALLBACK_INTERFACE,
+    WL_DISPLAY_INTERFACE, WL_REGISTRY_INTERFACE,
+};
+
+/// The objects of the runs.
+#[derive(Clone, Copy)]
+pub enum Object {
+    /// No object.
+    Null,
+    /// The display.
+    Display,
+    /// The callback that is a client's first object.
+    Callback,
+    /// The registry of `Act::Bound`.
+    Registry,
+    /// The `quad` of `Act::Bound`.
+    Quad,
+    /// The `quad` that is made after `Act::Bound`.
+    Second,
+    /// The `pair` that is bound after `Act::Bound`.
+    Pair,
+    /// The `quad` that is made after that `pair`.
+    Third,
+    /// The `quad` that the server makes after `Act::Bound`.
+    Child,
+    /// A `quad` with the number of `Quad` and another serial.
+    Stranger,
+}
+
+impl Object {
+    /// Its id.
+    pub fn id(self) -> ObjectId {
+        match self {
+            Object::Null => ObjectId::null(),
+            Object::Display => ObjectId::from_parts(1, 0, WL_DISPLAY_INTERFACE),
+            Object::Callback => ObjectId::from_parts(2, 1, WL_CALLBACK_INTERFACE),
+            Object::Registry => ObjectId::from_parts(2, 1, WL_REGISTRY_INTERFACE),
+            Object::Quad => ObjectId::from_parts(3, 2, QUAD),
+            Object::Second => ObjectId::from_parts(4, 3, QUAD),
+            Object::Pair => ObjectId::from_parts(4, 3, PAIR),
+            Object::Third => ObjectId::from_parts(5, 4, QUAD),
+            Object::Child => ObjectId::from_parts(0xFF00_0000, 3, QUAD),
+            Object::Stranger => ObjectId::from_parts(3, 9, QUAD),
+        }
+    }
+}
+
+/// The requests of the runs.
+#[derive(Clone, Copy)]
+pub enum Request {
+    /// `wl_display.sync`.
+    Sync,
+    /// `wl_display.sync` of a number in place of a new id.
+    SyncOfNumber,
+    /// `wl_display.sync` of an object in place of a null id.
+    SyncOf(Object),
+    /// `wl_display.get_registry`.
+    GetRegistry,
+    /// `wl_registry.bind` of the name 1, `quad` and the version 3.
+    Bind,
+    /// `quad.make` of the first `quad`.
+    Make,
+    /// `quad.link` of a sender and two objects.
+    Link(Object, Object, Object),
+    /// `quad.give` of the first `quad`: no string, so many bytes, and the descriptor 7.
+    Give(usize),
+    /// `pair.join` of two quads, the string `no`, one byte and the descriptor 9.
+    Join(Object, Object),
+    /// A request without arguments, by its sender and its opcode.
+    Bare(Object, u16),
+}
+
+/// The data of a new object, and the wish for its interface and version.
+pub type Child = (Option<u32>, Option<(InterfaceId, u32)>);
+
+impl Request {
+    /// Its sender.
+    fn sender(self) -> Object {
+        match self {
+            Request::Sync | Request::SyncOfNumber | Request::SyncOf(_) | Request::GetRegistry => {
+                Object::Display
+            }
+            Request::Bind => Object::Registry,
+            Request::Make | Request::Give(_) => Object::Quad,
+            Request::Link(to, _, _) | Request::Bare(to, _) => to,
+            Request::Join(_, _) => Object::Pair,
+        }
+    }
+
+    /// Its opcode.
+    fn opcode(self) -> u16 {
+        match self {
+            Request::Sync | Request::SyncOfNumber | Request::SyncOf(_) | Request::Bind => 0,
+            Request::GetRegistry => 1,
+            Request::Make => MAKE,
+            Request::Link(_, _, _) => LINK,
+            Request::Give(_) => GIVE,
+            Request::Join(_, _) => JOIN,
+            Request::Bare(_, opcode) => opcode,
+        }
+    }
+
+    /// The data of the object that it makes, and the wish for that object, if the run names no others.
+    pub fn child(self) -> Child {
+        match self {
+            Request::Bind => (Some(6), Some((QUAD, 3))),
+            Request::Make => (Some(7), None),
+            Request::Sync | Request::SyncOfNumber | Request::SyncOf(_) | Request::GetRegistry => {
+                (Some(5), None)
+            }
+            Request::Link(_, _, _) | Request::Give(_) | Request::Join(_, _) | Request::Bare(_, _) =>
+                (None, None),
+        }
+    }
+}
+
+/// The arguments of a message.
+type Arguments = SmallVec<Argument<ObjectId, Token>, INLINE_ARGS>;
+
+/// Appends a number to the arguments.
+fn push_number(args: &mut Arguments, value: u32) -> Result<(), Fail> {
+    args.push(Argument::Uint(value))?;
+    Ok(())
+}
+
+/// Appends the id of a new object to the arguments, which is to be null.
+fn push_new(args: &mut Arguments, object: Object) -> Result<(), Fail> {
+    args.push(Argument::NewId(object.id()))?;
+    Ok(())
+}
+
+/// Appends two objects to the arguments.
+fn push_objects(args: &mut Arguments, first: Object, second: Object) -> Result<(), Fail> {
+    args.push(Argument::Object(first.id()))?;
+    args.push(Argument::Object(second.id()))?;
+    Ok(())
+}
+
+/// The string as it is in an argument.
+fn text(alloc: Global, text: &str) -> Result<CString, Fail> {
+    Ok(CString::new(Vec::from_slice(alloc, text.as_bytes())?)?)
+}
+
+/// Appends a string, or none, to the arguments.
+fn push_text(alloc: Global, args: &mut Arguments, string: Option<&str>) -> Result<(), Fail> {
+    match string {
+        None => args.push(Argument::Str(None))?,
+        Some(string) => args.push(Argument::Str(Some(text(alloc, string)?)))?,
+    }
+    Ok(())
+}
+
+/// So many bytes, each of which is 1.
+fn ones(alloc: Global, len: usize) -> Result<ByteArray, Fail> {
+    let mut bytes = Vec::new(alloc);
+    for _ in 0..len {
+        bytes.push(1)?;
+    }
+    Ok(ByteArray::new(bytes))
+}
+
+/// Appends a string, or none, so many bytes, each of which is 1, and a descriptor to the arguments.
+fn push_payload(
+    alloc: Global,
+    args: &mut Arguments,
+    string: Option<&str>,
+    len: usize,
+    descriptor: i32,
+) -> Result<(), Fail> {
+    push_text(alloc, args, string)?;
+    args.push(Argument::Array(ones(alloc, len)?))?;
+    args.push(Argument::Fd(Token(descriptor)))?;
+    Ok(())
+}
+
+/// Appends the arguments of `wl_registry.bind` to the others.
+fn push_bind(alloc: Global, args: &mut Arguments) -> Result<(), Fail> {
+    push_number(args, 1)?;
+    push_text(alloc, args, Some("quad"))?;
+    push_number(args, 3)?;
+    push_new(args, Object::Null)
+}
+
+/// Appends the arguments of `pair.join` to the others.
+fn push_join(
+    alloc: Global,
+    args: &mut Arguments,
+    first: Object,
+    second: Object,
+) -> Result<(), Fail> {
+    push_objects(args, first, second)?;
+    push_payload(alloc, args, Some("no"), 1, 9)
+}
+
+/// Appends the request's arguments to the others.
+fn push_arguments(alloc: Global, args: &mut Arguments, request: Request) -> Result<(), Fail> {
+    match request {
+        Request::Sync | Request::GetRegistry | Request::Make => push_new(args, Object::Null),
+        Request::SyncOfNumber => push_number(args, 1),
+        Request::SyncOf(object) => push_new(args, object),
+        Request::Bind => push_bind(alloc, args),
+        Request::Link(_, first, second) => push_objects(args, first, second),
+        Request::Give(len) => push_payload(alloc, args, None, len, 7),
+        Request::Join(first, second) => push_join(alloc, args, first, second),
+        Request::Bare(_, _) => Ok(()),
+    }
+}
+
+/// The request as a message.
+pub fn message(alloc: Global, request: Request) -> Result<Message<ObjectId, Token>, Fail> {
+    let mut args = SmallVec::new(alloc);
+    push_arguments(alloc, &mut args, request)?;
+    let to = request.sender();
+    Ok(Message {
+        sender_id: to.id(),
+        opcode: request.opcode(),
+        args,
+    })
+}

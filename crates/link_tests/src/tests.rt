@@ -1,0 +1,10 @@
+//! The link to a peer and the map of objects: each test hands a list of calls to the one function that owns the link,
+//! the script or the map, and compares what the calls told.
+
+mod limits;
+mod objects;
+mod received;
+mod run;
+mod script;
+mod sent;
+mod transports;

@@ -1,0 +1,9 @@
+//! The tests of a server in which transports and memory fail.
+//!
+//! A run is a list of `Entry`s, each a call by `replay`.
+
+mod drill;
+mod drills;
+mod faults;
+mod full;
+mod transports;

@@ -1,0 +1,6 @@
+//! The tests of `wl_server`, but for those in which transports and memory fail in turn (`server_fault_tests`). They call
+//! public items alone, and nothing stands on this crate.
+#![tactic(auto)]
+
+#[cfg(test)]
+mod tests;

@@ -1,0 +1,18 @@
+//! The tests of `wl_server`: runs of a server over scripts, each compared with what its calls have to answer.
+//!
+//! A run is a list of `Act`s, and `log_of` makes its calls, each by `replay`.
+
+mod announced;
+mod arguments;
+mod buffers;
+mod cuts;
+mod cutting;
+mod dispatches;
+mod globals;
+mod handlers;
+mod hostile;
+mod long;
+mod notes;
+mod one_client;
+mod run;
+mod walks;

@@ -1,0 +1,557 @@
+//! The one owner of a server: it makes the calls of a run and looks at what they left.
+
+use server_test_kit::steps::{Call, Made, arrive, arrive_with, step};
+use server_test_kit::told::{action, object, reply};
+use server_test_kit::values::{Named, Shown, Thing, Who};
+use std::alloc::Global;
+use std::fmt::Write;
+use std::process::Abort;
+use std::test::Fail;
+use test_kit::cuts::{Cut, Stream};
+use test_kit::log::row_tells;
+use test_kit::message::padded;
+use test_kit::quad::{QUAD, quad_table};
+use wl_link::Memory;
+use wl_server::{Action, ActionError, Backend, ClientId, Reply, Step};
+use wl_wire::{InterfaceId, IoFault};
+
+/// A server of the runs.
+pub type Server = Backend<Memory, u32, Shown, bool>;
+
+/// A call of a run, or a look.
+#[derive(Clone, Copy)]
+pub enum Act {
+    /// Makes the call, for which there is to be memory, and tells its reply.
+    Do(Call),
+    /// Makes the call, for which there has to be no memory.
+    InWant(Call),
+    /// Appends the bytes and zeros after them, of that length in all, to what is to arrive, each byte by itself.
+    ArriveBytewise(Who, &'static [u8], usize),
+    /// Appends the bytes and zeros after them, of that length in all, to what is to arrive, in chunks of 4096 bytes, and
+    /// the descriptor with the first of them.
+    ArriveInChunks(Who, &'static [u8], usize, i32),
+    /// Appends so many zeros to what is to arrive.
+    ArriveZeros(Who, usize),
+    /// Appends a bind of the global 1 to what is to arrive, with a name of 1400 bytes 0xFF.
+    ArriveLongBind(Who),
+    /// Appends the stream to what is to arrive, cut so.
+    ArriveCut(Who, Stream, Cut),
+    /// Reads, and ends each action, until nothing more is there or a reading fails.
+    Serve(Who),
+    /// Creates a global, for which the transport of some client has to lack memory.
+    GlobalInWant,
+    /// Cleans up, and tells how many bytes each send of those took that are taken out.
+    TakeOut,
+    /// Creates so many globals.
+    Globals(u32),
+    /// Makes the calls, and tells nothing of them.
+    Quietly(&'static [Call]),
+    /// Looks at something.
+    Look(Look),
+}
+
+/// What is looked at.
+#[derive(Clone, Copy)]
+pub enum Look {
+    /// The version of an object.
+    Info(Thing),
+    /// The data of an object.
+    Data(Thing),
+    /// The text of an object's id.
+    Text(Thing),
+    /// The id of the object of that interface at a number.
+    At(Who, InterfaceId, u32),
+    /// A global: its interface, its version, and whether it is disabled.
+    Global(Named),
+    /// The name of a global for a client.
+    Name(Named, Who),
+    /// How many arrivals a client's script has left.
+    Arrivals(Who),
+    /// How many bytes each send took of a client.
+    Lengths(Who),
+    /// The slots of the live clients, counted from 1: a digit for each call of the closure.
+    Clients,
+    /// The serials of a client's objects, counted from 1: a digit for each call of the closure.
+    Objects(Who),
+}
+
+/// Makes the steps, for which there is to be memory.
+fn made(server: &mut Server, steps: Vec<Made>) -> Result<(), Fail> {
+    match server.replay(steps) {
+        Ok(_) => Ok(()),
+        Err(_) => Err(Fail::new("memory was refused")),
+    }
+}
+
+/// The call as a run.
+fn alone(alloc: Global, call: Call) -> Result<Vec<Made>, Fail> {
+    let mut steps = Vec::new(alloc);
+    steps.push(step(alloc, call)?)?;
+    Ok(steps)
+}
+
+/// Tells the replies.
+fn tell(log: &mut String, replies: &[Reply<Memory, u32>]) -> Result<(), Fail> {
+    for one in replies {
+        reply(log, one)?;
+    }
+    Ok(())
+}
+
+/// Makes the call by itself, and tells its reply.
+fn perform(alloc: Global, server: &mut Server, log: &mut String, call: Call) -> Result<(), Fail> {
+    let steps = alone(alloc, call)?;
+    match server.replay(steps) {
+        Ok(replies) => tell(log, replies.as_slice()),
+        Err(_) => Err(Fail::new("memory was refused")),
+    }
+}
+
+/// Makes the calls, one by one, and tells nothing of them.
+fn quietly(alloc: Global, server: &mut Server, calls: &[Call]) -> Result<(), Fail> {
+    for call in calls {
+        let mut unheard = String::new(alloc);
+        perform(alloc, server, &mut unheard, *call)?;
+    }
+    Ok(())
+}
+
+/// Makes the call, which has to be refused memory.
+fn in_want(alloc: Global, server: &mut Server, log: &mut String, call: Call) -> Result<(), Fail> {
+    let steps = alone(alloc, call)?;
+    match server.replay(steps) {
+        Ok(_) => Err(Fail::new("the want of memory is not told")),
+        Err(stopped) => Ok(writeln!(log, "stopped at {}", stopped.step)?),
+    }
+}
+
+/// The steps by which the bytes arrive, each by itself.
+fn bytewise(alloc: Global, who: Who, bytes: &[u8]) -> Result<Vec<Made>, Fail> {
+    let mut steps = Vec::new(alloc);
+    for byte in bytes {
+        steps.push(arrive(alloc, who, &[*byte])?)?;
+    }
+    Ok(steps)
+}
+
+/// Appends the bytes and zeros after them, of that length in all, to what is to arrive, each byte by itself.
+fn arrive_bytewise(
+    alloc: Global,
+    server: &mut Server,
+    who: Who,
+    bytes: &[u8],
+    len: usize,
+) -> Result<(), Fail> {
+    let bytes = padded(alloc, bytes, len)?;
+    let steps = bytewise(alloc, who, bytes.as_slice())?;
+    made(server, steps)
+}
+
+/// Puts the step by which the bytes and the descriptor arrive into the list.
+fn push_with(
+    alloc: Global,
+    steps: &mut Vec<Made>,
+    who: Who,
+    bytes: &[u8],
+    descriptor: i32,
+) -> Result<(), Fail> {
+    Ok(steps.push(arrive_with(alloc, who, bytes, descriptor)?)?)
+}
+
+/// Appends the steps by which the bytes arrive in chunks of 4096 to the others.
+fn push_chunks(alloc: Global, steps: &mut Vec<Made>, who: Who, bytes: &[u8]) -> Result<(), Fail> {
+    for chunk in bytes.chunks(4096) {
+        steps.push(arrive(alloc, who, chunk)?)?;
+    }
+    Ok(())
+}
+
+/// The steps by which the bytes arrive in chunks of 4096, with the descriptor at the first of them.
+fn chunked(alloc: Global, who: Who, bytes: &[u8], descriptor: i32) -> Result<Vec<Made>, Fail> {
+    let (first, others) = bytes.split_at(bytes.len().min(4096));
+    let mut steps = Vec::new(alloc);
+    push_with(alloc, &mut steps, who, first, descriptor)?;
+    push_chunks(alloc, &mut steps, who, others)?;
+    Ok(steps)
+}
+
+/// Appends the bytes and zeros after them, of that length in all, to what is to arrive, in chunks of 4096 bytes, and the
+/// descriptor with the first of them.
+fn arrive_in_chunks(
+    alloc: Global,
+    server: &mut Server,
+    who: Who,
+    (bytes, len): (&[u8], usize),
+    descriptor: i32,
+) -> Result<(), Fail> {
+    let bytes = padded(alloc, bytes, len)?;
+    let steps = chunked(alloc, who, bytes.as_slice(), descriptor)?;
+    made(server, steps)
+}
+
+/// Appends so many zeros to what is to arrive.
+fn arrive_zeros(alloc: Global, server: &mut Server, who: Who, len: usize) -> Result<(), Fail> {
+    let zeros = padded(alloc, &[], len)?;
+    let mut steps = Vec::new(alloc);
+    steps.push(arrive(alloc, who, zeros.as_slice())?)?;
+    made(server, steps)
+}
+
+/// Appends a bind of the global 1 to what is to arrive, with a name of 1400 bytes 0xFF.
+fn arrive_long_bind(alloc: Global, server: &mut Server, who: Who) -> Result<(), Fail> {
+    let mut bytes = Vec::from_slice(
+        alloc,
+        &[2, 0, 0, 0, 0, 0, 0x94, 5, 1, 0, 0, 0, 0x79, 5, 0, 0],
+    )?;
+    for _ in 0..1400 {
+        bytes.push(0xFF)?;
+    }
+    bytes.extend_from_slice(&[0, 0, 0, 0, 3, 0, 0, 0, 3, 0, 0, 0])?;
+    let mut steps = Vec::new(alloc);
+    steps.push(Step::Arrive(who.id(), bytes, Vec::new(alloc)))?;
+    made(server, steps)
+}
+
+/// Appends the bytes to what is to arrive.
+fn arrive_whole(alloc: Global, server: &mut Server, who: Who, bytes: &[u8]) -> Result<(), Fail> {
+    let mut steps = Vec::new(alloc);
+    steps.push(arrive(alloc, who, bytes)?)?;
+    made(server, steps)
+}
+
+/// Appends the bytes to what is to arrive, cut so.
+fn arrive_pieces(
+    alloc: Global,
+    server: &mut Server,
+    who: Who,
+    bytes: &[u8],
+    cut: Cut,
+) -> Result<(), Fail> {
+    match cut {
+        Cut::Whole => arrive_whole(alloc, server, who, bytes),
+        Cut::At(place) => {
+            let (front, back) = bytes.split_at(place.min(bytes.len()));
+            arrive_whole(alloc, server, who, front)?;
+            arrive_whole(alloc, server, who, back)
+        }
+        Cut::Bytewise => {
+            let steps = bytewise(alloc, who, bytes)?;
+            made(server, steps)
+        }
+    }
+}
+
+/// Appends the stream to what is to arrive, cut so.
+fn arrive_cut(
+    alloc: Global,
+    server: &mut Server,
+    who: Who,
+    stream: Stream,
+    cut: Cut,
+) -> Result<(), Fail> {
+    let bytes = stream.bytes(alloc)?;
+    arrive_pieces(alloc, server, who, bytes.as_slice(), cut)
+}
+
+/// Ends the action: what a bind made gets 9, and what a request made gets 5.
+fn end_action(server: &mut Server, who: Who, ended: &Action) -> Result<(), Fail> {
+    match ended {
+        Action::Bind { .. } => Ok(server.finish_bind(&who.id(), 9)?),
+        Action::Request { created, .. } => {
+            Ok(server.finish_request(&who.id(), created.map(|_| 5))?)
+        }
+    }
+}
+
+/// Whether the client's script has something left that is to arrive.
+fn has_arrivals(server: &Server, who: Who) -> bool {
+    match server.transport(&who.id()) {
+        Ok(script) => script.arrivals_left() > 0,
+        Err(_) => false,
+    }
+}
+
+/// Tells the action, and ends it.
+fn tell_and_end(
+    server: &mut Server,
+    log: &mut String,
+    who: Who,
+    given: &Action,
+) -> Result<(), Fail> {
+    action(log, given)?;
+    end_action(server, who, given)
+}
+
+/// Tells the fault of a reading; whether there may be more to read. Of a reading that would block it tells nothing if
+/// something is still to arrive.
+fn tell_fault(
+    server: &Server,
+    log: &mut String,
+    who: Who,
+    error: ActionError,
+) -> Result<bool, Fail> {
+    let would_block = matches!(error, ActionError::Io(IoFault::WouldBlock));
+    if would_block && has_arrivals(server, who) {
+        return Ok(true);
+    }
+    writeln!(log, "{error}")?;
+    Ok(false)
+}
+
+/// Reads once, and ends the action; whether there may be more to read.
+fn serve_once(server: &mut Server, log: &mut String, who: Who) -> Result<bool, Fail> {
+    match server.next_action(&who.id()) {
+        Ok(given) => {
+            tell_and_end(server, log, who, &given)?;
+            Ok(true)
+        }
+        Err(error) => tell_fault(server, log, who, error),
+    }
+}
+
+/// Reads, and ends each action, until nothing more is there or a reading fails.
+fn serve(server: &mut Server, log: &mut String, who: Who) -> Result<(), Fail> {
+    for _ in 0..1000 {
+        let may_go_on = serve_once(server, log, who)?;
+        if server.memory_refused() {
+            return Err(Fail::new("memory was refused"));
+        }
+        if !may_go_on {
+            return Ok(());
+        }
+    }
+    Err(Fail::new("there is more to read"))
+}
+
+/// Creates a global, for which the transport of some client has to lack memory.
+fn global_in_want(server: &mut Server, log: &mut String) -> Result<(), Fail> {
+    let id = server.create_global(QUAD, 3, Shown)?;
+    writeln!(log, "global {}, {}", id.name(), id.serial())?;
+    if server.memory_refused() {
+        Ok(())
+    } else {
+        Err(Fail::new("the want of memory is not told"))
+    }
+}
+
+/// Tells how many bytes each send took of a client that was taken out.
+fn taken_out(log: &mut String, who: ClientId, script: &Memory) -> Result<(), Fail> {
+    write!(log, "out {}, {}:", who.slot(), who.serial())?;
+    for (bytes, _) in script.sent() {
+        write!(log, " {}", bytes.len())?;
+    }
+    Ok(writeln!(log)?)
+}
+
+/// Cleans up, and tells how many bytes each send of those took that are taken out.
+fn take_out(server: &mut Server, log: &mut String) -> Result<(), Fail> {
+    let out = server.cleanup()?;
+    for (who, script) in out.as_slice() {
+        taken_out(log, *who, script)?;
+    }
+    Ok(())
+}
+
+/// Creates so many globals.
+fn globals(alloc: Global, server: &mut Server, count: u32) -> Result<(), Fail> {
+    for _ in 0..count {
+        let mut unheard = String::new(alloc);
+        perform(alloc, server, &mut unheard, Call::Global(QUAD, 3))?;
+    }
+    Ok(())
+}
+
+/// Tells the version of the object.
+fn info(server: &Server, log: &mut String, of: Thing) -> Result<(), Fail> {
+    match server.object_info(&of.id()) {
+        Ok(info) => writeln!(log, "version {}", info.version)?,
+        Err(error) => writeln!(log, "{error}")?,
+    }
+    Ok(())
+}
+
+/// Tells the data of the object.
+fn data(server: &Server, log: &mut String, of: Thing) -> Result<(), Fail> {
+    match server.get_object_data(&of.id()) {
+        Ok(data) => writeln!(log, "data {data}")?,
+        Err(error) => writeln!(log, "{error}")?,
+    }
+    Ok(())
+}
+
+/// Tells the text of the object's id.
+fn text(alloc: Global, server: &Server, log: &mut String, of: Thing) -> Result<(), Fail> {
+    let text = of.id().display(alloc, server.protocol())?;
+    Ok(writeln!(log, "{text}")?)
+}
+
+/// Tells the object of that interface at the number.
+fn at(
+    server: &Server,
+    log: &mut String,
+    who: Who,
+    interface: InterfaceId,
+    number: u32,
+) -> Result<(), Fail> {
+    match server.object_for_protocol_id(&who.id(), interface, number) {
+        Ok(id) => {
+            object(log, id)?;
+            writeln!(log)?;
+        }
+        Err(error) => writeln!(log, "{error}")?,
+    }
+    Ok(())
+}
+
+/// Tells the global.
+fn global(server: &Server, log: &mut String, of: Named) -> Result<(), Fail> {
+    match server.global_info(&of.id()) {
+        Ok(info) => writeln!(
+            log,
+            "interface {}, version {}, disabled: {}",
+            info.interface.0, info.version, info.disabled
+        )?,
+        Err(error) => writeln!(log, "{error}")?,
+    }
+    Ok(())
+}
+
+/// Tells the name of the global for the client.
+fn name(server: &Server, log: &mut String, of: Named, who: Who) -> Result<(), Fail> {
+    match server.global_name(&of.id(), &who.id()) {
+        Some(name) => writeln!(log, "name {name}")?,
+        None => writeln!(log, "no name")?,
+    }
+    Ok(())
+}
+
+/// Tells how many arrivals the client's script has left.
+fn arrivals(server: &Server, log: &mut String, who: Who) -> Result<(), Fail> {
+    match server.transport(&who.id()) {
+        Ok(script) => writeln!(log, "{} arrivals", script.arrivals_left())?,
+        Err(error) => writeln!(log, "{error}")?,
+    }
+    Ok(())
+}
+
+/// Tells how many bytes each send took of the client.
+fn lengths(server: &Server, log: &mut String, who: Who) -> Result<(), Fail> {
+    match server.transport(&who.id()) {
+        Ok(script) => {
+            for (bytes, _) in script.sent() {
+                writeln!(log, "{} bytes", bytes.len())?;
+            }
+        }
+        Err(error) => writeln!(log, "{error}")?,
+    }
+    Ok(())
+}
+
+/// Tells the slots of the live clients, one digit for each, counted from 1.
+fn clients(server: &Server, log: &mut String) -> Result<(), Fail> {
+    let mut slots: u64 = 0;
+    server.with_all_clients(|id| {
+        slots = slots
+            .wrapping_mul(10)
+            .wrapping_add(u64::from(id.slot()))
+            .wrapping_add(1)
+    });
+    Ok(writeln!(log, "live: {slots}")?)
+}
+
+/// Tells the serials of the client's objects, one digit for each, counted from 1.
+fn objects(server: &Server, log: &mut String, who: Who) -> Result<(), Fail> {
+    let mut serials: u64 = 0;
+    let answer = server.with_all_objects_for(&who.id(), |id| {
+        serials = serials
+            .wrapping_mul(10)
+            .wrapping_add(id.serial())
+            .wrapping_add(1)
+    });
+    match answer {
+        Ok(()) => writeln!(log, "objects: {serials}")?,
+        Err(error) => writeln!(log, "{error}, objects: {serials}")?,
+    }
+    Ok(())
+}
+
+/// Looks at it.
+fn look_at(alloc: Global, server: &Server, log: &mut String, at_what: Look) -> Result<(), Fail> {
+    match at_what {
+        Look::Info(of) => info(server, log, of),
+        Look::Data(of) => data(server, log, of),
+        Look::Text(of) => text(alloc, server, log, of),
+        Look::At(who, interface, number) => at(server, log, who, interface, number),
+        Look::Global(of) => global(server, log, of),
+        Look::Name(of, who) => name(server, log, of, who),
+        Look::Arrivals(who) => arrivals(server, log, who),
+        Look::Lengths(who) => lengths(server, log, who),
+        Look::Clients => clients(server, log),
+        Look::Objects(who) => objects(server, log, who),
+    }
+}
+
+/// Appends something to what is to arrive, or makes calls, and tells nothing of it.
+fn prepare(alloc: Global, server: &mut Server, act: Act) -> Result<(), Fail> {
+    match act {
+        Act::ArriveBytewise(who, bytes, len) => arrive_bytewise(alloc, server, who, bytes, len),
+        Act::ArriveInChunks(who, bytes, len, descriptor) => {
+            arrive_in_chunks(alloc, server, who, (bytes, len), descriptor)
+        }
+        Act::ArriveZeros(who, len) => arrive_zeros(alloc, server, who, len),
+        Act::ArriveLongBind(who) => arrive_long_bind(alloc, server, who),
+        Act::ArriveCut(who, stream, cut) => arrive_cut(alloc, server, who, stream, cut),
+        Act::Globals(count) => globals(alloc, server, count),
+        Act::Quietly(calls) => quietly(alloc, server, calls),
+        _ => Ok(()),
+    }
+}
+
+/// Makes the calls, and tells what they answer.
+pub fn perform_all(
+    alloc: Global,
+    server: &mut Server,
+    log: &mut String,
+    acts: &[Act],
+) -> Result<(), Fail> {
+    for act in acts {
+        match *act {
+            Act::Do(call) => perform(alloc, server, log, call)?,
+            Act::InWant(call) => in_want(alloc, server, log, call)?,
+            Act::Serve(who) => serve(server, log, who)?,
+            Act::GlobalInWant => global_in_want(server, log)?,
+            Act::TakeOut => take_out(server, log)?,
+            Act::Look(what) => look_at(alloc, server, log, what)?,
+            _ => prepare(alloc, server, *act)?,
+        }
+    }
+    Ok(())
+}
+
+/// The log of a run.
+fn log_by(alloc: Global, server: &mut Server, acts: &[Act]) -> Result<String, Fail> {
+    let mut log = String::new(alloc);
+    perform_all(alloc, server, &mut log, acts)?;
+    Ok(log)
+}
+
+/// The log of a run of a new server.
+pub fn log_of(alloc: Global, acts: &[Act]) -> Result<String, Fail> {
+    let mut server = Backend::new(alloc, quad_table(alloc)?);
+    log_by(alloc, &mut server, acts)
+}
+
+/// A row of a table of runs: what a failing one is named, its calls, and what they have to tell.
+pub struct Row {
+    pub name: &'static str,
+    pub acts: &'static [Act],
+    pub told: &'static str,
+}
+
+/// Fails if a run of a new server tells something else than its row says.
+pub fn rows_tell(rt: &(impl Eprint + AllocGlobal), rows: &[Row]) -> Result<(), Fail> {
+    for row in rows {
+        row_tells(rt, row.name, log_of(rt.alloc(), row.acts), row.told)?;
+    }
+    Ok(())
+}

@@ -1,0 +1,50 @@
+//! Walks over clients and over objects.
+
+use super::run::{Act, Look, Row, rows_tell};
+use server_test_kit::arrivals::GET_REGISTRY;
+use server_test_kit::steps::Call;
+use server_test_kit::values::{FIRST, SECOND, Who};
+use std::test::Fail;
+use test_kit::quad::QUAD;
+
+/// The runs, and what they tell.
+static ROWS: [Row; 1] = [
+    // All clients are walked through: none of a new server, and each live one once. So are the objects of a client, by their
+    // numbers, and of one that is not stored none.
+    Row {
+        name: "walks are counted",
+        acts: &[
+            Act::Look(Look::Clients),
+            Act::Look(Look::Objects(FIRST)),
+            Act::Do(Call::Insert(true)),
+            Act::Look(Look::Clients),
+            Act::Look(Look::Objects(FIRST)),
+            Act::Do(Call::Create(FIRST, QUAD, 3, 9)),
+            Act::Do(Call::Create(FIRST, QUAD, 3, 9)),
+            Act::Do(Call::Arrive(FIRST, &GET_REGISTRY)),
+            Act::Do(Call::Next(FIRST)),
+            Act::Look(Look::Objects(FIRST)),
+            Act::Do(Call::Insert(true)),
+            Act::Do(Call::Insert(true)),
+            Act::Look(Look::Clients),
+            Act::Look(Look::Objects(SECOND)),
+            Act::Look(Look::Objects(Who(1, 1))),
+            Act::Do(Call::Kill(FIRST)),
+            Act::Look(Look::Clients),
+            Act::Look(Look::Objects(FIRST)),
+            Act::Do(Call::Kill(SECOND)),
+            Act::Do(Call::Kill(Who(2, 3))),
+            Act::Look(Look::Clients),
+            Act::Do(Call::Cleanup),
+            Act::Look(Look::Clients),
+            Act::Look(Look::Objects(FIRST)),
+        ],
+        told: "live: 0\nInvalid Id, objects: 0\nclient 0, 1\nlive: 1\nobjects: 1\ncreated 4278190080, 1, 4 of 0\ncreated 4278190081, 2, 4 of 0\nIo error: would block\nobjects: 1423\nclient 1, 2\nclient 2, 3\nlive: 123\nobjects: 1\nInvalid Id, objects: 0\nlive: 23\nobjects: 1423\nlive: 0\nout: client 0, 1 with 0 sends client 1, 2 with 0 sends client 2, 3 with 0 sends\nlive: 0\nInvalid Id, objects: 0\n",
+    },
+];
+
+/// Each run tells what it has to.
+#[test]
+fn rows(rt: HostRuntime) -> Result<(), Fail> {
+    rows_tell(&rt, &ROWS)
+}

@@ -1,0 +1,258 @@
+//! The table of interfaces: which lists it takes, and what it tells of each interface.
+
+use super::OBJECT;
+use std::alloc::{AllocError, Global};
+use std::process::Abort;
+use std::test::Fail;
+use test_kit::log::tells;
+use test_kit::quad::{QUAD, quad_table};
+use wl_wire::{
+    ANONYMOUS_INTERFACE, ArgumentType, Interface, InterfaceId, MessageDesc, Protocol, TableError,
+    WL_CALLBACK_INTERFACE, WL_DISPLAY_INTERFACE, same_interface, same_interface_or_anonymous,
+};
+
+/// A message of a list as plain data: its name, its signature, its child interface and its argument interfaces.
+#[derive(Clone, Copy)]
+struct Row(
+    &'static str,
+    &'static [ArgumentType],
+    Option<InterfaceId>,
+    &'static [InterfaceId],
+);
+
+/// An interface of a list as plain data: its name, its requests and its events.
+#[derive(Clone, Copy)]
+struct Plan(&'static str, &'static [Row], &'static [Row]);
+
+/// The message of the row.
+fn described(
+    alloc: Global,
+    Row(name, signature, child, objects): Row,
+) -> Result<MessageDesc, AllocError> {
+    Ok(MessageDesc {
+        name: String::from_str(alloc, name)?,
+        signature: Vec::from_slice(alloc, signature)?,
+        since: 1,
+        is_destructor: false,
+        child_interface: child,
+        arg_interfaces: Vec::from_slice(alloc, objects)?,
+    })
+}
+
+/// Appends the messages to the others.
+fn push_messages(
+    alloc: Global,
+    messages: &mut Vec<MessageDesc>,
+    rows: &[Row],
+) -> Result<(), AllocError> {
+    for row in rows {
+        messages.push(described(alloc, *row)?)?;
+    }
+    Ok(())
+}
+
+/// The interface of that name, without messages yet.
+fn named(alloc: Global, name: &str) -> Result<Interface, AllocError> {
+    Ok(Interface {
+        name: String::from_str(alloc, name)?,
+        version: 3,
+        requests: Vec::new(alloc),
+        events: Vec::new(alloc),
+    })
+}
+
+/// The interface of the plan.
+fn planned(alloc: Global, Plan(name, requests, events): Plan) -> Result<Interface, AllocError> {
+    let mut interface = named(alloc, name)?;
+    push_messages(alloc, &mut interface.requests, requests)?;
+    push_messages(alloc, &mut interface.events, events)?;
+    Ok(interface)
+}
+
+/// The list of these interfaces.
+fn listed(alloc: Global, plans: &[Plan]) -> Result<Vec<Interface>, Fail> {
+    let mut interfaces = Vec::new(alloc);
+    for plan in plans {
+        interfaces.push(planned(alloc, *plan)?)?;
+    }
+    Ok(interfaces)
+}
+
+/// A row of the table: what a failing one is named, the interfaces of a list, and its fault, if it has one.
+struct Faulty {
+    name: &'static str,
+    plans: &'static [Plan],
+    fault: Option<TableError>,
+}
+
+/// Fails if the fault of the row's list is another.
+fn faults(rt: &impl Abort, alloc: Global, row: &Faulty) -> Result<(), Fail> {
+    let interfaces = listed(alloc, row.plans)?;
+    assert_eq!(rt;
+        Protocol::new(alloc, interfaces).err(),
+        row.fault,
+        "{}",
+        row.name
+    );
+    Ok(())
+}
+
+/// Tells the names of the first interfaces, so many, by their ids.
+fn tell_names(log: &mut String, table: &Protocol, count: usize) -> Result<(), Fail> {
+    for id in 0..count {
+        writeln!(log, "{id} {}", table.name(InterfaceId(id)))?;
+    }
+    Ok(())
+}
+
+/// Whether each message ends its object.
+fn all_destructors(messages: &[MessageDesc]) -> bool {
+    messages.iter().all(|message| message.is_destructor)
+}
+
+/// Tells the version of an interface, how many requests and events it has, and whether each event ends its object.
+fn tell_interface(log: &mut String, interface: &Interface) -> Result<(), Fail> {
+    let [requests, events] = [interface.requests.len(), interface.events.len()];
+    write!(log, "{}: {requests}, {events}, ", interface.version)?;
+    Ok(writeln!(log, "{}", all_destructors(&interface.events))?)
+}
+
+/// Tells of the interface of that id.
+fn tell_found(log: &mut String, table: &Protocol, id: InterfaceId) -> Result<(), Fail> {
+    match table.get(id) {
+        Some(interface) => tell_interface(log, interface),
+        None => Ok(writeln!(log, "none")?),
+    }
+}
+
+/// Tells of the table of `quad` and `pair`, after which no interface has a name.
+fn tell_table(log: &mut String, table: &Protocol) -> Result<(), Fail> {
+    tell_names(log, table, 7)?;
+    for id in [WL_CALLBACK_INTERFACE, QUAD, InterfaceId(6)] {
+        tell_found(log, table, id)?;
+    }
+    Ok(())
+}
+
+/// What `tell_table` tells of that table.
+fn table_log(alloc: Global) -> Result<String, Fail> {
+    let mut log = String::new(alloc);
+    tell_table(&mut log, &quad_table(alloc)?)?;
+    Ok(log)
+}
+
+#[test]
+fn fixed_interfaces_come_first(rt: HostRuntime) -> Result<(), Fail> {
+    tells(
+        &rt,
+        table_log(rt.alloc()),
+        "0 <anonymous>\n1 wl_display\n2 wl_registry\n3 wl_callback\n4 quad\n5 pair\n6 <unknown>\n1: 0, 1, true\n3: 5, 3, false\nnone\n",
+    )
+}
+
+/// A request with two objects of `quad`.
+const LINKS: [Row; 1] = [Row("link", &[OBJECT, OBJECT], None, &[QUAD, QUAD])];
+
+/// An event without arguments.
+const GONE: [Row; 1] = [Row("gone", &[], None, &[])];
+
+/// An interface that any list may have at its front.
+const LINKED: Plan = Plan("quad", &LINKS, &GONE);
+
+/// It has two new ids, and no child interface.
+const TWO_NEW_IDS: [Row; 1] = [Row("r", &[ArgumentType::NewId, ArgumentType::NewId], None, &[])];
+
+/// Its child interface is after the only interface of the list.
+const CHILD_OUTSIDE: [Row; 1] = [Row("r", &[ArgumentType::NewId], Some(InterfaceId(5)), &[])];
+
+/// It has a new id without a child interface, and an object without an argument interface.
+const NO_CHILD: [Row; 1] = [Row("r", &[ArgumentType::NewId, OBJECT], None, &[])];
+
+/// Its child interface is the first interface of the list.
+const OWN_CHILD: [Row; 1] = [Row("r", &[ArgumentType::NewId], Some(InterfaceId(4)), &[])];
+
+/// It has a child interface and no new id.
+const CHILD_OF_NOTHING: [Row; 1] = [Row("r", &[], Some(InterfaceId(4)), &[])];
+
+/// It has an object without an argument interface.
+const NO_OBJECT: [Row; 1] = [Row("e", &[OBJECT], None, &[])];
+
+/// Its name holds a zero byte.
+const ZERO: [Row; 1] = [Row("\0", &[], None, &[])];
+
+/// Lists of interfaces, and their faults.
+static FAULTS: [Faulty; 9] = [
+    Faulty {
+        name: "names are taken once",
+        plans: &[LINKED, LINKED],
+        fault: Some(TableError::DuplicateName(1)),
+    },
+    Faulty {
+        name: "names are taken once: a fixed one",
+        plans: &[Plan("wl_display", &[], &[])],
+        fault: Some(TableError::DuplicateName(0)),
+    },
+    Faulty {
+        name: "first fault: two new ids",
+        plans: &[Plan("a", &TWO_NEW_IDS, &[])],
+        fault: Some(TableError::TooManyNewIds(0)),
+    },
+    Faulty {
+        name: "first fault: a child interface outside",
+        plans: &[Plan("a", &CHILD_OUTSIDE, &[])],
+        fault: Some(TableError::UnknownInterface(0)),
+    },
+    Faulty {
+        name: "first fault: a child interface that is missing",
+        plans: &[Plan("a", &NO_CHILD, &[])],
+        fault: Some(TableError::MissingChild(0)),
+    },
+    Faulty {
+        name: "interface may be its own child",
+        plans: &[Plan("a", &OWN_CHILD, &[])],
+        fault: None,
+    },
+    Faulty {
+        name: "child interface of no new id",
+        plans: &[Plan("a", &CHILD_OF_NOTHING, &[])],
+        fault: None,
+    },
+    Faulty {
+        name: "earlier interface goes first",
+        plans: &[Plan("a", &[], &NO_OBJECT), Plan("\0", &[], &[])],
+        fault: Some(TableError::ArgInterfaces(0)),
+    },
+    Faulty {
+        name: "a zero in a name alone",
+        plans: &[LINKED, Plan("b", &ZERO, &[])],
+        fault: Some(TableError::ZeroInName(1)),
+    },
+];
+
+#[test]
+fn faults_of_lists(rt: HostRuntime) -> Result<(), Fail> {
+    for row in &FAULTS {
+        faults(&rt, rt.alloc(), row)?;
+    }
+    Ok(())
+}
+
+#[test]
+fn anonymous_is_any_interface(rt: HostRuntime) {
+    let [any, display] = [ANONYMOUS_INTERFACE, WL_DISPLAY_INTERFACE];
+    assert_eq!(rt;
+        [
+            same_interface(display, display),
+            same_interface(any, display)
+        ],
+        [true, false]
+    );
+    assert_eq!(rt;
+        [
+            same_interface_or_anonymous(any, display),
+            same_interface_or_anonymous(display, display),
+            same_interface_or_anonymous(display, any),
+        ],
+        [true, true, false]
+    );
+}
