@@ -1,5 +1,6 @@
 //! The examples of the pages.
 
+mod callers;
 mod client;
 mod embedding;
 mod link;
