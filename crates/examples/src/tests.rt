@@ -3,5 +3,6 @@
 mod client;
 mod embedding;
 mod link;
+mod readme;
 mod server;
 mod wire;

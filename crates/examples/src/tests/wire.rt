@@ -1,11 +1,12 @@
 //! The lines of the README of `wl_wire`: a bind is written and read.
 
-use super::STR;
 use smallvec::SmallVec;
 use std::alloc::Global;
 use std::collections::VecDeque;
 use std::test::Fail;
-use wl_wire::{Argument, ArgumentType, CString, Message, Token, parse_message, write_to_buffers};
+use wl_wire::{
+    AllowNull, Argument, ArgumentType, CString, Message, Token, parse_message, write_to_buffers,
+};
 
 /// Puts the arguments of the bind into the message.
 fn push_arguments(bind: &mut Message<u32, Token>, name: CString) -> Result<(), Fail> {
@@ -35,7 +36,11 @@ fn write(alloc: Global, bind: &Message<u32, Token>, buffer: &mut [u8]) -> Result
 
 /// Whether the buffer holds the message and nothing after it.
 fn reads_again(alloc: Global, bind: &Message<u32, Token>, buffer: &[u8]) -> Result<bool, Fail> {
-    let signature = [ArgumentType::Uint, STR, ArgumentType::Uint];
+    let signature = [
+        ArgumentType::Uint,
+        ArgumentType::Str(AllowNull::No),
+        ArgumentType::Uint,
+    ];
     let mut waiting = VecDeque::new(alloc);
     let (again, rest) = parse_message(alloc, buffer, &signature, &mut waiting)?;
     Ok(again == *bind && rest.is_empty())
