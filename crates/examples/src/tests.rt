@@ -4,5 +4,6 @@ mod callers;
 mod client;
 mod embedding;
 mod link;
+mod readme;
 mod server;
 mod wire;
