@@ -5,15 +5,9 @@
 
 mod acts;
 mod cuts;
-mod drill;
-mod drills;
 mod events;
 mod faults;
 mod objects;
 mod replayed;
 mod requests;
-mod steps;
 mod texts;
-mod told;
-mod transports;
-mod values;

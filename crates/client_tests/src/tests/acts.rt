@@ -2,12 +2,12 @@
 
 ghost use Rattle.std.specs.Prelude.{◌<◌};
 
-use super::steps::{Call, replay};
-use super::told::*;
-use super::values::{Child, Object, Request, message};
+use super::replayed::replay;
+use client_test_kit::steps::Call;
+use client_test_kit::told::*;
+use client_test_kit::values::{Child, Object, Request, message};
 use std::alloc::{AllocError, Global};
 use std::fmt::Write;
-use std::process::Abort;
 use std::test::Fail;
 use test_kit::cuts::{Cut, Stream};
 use test_kit::log::row_tells;

@@ -1,7 +1,7 @@
 //! What a server sends, and what breaks the protocol, in every cutting: whole, in two at each place, and byte by byte.
 
 use super::acts::{Act, Cue, Look, log_of};
-use super::values::{Object, Request};
+use client_test_kit::values::{Object, Request};
 use std::alloc::Global;
 use std::process::Abort;
 use std::test::Fail;

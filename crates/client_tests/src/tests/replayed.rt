@@ -1,10 +1,49 @@
 //! Runs by `replay`, and wants of memory of the transport.
 
 use super::acts::{Act, Row, rows_tell};
-use super::steps::Call;
-use super::values::{Object, Request};
+use client_test_kit::steps::{Call, steps};
+use client_test_kit::told::write_replies;
+use client_test_kit::values::{Object, Request};
+use std::alloc::{AllocError, Global};
+use std::fmt::Write;
 use std::test::Fail;
+use wl_client::{Backend, Reply, Stopped};
+use wl_link::Memory;
 use wl_wire::IoFault;
+
+/// Writes the replies of a run that stopped, and in which step.
+fn write_stopped(log: &mut String, stopped: &Stopped<u32>) -> Result<(), AllocError> {
+    write_replies(log, stopped.replies.as_slice())?;
+    writeln!(log, "stopped at {}", stopped.step)
+}
+
+/// Writes the answer to a run: the replies, and the step at which it stopped, if it did.
+fn write_run(
+    log: &mut String,
+    answer: &Result<Vec<Reply<u32>>, Stopped<u32>>,
+) -> Result<(), AllocError> {
+    match answer {
+        Ok(replies) => write_replies(log, replies.as_slice()),
+        Err(stopped) => write_stopped(log, stopped),
+    }
+}
+
+/// Writes whether the client's last call was refused memory.
+fn write_refused(log: &mut String, client: &Backend<Memory, u32>) -> Result<(), AllocError> {
+    writeln!(log, "refused: {}", client.memory_refused())
+}
+
+/// Runs the steps, and writes the replies; if the run stops, also at which step, and whether memory was refused.
+pub fn replay(
+    alloc: Global,
+    client: &mut Backend<Memory, u32>,
+    log: &mut String,
+    calls: &[Call],
+) -> Result<(), Fail> {
+    let steps = steps(alloc, calls)?;
+    write_run(log, &client.replay(steps))?;
+    Ok(write_refused(log, client)?)
+}
 
 /// A callback's life, in a run that has each step. `wl_callback.done` and `wl_display.delete_id` end it.
 const LIFE: [Call; 19] = [

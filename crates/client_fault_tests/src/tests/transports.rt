@@ -1,9 +1,9 @@
 //! Each receive and each send of a client's transport fails in turn.
 
 use super::drill::Run;
-use super::steps::{Call, steps};
-use super::told::write_reply;
-use super::values::Request;
+use client_test_kit::steps::{Call, steps};
+use client_test_kit::told::write_reply;
+use client_test_kit::values::Request;
 use std::alloc::Global;
 use std::process::Abort;
 use std::test::Fail;

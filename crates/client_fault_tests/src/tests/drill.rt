@@ -4,8 +4,8 @@
 //! the replies before that step are the same, and the same call again, and all after it, answers as with ample memory.
 //! If the test itself asked for that memory, it ends with the want, and nothing is judged.
 
-use super::steps::{Call, steps};
-use super::told::write_reply;
+use client_test_kit::steps::{Call, steps};
+use client_test_kit::told::write_reply;
 use std::alloc::Global;
 use std::process::Abort;
 use std::test::Fail;

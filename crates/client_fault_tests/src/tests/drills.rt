@@ -1,9 +1,9 @@
 //! The runs for which each allocation is refused in turn, and in which each receive and each send fails in turn.
 
 use super::drill::{Run, drill};
-use super::steps::Call;
 use super::transports::fails_in_turn;
-use super::values::{Object, Request};
+use client_test_kit::steps::Call;
+use client_test_kit::values::{Object, Request};
 use std::process::Abort;
 use std::test::Fail;
 
