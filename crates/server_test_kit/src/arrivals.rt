@@ -15,9 +15,6 @@ pub const SYNC_AT_SERVER: [u8; 12] = [1, 0, 0, 0, 0, 0, 12, 0, 0, 0, 0, 255];
 /// `wl_display.get_registry` with the new id 2.
 pub const GET_REGISTRY: [u8; 12] = [1, 0, 0, 0, 1, 0, 12, 0, 2, 0, 0, 0];
 
-/// `wl_display.get_registry` with the new id 3.
-pub const GET_REGISTRY_AT_3: [u8; 12] = [1, 0, 0, 0, 1, 0, 12, 0, 3, 0, 0, 0];
-
 /// `wl_registry.bind`, by registry 2, of the global 1, as `quad` of version 3, with the new id 3.
 pub const BIND: [u8; 32] = [
     2, 0, 0, 0, 0, 0, 32, 0, 1, 0, 0, 0, 5, 0, 0, 0, 113, 117, 97, 100, 0, 0, 0, 0, 3, 0, 0, 0, 3,
@@ -61,9 +58,6 @@ pub const LINK_OF_2: [u8; 16] = [3, 0, 0, 0, 3, 0, 16, 0, 2, 0, 0, 0, 3, 0, 0, 0
 
 /// `quad.link`, by object 3, of objects 9 and 3.
 pub const LINK_OF_9: [u8; 16] = [3, 0, 0, 0, 3, 0, 16, 0, 9, 0, 0, 0, 3, 0, 0, 0];
-
-/// `quad.give`, by object 3, whose string is longer than the message.
-pub const GIVE_TOO_LONG: [u8; 16] = [3, 0, 0, 0, 4, 0, 16, 0, 100, 0, 0, 0, 97, 98, 99, 0];
 
 /// `quad.give`, by object 3, of no string and one byte.
 pub const GIVE: [u8; 20] = [3, 0, 0, 0, 4, 0, 20, 0, 0, 0, 0, 0, 1, 0, 0, 0, 1, 0, 0, 0];

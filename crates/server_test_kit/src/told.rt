@@ -290,7 +290,7 @@ fn notes(log: &mut String, answer: &Result<Vec<Note<u32>>, OutOfMemory>) -> Resu
 }
 
 /// Tells what was sent, a send a line.
-pub fn sent(log: &mut String, sent: &[(Vec<u8>, Vec<Token>)]) -> Result<(), Fail> {
+fn sent(log: &mut String, sent: &[(Vec<u8>, Vec<Token>)]) -> Result<(), Fail> {
     for (bytes, tokens) in sent {
         tell_bytes(log, bytes.as_slice(), tokens.as_slice())?;
         writeln!(log)?;

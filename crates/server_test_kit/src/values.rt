@@ -6,8 +6,7 @@ use std::test::Fail;
 use test_kit::quad::QUAD;
 use wl_server::{ClientId, GlobalHandler, GlobalId, ObjectId};
 use wl_wire::{
-    Argument, ByteArray, CString, INLINE_ARGS, InterfaceId, Message, Token, WL_CALLBACK_INTERFACE,
-    WL_DISPLAY_INTERFACE, WL_REGISTRY_INTERFACE,
+    Argument, ByteArray, CString, INLINE_ARGS, InterfaceId, Message, Token, WL_DISPLAY_INTERFACE,
 };
 
 /// Shows its global to the clients whose data say so.
@@ -60,12 +59,6 @@ pub struct Thing(pub Who, pub u32, pub u64, pub InterfaceId);
 /// The display of the first client.
 pub const DISPLAY: Thing = Thing(FIRST, 1, 0, WL_DISPLAY_INTERFACE);
 
-/// The registry that is the first object of the first client.
-pub const REGISTRY: Thing = Thing(FIRST, 2, 1, WL_REGISTRY_INTERFACE);
-
-/// The callback that is the first object of the first client.
-pub const CALLBACK: Thing = Thing(FIRST, 2, 1, WL_CALLBACK_INTERFACE);
-
 /// The `quad` that the first client binds after its registry.
 pub const BOUND: Thing = Thing(FIRST, 3, 2, QUAD);
 
@@ -85,8 +78,6 @@ pub enum Event {
     Moved(Thing, i32),
     /// `quad.made`, by its sender, of a new object.
     Made(Thing, Thing),
-    /// An event of an object and an object, by its sender and its opcode.
-    Pair(Thing, u16, Thing, Thing),
     /// `pair.joined`, by its sender: of the object twice, the string `ab`, three bytes and the descriptor 9.
     Joined(Thing, Thing),
 }
@@ -100,7 +91,7 @@ impl Event {
     /// Its sender and its opcode.
     fn header(self) -> (Thing, u16) {
         match self {
-            Event::Bare(sender, opcode) | Event::Pair(sender, opcode, _, _) => (sender, opcode),
+            Event::Bare(sender, opcode) => (sender, opcode),
             Event::Moved(sender, _) | Event::Joined(sender, _) => (sender, 0),
             Event::Made(sender, _) => (sender, 1),
         }
@@ -137,10 +128,6 @@ fn push_arguments(alloc: Global, args: &mut Arguments, event: Event) -> Result<(
         Event::Bare(_, _) => {}
         Event::Moved(_, value) => args.push(Argument::Int(value))?,
         Event::Made(_, object) => args.push(Argument::NewId(object.id()))?,
-        Event::Pair(_, _, first, second) => {
-            args.push(Argument::Object(first.id()))?;
-            args.push(Argument::Object(second.id()))?;
-        }
         Event::Joined(_, object) => push_joined(alloc, args, object)?,
     }
     Ok(())

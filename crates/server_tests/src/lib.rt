@@ -1,5 +1,5 @@
-//! The tests of `wl_server`, but for those in which transports and memory fail in turn (`server_fault_tests`). They call
-//! public items alone, and nothing stands on this crate.
+//! The tests of `wl_server`, but for those in which transports and memory fail in turn (`server_fault_tests`), and for the
+//! runs that lines of `wl-bench run` can say (`conversations`). They call public items alone, and nothing stands on this crate.
 #![tactic(auto)]
 
 #[cfg(test)]

@@ -2,7 +2,6 @@
 //!
 //! A run is a list of `Act`s, and `log_of` makes its calls, each by `replay`.
 
-mod announced;
 mod arguments;
 mod buffers;
 mod cuts;
@@ -10,7 +9,6 @@ mod cutting;
 mod dispatches;
 mod globals;
 mod handlers;
-mod hostile;
 mod long;
 mod notes;
 mod one_client;

@@ -1,7 +1,6 @@
 //! Buffers that have too little room: they grow as far as the program lets them.
 
-use super::hostile::BOUND as WITH_A_QUAD;
-use super::run::{Act, Look, log_of};
+use super::run::{Act, Look, WITH_A_QUAD, log_of};
 use server_test_kit::arrivals::{DESTROY, SYNC_AT_4, SYNC_AT_5};
 use server_test_kit::steps::Call;
 use server_test_kit::values::{BOUND, Event, FIRST, Named, Thing};

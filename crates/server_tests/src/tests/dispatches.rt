@@ -1,8 +1,7 @@
 //! Dispatches of a server, each over scripts, with what was before it and what it left.
 
 use super::handlers::{Contrary, Killing, Numbering, TakingOut, Working};
-use super::hostile::BOUND as WITH_A_QUAD;
-use super::run::{Act, Look, Server, perform_all};
+use super::run::{Act, Look, Server, WITH_A_QUAD, perform_all};
 use server_test_kit::arrivals::{BIND, DESTROY, GET_REGISTRY, MAKE_BY_SERVER, SYNC};
 use server_test_kit::steps::Call;
 use server_test_kit::values::{FIRST, SECOND, Shown, Thing};
@@ -333,42 +332,22 @@ fn rows_of_a_contrary_handler(rt: HostRuntime) -> Result<(), Fail> {
     rows_of_first(&rt, &mut Contrary(4), &CONTRARY)
 }
 
-/// Dispatches of the first two clients.
-static OF_TWO: [Row; 2] = [
-    // Two clients with a hundred receives of a byte each: of each of them, a dispatch makes 64.
-    Row {
-        name: "each client has 64 receives",
-        before: &[
-            Act::Do(Call::Insert(true)),
-            Act::Do(Call::Insert(true)),
-            Act::ArriveBytewise(FIRST, &[1, 0, 0, 0, 0, 0, 200, 0], 100),
-            Act::ArriveBytewise(SECOND, &[1, 0, 0, 0, 0, 0, 200, 0], 100),
-        ],
-        after: &[
-            Act::Look(Look::Arrivals(FIRST)),
-            Act::Look(Look::Arrivals(SECOND)),
-        ],
-        told: "client 0, 1\nclient 1, 2\ndispatched 0\n36 arrivals\n36 arrivals\n",
-    },
-    // The fault of one client is dropped, and the requests of the other count.
-    Row {
-        name: "fault of one client",
-        before: &[
-            Act::Do(Call::Insert(true)),
-            Act::Do(Call::Insert(true)),
-            Act::Do(Call::Arrive(FIRST, &SYNC_AND_SYNC_AT_5)),
-            Act::Do(Call::Arrive(SECOND, &SYNC)),
-        ],
-        after: &[Act::Do(Call::Next(FIRST)), Act::Do(Call::Next(SECOND))],
-        told: "client 0, 1\nclient 1, 2\ndispatched 1\nIo error: invalid input\nIo error: would block\n",
-    },
-];
-
+/// Two clients with a hundred receives of a byte each: of each of them, a dispatch makes 64.
 #[test]
-fn rows_of_two_clients(rt: HostRuntime) -> Result<(), Fail> {
-    for row in &OF_TWO {
-        let log = log_of_both(rt.alloc(), &mut Numbering(4), (row.before, row.after));
-        row_tells(&rt, row.name, log, row.told)?;
-    }
-    Ok(())
+fn each_client_has_64_receives(rt: HostRuntime) -> Result<(), Fail> {
+    let before = [
+        Act::Do(Call::Insert(true)),
+        Act::Do(Call::Insert(true)),
+        Act::ArriveBytewise(FIRST, &[1, 0, 0, 0, 0, 0, 200, 0], 100),
+        Act::ArriveBytewise(SECOND, &[1, 0, 0, 0, 0, 0, 200, 0], 100),
+    ];
+    let after = [
+        Act::Look(Look::Arrivals(FIRST)),
+        Act::Look(Look::Arrivals(SECOND)),
+    ];
+    tells(
+        &rt,
+        log_of_both(rt.alloc(), &mut Numbering(4), (&before, &after)),
+        "client 0, 1\nclient 1, 2\ndispatched 0\n36 arrivals\n36 arrivals\n",
+    )
 }

@@ -1,18 +1,18 @@
 //! Globals: who is told of them, and who may bind them.
 
 use super::run::{Act, Look, Row, rows_tell};
-use server_test_kit::arrivals::{BIND, BIND_NULL, BIND_VERSION_1, DESTROY, GET_REGISTRY, MAKE};
+use server_test_kit::arrivals::{BIND, DESTROY, GET_REGISTRY};
 use server_test_kit::steps::Call;
 use server_test_kit::values::{BOUND, FIRST, Named, SECOND, THIRD, Who};
 use std::test::Fail;
 use test_kit::quad::QUAD;
-use wl_wire::{InterfaceId, IoFault};
+use wl_wire::IoFault;
 
 /// The first global.
 const GLOBAL: Named = Named(1, 1);
 
 /// The runs, and what they tell.
-static ROWS: [Row; 13] = [
+static ROWS: [Row; 8] = [
     // A registry is told of the globals, of one that is disabled once, and of a new one of a name that was used.
     Row {
         name: "registry is told",
@@ -42,23 +42,6 @@ static ROWS: [Row; 13] = [
         ],
         told: "client 0, 1\nglobal 1, 1\nIo error: would block\ndone\n02 00 00 00 00 00 1c 00 01 00 00 00 05 00 00 00 71 75 61 64 00 00 00 00 03 00 00 00\ndone\n02 00 00 00 01 00 0c 00 01 00 00 00\ninterface 4, version 3, disabled: true\nname 1\ndone\nInvalid Id\nglobal 1, 2\ndone\n02 00 00 00 00 00 1c 00 01 00 00 00 05 00 00 00 71 75 61 64 00 00 00 00 03 00 00 00\ndone\n02 00 00 00 01 00 0c 00 01 00 00 00\n",
     },
-    // What is refused of globals; no registry is told.
-    Row {
-        name: "globals are refused",
-        acts: &[
-            Act::Do(Call::Insert(true)),
-            Act::Do(Call::Arrive(FIRST, &GET_REGISTRY)),
-            Act::Do(Call::Next(FIRST)),
-            Act::Do(Call::Global(QUAD, 4)),
-            Act::Do(Call::Global(InterfaceId(9), 1)),
-            Act::Do(Call::Disable(GLOBAL)),
-            Act::Do(Call::Remove(GLOBAL)),
-            Act::Do(Call::FlushAll),
-            Act::Do(Call::TakeSent(FIRST)),
-            Act::Do(Call::Global(QUAD, 3)),
-        ],
-        told: "client 0, 1\nIo error: would block\nthe version is above the interface's\nthe interface is not in the table\ndone\nglobal 1, 1\n",
-    },
     // A client that may not see a global is told nothing of it but that it is gone, and cannot bind it.
     Row {
         name: "hidden global",
@@ -85,6 +68,32 @@ static ROWS: [Row; 13] = [
             Act::Do(Call::TakeSent(SECOND)),
         ],
         told: "client 0, 1\nclient 1, 2\nIo error: would block\nIo error: would block\nglobal 1, 1\ndone\n02 00 00 00 00 00 1c 00 01 00 00 00 05 00 00 00 71 75 61 64 00 00 00 00 03 00 00 00\nno name\nname 1\ndone\n02 00 00 00 01 00 0c 00 01 00 00 00\n02 00 00 00 01 00 0c 00 01 00 00 00\nIo error: broken pipe\n01 00 00 00 00 00 44 00 01 00 00 00 00 00 00 00 30 00 00 00 49 6e 76 61 6c 69 64 20 62 69 6e 64 69 6e 67 20 6f 66 20 71 75 61 64 20 76 65 72 73 69 6f 6e 20 33 20 66 6f 72 20 67 6c 6f 62 61 6c 20 31 2e 00\n",
+    },
+    // A client that may not see a global is told nothing of it, and cannot bind it while it is enabled; another is told of it,
+    // and that it is gone.
+    Row {
+        name: "hidden global is asked for",
+        acts: &[
+            Act::Do(Call::Insert(false)),
+            Act::Do(Call::Insert(true)),
+            Act::Do(Call::Arrive(FIRST, &GET_REGISTRY)),
+            Act::Do(Call::Next(FIRST)),
+            Act::Do(Call::Arrive(SECOND, &GET_REGISTRY)),
+            Act::Do(Call::Next(SECOND)),
+            Act::Do(Call::Global(QUAD, 3)),
+            Act::Do(Call::FlushAll),
+            Act::Do(Call::TakeSent(FIRST)),
+            Act::Do(Call::TakeSent(SECOND)),
+            Act::Do(Call::Arrive(FIRST, &BIND)),
+            Act::Do(Call::Next(FIRST)),
+            Act::Do(Call::TakeSent(FIRST)),
+            Act::Do(Call::TakeSent(SECOND)),
+            Act::Do(Call::Disable(GLOBAL)),
+            Act::Do(Call::FlushAll),
+            Act::Do(Call::TakeSent(FIRST)),
+            Act::Do(Call::TakeSent(SECOND)),
+        ],
+        told: "client 0, 1\nclient 1, 2\nIo error: would block\nIo error: would block\nglobal 1, 1\ndone\n02 00 00 00 00 00 1c 00 01 00 00 00 05 00 00 00 71 75 61 64 00 00 00 00 03 00 00 00\nIo error: broken pipe\n01 00 00 00 00 00 44 00 01 00 00 00 00 00 00 00 30 00 00 00 49 6e 76 61 6c 69 64 20 62 69 6e 64 69 6e 67 20 6f 66 20 71 75 61 64 20 76 65 72 73 69 6f 6e 20 33 20 66 6f 72 20 67 6c 6f 62 61 6c 20 31 2e 00\ndone\n02 00 00 00 01 00 0c 00 01 00 00 00\n",
     },
     // A bind, whose object is destroyed by its client: `delete_id`, and a note at once.
     Row {
@@ -137,69 +146,6 @@ static ROWS: [Row; 13] = [
         ],
         told: "client 0, 1\nglobal 1, 1\nglobal 1, 1 bound as 3, 2, 4 of 0\nfinished\ndone\n02 00 00 00 00 00 1c 00 01 00 00 00 05 00 00 00 71 75 61 64 00 00 00 00 03 00 00 00\nrequest 2 to 3, 2, 4 of 0, which ends it\ndone\nfinished\ndone\n01 00 00 00 01 00 0c 00 03 00 00 00\ninitialized 0, 1\nout:\ndestroyed 3, 2, 4 of 0 with 9\n",
     },
-    // Binds that are refused: without a name, and of a global that is gone.
-    Row {
-        name: "binds are refused: without a name",
-        acts: &[
-            Act::Do(Call::Insert(true)),
-            Act::Do(Call::Arrive(FIRST, &GET_REGISTRY)),
-            Act::Do(Call::Next(FIRST)),
-            Act::Do(Call::Global(QUAD, 3)),
-            Act::Do(Call::FlushAll),
-            Act::Do(Call::TakeSent(FIRST)),
-            Act::Do(Call::Arrive(FIRST, &BIND_NULL)),
-            Act::Do(Call::Next(FIRST)),
-            Act::Do(Call::TakeSent(FIRST)),
-            Act::Do(Call::Notes),
-        ],
-        told: "client 0, 1\nIo error: would block\nglobal 1, 1\ndone\n02 00 00 00 00 00 1c 00 01 00 00 00 05 00 00 00 71 75 61 64 00 00 00 00 03 00 00 00\nIo error: broken pipe\n01 00 00 00 00 00 40 00 01 00 00 00 00 00 00 00 2c 00 00 00 49 6e 76 61 6c 69 64 20 62 69 6e 64 69 6e 67 20 6f 66 20 20 76 65 72 73 69 6f 6e 20 31 20 66 6f 72 20 67 6c 6f 62 61 6c 20 31 2e 00\ninitialized 0, 1\ndisconnected 0, 1: error 0 on wl_display 1: Invalid binding of  version 1 for global 1.\n",
-    },
-    Row {
-        name: "binds are refused: of a global that is gone",
-        acts: &[
-            Act::Do(Call::Insert(true)),
-            Act::Do(Call::Global(QUAD, 3)),
-            Act::Do(Call::Remove(GLOBAL)),
-            Act::Do(Call::Arrive(FIRST, &GET_REGISTRY)),
-            Act::Do(Call::Arrive(FIRST, &BIND)),
-            Act::Do(Call::Next(FIRST)),
-            Act::Do(Call::TakeSent(FIRST)),
-        ],
-        told: "client 0, 1\nglobal 1, 1\nIo error: broken pipe\n01 00 00 00 00 00 44 00 01 00 00 00 00 00 00 00 30 00 00 00 49 6e 76 61 6c 69 64 20 62 69 6e 64 69 6e 67 20 6f 66 20 71 75 61 64 20 76 65 72 73 69 6f 6e 20 33 20 66 6f 72 20 67 6c 6f 62 61 6c 20 31 2e 00\n",
-    },
-    // A bind whose name makes an error that is too long to be sent: the client is closed.
-    Row {
-        name: "bind with a long name",
-        acts: &[
-            Act::Do(Call::Insert(true)),
-            Act::Do(Call::Global(QUAD, 3)),
-            Act::Do(Call::Disable(GLOBAL)),
-            Act::Do(Call::Arrive(FIRST, &GET_REGISTRY)),
-            Act::ArriveLongBind(FIRST),
-            Act::Do(Call::Next(FIRST)),
-            Act::Do(Call::TakeSent(FIRST)),
-            Act::Do(Call::Notes),
-        ],
-        told: "client 0, 1\nglobal 1, 1\nIo error: broken pipe\ninitialized 0, 1\ndisconnected 0, 1: closed\n",
-    },
-    // An object that is bound at a version lacks the requests of later ones.
-    Row {
-        name: "bound at an earlier version",
-        acts: &[
-            Act::Do(Call::Insert(true)),
-            Act::Do(Call::Global(QUAD, 3)),
-            Act::Do(Call::Disable(GLOBAL)),
-            Act::Do(Call::Arrive(FIRST, &GET_REGISTRY)),
-            Act::Do(Call::Arrive(FIRST, &BIND_VERSION_1)),
-            Act::Do(Call::Next(FIRST)),
-            Act::Do(Call::FinishBind(FIRST, 9)),
-            Act::Look(Look::Info(BOUND)),
-            Act::Do(Call::Arrive(FIRST, &MAKE)),
-            Act::Do(Call::Next(FIRST)),
-            Act::Do(Call::TakeSent(FIRST)),
-        ],
-        told: "client 0, 1\nglobal 1, 1\nglobal 1, 1 bound as 3, 2, 4 of 0\nfinished\nversion 1\nIo error: broken pipe\n01 00 00 00 00 00 44 00 01 00 00 00 01 00 00 00 2e 00 00 00 69 6e 76 61 6c 69 64 20 6d 65 74 68 6f 64 20 31 20 28 73 69 6e 63 65 20 31 20 3c 20 32 29 2c 20 6f 62 6a 65 63 74 20 71 75 61 64 23 33 00 00 00\n",
-    },
     // A client that cannot be written to is killed, and the other is told as ever.
     Row {
         name: "a full client does not matter to another",
@@ -241,37 +187,8 @@ static ROWS: [Row; 13] = [
         ],
         told: "client 0, 1\nclient 1, 2\nlive: 2\nout: client 0, 1 with 0 sends\nclient 0, 3\nlive: 12\nIo error: would block\nIo error: invalid input\n",
     },
-    // Of three clients the second cannot be written to, or lacks memory for it: it is closed, and keeps what waits until it is
-    // taken out; the global is created all the same, and the others are told.
-    Row {
-        name: "one of three clients cannot be told",
-        acts: &[
-            Act::Do(Call::Insert(true)),
-            Act::Do(Call::Arrive(FIRST, &GET_REGISTRY)),
-            Act::Do(Call::Next(FIRST)),
-            Act::Do(Call::Insert(true)),
-            Act::Do(Call::Arrive(SECOND, &GET_REGISTRY)),
-            Act::Do(Call::Next(SECOND)),
-            Act::Do(Call::Insert(true)),
-            Act::Do(Call::Arrive(THIRD, &GET_REGISTRY)),
-            Act::Do(Call::Next(THIRD)),
-            Act::Globals(146),
-            Act::Do(Call::AcceptFault(SECOND, IoFault::Other(5))),
-            Act::Do(Call::Global(QUAD, 3)),
-            Act::Look(Look::Clients),
-            Act::Look(Look::Lengths(FIRST)),
-            Act::Look(Look::Lengths(SECOND)),
-            Act::Look(Look::Lengths(THIRD)),
-            Act::Do(Call::FlushAll),
-            Act::Look(Look::Lengths(FIRST)),
-            Act::Look(Look::Lengths(SECOND)),
-            Act::Look(Look::Lengths(THIRD)),
-            Act::Do(Call::Notes),
-            Act::TakeOut,
-            Act::Do(Call::Global(QUAD, 3)),
-        ],
-        told: "client 0, 1\nIo error: would block\nclient 1, 2\nIo error: would block\nclient 2, 3\nIo error: would block\nglobal 147, 147\nlive: 13\n4088 bytes\n4088 bytes\ndone\n4088 bytes\n28 bytes\n4088 bytes\n28 bytes\ninitialized 0, 1\ninitialized 1, 2\ninitialized 2, 3\ndisconnected 1, 2: closed\nout 1, 2: 4088\nglobal 148, 148\n",
-    },
+    // Of three clients the second lacks memory to be told of a global: it is closed, and keeps what waits until it is taken out;
+    // the global is created all the same, and the others are told.
     Row {
         name: "one of three clients lacks memory to be told",
         acts: &[

@@ -1,7 +1,6 @@
 //! Requests that are longer than the buffer in which they arrive is at first.
 
-use super::hostile::BOUND;
-use super::run::{Act, Look, Row, rows_tell};
+use super::run::{Act, Look, Row, WITH_A_QUAD, rows_tell};
 use server_test_kit::arrivals::{GIVE_5000, GIVE_65532};
 use server_test_kit::steps::Call;
 use server_test_kit::values::FIRST;
@@ -14,7 +13,7 @@ static ROWS: [Row; 3] = [
         name: "request longer than the first buffer",
         acts: &[
             Act::Do(Call::DefaultLimit(8192)),
-            Act::Quietly(&BOUND),
+            Act::Quietly(&WITH_A_QUAD),
             Act::ArriveInChunks(FIRST, &GIVE_5000, 5000, 5),
             Act::Do(Call::NextWithin(FIRST, 64)),
             Act::Look(Look::Arrivals(FIRST)),
@@ -26,7 +25,7 @@ static ROWS: [Row; 3] = [
         name: "request of 65532 bytes",
         acts: &[
             Act::Do(Call::DefaultLimit(65536)),
-            Act::Quietly(&BOUND),
+            Act::Quietly(&WITH_A_QUAD),
             Act::ArriveInChunks(FIRST, &GIVE_65532, 65532, 5),
             Act::Do(Call::NextWithin(FIRST, 64)),
             Act::Look(Look::Arrivals(FIRST)),
@@ -37,7 +36,7 @@ static ROWS: [Row; 3] = [
     Row {
         name: "request longer than the limit",
         acts: &[
-            Act::Quietly(&BOUND),
+            Act::Quietly(&WITH_A_QUAD),
             Act::ArriveInChunks(FIRST, &GIVE_5000, 5000, 5),
             Act::Do(Call::NextWithin(FIRST, 64)),
             Act::Look(Look::Arrivals(FIRST)),

@@ -1,12 +1,12 @@
-//! A server with one client: requests of the display, objects, events, and errors.
+//! A server with one client: requests of the display, objects, events, errors, and a transport that lacks memory.
 
 use super::run::{Act, Look, Row, rows_tell};
-use server_test_kit::arrivals::{MAKE_BY_SERVER, SYNC, SYNC_AT_5, SYNC_AT_SERVER};
+use server_test_kit::arrivals::{MAKE_BY_SERVER, SYNC, SYNC_AT_5};
 use server_test_kit::steps::Call;
 use server_test_kit::values::{DISPLAY, Event, FIRST, SECOND, Thing};
 use std::test::Fail;
 use test_kit::quad::QUAD;
-use wl_wire::WL_REGISTRY_INTERFACE;
+use wl_wire::{IoFault, WL_REGISTRY_INTERFACE};
 
 /// The first object that the server makes for the first client.
 const MADE: Thing = Thing(FIRST, 0xFF00_0000, 1, QUAD);
@@ -34,7 +34,7 @@ static ROWS: [Row; 12] = [
         ],
         told: "client 0, 1\nIo error: would block\n62 left, 1 read\ndone\n02 00 00 00 00 00 0c 00 00 00 00 00 01 00 00 00 01 00 0c 00 02 00 00 00\nIo error: would block\ncreated 4278190080, 3, 4 of 0\n",
     },
-    // A new id that is not the next one, and one of the server's range.
+    // A new id that is not the next one.
     Row {
         name: "new ids are refused: not the next",
         acts: &[
@@ -46,16 +46,6 @@ static ROWS: [Row; 12] = [
             Act::Do(Call::Next(FIRST)),
         ],
         told: "client 0, 1\nIo error: broken pipe\n63 left, 1 read\n01 00 00 00 00 00 28 00 01 00 00 00 00 00 00 00 13 00 00 00 49 6e 76 61 6c 69 64 20 6e 65 77 5f 69 64 3a 20 35 2e 00 00\ninitialized 0, 1\ndisconnected 0, 1: error 0 on wl_display 1: Invalid new_id: 5.\nIo error: broken pipe\n",
-    },
-    Row {
-        name: "new ids are refused: of the server's range",
-        acts: &[
-            Act::Do(Call::Insert(true)),
-            Act::Do(Call::Arrive(FIRST, &SYNC_AT_SERVER)),
-            Act::Do(Call::Next(FIRST)),
-            Act::Do(Call::TakeSent(FIRST)),
-        ],
-        told: "client 0, 1\nIo error: broken pipe\n01 00 00 00 00 00 30 00 01 00 00 00 00 00 00 00 1c 00 00 00 49 6e 76 61 6c 69 64 20 6e 65 77 5f 69 64 3a 20 34 32 37 38 31 39 30 30 38 30 2e 00\n",
     },
     // A hundred receives of a byte each: a reading makes 64 of them, and the next goes on.
     Row {
@@ -200,6 +190,25 @@ static ROWS: [Row; 12] = [
             Act::Do(Call::Notes),
         ],
         told: "client 0, 1\ninitialized 0, 1\ndisconnected 0, 1: error 7 on quad 4278190080: no\n",
+    },
+    // A transport that lacks memory: what was handled stays, and the reading goes on.
+    Row {
+        name: "want of memory of a transport",
+        acts: &[
+            Act::Do(Call::Insert(true)),
+            Act::Do(Call::ArriveFault(FIRST, IoFault::OutOfMemory)),
+            Act::Do(Call::Arrive(FIRST, &SYNC)),
+            Act::InWant(Call::Next(FIRST)),
+            Act::Do(Call::Next(FIRST)),
+            Act::Do(Call::AcceptFault(FIRST, IoFault::OutOfMemory)),
+            Act::InWant(Call::Flush(FIRST)),
+            Act::Do(Call::AcceptFault(FIRST, IoFault::OutOfMemory)),
+            Act::InWant(Call::FlushAll),
+            Act::Do(Call::Flush(FIRST)),
+            Act::Do(Call::TakeSent(FIRST)),
+            Act::Do(Call::Notes),
+        ],
+        told: "client 0, 1\nstopped at 0\nIo error: would block\nstopped at 0\nstopped at 0\ndone\n02 00 00 00 00 00 0c 00 00 00 00 00 01 00 00 00 01 00 0c 00 02 00 00 00\ninitialized 0, 1\n",
     },
 ];
 

@@ -2,7 +2,7 @@
 
 use server_test_kit::steps::{Call, Made, arrive, arrive_with, step};
 use server_test_kit::told::{action, object, reply};
-use server_test_kit::values::{Named, Shown, Thing, Who};
+use server_test_kit::values::{FIRST, Named, Shown, Thing, Who};
 use std::alloc::Global;
 use std::fmt::Write;
 use std::process::Abort;
@@ -12,7 +12,7 @@ use test_kit::log::row_tells;
 use test_kit::message::padded;
 use test_kit::quad::{QUAD, quad_table};
 use wl_link::Memory;
-use wl_server::{Action, ActionError, Backend, ClientId, Reply, Step};
+use wl_server::{Action, ActionError, Backend, ClientId, Reply};
 use wl_wire::{InterfaceId, IoFault};
 
 /// A server of the runs.
@@ -32,8 +32,6 @@ pub enum Act {
     ArriveInChunks(Who, &'static [u8], usize, i32),
     /// Appends so many zeros to what is to arrive.
     ArriveZeros(Who, usize),
-    /// Appends a bind of the global 1 to what is to arrive, with a name of 1400 bytes 0xFF.
-    ArriveLongBind(Who),
     /// Appends the stream to what is to arrive, cut so.
     ArriveCut(Who, Stream, Cut),
     /// Reads, and ends each action, until nothing more is there or a reading fails.
@@ -194,21 +192,6 @@ fn arrive_zeros(alloc: Global, server: &mut Server, who: Who, len: usize) -> Res
     let zeros = padded(alloc, &[], len)?;
     let mut steps = Vec::new(alloc);
     steps.push(arrive(alloc, who, zeros.as_slice())?)?;
-    made(server, steps)
-}
-
-/// Appends a bind of the global 1 to what is to arrive, with a name of 1400 bytes 0xFF.
-fn arrive_long_bind(alloc: Global, server: &mut Server, who: Who) -> Result<(), Fail> {
-    let mut bytes = Vec::from_slice(
-        alloc,
-        &[2, 0, 0, 0, 0, 0, 0x94, 5, 1, 0, 0, 0, 0x79, 5, 0, 0],
-    )?;
-    for _ in 0..1400 {
-        bytes.push(0xFF)?;
-    }
-    bytes.extend_from_slice(&[0, 0, 0, 0, 3, 0, 0, 0, 3, 0, 0, 0])?;
-    let mut steps = Vec::new(alloc);
-    steps.push(Step::Arrive(who.id(), bytes, Vec::new(alloc)))?;
     made(server, steps)
 }
 
@@ -499,7 +482,6 @@ fn prepare(alloc: Global, server: &mut Server, act: Act) -> Result<(), Fail> {
             arrive_in_chunks(alloc, server, who, (bytes, len), descriptor)
         }
         Act::ArriveZeros(who, len) => arrive_zeros(alloc, server, who, len),
-        Act::ArriveLongBind(who) => arrive_long_bind(alloc, server, who),
         Act::ArriveCut(who, stream, cut) => arrive_cut(alloc, server, who, stream, cut),
         Act::Globals(count) => globals(alloc, server, count),
         Act::Quietly(calls) => quietly(alloc, server, calls),
@@ -540,6 +522,24 @@ pub fn log_of(alloc: Global, acts: &[Act]) -> Result<String, Fail> {
     let mut server = Backend::new(alloc, quad_table(alloc)?);
     log_by(alloc, &mut server, acts)
 }
+
+/// A client with a registry, by `wl_display.get_registry`, and a `quad` of version 3, by `wl_registry.bind`.
+pub const WITH_A_QUAD: [Call; 8] = [
+    Call::Insert(true),
+    Call::Global(QUAD, 3),
+    Call::Arrive(FIRST, &[1, 0, 0, 0, 1, 0, 12, 0, 2, 0, 0, 0]),
+    Call::Arrive(
+        FIRST,
+        &[
+            2, 0, 0, 0, 0, 0, 32, 0, 1, 0, 0, 0, 5, 0, 0, 0, 113, 117, 97, 100, 0, 0, 0, 0, 3, 0,
+            0, 0, 3, 0, 0, 0,
+        ],
+    ),
+    Call::Next(FIRST),
+    Call::FinishBind(FIRST, 9),
+    Call::Flush(FIRST),
+    Call::TakeSent(FIRST),
+];
 
 /// A row of a table of runs: what a failing one is named, its calls, and what they have to tell.
 pub struct Row {
