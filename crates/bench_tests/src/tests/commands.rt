@@ -8,7 +8,6 @@ mod dispatches;
 mod drill;
 
 use std::alloc::Global;
-use std::process::Abort;
 use std::test::Fail;
 use test_kit::log::row_tells;
 use wl_bench::commands::run_commands;

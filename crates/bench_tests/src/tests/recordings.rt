@@ -4,7 +4,6 @@ mod conversations;
 mod differences;
 
 use std::alloc::Global;
-use std::process::Abort;
 use std::test::Fail;
 use test_kit::log::{row_tells, tells};
 use wl_bench::commands::record;

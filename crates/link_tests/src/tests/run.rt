@@ -3,7 +3,6 @@
 use super::script::{Cue, scripted};
 use super::transports::Record;
 use std::alloc::Global;
-use std::process::Abort;
 use std::test::Fail;
 use test_kit::log::row_tells;
 use test_kit::message::{Arg, message, push, tell_bytes, tell_message};

@@ -473,7 +473,7 @@ fn receive_fails(
 }
 
 /// Fails if the second client is told otherwise in the run without the first one's calls.
-fn second_is_told_alike(rt: &(impl Eprint + AllocGlobal), clean: &[String]) -> Result<(), Fail> {
+fn second_is_told_alike(rt: &(impl Abort + AllocGlobal), clean: &[String]) -> Result<(), Fail> {
     let calls = without_first(rt.alloc())?;
     let alone = played(rt.alloc(), calls.as_slice())?;
     second_is_the_same(rt, clean, alone.as_slice());

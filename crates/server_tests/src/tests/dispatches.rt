@@ -7,7 +7,6 @@ use server_test_kit::steps::Call;
 use server_test_kit::values::{FIRST, SECOND, Shown, Thing};
 use std::alloc::Global;
 use std::fmt::Write;
-use std::process::Abort;
 use std::test::Fail;
 use test_kit::log::{row_tells, tells};
 use test_kit::quad::{QUAD, quad_table};

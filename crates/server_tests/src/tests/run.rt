@@ -5,7 +5,6 @@ use server_test_kit::told::{action, object, reply};
 use server_test_kit::values::{FIRST, Named, Shown, Thing, Who};
 use std::alloc::Global;
 use std::fmt::Write;
-use std::process::Abort;
 use std::test::Fail;
 use test_kit::cuts::{Cut, Stream};
 use test_kit::log::row_tells;

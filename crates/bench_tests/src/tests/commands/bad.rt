@@ -1,7 +1,6 @@
 //! Lines that are no commands.
 
 use super::{Row, printed, rows_print};
-use std::process::Abort;
 use std::test::Fail;
 use test_kit::log::row_tells;
 
