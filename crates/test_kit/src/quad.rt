@@ -27,11 +27,11 @@ pub const JOIN: u16 = 0;
 
 /// A message of the table as plain data. Its new object and its object arguments are of `quad`.
 #[derive(Clone, Copy)]
-pub struct Row {
-    pub name: &'static str,
-    pub since: u32,
-    pub is_destructor: bool,
-    pub signature: &'static [ArgumentType],
+struct Row {
+    name: &'static str,
+    since: u32,
+    is_destructor: bool,
+    signature: &'static [ArgumentType],
 }
 
 /// An object that may not be null.
@@ -124,7 +124,7 @@ fn push_messages(alloc: Global, messages: &mut Vec<MessageDesc>, rows: &[Row]) -
 }
 
 /// Appends an interface with these requests and events to the others.
-pub fn push_interface(
+fn push_interface(
     alloc: Global,
     interfaces: &mut Vec<Interface>,
     name: &str,
