@@ -10,7 +10,7 @@ use Rattle.wl_wire.specs.declared.argument.ArgumentType.TheVariants.{Int, Str, O
 use Rattle.wl_wire.specs.declared.interface.InterfaceId.{InterfaceId}
 use Rattle.wl_wire.specs.declared.protocol.TableError.{TableError}
 use Rattle.wl_wire.specs.declared.protocol.TableError.TheVariants as fault
-use Rattle.wl_wire.specs.Table.{InterfaceRow, first_message, fixed_rows, HasFault, IsAcceptedTable}
+use Rattle.wl_wire.specs.Table.{InterfaceRow, first_message, fixed_rows, HasFault, HasFaultFrom, IsAcceptedTable}
 
 -- an interface with messages of each kind
 abbrev quad_row : InterfaceRow
@@ -78,3 +78,10 @@ no_child = refl
 
 no_argument_interface : HasFault (alone (asking (Object No ∷ []) None)) (fault.ArgInterfaces 0)
 no_argument_interface = refl
+
+-- rows that a table of `quad` is asked to take: the place of a fault is counted among them
+second_quad : HasFaultFrom 5 (alone quad_row ++ quad_row ∷ []) (fault.DuplicateName 0)
+second_quad = refl
+
+outside_of_both : HasFaultFrom 5 (alone quad_row ++ asking (NewId ∷ []) (Some (record { 0 = 6 })) ∷ []) (fault.UnknownInterface 0)
+outside_of_both = refl

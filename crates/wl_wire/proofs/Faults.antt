@@ -4,6 +4,7 @@ use Rattle.std.specs.List.{list_any, slice_get}
 use Rattle.std.specs.Option.{IsSomeAnd}
 use Rattle.std.specs.Str.{bytes_eq}
 use Rattle.std.specs.String.{string_bytes}
+use Rattle.std.proofs.Math.Bool.{or_assoc}
 use Rattle.std.proofs.Math.Seq.{take-append-add}
 use Rattle.std.proofs.lemmas.Bool.Decides.{same_from_decides}
 use Rattle.std.proofs.lemmas.Slice.Eq.{bytes_eq-Decides}
@@ -14,7 +15,7 @@ use Rattle.std.proofs.lemmas.Option.{slice_get-get_or, slice_get_past}
 use Rattle.wl_wire.specs.declared.interface.Interface.{Interface}
 use Rattle.wl_wire.specs.declared.protocol.TableError.{TableError}
 use Rattle.wl_wire.specs.declared.protocol.TableError.TheVariants as fault
-use Rattle.wl_wire.specs.Table.{MessageRow, InterfaceRow, messages, message_row, interface_row, interface_rows, fixed_rows, table_of, is_taken, is_repeated, is_at_fault, is_message_at_fault, rank, place, HasFault, IsFirstFault, IsAcceptedTable, LacksFirst}
+use Rattle.wl_wire.specs.Table.{MessageRow, InterfaceRow, messages, message_row, interface_row, interface_rows, fixed_rows, table_of, is_taken, is_repeated, is_repeated_behind, is_at_fault, is_message_at_fault, rank, place, HasFault, HasFaultFrom, IsFirstFaultFrom, IsAcceptedTable, LacksFirst}
 
 pub list_any-map : {X Y : Type 0} (p : Y → Bool) (f : X → Y) (xs : List X) → list_any p (map f xs) ≡ list_any (λ x. p (f x)) xs
 list_any-map p f [] = refl
@@ -28,44 +29,59 @@ any_message p i =
     ∙ ap (λ b. b || list_any p (map message_row i.events.items)) (list_any-map p message_row i.requests.items)
     ∙ ap (λ b. list_any (λ m. p (message_row m)) i.requests.items || b) (list_any-map p message_row i.events.items)
 
--- ---- the table of the caller's interfaces
+-- ---- a list of interfaces behind those of a table
+
+length-behind : (table : List InterfaceRow) (xs : List Interface) → length (table ++ interface_rows xs) ≡ length table + length xs
+length-behind table xs = length-append table (interface_rows xs) ∙ ap (λ n. length table + n) (length-map xs interface_row)
 
 pub length-table_of : (xs : List Interface) → length (table_of xs) ≡ 4 + length xs
-length-table_of xs = length-append fixed_rows (interface_rows xs) ∙ ap (λ n. 4 + n) (length-map xs interface_row)
+length-table_of xs = length-behind fixed_rows xs
 
-pub row_there : (xs : List Interface) (i : ℕ) (x : Interface) → i < length xs → x ≡ get_or xs i x → slice_get (table_of xs) (4 + i) ≡ Some (interface_row x)
-row_there xs i x lt is =
-    let inside : 4 + i < length (table_of xs) = omega (arith, length-table_of xs) in
-    slice_get-get_or (table_of xs) (4 + i) (interface_row x) inside
-    ∙ ap Some (get_or-append-add fixed_rows (interface_rows xs) i (interface_row x) ∙ get_or-map interface_row xs i x (interface_row x) lt ∙ ap interface_row (sym is))
+-- how many interfaces there are with those that are kept
+pub count_behind : (kept xs : List Interface) → length (table_of kept ++ interface_rows xs) ≡ 4 + length kept + length xs
+count_behind kept xs = length-behind (table_of kept) xs ∙ ap (λ n. n + length xs) (length-table_of kept)
 
-pub row_past : (xs : List Interface) (i : ℕ) → length xs ≤ i → slice_get (table_of xs) (4 + i) ≡ None
-row_past xs i le = slice_get_past (table_of xs) (4 + i) (omega (arith, length-table_of xs))
+pub row_there : (table : List InterfaceRow) (xs : List Interface) (i : ℕ) (x : Interface) → i < length xs → x ≡ get_or xs i x
+    → slice_get (table ++ interface_rows xs) (length table + i) ≡ Some (interface_row x)
+row_there table xs i x lt is =
+    let inside : length table + i < length (table ++ interface_rows xs) = omega (arith, lt, length-behind table xs) in
+    slice_get-get_or (table ++ interface_rows xs) (length table + i) (interface_row x) inside
+    ∙ ap Some (get_or-append-add table (interface_rows xs) i (interface_row x) ∙ get_or-map interface_row xs i x (interface_row x) lt ∙ ap interface_row (sym is))
 
--- a name is taken by a fixed interface, or by an earlier one of the caller's
-pub is_repeated-there : (xs : List Interface) (i : ℕ) (x : Interface) → i < length xs → x ≡ get_or xs i x
-    → is_repeated (table_of xs) (4 + i) ≡ (is_taken fixed_rows (string_bytes x.name) || list_any (λ e. bytes_eq (string_bytes x.name) (string_bytes e.name)) (take i xs))
-is_repeated-there xs i x lt is =
-    rw (row_there xs i x lt is)
-    (ap (λ rows. is_taken rows (string_bytes x.name)) (take-append-add fixed_rows (interface_rows xs) i ∙ ap (λ rows. fixed_rows ++ rows) (take-map interface_row i xs))
-    ∙ list_any-append (λ row. bytes_eq (string_bytes x.name) row.name) fixed_rows (interface_rows (take i xs))
-    ∙ ap (λ b. is_taken fixed_rows (string_bytes x.name) || b) (list_any-map (λ row. bytes_eq (string_bytes x.name) row.name) interface_row (take i xs)))
+-- ---- which names are taken
 
-pub is_repeated-fixed : (xs : List Interface) (i : ℕ) (x : Interface) → i < length xs → x ≡ get_or xs i x → is_taken fixed_rows (string_bytes x.name) ≡ true
-    → is_repeated (table_of xs) (4 + i) ≡ true
-is_repeated-fixed xs i x lt is fixed =
-    is_repeated-there xs i x lt is ∙ ap (λ b. b || list_any (λ e. bytes_eq (string_bytes x.name) (string_bytes e.name)) (take i xs)) fixed
+-- one of the interfaces has the name
+abbrev pub is_named : List ℕ → List Interface → Bool
+is_named name xs = list_any (λ e. bytes_eq name (string_bytes e.name)) xs
 
-pub is_repeated-not_fixed : (xs : List Interface) (i : ℕ) (x : Interface) → i < length xs → x ≡ get_or xs i x → is_taken fixed_rows (string_bytes x.name) ≡ false
-    → is_repeated (table_of xs) (4 + i) ≡ list_any (λ e. bytes_eq (string_bytes x.name) (string_bytes e.name)) (take i xs)
-is_repeated-not_fixed xs i x lt is free =
-    is_repeated-there xs i x lt is ∙ ap (λ b. b || list_any (λ e. bytes_eq (string_bytes x.name) (string_bytes e.name)) (take i xs)) free
+is_taken-behind : (table : List InterfaceRow) (xs : List Interface) (name : List ℕ) → is_taken (table ++ interface_rows xs) name ≡ (is_taken table name || is_named name xs)
+is_taken-behind table xs name =
+    list_any-append (λ row. bytes_eq name row.name) table (interface_rows xs)
+    ∙ ap (λ b. is_taken table name || b) (list_any-map (λ row. bytes_eq name row.name) interface_row xs)
+
+module _ (kept xs : List Interface) (i : ℕ) (x : Interface) (lt : i < length xs) (is : x ≡ get_or xs i x) where
+  -- by a fixed interface, by one of those kept, or by an earlier one of the list
+  is_repeated-there : is_repeated_behind kept xs i ≡ ((is_taken fixed_rows (string_bytes x.name) || is_named (string_bytes x.name) kept) || is_named (string_bytes x.name) (take i xs))
+  is_repeated-there =
+      rw (row_there (table_of kept) xs i x lt is)
+      (ap (λ rows. is_taken rows (string_bytes x.name)) (take-append-add (table_of kept) (interface_rows xs) i ∙ ap (λ rows. table_of kept ++ rows) (take-map interface_row i xs))
+      ∙ is_taken-behind (table_of kept) (take i xs) (string_bytes x.name)
+      ∙ ap (λ b. b || is_named (string_bytes x.name) (take i xs)) (is_taken-behind fixed_rows kept (string_bytes x.name)))
+
+  pub is_repeated-fixed : is_taken fixed_rows (string_bytes x.name) ≡ true → is_repeated_behind kept xs i ≡ true
+  is_repeated-fixed fixed =
+      is_repeated-there ∙ ap (λ b. (b || is_named (string_bytes x.name) kept) || is_named (string_bytes x.name) (take i xs)) fixed
+
+  pub is_repeated-not_fixed : is_taken fixed_rows (string_bytes x.name) ≡ false
+      → is_repeated_behind kept xs i ≡ (list_any (λ e. bytes_eq (string_bytes x.name) (string_bytes e.name)) kept || list_any (λ e. bytes_eq (string_bytes x.name) (string_bytes e.name)) (take i xs))
+  is_repeated-not_fixed free =
+      is_repeated-there ∙ ap (λ b. (b || is_named (string_bytes x.name) kept) || is_named (string_bytes x.name) (take i xs)) free
 
 -- it is repeated exactly at the first repeat
-pub is_repeated-first : (xs : List Interface) (i n : ℕ) → i < length xs → i ≤ n → ((k : ℕ) → k < n → is_repeated (table_of xs) (4 + k) ≡ false)
-    → (n < length xs → is_repeated (table_of xs) (4 + n) ≡ true) → is_repeated (table_of xs) (4 + i) ≡ eqb i n
-is_repeated-first xs i n lt le before here =
-    elim (cases_eq i n) [ inl same ↦ ap (λ k. is_repeated (table_of xs) (4 + k)) same ∙ here (omega arith) ∙ sym (eq-eqb i n same) | inr other ↦ before i (omega arith) ∙ sym (ne_eqb i n other) ]
+pub is_repeated-first : (kept xs : List Interface) (i n : ℕ) → i < length xs → i ≤ n → ((k : ℕ) → k < n → is_repeated_behind kept xs k ≡ false)
+    → (n < length xs → is_repeated_behind kept xs n ≡ true) → is_repeated_behind kept xs i ≡ eqb i n
+is_repeated-first kept xs i n lt le before here =
+    elim (cases_eq i n) [ inl same ↦ ap (is_repeated_behind kept xs) same ∙ here (omega arith) ∙ sym (eq-eqb i n same) | inr other ↦ before i (omega arith) ∙ sym (ne_eqb i n other) ]
 
 -- ---- the names so far, in a set
 
@@ -81,14 +97,15 @@ or_is true false = refl
 or_is false true = refl
 or_is false false = refl
 
--- one more name
-pub known_more : (xs : List Interface) (i : ℕ) (x : Interface) (key name : List ℕ) (was is_in : Bool) → i < length xs → x ≡ get_or xs i x → key ≡ string_bytes x.name
-    → was ≡ list_any (λ e. bytes_eq name (string_bytes e.name)) (take i xs) → is_in ≡ cond (bytes_eq key name) true was
-    → is_in ≡ list_any (λ e. bytes_eq name (string_bytes e.name)) (take (i + 1) xs)
-known_more xs i x key name was is_in lt is same known updated =
+-- one more name; `before` says whether an interface before the list has it
+pub known_more : (before : Bool) (xs : List Interface) (i : ℕ) (x : Interface) (key name : List ℕ) (was is_in : Bool) → i < length xs → x ≡ get_or xs i x → key ≡ string_bytes x.name
+    → was ≡ (before || list_any (λ e. bytes_eq name (string_bytes e.name)) (take i xs)) → is_in ≡ cond (bytes_eq key name) true was
+    → is_in ≡ (before || list_any (λ e. bytes_eq name (string_bytes e.name)) (take (i + 1) xs))
+known_more before xs i x key name was is_in lt is same known updated =
     let one : bytes_eq key name ≡ bytes_eq name (string_bytes (get_or xs i x).name) = bytes_eq-sym key name ∙ ap (λ k. bytes_eq name k) (same ∙ ap (λ (y : Interface). string_bytes y.name) is) in
-    updated ∙ or_is (bytes_eq key name) was ∙ ap (λ b. b || bytes_eq key name) known ∙ ap (λ b. list_any (λ e. bytes_eq name (string_bytes e.name)) (take i xs) || b) one
-    ∙ sym (list_any_more (λ e. bytes_eq name (string_bytes e.name)) xs i x lt)
+    updated ∙ or_is (bytes_eq key name) was ∙ ap (λ b. b || bytes_eq key name) known ∙ ap (λ b. (before || is_named name (take i xs)) || b) one
+    ∙ or_assoc before (is_named name (take i xs)) (bytes_eq name (string_bytes (get_or xs i x).name))
+    ∙ ap (λ b. before || b) (sym (list_any_more (λ e. bytes_eq name (string_bytes e.name)) xs i x lt))
 
 -- ---- faults by place and rank
 
@@ -135,48 +152,48 @@ rank-small _ = omega arith
 -- ---- the faults of a table
 
 -- the interface at a place of the table has the fault
-abbrev At : List InterfaceRow → ℕ → TableError → Type 0
+abbrev pub At : List InterfaceRow → ℕ → TableError → Type 0
 At table n e = IsSomeAnd (slice_get table n) (λ row. IsTrue (is_at_fault (is_repeated table n) (length table) row e))
 
-module _ (xs : List Interface) (i : ℕ) (x : Interface) (lt : i < length xs) (is : x ≡ get_or xs i x) (taken : Bool) (repeats : is_repeated (table_of xs) (4 + i) ≡ taken) where
-  same_there : (e : TableError) → At (table_of xs) (4 + i) e ≡ IsTrue (is_at_fault taken (4 + length xs) (interface_row x) e)
-  same_there e = rw (repeats, row_there xs i x lt is, length-table_of xs) refl
+pub none_past : (begin : ℕ) (table : List InterfaceRow) (e : TableError) → length table ≤ begin + place e → ¬ (HasFaultFrom begin table e)
+none_past begin table e le has = rw (slice_get_past table (begin + place e) le) at has
 
-  pub HasFault-there : (e : TableError) → place e ≡ i → IsTrue (is_at_fault taken (4 + length xs) (interface_row x) e) → HasFault (table_of xs) e
-  HasFault-there e at faulty = subst (λ n. At (table_of xs) (4 + n) e) (sym at) (subst (λ (P : Type 0). P) (sym (same_there e)) faulty)
+-- the row at a place of the caller's list, and whether its name is taken
+module _ (begin : ℕ) (table : List InterfaceRow) (i count : ℕ) (row : InterfaceRow) (taken : Bool)
+    (many : length table ≡ count) (there : slice_get table (begin + i) ≡ Some row) (repeats : is_repeated table (begin + i) ≡ taken) where
+  same_there : (e : TableError) → At table (begin + i) e ≡ IsTrue (is_at_fault taken count row e)
+  same_there e = rw (repeats, there, many) refl
 
-  pub faulty_there : (e : TableError) → place e ≡ i → HasFault (table_of xs) e → IsTrue (is_at_fault taken (4 + length xs) (interface_row x) e)
-  faulty_there e at has = subst (λ (P : Type 0). P) (same_there e) (subst (λ n. At (table_of xs) (4 + n) e) at has)
+  HasFault-there : (e : TableError) → place e ≡ i → IsTrue (is_at_fault taken count row e) → HasFaultFrom begin table e
+  HasFault-there e at faulty = subst (λ n. At table (begin + n) e) (sym at) (subst (λ (P : Type 0). P) (sym (same_there e)) faulty)
 
-pub none_past : (xs : List Interface) (e : TableError) → length xs ≤ place e → ¬ (HasFault (table_of xs) e)
-none_past xs e le has = rw (row_past xs (place e) le) at has
+  faulty_there : (e : TableError) → place e ≡ i → HasFaultFrom begin table e → IsTrue (is_at_fault taken count row e)
+  faulty_there e at has = subst (λ (P : Type 0). P) (same_there e) (subst (λ n. At table (begin + n) e) at has)
 
-module _ (xs : List Interface) (i : ℕ) (x : Interface) (lt : i < length xs) (is : x ≡ get_or xs i x) (taken : Bool) (repeats : is_repeated (table_of xs) (4 + i) ≡ taken)
-    (none_before : (e : TableError) → place e < i → ¬ (HasFault (table_of xs) e)) where
-  -- the interface lacks all faults
-  pub no_fault_more : LacksFirst 7 taken (4 + length xs) (interface_row x) → (e : TableError) → place e < i + 1 → ¬ (HasFault (table_of xs) e)
-  no_fault_more lacks e small has =
-      elim (cases_eq (place e) i) [
-        | inl same ↦ false≢true (sym (lacks e (rank-small e)) ∙ faulty_there xs i x lt is taken repeats e same has)
-        | inr other ↦ none_before e (omega arith) has
-      ]
+  module _ (none_before : (e : TableError) → place e < i → ¬ (HasFaultFrom begin table e)) where
+    -- the interface lacks all faults
+    pub no_fault_more : LacksFirst 7 taken count row → (e : TableError) → place e < i + 1 → ¬ (HasFaultFrom begin table e)
+    no_fault_more lacks e small has =
+        elim (cases_eq (place e) i) [
+          | inl same ↦ false≢true (sym (lacks e (rank-small e)) ∙ faulty_there e same has)
+          | inr other ↦ none_before e (omega arith) has
+        ]
 
-  -- the interface's first fault is the table's
-  pub IsFirstFault-there : (e : TableError) → place e ≡ i → IsTrue (is_at_fault taken (4 + length xs) (interface_row x) e) → LacksFirst (rank e) taken (4 + length xs) (interface_row x)
-      → IsFirstFault (table_of xs) e
-  IsFirstFault-there e at faulty lacks = record {
-    here = HasFault-there xs i x lt is taken repeats e at faulty;
-    first = λ f before has. elim before [
-      | inl earlier ↦ none_before f (omega arith) has
-      | inr same ↦ false≢true (sym (lacks f same.1) ∙ faulty_there xs i x lt is taken repeats f (same.0 ∙ at) has)
-    ];
-  }
+    -- the interface's first fault is the table's
+    pub IsFirstFault-there : (e : TableError) → place e ≡ i → IsTrue (is_at_fault taken count row e) → LacksFirst (rank e) taken count row → IsFirstFaultFrom begin table e
+    IsFirstFault-there e at faulty lacks = record {
+      here = HasFault-there e at faulty;
+      first = λ f before has. elim before [
+        | inl earlier ↦ none_before f (omega arith) has
+        | inr same ↦ false≢true (sym (lacks f same.1) ∙ faulty_there f (same.0 ∙ at) has)
+      ];
+    }
 
 -- ---- the answer
 
 -- one fault is the first
-pub IsFirstFault-unique : (table : List InterfaceRow) (e f : TableError) → IsFirstFault table e → IsFirstFault table f → e ≡ f
-IsFirstFault-unique table e f one two =
+pub IsFirstFault-unique : (begin : ℕ) (table : List InterfaceRow) (e f : TableError) → IsFirstFaultFrom begin table e → IsFirstFaultFrom begin table f → e ≡ f
+IsFirstFault-unique begin table e f one two =
     elim (cases_order (place e) (place f)) [
       | inl places ↦ elim (cases_order (rank e) (rank f)) [
         | inl ranks ↦ sym (fault_of-rank e) ∙ ap (λ i. fault_of i (rank e)) places ∙ ap (λ n. fault_of (place f) n) ranks ∙ fault_of-rank f
@@ -186,24 +203,27 @@ IsFirstFault-unique table e f one two =
     ]
 
 -- a want of memory is no fault of a table
-pub no_fault_of_memory : (table : List InterfaceRow) → ¬ (HasFault table fault.OutOfMemory)
-no_fault_of_memory table = at (slice_get table 4)
+pub no_fault_of_memory_at : (table : List InterfaceRow) (n : ℕ) → ¬ (At table n fault.OutOfMemory)
+no_fault_of_memory_at table n = at (slice_get table n)
   where
-    at : (o : Option InterfaceRow) → ¬ (IsSomeAnd o (λ row. IsTrue (is_at_fault (is_repeated table 4) (length table) row fault.OutOfMemory)))
+    at : (o : Option InterfaceRow) → ¬ (IsSomeAnd o (λ row. IsTrue (is_at_fault (is_repeated table n) (length table) row fault.OutOfMemory)))
     at None has = has
-    at (Some row) has = false≢true (sym (no_want_of_memory (is_repeated table 4) (length table) row) ∙ has)
+    at (Some row) has = false≢true (sym (no_want_of_memory (is_repeated table n) (length table) row) ∙ has)
+
+pub no_fault_of_memory : (begin : ℕ) (table : List InterfaceRow) → ¬ (HasFaultFrom begin table fault.OutOfMemory)
+no_fault_of_memory begin table = no_fault_of_memory_at table (begin + 0)
 
 pub IsAcceptedTable-table_of : (xs : List Interface) → ((e : TableError) → ¬ (HasFault (table_of xs) e)) → IsAcceptedTable (table_of xs)
 IsAcceptedTable-table_of xs none = record { fixed = refl; no_fault = none }
 
-module _ {X : Type 0} (table : List InterfaceRow) (r : Result X TableError) where
+module _ {X : Type 0} (begin : ℕ) (table : List InterfaceRow) (r : Result X TableError) where
   -- the first fault is answered
-  pub refused : (e : TableError) → r ≡ Err e → IsFirstFault table e → (f : TableError) → (r ≡ Err f) ↔ IsFirstFault table f
+  pub refused : (e : TableError) → r ≡ Err e → IsFirstFaultFrom begin table e → (f : TableError) → (r ≡ Err f) ↔ IsFirstFaultFrom begin table f
   refused e is first f =
-      (λ other. let same : e ≡ f = cc in subst (IsFirstFault table) same first, λ other. is ∙ ap Err (IsFirstFault-unique table e f first other))
+      (λ other. let same : e ≡ f = cc in subst (IsFirstFaultFrom begin table) same first, λ other. is ∙ ap Err (IsFirstFault-unique begin table e f first other))
 
   -- there is no fault, and none is answered
-  pub not_refused : (f : TableError) → ¬ (r ≡ Err f) → ((e : TableError) → ¬ (HasFault table e)) → (r ≡ Err f) ↔ IsFirstFault table f
+  pub not_refused : (f : TableError) → ¬ (r ≡ Err f) → ((e : TableError) → ¬ (HasFaultFrom begin table e)) → (r ≡ Err f) ↔ IsFirstFaultFrom begin table f
   not_refused f apart none = (λ is. absurd (apart is), λ first. absurd (none f first.here))
 
 -- the fixed interfaces and the caller's behind them are an accepted table

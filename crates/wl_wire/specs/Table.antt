@@ -4,7 +4,7 @@
 -- `wl_registry` and `wl_callback`. The caller's follow, in their order. The table is accepted if each name can go on the
 -- wire and is taken once, each interface that a message names is in the table, and each message says of its new object
 -- and of its objects what a session has to know.
-use Rattle.std.specs.Prelude.{◌≡◌, ℕ, ◌+◌, ◌<◌, ◌⊎◌, List, [], ◌∷◌, ◌++◌, length, take, map, Option, Some, None, Bool, true, false, ◌||◌, ◌&&◌, not, ◌==◌, nat_le, is_none, IsTrue, IsSomeAnd, slice_get, count_by, codes}
+use Rattle.std.specs.Prelude.{◌≡◌, ℕ, ◌+◌, ◌<◌, ◌⊎◌, List, [], ◌∷◌, ◌++◌, length, take, map, Option, Some, None, Result, Ok, Err, Bool, true, false, ◌||◌, ◌&&◌, not, ◌==◌, nat_le, is_none, IsTrue, IsSomeAnd, slice_get, count_by, codes}
 use Rattle.std.specs.List.{list_any}
 use Rattle.std.specs.Option.{option_map_or, option_to_list}
 use Rattle.std.specs.Str.{bytes_eq}
@@ -213,25 +213,56 @@ rank fault.OutOfMemory = 6
 abbrev pub is_repeated : List InterfaceRow → ℕ → Bool
 is_repeated table n = option_map_or (λ row. is_taken (take n table) row.name) (slice_get table n) false
 
--- the interface that the fault names has it
-abbrev pub HasFault : List InterfaceRow → TableError → Type 0
-HasFault table fault =
-    let n = 4 + place fault in
+-- the interface that the fault names has it, in a table in which the caller's list begins at this place
+abbrev pub HasFaultFrom : ℕ → List InterfaceRow → TableError → Type 0
+HasFaultFrom begin table fault =
+    let n = begin + place fault in
     IsSomeAnd (slice_get table n) (λ row. IsTrue (is_at_fault (is_repeated table n) (length table) row fault))
+
+-- the interface that the fault names has it, in a table in which the caller's list follows the fixed interfaces
+abbrev pub HasFault : List InterfaceRow → TableError → Type 0
+HasFault table fault = HasFaultFrom 4 table fault
 
 -- it names an earlier interface, or the same one and stands before the other there
 abbrev pub ComesBefore : TableError → TableError → Type 0
 ComesBefore fault other = (place fault < place other) ⊎ ((place fault ≡ place other) × (rank fault < rank other))
 
+-- the caller's list, which begins at this place of the table, has the fault and none that comes before it
+pub record IsFirstFaultFrom (begin : ℕ) (table : List InterfaceRow) (fault : TableError) : Type 0 where
+  pub here : HasFaultFrom begin table fault
+  pub first : (other : TableError) → ComesBefore other fault → ¬ (HasFaultFrom begin table other)
+
 -- the table has the fault, and none that comes before it
-pub record IsFirstFault (table : List InterfaceRow) (fault : TableError) : Type 0 where
-  pub here : HasFault table fault
-  pub first : (other : TableError) → ComesBefore other fault → ¬ (HasFault table other)
+abbrev pub IsFirstFault : List InterfaceRow → TableError → Type 0
+IsFirstFault table fault = IsFirstFaultFrom 4 table fault
 
 -- the table begins with the fixed interfaces, and no other has a fault
 pub record IsAcceptedTable (table : List InterfaceRow) : Type 0 where
   pub fixed : take 4 table ≡ fixed_rows
   pub no_fault : (fault : TableError) → ¬ (HasFault table fault)
+
+-- ---- a table that grows
+
+-- the table once it was asked to take more rows: if they are taken, they follow the others; else it is as before
+abbrev pub grown : List InterfaceRow → List InterfaceRow → Result (Unit {0}) TableError → List InterfaceRow
+grown table rows (Ok _) = table ++ rows
+grown table rows (Err _) = table
+
+-- none of the new rows has a fault in the longer table
+abbrev pub LacksFaults : List InterfaceRow → List InterfaceRow → Type 0
+LacksFaults table rows = (fault : TableError) → ¬ (HasFaultFrom (length table) (table ++ rows) fault)
+
+-- What the table answers: the first fault of the new rows. If they have none, they are taken, or memory was refused.
+abbrev pub AnswersGrowth : List InterfaceRow → List InterfaceRow → Result (Unit {0}) TableError → Type 0
+AnswersGrowth table rows (Ok _) = LacksFaults table rows
+AnswersGrowth table rows (Err fault.OutOfMemory) = LacksFaults table rows
+AnswersGrowth table rows (Err other) = IsFirstFaultFrom (length table) (table ++ rows) other
+
+-- ---- what the check of a list finds
+
+-- the name of the interface at this place of a list is taken, if the list follows the interfaces that are kept
+abbrev pub is_repeated_behind : List Interface → List Interface → ℕ → Bool
+is_repeated_behind kept interfaces at = is_repeated (table_of kept ++ interface_rows interfaces) (length (table_of kept) + at)
 
 -- ---- what the check of one interface finds
 

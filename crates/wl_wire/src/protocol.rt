@@ -1,9 +1,9 @@
 //! The table of the interfaces that a session knows.
 
-ghost use Rattle.std.specs.Prelude.{Some, ◌≡◌, ◌≢◌, ◌↔◌, ◌⊎◌, IsTrue, IfOk, slice_get, option_map};
+ghost use Rattle.std.specs.Prelude.{Some, ◌≡◌, ◌≢◌, ◌↔◌, ◌⊎◌, ◌++◌, IsTrue, IfOk, OnErr, length, slice_get, option_map};
 ghost use Rattle.std.specs.Option.{option_copied};
 ghost use Rattle.wl_wire.specs.Argument.{Matches};
-ghost use Rattle.wl_wire.specs.Table.{anonymous_id, anonymous_row, callback_row, display_row, registry_row, IsAcceptedTable, IsFirstFault, interface_row, name_of, table_of};
+ghost use Rattle.wl_wire.specs.Table.{anonymous_id, anonymous_row, callback_row, display_row, registry_row, AnswersGrowth, IsAcceptedTable, IsFirstFault, IsFirstFaultFrom, grown, interface_row, interface_rows, name_of, table_of};
 ghost use Rattle.wl_wire.specs.MessageRows.{matches};
 ghost use Rattle.wl_wire.specs.declared.protocol.TableError.{TableError as Fault};
 ghost use Rattle.wl_wire.specs.declared.protocol.TableError.TheVariants.{OutOfMemory};
@@ -14,7 +14,7 @@ use crate::interface::{
     ANONYMOUS_INTERFACE, Interface, InterfaceId, WL_CALLBACK_INTERFACE, WL_DISPLAY_INTERFACE,
     WL_REGISTRY_INTERFACE,
 };
-use crate::table_check::check;
+use crate::table_check::{check, check_behind};
 use std::alloc::{AllocError, Global};
 use std::fmt;
 use std::marker::Model;
@@ -89,6 +89,19 @@ impl Model for Protocol {
     ghost invariant = { λ p. IsAcceptedTable (interface_rows p.interfaces.items) };
 }
 
+/// Appends the interfaces to those of an accepted table, all of them or none.
+fn append(table: &mut Vec<Interface>, interfaces: Vec<Interface>) -> Result<(), TableError>
+    requires { IsAcceptedTable (interface_rows table.old.items) }
+    ensures table { interface_rows table.new.items ≡ grown (interface_rows table.old.items) (interface_rows interfaces.items) result }
+    ensures answer { AnswersGrowth (interface_rows table.old.items) (interface_rows interfaces.items) result }
+{
+    let alloc = *table.allocator();
+    check_behind(alloc, table, &interfaces)?;
+    let mut interfaces = interfaces;
+    table.append(&mut interfaces)?;
+    Ok(())
+}
+
 impl Protocol {
     /// The table of the fixed interfaces, with these after them. The first of these has the id 4.
     ///
@@ -109,11 +122,33 @@ impl Protocol {
             → (result ≡ Err fault) ↔ IsFirstFault (table_of interfaces.items) fault }
         ensures memory { result ≡ Err OutOfMemory → IsAcceptedTable (table_of interfaces.items) }
     {
-        check(alloc, &interfaces)?;
+        check(alloc, &[], &interfaces)?;
         let mut interfaces = interfaces;
         let mut table = fixed_interfaces(alloc)?;
         table.append(&mut interfaces)?;
         Ok(Protocol { interfaces: table })
+    }
+
+    /// Appends more interfaces to the table, all of them or none. Those that are there keep their ids, and the first new one
+    /// has the number of these as its id.
+    ///
+    /// The longer table is checked as `new` checks one: no new name may be taken, and a message of a new interface may name
+    /// each interface of the longer table. If one of the new interfaces has a fault, the error is the one that `new` gives,
+    /// and its place is counted in the list of the new ones. `OutOfMemory` comes only if there is no fault. After an error
+    /// the table is as it was.
+    pub fn extend(&mut self, interfaces: Vec<Interface>) -> Result<(), TableError>
+        ensures table { self.new ≡ grown self.old (interface_rows interfaces.items) result }
+        ensures answer { AnswersGrowth self.old (interface_rows interfaces.items) result }
+        ensures accepted { IsAcceptedTable self.new }
+        ensures was_accepted { IsAcceptedTable self.old }
+
+        ensures refused { (fault : Fault) → fault ≢ OutOfMemory
+            → (result ≡ Err fault) ↔ IsFirstFaultFrom (length self.old) (self.old ++ interface_rows interfaces.items) fault }
+        ensures exact { OnErr result (¬ (result ≡ Err OutOfMemory)
+            → ¬ (IsAcceptedTable (self.old ++ interface_rows interfaces.items))) }
+        ensures memory { result ≡ Err OutOfMemory → IsAcceptedTable (self.old ++ interface_rows interfaces.items) }
+    {
+        append(&mut self.interfaces, interfaces)
     }
 
     /// The interface with that id; `None` if the id is outside the table.

@@ -1,11 +1,10 @@
 //! The search for a reason to refuse a list of interfaces as a table.
 
-ghost use Rattle.std.specs.Prelude.{◌≡◌, ℕ, ◌+◌, ◌<◌, ◌≤◌, false, true, length, nat_le, IsTrue, OnOk, IfErr};
-ghost use Rattle.wl_wire.specs.declared.protocol.TableError.{TableError as Fault};
+ghost use Rattle.std.specs.Prelude.{◌≡◌, ◌++◌, ℕ, ◌+◌, ◌<◌, ◌≤◌, false, true, length, nat_le, IsTrue, OnOk, IfErr};
 ghost use Rattle.std.specs.List.{list_any};
 ghost use Rattle.std.specs.Str.{bytes_eq};
 ghost use Rattle.std.specs.String.{string_bytes};
-ghost use Rattle.wl_wire.specs.Table.{HasFault, IsFirstFault, LacksFirst, fixed_rows, is_repeated, is_taken, place, rank, table_of, holds_zero, interfaces_of, interface_row, is_at_fault, is_message_at_fault, is_name_at_fault, message_row, messages, new_ids, objects};
+ghost use Rattle.wl_wire.specs.Table.{IsAcceptedTable, IsFirstFaultFrom, LacksFaults, LacksFirst, fixed_rows, is_repeated_behind, is_taken, place, rank, table_of, holds_zero, interfaces_of, interface_row, interface_rows, is_at_fault, is_message_at_fault, is_name_at_fault, message_row, messages, new_ids, objects};
 
 use crate::argument::ArgumentType;
 use crate::interface::{Interface, InterfaceId, MessageDesc};
@@ -154,24 +153,29 @@ fn any_named(interfaces: &[Interface], name: &str) -> bool
         .any(|earlier| name == earlier.name.as_str())
 }
 
-/// Whether the name of the interface at that place is taken: by a fixed interface, or by an earlier one of the list.
-fn is_repeated(interfaces: &[Interface], at: usize) -> bool
+/// Whether the name of the interface at that place is taken: by a fixed interface, by one of those kept, or by an earlier
+/// one of the list.
+fn is_repeated(kept: &[Interface], interfaces: &[Interface], at: usize) -> bool
     requires { at < length interfaces.now }
-    ensures { result ≡ is_repeated (table_of interfaces.now) (4 + at) }
+    ensures { result ≡ is_repeated_behind kept.now interfaces.now at }
 {
     let name = interfaces[at].name.as_str();
-    is_fixed_name(name) || any_named(&interfaces[..at], name)
+    if is_fixed_name(name) {
+        return true;
+    }
+    any_named(kept, name) || any_named(&interfaces[..at], name)
 }
 
 /// The first place, from `from` on, of an interface whose name is taken; the length of the list if there is none.
 ///
-/// It takes no memory, and time that grows with the square of the list's length.
-fn search_repeat(interfaces: &[Interface], from: usize) -> usize
-    ensures before { (k : ℕ) → from ≤ k → k < result → is_repeated (table_of interfaces.now) (4 + k) ≡ false }
-    ensures here { result < length interfaces.now → is_repeated (table_of interfaces.now) (4 + result) ≡ true }
+/// It takes no memory, and time that grows with the square of the list's length, and with that length times the number of
+/// those kept.
+fn search_repeat(kept: &[Interface], interfaces: &[Interface], from: usize) -> usize
+    ensures before { (k : ℕ) → from ≤ k → k < result → is_repeated_behind kept.now interfaces.now k ≡ false }
+    ensures here { result < length interfaces.now → is_repeated_behind kept.now interfaces.now result ≡ true }
 {
     for at in from..interfaces.len() {
-        if is_repeated(interfaces, at) {
+        if is_repeated(kept, interfaces, at) {
             return at;
         }
     }
@@ -179,11 +183,19 @@ fn search_repeat(interfaces: &[Interface], from: usize) -> usize
 }
 
 /// The first place of an interface whose name is taken; the length of the list if there is none.
-fn first_repeat(alloc: Global, interfaces: &[Interface]) -> usize
-    ensures before { (k : ℕ) → k < result → is_repeated (table_of interfaces.now) (4 + k) ≡ false }
-    ensures here { result < length interfaces.now → is_repeated (table_of interfaces.now) (4 + result) ≡ true }
+///
+/// If there is no memory for the names so far, that is no fault of the list: it is searched without.
+fn first_repeat(alloc: Global, kept: &[Interface], interfaces: &[Interface]) -> usize
+    ensures before { (k : ℕ) → k < result → is_repeated_behind kept.now interfaces.now k ≡ false }
+    ensures here { result < length interfaces.now → is_repeated_behind kept.now interfaces.now result ≡ true }
 {
     let mut names = HashSet::new(alloc);
+    for interface in kept {
+        match names.insert(interface.name.as_str()) {
+            Ok(_) => {}
+            Err(_) => return search_repeat(kept, interfaces, 0),
+        }
+    }
     for (at, interface) in interfaces.iter().enumerate() {
         let name = interface.name.as_str();
         if is_fixed_name(name) {
@@ -192,22 +204,39 @@ fn first_repeat(alloc: Global, interfaces: &[Interface]) -> usize
         match names.insert(name) {
             Ok(true) => {}
             Ok(false) => return at,
-            // If there is no memory, that is no fault of the list.
-            Err(_) => return search_repeat(interfaces, at),
+            Err(_) => return search_repeat(kept, interfaces, at),
         }
     }
     interfaces.len()
 }
 
-/// Looks for the first fault of the list as a table: that of the first interface which has one.
-pub(crate) fn check(alloc: Global, interfaces: &[Interface]) -> Result<(), TableError>
-    ensures faultless { OnOk result ((fault : Fault) → ¬ (HasFault (table_of interfaces.now) fault)) }
-    ensures first { IfErr result (IsFirstFault (table_of interfaces.now)) }
+/// Looks for the first fault of a list that follows the fixed interfaces and those kept: that of the first interface of
+/// the list which has one.
+pub(crate) fn check(
+    alloc: Global,
+    kept: &[Interface],
+    interfaces: &[Interface],
+) -> Result<(), TableError>
+    ensures faultless { OnOk result (LacksFaults (table_of kept.now) (interface_rows interfaces.now)) }
+    ensures first { IfErr result (IsFirstFaultFrom (length (table_of kept.now)) (table_of kept.now ++ interface_rows interfaces.now)) }
 {
-    let repeat = first_repeat(alloc, interfaces);
-    let count = 4 + interfaces.len();
+    let repeat = first_repeat(alloc, kept, interfaces);
+    let count = 4 + kept.len() + interfaces.len();
     for (at, interface) in interfaces.iter().enumerate() {
         check_interface(interface, at, at == repeat, count)?;
     }
     Ok(())
+}
+
+/// Looks for the first fault of a list that is to follow the interfaces of an accepted table.
+pub(crate) fn check_behind(
+    alloc: Global,
+    table: &[Interface],
+    interfaces: &[Interface],
+) -> Result<(), TableError>
+    requires { IsAcceptedTable (interface_rows table.now) }
+    ensures faultless { OnOk result (LacksFaults (interface_rows table.now) (interface_rows interfaces.now)) }
+    ensures first { IfErr result (IsFirstFaultFrom (length (interface_rows table.now)) (interface_rows table.now ++ interface_rows interfaces.now)) }
+{
+    check(alloc, &table[4..], interfaces)
 }

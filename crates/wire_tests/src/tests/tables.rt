@@ -85,11 +85,23 @@ struct Faulty {
     fault: Option<TableError>,
 }
 
-/// Fails if the fault of the row's list is another.
+/// Fails if a table with the fixed interfaces alone finds another fault in the row's list.
 fn faults(rt: &impl Abort, alloc: Global, row: &Faulty) -> Result<(), Fail> {
     let interfaces = listed(alloc, row.plans)?;
     assert_eq!(rt;
         Protocol::new(alloc, interfaces).err(),
+        row.fault,
+        "{}",
+        row.name
+    );
+    Ok(())
+}
+
+/// Fails if a table with `quad` and `pair` finds another fault in the row's list.
+fn new_faults(rt: &impl Abort, alloc: Global, row: &Faulty) -> Result<(), Fail> {
+    let interfaces = listed(alloc, row.plans)?;
+    assert_eq!(rt;
+        quad_table(alloc)?.extend(interfaces).err(),
         row.fault,
         "{}",
         row.name
@@ -235,6 +247,126 @@ fn faults_of_lists(rt: HostRuntime) -> Result<(), Fail> {
         faults(&rt, rt.alloc(), row)?;
     }
     Ok(())
+}
+
+/// Its child interface is the second one of a list that follows `quad` and `pair`.
+const CHILD_BEHIND: [Row; 1] = [Row("r", &[ArgumentType::NewId], Some(InterfaceId(7)), &[])];
+
+/// An interface without messages.
+const EMPTY: Plan = Plan("empty", &[], &[]);
+
+/// Lists of interfaces that are to follow `quad` and `pair`, and their faults.
+static NEW_FAULTS: [Faulty; 12] = [
+    Faulty {
+        name: "no interface",
+        plans: &[],
+        fault: None,
+    },
+    Faulty {
+        name: "a name is taken by an old interface",
+        plans: &[EMPTY, Plan("pair", &[], &[])],
+        fault: Some(TableError::DuplicateName(1)),
+    },
+    Faulty {
+        name: "a name is taken by a fixed interface",
+        plans: &[Plan("wl_callback", &[], &[])],
+        fault: Some(TableError::DuplicateName(0)),
+    },
+    Faulty {
+        name: "a name is taken by a new interface",
+        plans: &[Plan("a", &[], &[]), EMPTY, EMPTY],
+        fault: Some(TableError::DuplicateName(2)),
+    },
+    Faulty {
+        name: "a new interface has objects of an old one",
+        plans: &[Plan("a", &LINKS, &GONE)],
+        fault: None,
+    },
+    Faulty {
+        name: "a new interface has a child of a later one",
+        plans: &[Plan("a", &CHILD_BEHIND, &[]), EMPTY],
+        fault: None,
+    },
+    Faulty {
+        name: "a child interface behind the last one",
+        plans: &[Plan("a", &CHILD_BEHIND, &[])],
+        fault: Some(TableError::UnknownInterface(0)),
+    },
+    Faulty {
+        name: "a zero in a new name",
+        plans: &[EMPTY, Plan("a", &[], &ZERO)],
+        fault: Some(TableError::ZeroInName(1)),
+    },
+    Faulty {
+        name: "two new ids in a new interface",
+        plans: &[EMPTY, Plan("a", &TWO_NEW_IDS, &[])],
+        fault: Some(TableError::TooManyNewIds(1)),
+    },
+    Faulty {
+        name: "no child interface in a new one",
+        plans: &[EMPTY, Plan("a", &NO_CHILD, &[])],
+        fault: Some(TableError::MissingChild(1)),
+    },
+    Faulty {
+        name: "an earlier new interface goes first",
+        plans: &[Plan("a", &[], &NO_OBJECT), Plan("pair", &[], &[])],
+        fault: Some(TableError::ArgInterfaces(0)),
+    },
+    Faulty {
+        name: "a name that is taken goes before the messages",
+        plans: &[EMPTY, Plan("quad", &TWO_NEW_IDS, &[])],
+        fault: Some(TableError::DuplicateName(1)),
+    },
+];
+
+#[test]
+fn faults_of_new_interfaces(rt: HostRuntime) -> Result<(), Fail> {
+    for row in &NEW_FAULTS {
+        new_faults(&rt, rt.alloc(), row)?;
+    }
+    Ok(())
+}
+
+/// Tells what the table answers to a list of these interfaces.
+fn tell_extended(
+    alloc: Global,
+    log: &mut String,
+    table: &mut Protocol,
+    plans: &[Plan],
+) -> Result<(), Fail> {
+    match table.extend(listed(alloc, plans)?) {
+        Ok(()) => Ok(writeln!(log, "taken")?),
+        Err(error) => Ok(writeln!(log, "{error}")?),
+    }
+}
+
+/// Tells of a table that takes two interfaces, refuses two, and takes one.
+fn tell_growth(alloc: Global, log: &mut String, table: &mut Protocol) -> Result<(), Fail> {
+    tell_extended(alloc, log, table, &[Plan("a", &LINKS, &GONE), EMPTY])?;
+    tell_extended(alloc, log, table, &[Plan("b", &[], &[]), EMPTY])?;
+    tell_names(log, table, 9)?;
+    tell_extended(alloc, log, table, &[Plan("b", &[], &[])])?;
+    tell_names(log, table, 10)?;
+    for id in [WL_CALLBACK_INTERFACE, QUAD, InterfaceId(6)] {
+        tell_found(log, table, id)?;
+    }
+    Ok(())
+}
+
+/// What `tell_growth` tells of the table of `quad` and `pair`.
+fn growth_log(alloc: Global) -> Result<String, Fail> {
+    let mut log = String::new(alloc);
+    tell_growth(alloc, &mut log, &mut quad_table(alloc)?)?;
+    Ok(log)
+}
+
+#[test]
+fn new_interfaces_follow_the_old_ones(rt: HostRuntime) -> Result<(), Fail> {
+    tells(
+        &rt,
+        growth_log(rt.alloc()),
+        "taken\ninterface 1: the name is taken\n0 <anonymous>\n1 wl_display\n2 wl_registry\n3 wl_callback\n4 quad\n5 pair\n6 a\n7 empty\n8 <unknown>\ntaken\n0 <anonymous>\n1 wl_display\n2 wl_registry\n3 wl_callback\n4 quad\n5 pair\n6 a\n7 empty\n8 b\n9 <unknown>\n1: 0, 1, true\n3: 5, 3, false\n3: 1, 1, false\n",
+    )
 }
 
 #[test]

@@ -1,12 +1,12 @@
-use Rattle.std.proofs.Common.{◌+◌, sym, ap, ◌∙◌, inl, inr, arith}
+use Rattle.std.proofs.Common.{sym, ap, ◌∙◌, inl, inr, arith}
 use Rattle.std.proofs.lemmas.Bool.{cases_eq}
-use Rattle.wl_wire.specs.Table.{is_repeated, table_of}
+use Rattle.wl_wire.specs.Table.{is_repeated_behind}
 use Rattle.wl_wire.proofs.table_check.search_repeat.Goals as goal
 
 pub loop-at-preserved : goal.loop-at-preserved
 loop-at-preserved c = λ k from lt.
     elim (cases_eq k c.loop-at.at) [
-      | inl same ↦ ap (λ n. is_repeated (table_of c.args.interfaces.now) (4 + n)) same ∙ sym c.is_repeated.ensures ∙ c.if-is_repeated.false
+      | inl same ↦ ap (is_repeated_behind c.args.kept.now c.args.interfaces.now) same ∙ sym c.is_repeated.ensures ∙ c.if-is_repeated.false
       | inr other ↦ c.loop-at.invariant k from (omega arith)
     ]
 

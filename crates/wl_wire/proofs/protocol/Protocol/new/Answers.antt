@@ -11,14 +11,14 @@ pub returns-in_err-check-clause-refused : goal.returns-in_err-check-clause-refus
 returns-in_err-check-clause-refused c = λ fault apart.
     let p = err_from_is_err_and c.from_residual.result c.from_residual.ensures.1 in
     let first : IsFirstFault (table_of c.args.interfaces.items) p.0 = rw (p.2, ← c.deref.ensures.value) c.in_err-check.ensures.first in
-    refused (table_of c.args.interfaces.items) c.from_residual.result p.0 p.1 first fault
+    refused 4 (table_of c.args.interfaces.items) c.from_residual.result p.0 p.1 first fault
 
 pub returns-in_err-check-clause-memory : goal.returns-in_err-check-clause-memory
 returns-in_err-check-clause-memory c = λ is.
     let p = err_from_is_err_and c.from_residual.result c.from_residual.ensures.1 in
     let first : IsFirstFault (table_of c.args.interfaces.items) p.0 = rw (p.2, ← c.deref.ensures.value) c.in_err-check.ensures.first in
     let memory : p.0 ≡ OutOfMemory = cc in
-    absurd (no_fault_of_memory (table_of c.args.interfaces.items) (subst (HasFault (table_of c.args.interfaces.items)) memory first.here))
+    absurd (no_fault_of_memory 4 (table_of c.args.interfaces.items) (subst (HasFault (table_of c.args.interfaces.items)) memory first.here))
 
 pub invariant_of-result : goal.invariant_of-result
 invariant_of-result c =
