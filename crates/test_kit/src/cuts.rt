@@ -1,5 +1,6 @@
 //! What arrives, and the ways in which it is cut.
 
+use crate::log::is_text;
 use std::alloc::Global;
 use std::test::Fail;
 
@@ -43,4 +44,18 @@ pub fn cut_of(number: usize, len: usize) -> Cut {
     } else {
         Cut::Bytewise
     }
+}
+
+/// Fails if something else is told of a row in the cutting of that number than this text. The row is named then.
+pub fn cutting_tells(
+    rt: &impl Eprint,
+    (name, number): (&str, usize),
+    told: &str,
+    text: &str,
+) -> Result<(), Fail> {
+    let same = is_text(rt, told, text);
+    if same.is_err() {
+        let _ = eprintln!(rt; "in the row: {name}, cut at {number}");
+    }
+    same
 }

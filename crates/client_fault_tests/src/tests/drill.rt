@@ -7,8 +7,8 @@
 use client_test_kit::steps::{Call, steps};
 use client_test_kit::told::write_reply;
 use std::alloc::Global;
-use std::process::Abort;
 use std::test::Fail;
+use test_kit::log::{holds, row_tells};
 use test_kit::quad::quad_table;
 use wl_client::{Backend, Reply, Step, Stopped};
 use wl_link::Memory;
@@ -50,19 +50,18 @@ fn text_of(alloc: Global, told: &Reply<u32>) -> Result<String, Fail> {
 
 /// Fails if the reply does not tell this.
 fn judge(
-    rt: &(impl Abort + AllocGlobal),
+    rt: &(impl Eprint + AllocGlobal),
     run: &Run,
     told: &Reply<u32>,
     text: &str,
 ) -> Result<(), Fail> {
     let told = text_of(rt.alloc(), told)?;
-    assert_eq!(rt; told.as_str(), text, "{}", run.name);
-    Ok(())
+    row_tells(rt, run.name, Ok(told), text)
 }
 
 /// Fails if the replies are not those of the steps, one by one.
 fn judge_all(
-    rt: &(impl Abort + AllocGlobal),
+    rt: &(impl Eprint + AllocGlobal),
     run: &Run,
     entries: &[Entry],
     replies: &[Reply<u32>],
@@ -75,19 +74,19 @@ fn judge_all(
 
 /// Fails if memory was refused, or the replies are not those of all these steps.
 fn judge_whole(
-    rt: &(impl Abort + AllocGlobal),
+    rt: &(impl Eprint + AllocGlobal),
     client: &Client,
     run: &Run,
     entries: &[Entry],
     replies: &[Reply<u32>],
 ) -> Result<(), Fail> {
-    assert!(rt; !client.memory_refused(), "{}", run.name);
+    holds(rt, run.name, !client.memory_refused())?;
     judge_all(rt, run, entries, replies)
 }
 
 /// Makes the steps, for which there is memory now: they answer as ever.
 fn go_on(
-    rt: &(impl Abort + AllocGlobal),
+    rt: &(impl Eprint + AllocGlobal),
     client: &mut Client,
     run: &Run,
     entries: &[Entry],
@@ -100,19 +99,19 @@ fn go_on(
 
 /// Fails if the run was not stopped by a want of memory, or does not go on as it has to.
 fn judge_stopped(
-    rt: &(impl Abort + AllocGlobal),
+    rt: &(impl Eprint + AllocGlobal),
     client: &mut Client,
     run: &Run,
     stopped: &Stopped<u32>,
 ) -> Result<(), Fail> {
-    assert!(rt; client.memory_refused(), "{}", run.name);
+    holds(rt, run.name, client.memory_refused())?;
     judge_all(rt, run, run.entries, stopped.replies.as_slice())?;
     let rest = run.entries.get(stopped.step..).unwrap_or(&[]);
     go_on(rt, client, run, rest)
 }
 
 /// Makes the run, and fails if it is not as it has to be; whether memory was refused.
-fn play(rt: &(impl Abort + AllocGlobal), client: &mut Client, run: &Run) -> Result<bool, Fail> {
+fn play(rt: &(impl Eprint + AllocGlobal), client: &mut Client, run: &Run) -> Result<bool, Fail> {
     match client.replay(steps_of(rt.alloc(), run.entries)?) {
         Ok(replies) => {
             judge_whole(rt, client, run, run.entries, replies.as_slice())?;
@@ -137,13 +136,13 @@ fn error_of(alloc: Global, client: &Client) -> Result<String, Fail> {
 
 /// Makes the run, and fails if it is not as it has to be, or leaves another error. If there was no memory for the
 /// error's text, the want is the error.
-fn play_to(rt: &(impl Abort + AllocGlobal), client: &mut Client, run: &Run) -> Result<(), Fail> {
+fn play_to(rt: &(impl Eprint + AllocGlobal), client: &mut Client, run: &Run) -> Result<(), Fail> {
     let was_refused = play(rt, client, run)?;
     let told = error_of(rt.alloc(), client)?;
-    if !was_refused || told.as_str() != "Io error: out of memory" {
-        assert_eq!(rt; told.as_str(), run.error, "{}", run.name);
+    if was_refused && told.as_str() == "Io error: out of memory" {
+        return Ok(());
     }
-    Ok(())
+    row_tells(rt, run.name, Ok(told), run.error)
 }
 
 /// A new client, or none if memory was refused.
@@ -169,7 +168,7 @@ fn connected(alloc: Global) -> Result<Client, Fail> {
 }
 
 /// Makes the run of a new client, and fails if it is not as it has to be.
-pub fn drill(rt: &(impl Abort + AllocGlobal), run: &Run) -> Result<(), Fail> {
+pub fn drill(rt: &(impl Eprint + AllocGlobal), run: &Run) -> Result<(), Fail> {
     let mut client = connected(rt.alloc())?;
     play_to(rt, &mut client, run)
 }

@@ -4,7 +4,6 @@ use super::drill::{Run, drill};
 use super::transports::fails_in_turn;
 use client_test_kit::steps::Call;
 use client_test_kit::values::{Object, Request};
-use std::process::Abort;
 use std::test::Fail;
 
 /// The end of the callback 2, and of its number.
@@ -149,7 +148,7 @@ static RUNS: [Run; 7] = [
 ];
 
 /// Makes the run, and fails if it is not as it has to be.
-fn tried(rt: &(impl Abort + AllocGlobal), trial: Trial, run: &Run) -> Result<(), Fail> {
+fn tried(rt: &(impl Eprint + AllocGlobal), trial: Trial, run: &Run) -> Result<(), Fail> {
     drill(rt, run)?;
     match trial {
         Trial::Memory => Ok(()),
@@ -158,7 +157,7 @@ fn tried(rt: &(impl Abort + AllocGlobal), trial: Trial, run: &Run) -> Result<(),
 }
 
 /// Makes all runs.
-fn all(rt: &(impl Abort + AllocGlobal), trial: Trial) -> Result<(), Fail> {
+fn all(rt: &(impl Eprint + AllocGlobal), trial: Trial) -> Result<(), Fail> {
     for run in &RUNS {
         tried(rt, trial, run)?;
     }

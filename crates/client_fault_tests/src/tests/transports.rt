@@ -5,9 +5,8 @@ use client_test_kit::steps::{Call, steps};
 use client_test_kit::told::write_reply;
 use client_test_kit::values::Request;
 use std::alloc::Global;
-use std::process::Abort;
 use std::test::Fail;
-use test_kit::log::tells;
+use test_kit::log::{holds, is_text, tells};
 use test_kit::quad::quad_table;
 use wl_client::{Backend, Reply};
 use wl_link::Memory;
@@ -147,9 +146,15 @@ fn played_by(alloc: Global, client: &mut Client, calls: &[Call]) -> Result<Vec<S
     Ok(texts)
 }
 
+/// A new client.
+fn connected(alloc: Global) -> Result<Client, Fail> {
+    let table = quad_table(alloc)?;
+    Ok(Backend::connect(alloc, table, Memory::new(alloc))?)
+}
+
 /// The same of a new client.
 fn played(alloc: Global, calls: &[Call]) -> Result<Vec<String>, Fail> {
-    let mut client = Backend::connect(alloc, quad_table(alloc)?, Memory::new(alloc))?;
+    let mut client = connected(alloc)?;
     played_by(alloc, &mut client, calls)
 }
 
@@ -257,70 +262,76 @@ fn has_to_tell<'a>(call: Call, has_failed: bool, (was, is): (&'a str, &'a str)) 
 
 /// Fails if a call of a run, in which the transport fails, tells something else than it has to: up to the first reading or
 /// flush that answers the fault, what it tells if nothing fails; and from then on each that reads or flushes fails.
-fn fails_for_good(rt: &impl Abort, run: &[Call], clean: &[String], texts: &[String]) {
+fn fails_for_good(
+    rt: &impl Eprint,
+    run: &[Call],
+    clean: &[String],
+    texts: &[String],
+) -> Result<(), Fail> {
     let mut has_failed = false;
     for (call, (was, is)) in run.iter().zip(clean.iter().zip(texts)) {
         has_failed = has_failed || (is_asked(*call) && is.as_str() == FAILED);
-        tells_this(
-            rt,
-            has_to_tell(*call, has_failed, (was.as_str(), is.as_str())),
-            is.as_str(),
-        );
+        let text = has_to_tell(*call, has_failed, (was.as_str(), is.as_str()));
+        is_text(rt, is.as_str(), text)?;
     }
-    assert!(rt; has_failed);
-}
-
-/// Fails if this is told in place of that.
-fn tells_this(rt: &impl Abort, was: &str, is: &str) {
-    assert_eq!(rt; is, was);
+    holds(rt, "a call fails", has_failed)
 }
 
 /// Fails if the run tells something else than if nothing fails.
-fn tells_the_same(rt: &impl Abort, clean: &[String], texts: &[String]) {
-    assert_eq!(rt; texts.len(), clean.len());
+fn tells_the_same(rt: &impl Eprint, clean: &[String], texts: &[String]) -> Result<(), Fail> {
+    holds(rt, "as much is told", texts.len() == clean.len())?;
     for (was, is) in clean.iter().zip(texts) {
-        tells_this(rt, was.as_str(), is.as_str());
+        is_text(rt, is.as_str(), was.as_str())?;
     }
+    Ok(())
 }
 
 /// Fails if the fault does not become the session's error, or is not answered from then on; whether it is met.
 fn is_stored(
-    rt: &(impl Abort + AllocGlobal),
+    rt: &(impl Eprint + AllocGlobal),
     run: &[Call],
     clean: &[String],
     calls: &[Call],
 ) -> Result<bool, Fail> {
     let texts = played(rt.alloc(), calls)?;
+    is_judged(rt, run, clean, texts.as_slice())
+}
+
+/// The same of what the calls told.
+fn is_judged(
+    rt: &impl Eprint,
+    run: &[Call],
+    clean: &[String],
+    texts: &[String],
+) -> Result<bool, Fail> {
     let is_met = texts
         .last()
         .is_some_and(|told| told.as_str() == "Io error: os error 5\n");
     if is_met {
-        fails_for_good(rt, run, clean, texts.as_slice());
+        fails_for_good(rt, run, clean, texts)?;
     } else {
-        tells_the_same(rt, clean, texts.as_slice());
+        tells_the_same(rt, clean, texts)?;
     }
     Ok(is_met)
 }
 
 /// The receive at that call fails; whether it is met, which it has to be for what arrives.
 fn receive_fails(
-    rt: &(impl Abort + AllocGlobal),
+    rt: &(impl Eprint + AllocGlobal),
     run: &[Call],
     clean: &[String],
     (at, call): (usize, Call),
 ) -> Result<bool, Fail> {
     let calls = with_receive(rt.alloc(), run, at, IoFault::Other(5))?;
     let is_met = is_stored(rt, run, clean, calls.as_slice())?;
-    assert!(rt;
-        is_met || matches!(call, Call::Next),
-        "what arrives at {at} is received"
-    );
+    let has_to_be = !matches!(call, Call::Next);
+    holds(rt, "what arrives is received", is_met || !has_to_be)?;
     Ok(is_met)
 }
 
 /// Each receive of the run fails; how many are met.
 fn receives_fail(
-    rt: &(impl Abort + AllocGlobal),
+    rt: &(impl Eprint + AllocGlobal),
     run: &[Call],
     clean: &[String],
 ) -> Result<usize, Fail> {
@@ -335,7 +346,7 @@ fn receives_fail(
 
 /// That send of the run fails; whether it is met.
 fn send_fails(
-    rt: &(impl Abort + AllocGlobal),
+    rt: &(impl Eprint + AllocGlobal),
     run: &[Call],
     clean: &[String],
     number: usize,
@@ -346,7 +357,7 @@ fn send_fails(
 
 /// Each send of the run fails, until none is met; how many are.
 fn sends_fail(
-    rt: &(impl Abort + AllocGlobal),
+    rt: &(impl Eprint + AllocGlobal),
     run: &[Call],
     clean: &[String],
 ) -> Result<usize, Fail> {
@@ -360,7 +371,7 @@ fn sends_fail(
 
 /// How many receives of the run, and how many sends, are met if each fails.
 fn met(
-    rt: &(impl Abort + AllocGlobal),
+    rt: &(impl Eprint + AllocGlobal),
     run: &[Call],
     clean: &[String],
 ) -> Result<(usize, usize), Fail> {
@@ -369,19 +380,29 @@ fn met(
     Ok((receives, sends))
 }
 
+/// Fails if not so many receives and sends of the run are met.
+fn so_many_are_met(
+    rt: &(impl Eprint + AllocGlobal),
+    run: &[Call],
+    clean: &[String],
+    counts: (usize, usize),
+) -> Result<(), Fail> {
+    let found = met(rt, run, clean)?;
+    holds(rt, "so many receives and sends are met", found == counts)
+}
+
 /// Each receive of the run, and each send, fails: it is stored, and answered from then on. Fails if there are not so many.
 fn transport_fails(
-    rt: &(impl Abort + AllocGlobal),
+    rt: &(impl Eprint + AllocGlobal),
     run: &[Call],
     counts: (usize, usize),
 ) -> Result<(), Fail> {
     let clean = played(rt.alloc(), run)?;
-    assert_eq!(rt; met(rt, run, clean.as_slice())?, counts);
-    Ok(())
+    so_many_are_met(rt, run, clean.as_slice(), counts)
 }
 
 /// The same of the calls of a run of the drills.
-pub fn fails_in_turn(rt: &(impl Abort + AllocGlobal), run: &Run) -> Result<(), Fail> {
+pub fn fails_in_turn(rt: &(impl Eprint + AllocGlobal), run: &Run) -> Result<(), Fail> {
     let mut calls = Vec::new(rt.alloc());
     for entry in run.entries {
         calls.push(entry.0)?;

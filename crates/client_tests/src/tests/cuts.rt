@@ -3,9 +3,8 @@
 use super::acts::{Act, Cue, Look, log_of};
 use client_test_kit::values::{Object, Request};
 use std::alloc::Global;
-use std::process::Abort;
 use std::test::Fail;
-use test_kit::cuts::{Stream, cut_of};
+use test_kit::cuts::{Stream, cut_of, cutting_tells};
 
 /// A run of which what arrives is cut, and what it tells in each cutting.
 #[derive(Clone, Copy)]
@@ -90,14 +89,13 @@ fn told_in(alloc: Global, row: &Row, number: usize) -> Result<String, Fail> {
 }
 
 /// Fails if the row tells something else in the cutting of that number, and names it.
-fn in_cutting(rt: &(impl Abort + AllocGlobal), row: &Row, number: usize) -> Result<(), Fail> {
+fn in_cutting(rt: &(impl Eprint + AllocGlobal), row: &Row, number: usize) -> Result<(), Fail> {
     let told = told_in(rt.alloc(), row, number)?;
-    assert_eq!(rt; told.as_str(), row.told, "{}, cut at {number}", row.name);
-    Ok(())
+    cutting_tells(rt, (row.name, number), told.as_str(), row.told)
 }
 
 /// Fails if the row tells something else in a cutting.
-fn in_every_cutting(rt: &(impl Abort + AllocGlobal), row: &Row) -> Result<(), Fail> {
+fn in_every_cutting(rt: &(impl Eprint + AllocGlobal), row: &Row) -> Result<(), Fail> {
     for number in 0..=row.arrives.len() {
         in_cutting(rt, row, number)?;
     }

@@ -4,9 +4,8 @@ use server_test_kit::steps::{Call, step};
 use server_test_kit::told::reply;
 use server_test_kit::values::{FIRST, Named, SECOND, Shown, Who};
 use std::alloc::Global;
-use std::process::Abort;
 use std::test::Fail;
-use test_kit::log::tells;
+use test_kit::log::{holds, is_text, tells};
 use test_kit::message::tell_bytes;
 use test_kit::quad::{QUAD, quad_table};
 use wl_link::Memory;
@@ -330,42 +329,44 @@ fn transport_that_would_block_or_lacks_memory(rt: HostRuntime) -> Result<(), Fai
 }
 
 /// Fails if the call may not tell that its send failed, or does not: a flush of the first client does.
-fn is_failed_flush(rt: &impl Abort, call: Call, told: &str) {
-    assert!(rt; matches!(call, Call::Flush(_)) && is_of_first(call));
-    assert_eq!(rt; told, FAILED.1);
+fn is_failed_flush(rt: &impl Eprint, call: Call, told: &str) -> Result<(), Fail> {
+    let is_flush = matches!(call, Call::Flush(_)) && is_of_first(call);
+    holds(rt, "this is a flush of the first client", is_flush)?;
+    is_text(rt, told, FAILED.1)
 }
 
 /// How many of the texts differ, if they may: at a flush of the first client, which tells that its transport failed.
-fn failed_flushes(rt: &impl Abort, clean: &[String], texts: &[String]) -> usize {
+fn failed_flushes(rt: &impl Eprint, clean: &[String], texts: &[String]) -> Result<usize, Fail> {
     let mut count = 0usize;
     for (call, (was, is)) in RUN.iter().zip(clean.iter().zip(texts)) {
         if is.as_str() != was.as_str() {
-            is_failed_flush(rt, *call, is.as_str());
+            is_failed_flush(rt, *call, is.as_str())?;
             count = count.saturating_add(1);
         }
     }
-    count
+    Ok(count)
 }
 
 /// That send fails; how many flushes answer that.
 fn send_fails(
-    rt: &(impl Abort + AllocGlobal),
+    rt: &(impl Eprint + AllocGlobal),
     clean: &[String],
     number: usize,
 ) -> Result<usize, Fail> {
     let calls = with_send(rt.alloc(), number, IoFault::Other(5))?;
     let texts = played(rt.alloc(), calls.as_slice())?;
-    Ok(failed_flushes(rt, clean, texts.as_slice()))
+    failed_flushes(rt, clean, texts.as_slice())
 }
 
 /// Each send fails; fails if not so many flushes answer that.
 fn each_send_fails(
-    rt: &(impl Abort + AllocGlobal),
+    rt: &(impl Eprint + AllocGlobal),
     clean: &[String],
     failed: &[usize],
 ) -> Result<(), Fail> {
     for (number, count) in failed.iter().enumerate() {
-        assert_eq!(rt; send_fails(rt, clean, number)?, *count, "send {number}");
+        let found = send_fails(rt, clean, number)?;
+        holds(rt, "so many flushes answer a send", found == *count)?;
     }
     Ok(())
 }
@@ -379,16 +380,17 @@ fn sends_that_fail(rt: HostRuntime) -> Result<(), Fail> {
 }
 
 /// Fails if a call that is not the first client's, and tells not of all, tells something else than in the run.
-fn others_are_the_same(rt: &impl Abort, clean: &[String], texts: &[String]) {
+fn others_are_the_same(rt: &impl Eprint, clean: &[String], texts: &[String]) -> Result<(), Fail> {
     for (call, (was, is)) in RUN.iter().zip(clean.iter().zip(texts)) {
         if !is_of_first(*call) && !is_of_all(*call) {
-            assert_eq!(rt; is.as_str(), was.as_str());
+            is_text(rt, is.as_str(), was.as_str())?;
         }
     }
+    Ok(())
 }
 
 /// Fails if the second client is told otherwise in the run without the first one's calls.
-fn second_is_the_same(rt: &impl Abort, clean: &[String], alone: &[String]) {
+fn second_is_the_same(rt: &impl Eprint, clean: &[String], alone: &[String]) -> Result<(), Fail> {
     let mut alone = alone.iter();
     for (call, was) in RUN.iter().zip(clean) {
         if is_of_first(*call) {
@@ -396,13 +398,18 @@ fn second_is_the_same(rt: &impl Abort, clean: &[String], alone: &[String]) {
         }
         let is = alone.next();
         if !is_of_all(*call) {
-            assert!(rt; is.is_some_and(|is| is.as_str() == was.as_str()));
+            is_text(rt, is.map_or("", |is| is.as_str()), was.as_str())?;
         }
     }
+    Ok(())
 }
 
 /// Fails if a reading answers something else than it has to, if one has failed before or not; whether one has now.
-fn has_failed_now(rt: &impl Abort, has_failed: bool, (was, is): (&str, &str)) -> bool {
+fn has_failed_now(
+    rt: &impl Eprint,
+    has_failed: bool,
+    (was, is): (&str, &str),
+) -> Result<bool, Fail> {
     let fails = has_failed || is != was;
     let text = if has_failed {
         PIPE
@@ -411,20 +418,20 @@ fn has_failed_now(rt: &impl Abort, has_failed: bool, (was, is): (&str, &str)) ->
     } else {
         was
     };
-    assert_eq!(rt; is, text);
-    fails
+    is_text(rt, is, text)?;
+    Ok(fails)
 }
 
 /// Fails if, after the first reading of the first client that fails, another answers anything but that it is killed;
 /// whether one fails.
-fn fails_once(rt: &impl Abort, clean: &[String], texts: &[String]) -> bool {
+fn fails_once(rt: &impl Eprint, clean: &[String], texts: &[String]) -> Result<bool, Fail> {
     let mut has_failed = false;
     for (call, (was, is)) in RUN.iter().zip(clean.iter().zip(texts)) {
         if matches!(call, Call::Next(_)) && is_of_first(*call) {
-            has_failed = has_failed_now(rt, has_failed, (was.as_str(), is.as_str()));
+            has_failed = has_failed_now(rt, has_failed, (was.as_str(), is.as_str()))?;
         }
     }
-    has_failed
+    Ok(has_failed)
 }
 
 /// How many lines of the texts are this one.
@@ -441,7 +448,7 @@ fn lines_that_are(texts: &[String], line: &str) -> usize {
 }
 
 /// Fails if the first client's end is not noted once, as closed, or the second's notes are not there.
-fn ends_are_noted(rt: &impl Abort, texts: &[String]) {
+fn ends_are_noted(rt: &impl Eprint, texts: &[String]) -> Result<(), Fail> {
     for line in [
         "disconnected 0, 1: closed",
         "initialized 0, 1",
@@ -449,39 +456,43 @@ fn ends_are_noted(rt: &impl Abort, texts: &[String]) {
         "destroyed 3, 2, 4 of 1 with 8",
         "out: client 0, 1",
     ] {
-        assert_eq!(rt; lines_that_are(texts, line), 1, "{line}");
+        holds(rt, line, lines_that_are(texts, line) == 1)?;
     }
     let told = "disconnected 0, 1: error 0 on wl_display 1: Invalid new_id: 5.";
-    assert_eq!(rt; lines_that_are(texts, told), 0);
+    holds(rt, "no error is told", lines_that_are(texts, told) == 0)
 }
 
 /// Fails if a receive that fails at that call does anything to the second client, or not what it has to to the first;
 /// whether it was made.
 fn receive_fails(
-    rt: &(impl Abort + AllocGlobal),
+    rt: &(impl Eprint + AllocGlobal),
     clean: &[String],
     at: usize,
 ) -> Result<bool, Fail> {
     let calls = with_receive(rt.alloc(), at, IoFault::Other(5))?;
     let texts = played(rt.alloc(), calls.as_slice())?;
-    others_are_the_same(rt, clean, texts.as_slice());
-    let has_failed = fails_once(rt, clean, texts.as_slice());
+    first_alone_fails(rt, clean, texts.as_slice())
+}
+
+/// The same of what the calls told.
+fn first_alone_fails(rt: &impl Eprint, clean: &[String], texts: &[String]) -> Result<bool, Fail> {
+    others_are_the_same(rt, clean, texts)?;
+    let has_failed = fails_once(rt, clean, texts)?;
     if has_failed {
-        ends_are_noted(rt, texts.as_slice());
+        ends_are_noted(rt, texts)?;
     }
     Ok(has_failed)
 }
 
 /// Fails if the second client is told otherwise in the run without the first one's calls.
-fn second_is_told_alike(rt: &(impl Abort + AllocGlobal), clean: &[String]) -> Result<(), Fail> {
+fn second_is_told_alike(rt: &(impl Eprint + AllocGlobal), clean: &[String]) -> Result<(), Fail> {
     let calls = without_first(rt.alloc())?;
     let alone = played(rt.alloc(), calls.as_slice())?;
-    second_is_the_same(rt, clean, alone.as_slice());
-    Ok(())
+    second_is_the_same(rt, clean, alone.as_slice())
 }
 
 /// Each receive fails; how many are made.
-fn each_receive_fails(rt: &(impl Abort + AllocGlobal), clean: &[String]) -> Result<usize, Fail> {
+fn each_receive_fails(rt: &(impl Eprint + AllocGlobal), clean: &[String]) -> Result<usize, Fail> {
     let mut made = 0usize;
     for (at, call) in RUN.iter().enumerate() {
         if is_receive(*call) && receive_fails(rt, clean, at)? {
@@ -498,6 +509,6 @@ fn each_receive_fails(rt: &(impl Abort + AllocGlobal), clean: &[String]) -> Resu
 fn receives_that_fail(rt: HostRuntime) -> Result<(), Fail> {
     let clean = played(rt.alloc(), &RUN)?;
     second_is_told_alike(&rt, clean.as_slice())?;
-    assert_eq!(rt; each_receive_fails(&rt, clean.as_slice())?, 6);
-    Ok(())
+    let made = each_receive_fails(&rt, clean.as_slice())?;
+    holds(&rt, "six receives are made", made == 6)
 }

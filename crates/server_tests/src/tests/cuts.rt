@@ -8,9 +8,8 @@ use server_test_kit::arrivals::{
 use server_test_kit::steps::Call;
 use server_test_kit::values::{FIRST, Named, SECOND};
 use std::alloc::Global;
-use std::process::Abort;
 use std::test::Fail;
-use test_kit::cuts::{Stream, cut_of};
+use test_kit::cuts::{Stream, cut_of, cutting_tells};
 use test_kit::quad::QUAD;
 use wl_wire::IoFault;
 
@@ -260,23 +259,17 @@ fn told_in(alloc: Global, row: &Row, number: usize, len: usize) -> Result<String
 
 /// Fails if the row tells something else in the cutting of that number, and names it.
 fn in_cutting(
-    rt: &(impl Abort + AllocGlobal),
+    rt: &(impl Eprint + AllocGlobal),
     row: &Row,
     number: usize,
     len: usize,
 ) -> Result<(), Fail> {
     let told = told_in(rt.alloc(), row, number, len)?;
-    assert_eq!(rt;
-        told.as_str(),
-        row.told,
-        "{}, cut at {number} of {len}",
-        row.name
-    );
-    Ok(())
+    cutting_tells(rt, (row.name, number), told.as_str(), row.told)
 }
 
 /// Fails if the row tells something else in a cutting.
-fn in_every_cutting(rt: &(impl Abort + AllocGlobal), row: &Row) -> Result<(), Fail> {
+fn in_every_cutting(rt: &(impl Eprint + AllocGlobal), row: &Row) -> Result<(), Fail> {
     let len = row.arrives.bytes(rt.alloc())?.len();
     for number in 0..=len {
         in_cutting(rt, row, number, len)?;
