@@ -10,6 +10,9 @@ use wl_wire::{
     WL_DISPLAY_INTERFACE, WL_REGISTRY_INTERFACE,
 };
 
+/// The first interface that a run adds to the table of `quad` and `pair`.
+const ADDED: InterfaceId = InterfaceId(6);
+
 /// The objects of the runs.
 #[derive(Clone, Copy)]
 pub enum Object {
@@ -66,6 +69,8 @@ pub enum Request {
     GetRegistry,
     /// `wl_registry.bind` of the name 1, `quad` and the version 3.
     Bind,
+    /// `wl_registry.bind` of the name 2, the first interface that a run adds, `solo`, and the version 1.
+    BindAdded,
     /// `quad.make` of the first `quad`.
     Make,
     /// `quad.link` of a sender and two objects.
@@ -88,7 +93,7 @@ impl Request {
             Request::Sync | Request::SyncOfNumber | Request::SyncOf(_) | Request::GetRegistry => {
                 Object::Display
             }
-            Request::Bind => Object::Registry,
+            Request::Bind | Request::BindAdded => Object::Registry,
             Request::Make | Request::Give(_) => Object::Quad,
             Request::Link(to, _, _) | Request::Bare(to, _) => to,
             Request::Join(_, _) => Object::Pair,
@@ -98,7 +103,8 @@ impl Request {
     /// Its opcode.
     fn opcode(self) -> u16 {
         match self {
-            Request::Sync | Request::SyncOfNumber | Request::SyncOf(_) | Request::Bind => 0,
+            Request::Sync | Request::SyncOfNumber | Request::SyncOf(_) => 0,
+            Request::Bind | Request::BindAdded => 0,
             Request::GetRegistry => 1,
             Request::Make => MAKE,
             Request::Link(_, _, _) => LINK,
@@ -112,6 +118,7 @@ impl Request {
     pub fn child(self) -> Child {
         match self {
             Request::Bind => (Some(6), Some((QUAD, 3))),
+            Request::BindAdded => (Some(8), Some((ADDED, 1))),
             Request::Make => (Some(7), None),
             Request::Sync | Request::SyncOfNumber | Request::SyncOf(_) | Request::GetRegistry => {
                 (Some(5), None)
@@ -181,11 +188,17 @@ fn push_payload(
     Ok(())
 }
 
-/// Appends the arguments of `wl_registry.bind` to the others.
-fn push_bind(alloc: Global, args: &mut Arguments) -> Result<(), Fail> {
-    push_number(args, 1)?;
-    push_text(alloc, args, Some("quad"))?;
-    push_number(args, 3)?;
+/// Appends the arguments of `wl_registry.bind` to the others: a global by its name, its interface and a version.
+fn push_bind(
+    alloc: Global,
+    args: &mut Arguments,
+    name: u32,
+    interface: &str,
+    version: u32,
+) -> Result<(), Fail> {
+    push_number(args, name)?;
+    push_text(alloc, args, Some(interface))?;
+    push_number(args, version)?;
     push_new(args, Object::Null)
 }
 
@@ -206,7 +219,8 @@ fn push_arguments(alloc: Global, args: &mut Arguments, request: Request) -> Resu
         Request::Sync | Request::GetRegistry | Request::Make => push_new(args, Object::Null),
         Request::SyncOfNumber => push_number(args, 1),
         Request::SyncOf(object) => push_new(args, object),
-        Request::Bind => push_bind(alloc, args),
+        Request::Bind => push_bind(alloc, args, 1, "quad", 3),
+        Request::BindAdded => push_bind(alloc, args, 2, "solo", 1),
         Request::Link(_, first, second) => push_objects(args, first, second),
         Request::Give(len) => push_payload(alloc, args, None, len, 7),
         Request::Join(first, second) => push_join(alloc, args, first, second),

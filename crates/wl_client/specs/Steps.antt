@@ -4,6 +4,9 @@
 -- script. An entry of a run is a step, its reply, and whether memory was refused in it.
 use Rattle.std.specs.Prelude.{◌≡◌, ℕ, ◌<◌, List, [], ◌∷◌, ◌++◌, length, map, Bool, true, false, Result, Ok, Err}
 use Rattle.wl_wire.specs.declared.error.OutOfMemory.{OutOfMemory}
+use Rattle.wl_wire.specs.declared.protocol.TableError.{TableError}
+use Rattle.wl_wire.specs.declared.protocol.TableError.TheVariants as table
+use Rattle.wl_wire.specs.Table.{AnswersGrowth, InterfaceRow, grown, interface_rows}
 use Rattle.wl_link.specs.declared.memory.ArriveError.{ArriveError}
 use Rattle.wl_link.specs.declared.memory.ArriveError.TheVariants as arrive
 use Rattle.wl_link.specs.Exchange.{Queue}
@@ -47,6 +50,10 @@ abbrev pub refused_finish : {U : Type 0} → Result (Unit {0}) (FinishRefused U)
 refused_finish (Ok _) = false
 refused_finish (Err e) = is_out_of_memory e.error
 
+abbrev pub refused_growth : Result (Unit {0}) TableError → Bool
+refused_growth (Err table.OutOfMemory) = true
+refused_growth _ = false
+
 abbrev pub refused_arrive : Result (Unit {0}) ArriveError → Bool
 refused_arrive (Err arrive.OutOfMemory) = true
 refused_arrive _ = false
@@ -75,6 +82,10 @@ module _ {U : Type 0} where
   ArrivesWith before chunk (Err arrive.TooManyTokens) after = (28 < length chunk.tokens) × (after ≡ before)
   ArrivesWith before chunk (Err arrive.OutOfMemory) after = ¬ (28 < length chunk.tokens) × (after ≡ before)
 
+  -- the table takes these rows, or not, as it answers; all else is as it was
+  abbrev pub InterfacesAdded : SessionState Script U → List InterfaceRow → Result (Unit {0}) TableError → SessionState Script U → Type 0
+  InterfacesAdded before rows answer after = AnswersGrowth before.table rows answer × (after ≡ record before { table = grown before.table rows answer })
+
   -- a step, its reply, whether memory was refused, and the session after it
   abbrev pub StepOf : SessionState Script U → Step U → Reply U → Bool → SessionState Script U → Type 0
   StepOf before (step.SetData id u) answer refused after =
@@ -94,6 +105,8 @@ module _ {U : Type 0} where
   StepOf before (step.SetMaxBufferSize limit) answer refused after =
       (answer ≡ reply.SetMaxBufferSize) × (refused ≡ false)
       × ((link : LinkState Script) × LimitSet before.link limit link × (after ≡ record before { link = link }))
+  StepOf before (step.AddInterfaces more) answer refused after =
+      (r : _) × (answer ≡ reply.AddInterfaces r) × (refused ≡ refused_growth r) × InterfacesAdded before (interface_rows more.items) r after
   StepOf before step.TakeNotes answer refused after =
       (notes : _) × (answer ≡ reply.TakeNotes notes) × (refused ≡ false) × (notes.items ≡ before.notes) × (after ≡ record before { notes = [] })
   StepOf before (step.Arrive bytes tokens) answer refused after =

@@ -3,10 +3,11 @@
 
 ghost use Rattle.std.specs.Prelude.{◌≡◌, [], false, Ok, IfOk, option_copied};
 ghost use Rattle.std.specs.Borrow.{sem};
-ghost use Rattle.wl_wire.specs.Table.{display_id};
+ghost use Rattle.wl_wire.specs.Table.{AnswersGrowth, IsAcceptedTable, display_id, grown, interface_rows};
 ghost use Rattle.wl_link.specs.Link.{LinkState, LimitSet};
 ghost use Rattle.wl_link.specs.Store.{empty_store, stored};
 ghost use Rattle.wl_client.specs.Session.{IsConnected, display_object};
+ghost use Rattle.wl_client.specs.Steps.{refused_growth};
 
 use crate::error::WaylandError;
 use crate::event::OpenEvent;
@@ -16,7 +17,7 @@ use std::alloc::Global;
 use std::marker::Model;
 use std::mem;
 use wl_link::{BufferedSocket, MessagePlace, ObjectMap};
-use wl_wire::{OutOfMemory, Protocol, WL_DISPLAY_INTERFACE};
+use wl_wire::{Interface, OutOfMemory, Protocol, TableError, WL_DISPLAY_INTERFACE};
 
 /// The number of the display, `wl_display`.
 pub(crate) const DISPLAY: u32 = 1;
@@ -119,7 +120,7 @@ impl<T: Drop, U: Drop> Backend<T, U> {
         ObjectId::from_parts(DISPLAY, 0, WL_DISPLAY_INTERFACE)
     }
 
-    /// The table of interfaces that the session was made with.
+    /// The table of interfaces: the one that the session was made with, and behind it what was added since.
     pub fn protocol(&self) -> &Protocol
         ensures { result.now ≡ self.now.session.table }
     {
@@ -158,6 +159,20 @@ impl<T: Drop, U: Drop> Backend<T, U> {
         ensures { option_copied result ≡ self.now.session.error }
     {
         self.error.as_ref()
+    }
+
+    /// Appends more interfaces to the session's table, all of them or none, as `Protocol::extend` does. The interfaces that
+    /// are there keep their ids, and nothing else of the session changes. After an error the table is as it was.
+    pub fn add_interfaces(&mut self, interfaces: Vec<Interface>) -> Result<(), TableError>
+        ensures answer { AnswersGrowth self.old.session.table (interface_rows interfaces.items) result }
+        ensures session { self.new.session
+            ≡ record self.old.session { table = grown self.old.session.table (interface_rows interfaces.items) result } }
+        ensures accepted { IsAcceptedTable self.new.session.table }
+        ensures refused { self.new.refused ≡ refused_growth result }
+    {
+        let answer = self.protocol.extend(interfaces);
+        self.refused = matches!(answer, Err(TableError::OutOfMemory));
+        answer
     }
 
     /// Takes the notes, the oldest first. A *note* says that an object which had user data was destroyed. It allocates

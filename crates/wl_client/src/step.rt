@@ -6,7 +6,7 @@ use crate::error::{
 use crate::object_id::ObjectId;
 use crate::objects::Note;
 use wl_link::ArriveError;
-use wl_wire::{InterfaceId, IoFault, Message, OutOfMemory, Token};
+use wl_wire::{Interface, InterfaceId, IoFault, Message, OutOfMemory, TableError, Token};
 
 /// A call that changes a session over the transport by script: a call of the session, or one of its transport, `Memory`.
 #[derive(Drop)]
@@ -27,6 +27,8 @@ pub enum Step<U> {
     DispatchInnerQueue,
     /// `Backend::set_max_buffer_size`, with the limit in bytes.
     SetMaxBufferSize(Option<usize>),
+    /// `Backend::add_interfaces`, with the new interfaces.
+    AddInterfaces(Vec<Interface>),
     /// `Backend::take_notes`.
     TakeNotes,
     /// `Memory::arrive`, with the bytes and tokens that a receive will give.
@@ -60,6 +62,8 @@ pub enum Reply<U> {
     DispatchInnerQueue(Result<usize, WaylandError>),
     /// The answer to `Step::SetMaxBufferSize`, which returns nothing.
     SetMaxBufferSize,
+    /// The answer to `Step::AddInterfaces`.
+    AddInterfaces(Result<(), TableError>),
     /// The answer to `Step::TakeNotes`.
     TakeNotes(Vec<Note>),
     /// The answer to `Step::Arrive`.

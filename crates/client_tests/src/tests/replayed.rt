@@ -70,12 +70,32 @@ const LIFE: [Call; 19] = [
     Call::Send(Request::Sync),
 ];
 
+/// A session whose table takes an interface, of which it then has an object. `gone` ends that.
+const GROWTH: [Call; 11] = [
+    Call::Send(Request::GetRegistry),
+    Call::Send(Request::BindAdded),
+    Call::Add("solo"),
+    Call::Add("solo"),
+    Call::Send(Request::BindAdded),
+    Call::Flush,
+    Call::TakeSent,
+    Call::Arrive(&[3, 0, 0, 0, 0, 0, 8, 0]),
+    Call::Next,
+    Call::Finish(None),
+    Call::Notes,
+];
+
 /// The runs, and what they tell.
-static ROWS: [Row; 2] = [
+static ROWS: [Row; 3] = [
     Row {
         name: "each step has its reply",
         acts: &[Act::Replay(&LIFE)],
         told: "sent: 2, 1\ndone\ndone\nwould block\nflushed\n0100000000\n000c0002000000\ndone\ndone\nevent 0 of 2: 0\ndone\nthere is no new object for the user data, 7 is back\nfinished\nInvalid ObjectId\nnotes: 2, 1\nwould block\nInvalid ObjectId\nlimit set\n0 dispatched\nsent: 2, 2\nrefused: false\n",
+    },
+    Row {
+        name: "interfaces are added",
+        acts: &[Act::Replay(&GROWTH)],
+        told: "sent: 2, 1\nthe new object's interface is not in the table\ndone\ninterface 0: the name is taken\nsent: 3, 2\nflushed\n0100000001000c000200000002000000000020000200000005000000736f6c6f000000000100000003000000\ndone\nevent 0 of 3:\nfinished\nnotes: 3, 2\nrefused: false\n",
     },
     // Wants of memory of the transport, a run of no steps after the first, and the next reading after the second.
     Row {

@@ -740,6 +740,8 @@ module _ {U : Type 0} where
     step_moves step.DispatchInnerQueue reply refused after (is, no_memory, same) = by_quiet reply _ after (ap ids_in is) (ap notes_in is) same (idle s)
     step_moves (step.SetMaxBufferSize limit) reply refused after (is, no_memory, (link, set, same)) =
         by_quiet reply _ after (ap ids_in is) (ap notes_in is) same (idle s)
+    step_moves (step.AddInterfaces more) reply refused after (r, is, no_memory, (answers, same)) =
+        by_quiet reply _ after (ap ids_in is) (ap notes_in is) same (idle s)
     step_moves step.TakeNotes reply refused after (notes, is, no_memory, taken, same) = record {
       changes = [];
       owns = ap objects_of same;

@@ -4,7 +4,10 @@ use mathlib.Core.Logic.{inl, inr}
 use Rattle.wl_wire.specs.declared.error.IoFault.{IoFault}
 use Rattle.wl_wire.specs.declared.error.IoFault.TheVariants as fault
 use Rattle.wl_wire.specs.declared.error.OutOfMemory.{OutOfMemory}
+use Rattle.wl_wire.specs.declared.protocol.TableError.{TableError}
 use Rattle.wl_wire.specs.Message.{WireMessage}
+use Rattle.wl_wire.specs.Table.{InterfaceRow, grown, interface_rows}
+use Rattle.wl_wire.proofs.Growth.{AnswersGrowth-unique}
 use Rattle.wl_link.specs.declared.memory.ArriveError.{ArriveError}
 use Rattle.wl_link.specs.declared.memory.ArriveError.TheVariants as arrive
 use Rattle.wl_link.specs.Exchange.{Queue, IsFunction}
@@ -34,7 +37,7 @@ use Rattle.wl_client.proofs.OverRuns.ReadingLaws.{SameEnd, next_event_one, same_
 use Rattle.wl_client.specs.Replies.{SameReply, SameReplies}
 use Rattle.wl_client.specs.Requests.{Numbered, Requested, Sent, SentAs, SentWithChild, SessionMessage, Spec, Written, ended_by, error_after, id_of_new, new_child, number_of_new, request_check, session_content, wire_message, with_born, with_ended}
 use Rattle.wl_client.specs.Session.{SessionState, last_possible_serial, named}
-use Rattle.wl_client.specs.Steps.{ArrivesWith, Scripts, StepOf, Leads, entries, refused_arrive, refused_destroy, refused_finish, refused_flush, refused_request, refused_script}
+use Rattle.wl_client.specs.Steps.{ArrivesWith, Scripts, InterfacesAdded, StepOf, Leads, entries, refused_arrive, refused_destroy, refused_finish, refused_flush, refused_growth, refused_request, refused_script}
 
 -- an answer by which memory was not refused is not one by which it was
 not_refused : (b : Bool) → false ≡ b → b ≡ true → ⊥
@@ -189,6 +192,15 @@ module _ {U : Type 0} where
   scripts_one s script (Err e) b x y unasked unasked' same same' = absurd (true≢false (sym unasked))
   scripts_one s script (Ok _) (Err e) x y unasked unasked' same same' = absurd (true≢false (sym unasked'))
 
+-- ---- interfaces that are added
+
+module _ {U : Type 0} (s : SessionState Script U) (rows : List InterfaceRow) where
+  growth_one : (a b : Result (Unit {0}) TableError) (x y : SessionState Script U) → false ≡ refused_growth a → false ≡ refused_growth b
+      → InterfacesAdded s rows a x → InterfacesAdded s rows b y → (a ≡ b) × (x ≡ y)
+  growth_one a b x y unasked unasked' (answers, same) (answers', same') =
+      let one = AnswersGrowth-unique s.table rows a b (λ e. not_refused _ unasked (ap refused_growth e)) (λ e. not_refused _ unasked' (ap refused_growth e)) answers answers' in
+      (one, same ∙ ap (λ r. record s { table = grown s.table rows r }) one ∙ sym same')
+
 -- ---- a step
 
 module _ {U : Type 0} where
@@ -223,6 +235,9 @@ module _ {U : Type 0} where
     same_reply p q reply.SetMaxBufferSize reply.SetMaxBufferSize is is' refl,
     same ∙ ap (λ (l : LinkState Script). record s { link = l }) (limit_set_one s.link limit link link' set set') ∙ sym same',
   )
+  step_one s x y (step.AddInterfaces more) p q (a, is, unasked, h) (b, is', unasked', g) =
+      let one = growth_one s (interface_rows more.items) a b x y unasked unasked' h g in
+      (same_reply p q _ _ is is' (ap reply.AddInterfaces one.0), one.1)
   step_one s x y step.TakeNotes p q (notes, is, unasked, items, same) (notes', is', unasked', items', same') =
       (same_reply p q (reply.TakeNotes notes) (reply.TakeNotes notes') is is' (items ∙ sym items'), same ∙ sym same')
   step_one s x y (step.Arrive bytes tokens) p q (a, is, unasked, h) (b, is', unasked', g) =
