@@ -3,7 +3,7 @@
 use crate::values::{Object, Request, message};
 use std::alloc::Global;
 use std::test::Fail;
-use test_kit::quad::{Row, push_interface};
+use test_kit::quad::{destructor, push_interface};
 use wl_client::Step;
 use wl_wire::IoFault;
 
@@ -57,14 +57,8 @@ fn arrive(alloc: Global, bytes: &[u8]) -> Result<Step<u32>, Fail> {
 
 /// The step by which the table takes an interface of that name.
 fn add(alloc: Global, name: &str) -> Result<Step<u32>, Fail> {
-    let gone = Row {
-        name: "gone",
-        since: 1,
-        is_destructor: true,
-        signature: &[],
-    };
     let mut interfaces = Vec::new(alloc);
-    push_interface(alloc, &mut interfaces, name, 1, &[], &[gone])?;
+    push_interface(alloc, &mut interfaces, name, 1, &[], &[destructor("gone")])?;
     Ok(Step::AddInterfaces(interfaces))
 }
 

@@ -27,7 +27,7 @@ pub const JOIN: u16 = 0;
 
 /// A message of the table as plain data. Its new object and its object arguments are of `quad`.
 #[derive(Clone, Copy)]
-struct Row {
+pub struct Row {
     name: &'static str,
     since: u32,
     is_destructor: bool,
@@ -51,7 +51,7 @@ fn plain(name: &'static str, since: u32, signature: &'static [ArgumentType]) -> 
 }
 
 /// The message of that name without arguments, which ends its object.
-fn destructor(name: &'static str) -> Row {
+pub fn destructor(name: &'static str) -> Row {
     Row {
         name,
         since: 1,
@@ -124,7 +124,7 @@ fn push_messages(alloc: Global, messages: &mut Vec<MessageDesc>, rows: &[Row]) -
 }
 
 /// Appends an interface with these requests and events to the others.
-fn push_interface(
+pub fn push_interface(
     alloc: Global,
     interfaces: &mut Vec<Interface>,
     name: &str,
