@@ -22,17 +22,17 @@ pub enum Object {
     Display,
     /// The callback that is a client's first object.
     Callback,
-    /// The registry of `Act::Bound`.
+    /// The registry that the first request makes.
     Registry,
-    /// The `quad` of `Act::Bound`.
+    /// The `quad` that is bound by the second request.
     Quad,
-    /// The `quad` that is made after `Act::Bound`.
+    /// The `quad` that the third request makes.
     Second,
-    /// The `pair` that is bound after `Act::Bound`.
+    /// The `pair` that is bound by the third request.
     Pair,
     /// The `quad` that is made after that `pair`.
     Third,
-    /// The `quad` that the server makes after `Act::Bound`.
+    /// The `quad` that the server makes once a `quad` is bound.
     Child,
     /// A `quad` with the number of `Quad` and another serial.
     Stranger,

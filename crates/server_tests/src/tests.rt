@@ -1,6 +1,6 @@
 //! The tests of `wl_server`: runs of a server over scripts, each compared with what its calls have to answer.
 //!
-//! A run is a list of `Act`s, and `log_of` makes its calls, each by `replay`.
+//! A run is a list of `Act`s, and `log_of` makes its calls, most of them by `replay`.
 
 mod arguments;
 mod buffers;

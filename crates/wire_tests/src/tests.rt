@@ -4,6 +4,7 @@ mod descriptors;
 mod enums;
 mod errors;
 mod longest;
+mod numbered;
 mod refused;
 mod strings;
 mod tables;

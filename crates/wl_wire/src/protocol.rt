@@ -19,14 +19,14 @@ use std::alloc::{AllocError, Global};
 use std::fmt;
 use std::marker::Model;
 
-/// Why a list of interfaces was refused as a table.
+/// Why a list of interfaces was refused as a table, or as more of one.
 ///
 /// The number in a variant is the place of the interface in the caller's list, counted from 0.
 #[derive(Clone, Copy, Debug, PartialEq, Eq)]
 pub enum TableError {
     /// The name of the interface, or of one of its messages, has a zero byte.
     ZeroInName(usize),
-    /// The name of the interface is that of a fixed interface, or of an earlier one of the list.
+    /// The name of the interface is that of a fixed interface, of one that the table has, or of an earlier one of the list.
     DuplicateName(usize),
     /// One of its messages names a child interface or an argument interface that is outside the table.
     UnknownInterface(usize),
@@ -129,13 +129,13 @@ impl Protocol {
         Ok(Protocol { interfaces: table })
     }
 
-    /// Appends more interfaces to the table, all of them or none. Those that are there keep their ids, and the first new one
-    /// has the number of these as its id.
+    /// Appends more interfaces to the table, all of them or none. Those that are there keep their ids, and the ids of the new
+    /// ones go on behind the last: a table of six interfaces, the fixed four among them, gives the first new one the id 6.
     ///
     /// The longer table is checked as `new` checks one: no new name may be taken, and a message of a new interface may name
-    /// each interface of the longer table. If one of the new interfaces has a fault, the error is the one that `new` gives,
-    /// and its place is counted in the list of the new ones. `OutOfMemory` comes only if there is no fault. After an error
-    /// the table is as it was.
+    /// each interface of the longer table. If one of the new interfaces has a fault, the error is about the first of them that
+    /// has one, with its faults in the order of `TableError`'s variants, and its place is counted in the list of the new ones.
+    /// `OutOfMemory` comes only if there is no fault. After an error the table is as it was.
     pub fn extend(&mut self, interfaces: Vec<Interface>) -> Result<(), TableError>
         ensures table { self.new ≡ grown self.old (interface_rows interfaces.items) result }
         ensures answer { AnswersGrowth self.old (interface_rows interfaces.items) result }

@@ -81,6 +81,7 @@ fn judge_whole(
     replies: &[Reply<u32>],
 ) -> Result<(), Fail> {
     holds(rt, run.name, !client.memory_refused())?;
+    holds(rt, run.name, replies.len() == entries.len())?;
     judge_all(rt, run, entries, replies)
 }
 

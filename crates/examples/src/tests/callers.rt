@@ -1,4 +1,4 @@
-//! The functions of `wl_callers`, each called once.
+//! The functions of `wl_callers`.
 
 use smallvec::SmallVec;
 use std::alloc::Global;

@@ -18,7 +18,7 @@ fn serve(alloc: Global, server: &mut Server, received: &[u8]) -> Result<Sends, F
     let (bytes, fds) = (Vec::from_slice(alloc, received)?, Vec::new(alloc));
     server.transport_mut(&client)?.arrive(bytes, fds)?;
     match server.next_action(&client) {
-        Ok(_action) => {} // a request to one of your objects, or a bind: do it, and finish it
+        Ok(_action) => {} // a request or a bind: do it, and finish it before you read again
         Err(ActionError::Io(IoFault::WouldBlock)) => {} // all is read; `sync` was answered inside
         Err(error) => Err(error)?,
     }

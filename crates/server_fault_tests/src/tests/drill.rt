@@ -189,6 +189,7 @@ fn judge_whole(
     replies: &[Reply<Memory, u32>],
 ) -> Result<(), Fail> {
     assert!(rt; !server.memory_refused(), "{}", run.name);
+    assert_eq!(rt; replies.len(), entries.len(), "{}", run.name);
     judge_all(rt, run, entries, replies)
 }
 

@@ -337,6 +337,7 @@ fn is_failed_flush(rt: &impl Eprint, call: Call, told: &str) -> Result<(), Fail>
 
 /// How many of the texts differ, if they may: at a flush of the first client, which tells that its transport failed.
 fn failed_flushes(rt: &impl Eprint, clean: &[String], texts: &[String]) -> Result<usize, Fail> {
+    holds(rt, "as much is told", texts.len() == clean.len())?;
     let mut count = 0usize;
     for (call, (was, is)) in RUN.iter().zip(clean.iter().zip(texts)) {
         if is.as_str() != was.as_str() {
@@ -476,6 +477,7 @@ fn receive_fails(
 
 /// The same of what the calls told.
 fn first_alone_fails(rt: &impl Eprint, clean: &[String], texts: &[String]) -> Result<bool, Fail> {
+    holds(rt, "as much is told", texts.len() == clean.len())?;
     others_are_the_same(rt, clean, texts)?;
     let has_failed = fails_once(rt, clean, texts)?;
     if has_failed {
