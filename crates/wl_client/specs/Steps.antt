@@ -5,8 +5,7 @@
 use Rattle.std.specs.Prelude.{◌≡◌, ℕ, ◌<◌, List, [], ◌∷◌, ◌++◌, length, map, Bool, true, false, Result, Ok, Err}
 use Rattle.wl_wire.specs.declared.error.OutOfMemory.{OutOfMemory}
 use Rattle.wl_wire.specs.declared.protocol.TableError.{TableError}
-use Rattle.wl_wire.specs.declared.protocol.TableError.TheVariants as table
-use Rattle.wl_wire.specs.Table.{AnswersGrowth, InterfaceRow, grown, interface_rows}
+use Rattle.wl_wire.specs.Table.{AnswersGrowth, InterfaceRow, grown, interface_rows, refused_growth}
 use Rattle.wl_link.specs.declared.memory.ArriveError.{ArriveError}
 use Rattle.wl_link.specs.declared.memory.ArriveError.TheVariants as arrive
 use Rattle.wl_link.specs.Exchange.{Queue}
@@ -49,10 +48,6 @@ is_out_of_memory _ = false
 abbrev pub refused_finish : {U : Type 0} → Result (Unit {0}) (FinishRefused U) → Bool
 refused_finish (Ok _) = false
 refused_finish (Err e) = is_out_of_memory e.error
-
-abbrev pub refused_growth : Result (Unit {0}) TableError → Bool
-refused_growth (Err table.OutOfMemory) = true
-refused_growth _ = false
 
 abbrev pub refused_arrive : Result (Unit {0}) ArriveError → Bool
 refused_arrive (Err arrive.OutOfMemory) = true

@@ -3,11 +3,10 @@
 
 ghost use Rattle.std.specs.Prelude.{◌≡◌, [], false, Ok, IfOk, option_copied};
 ghost use Rattle.std.specs.Borrow.{sem};
-ghost use Rattle.wl_wire.specs.Table.{AnswersGrowth, IsAcceptedTable, display_id, grown, interface_rows};
+ghost use Rattle.wl_wire.specs.Table.{AnswersGrowth, IsAcceptedTable, display_id, grown, interface_rows, refused_growth};
 ghost use Rattle.wl_link.specs.Link.{LinkState, LimitSet};
 ghost use Rattle.wl_link.specs.Store.{empty_store, stored};
 ghost use Rattle.wl_client.specs.Session.{IsConnected, display_object};
-ghost use Rattle.wl_client.specs.Steps.{refused_growth};
 
 use crate::error::WaylandError;
 use crate::event::OpenEvent;

@@ -54,17 +54,7 @@ pub enum NewError {
 ///
 /// A new object gets the least number of its range that holds no object. It is looked up in a tree of words. The search
 /// reads one word more each time that there are 64 times as many objects; apart from that its time does not grow with them.
-/// This was measured by a separate program, which puts objects at 1 to `live` and then repeats these two calls:
-///
-/// ```text
-/// let _ = map.remove(live);
-/// map.client_insert_new(object)?;
-/// ```
-///
-/// The instructions of the built program were counted with `valgrind --tool=callgrind`. Those of a run with 110,000 rounds,
-/// less those of a run with 10,000, are those of 100,000 rounds: 91 a round with 10 objects, 169 with 100 and with 1000,
-/// 229 with 10,000 and with 100,000. By the clock, with much other work on the machine, a round took 12 ns with 10 objects
-/// and 38 ns with 100,000.
+/// `docs/SPEED.md` counts its instructions.
 #[derive(Drop)]
 pub struct ObjectMap<Data> {
     clients: Places<Data>,

@@ -15,7 +15,8 @@ use Rattle.std.proofs.lemmas.Option.{slice_get-get_or, slice_get_past}
 use Rattle.wl_wire.specs.declared.interface.Interface.{Interface}
 use Rattle.wl_wire.specs.declared.protocol.TableError.{TableError}
 use Rattle.wl_wire.specs.declared.protocol.TableError.TheVariants as fault
-use Rattle.wl_wire.specs.Table.{MessageRow, InterfaceRow, messages, message_row, interface_row, interface_rows, fixed_rows, table_of, is_taken, is_repeated, is_repeated_behind, is_at_fault, is_message_at_fault, rank, place, HasFault, HasFaultFrom, IsFirstFaultFrom, IsAcceptedTable, LacksFirst}
+use Rattle.wl_wire.specs.Inside.TableCheck.{is_repeated_behind, LacksFirst}
+use Rattle.wl_wire.specs.Table.{MessageRow, InterfaceRow, messages, message_row, interface_row, interface_rows, fixed_rows, table_of, is_taken, is_repeated, is_at_fault, is_message_at_fault, rank, place, HasFault, HasFaultFrom, IsFirstFaultFrom, IsAcceptedTable}
 
 pub list_any-map : {X Y : Type 0} (p : Y → Bool) (f : X → Y) (xs : List X) → list_any p (map f xs) ≡ list_any (λ x. p (f x)) xs
 list_any-map p f [] = refl

@@ -1,3 +1,4 @@
 -- What the functions inside promise each other; no public clause names these.
 pub mod Cursor
 pub mod Buffer
+pub mod TableCheck

@@ -258,14 +258,7 @@ AnswersGrowth table rows (Ok _) = LacksFaults table rows
 AnswersGrowth table rows (Err fault.OutOfMemory) = LacksFaults table rows
 AnswersGrowth table rows (Err other) = IsFirstFaultFrom (length table) (table ++ rows) other
 
--- ---- what the check of a list finds
-
--- the name of the interface at this place of a list is taken, if the list follows the interfaces that are kept
-abbrev pub is_repeated_behind : List Interface → List Interface → ℕ → Bool
-is_repeated_behind kept interfaces at = is_repeated (table_of kept ++ interface_rows interfaces) (length (table_of kept) + at)
-
--- ---- what the check of one interface finds
-
--- it has none of the faults of the first ranks
-abbrev pub LacksFirst : ℕ → Bool → ℕ → InterfaceRow → Type 0
-LacksFirst n taken count row = (fault : TableError) → rank fault < n → is_at_fault taken count row fault ≡ false
+-- memory for more rows was refused
+abbrev pub refused_growth : Result (Unit {0}) TableError → Bool
+refused_growth (Err fault.OutOfMemory) = true
+refused_growth _ = false

@@ -4,7 +4,8 @@ ghost use Rattle.std.specs.Prelude.{◌≡◌, ◌++◌, ℕ, ◌+◌, ◌<◌, 
 ghost use Rattle.std.specs.List.{list_any};
 ghost use Rattle.std.specs.Str.{bytes_eq};
 ghost use Rattle.std.specs.String.{string_bytes};
-ghost use Rattle.wl_wire.specs.Table.{IsAcceptedTable, IsFirstFaultFrom, LacksFaults, LacksFirst, fixed_rows, is_repeated_behind, is_taken, place, rank, table_of, holds_zero, interfaces_of, interface_row, interface_rows, is_at_fault, is_message_at_fault, is_name_at_fault, message_row, messages, new_ids, objects};
+ghost use Rattle.wl_wire.specs.Inside.TableCheck.{LacksFirst, is_repeated_behind};
+ghost use Rattle.wl_wire.specs.Table.{IsAcceptedTable, IsFirstFaultFrom, LacksFaults, fixed_rows, is_taken, place, rank, table_of, holds_zero, interfaces_of, interface_row, interface_rows, is_at_fault, is_message_at_fault, is_name_at_fault, message_row, messages, new_ids, objects};
 
 use crate::argument::ArgumentType;
 use crate::interface::{Interface, InterfaceId, MessageDesc};

@@ -1,4 +1,5 @@
-use Rattle.wl_wire.specs.Table.{interface_row, LacksFirst}
+use Rattle.wl_wire.specs.Inside.TableCheck.{LacksFirst}
+use Rattle.wl_wire.specs.Table.{interface_row}
 use Rattle.wl_wire.proofs.table_check.check_interface.Given as goal
 
 abbrev pub invariant-loop-fault : goal.invariant-loop-fault

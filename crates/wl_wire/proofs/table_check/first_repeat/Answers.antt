@@ -1,6 +1,7 @@
 use Rattle.std.proofs.Common.{false, sym, ap, ◌∙◌, inl, inr, arith}
 use Rattle.std.proofs.lemmas.Bool.{cases_eq, cases_lt, not-true, not-false}
-use Rattle.wl_wire.specs.Table.{is_repeated_behind, is_taken, fixed_rows}
+use Rattle.wl_wire.specs.Inside.TableCheck.{is_repeated_behind}
+use Rattle.wl_wire.specs.Table.{is_taken, fixed_rows}
 use Rattle.wl_wire.proofs.Faults.{is_named, is_repeated-fixed, is_repeated-not_fixed, known_more}
 use Rattle.wl_wire.proofs.table_check.first_repeat.Goals as goal
 

@@ -3,7 +3,7 @@ use Rattle.std.specs.HashSet.{contains}
 use Rattle.std.specs.List.{list_any}
 use Rattle.std.specs.Str.{bytes_eq}
 use Rattle.std.specs.String.{string_bytes}
-use Rattle.wl_wire.specs.Table.{is_repeated_behind}
+use Rattle.wl_wire.specs.Inside.TableCheck.{is_repeated_behind}
 use Rattle.wl_wire.proofs.table_check.first_repeat.Given as goal
 
 abbrev pub invariant-loop-interface : goal.invariant-loop-interface

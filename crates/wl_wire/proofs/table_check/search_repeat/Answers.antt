@@ -1,6 +1,6 @@
 use Rattle.std.proofs.Common.{sym, ap, ◌∙◌, inl, inr, arith}
 use Rattle.std.proofs.lemmas.Bool.{cases_eq}
-use Rattle.wl_wire.specs.Table.{is_repeated_behind}
+use Rattle.wl_wire.specs.Inside.TableCheck.{is_repeated_behind}
 use Rattle.wl_wire.proofs.table_check.search_repeat.Goals as goal
 
 pub loop-at-preserved : goal.loop-at-preserved

@@ -1,5 +1,5 @@
 use Rattle.std.proofs.Common.{◌≡◌, ℕ, ◌<◌, ◌≤◌, false}
-use Rattle.wl_wire.specs.Table.{is_repeated_behind}
+use Rattle.wl_wire.specs.Inside.TableCheck.{is_repeated_behind}
 use Rattle.wl_wire.proofs.table_check.search_repeat.Given as goal
 
 abbrev pub invariant-loop-at : goal.invariant-loop-at
