@@ -7,6 +7,7 @@ pub mod Script
 pub mod ScriptLaws
 pub mod Mailbox
 pub mod MailboxLaws
+pub mod MailboxCalls
 pub mod Link
 pub mod Lending
 pub mod Refusals
