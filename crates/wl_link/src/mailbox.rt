@@ -51,7 +51,7 @@ pub enum Ending {
 /// - If there is no memory for what a call would take or give, it returns `OutOfMemory` and changes nothing.
 ///
 /// Each side keeps its memory, so that in the long run its calls ask for none.
-#[derive(Drop)]
+#[derive(Debug, Drop)]
 pub struct Mailbox {
     arrived: Parcel,
     ending: Ending,

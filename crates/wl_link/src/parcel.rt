@@ -15,7 +15,7 @@ use wl_wire::Token;
 ///
 /// To give bytes out moves none of the others. They are moved to the front only if bytes that are appended find no room, and
 /// only if they are no more than those that were given out. So no byte that was given out makes more than one other move.
-#[derive(Drop)]
+#[derive(Debug, Drop)]
 pub struct Parcel {
     bytes: Vec<u8>,
     /// How many of the bytes were given out.

@@ -27,9 +27,9 @@ stays b m same = ap (λ (q : Queue). joined nothing q) same ∙ sym (joined_noth
 front_and_behind : (n : ℕ) (q : Queue) → joined (front n q) (behind n q) ≡ q
 front_and_behind n q = queue_is _ _ (take-append-drop n q.bytes) (tokens (n == 0))
   where
-  tokens : (none : Bool) → (if none then [] else q.tokens) ++ (if none then q.tokens else []) ≡ q.tokens
-  tokens true = refl
-  tokens false = append-nil q.tokens
+    tokens : (none : Bool) → (if none then [] else q.tokens) ++ (if none then q.tokens else []) ≡ q.tokens
+    tokens true = refl
+    tokens false = append-nil q.tokens
 
 -- ---- one call
 
@@ -50,15 +50,17 @@ receive_sends_nothing m (suc n) = refl
 
 receive_keeps : (before after : MailboxState) (room : ℕ) (answer : Result Queue IoFault) → MailboxReceives before room answer after
     → (joined (received_by (Received room answer)) after.arrived ≡ joined before.arrived nothing) × (after.waiting ≡ before.waiting)
-receive_keeps before after room answer (inl r) =
-    ( ap (λ (a : Result Queue IoFault). joined (received_by (Received room a)) after.arrived) r.1
+receive_keeps before after room answer (inl r) = (
+  ap (λ (a : Result Queue IoFault). joined (received_by (Received room a)) after.arrived) r.1
       ∙ ap (λ (m : MailboxState). joined (received_by (Received room (mailbox_gives before room))) m.arrived) r.2
-      ∙ gives_and_leaves before room ∙ sym (joined_nothing before.arrived)
-    , ap (λ (m : MailboxState). m.waiting) r.2 ∙ receive_sends_nothing before room)
-receive_keeps before after room answer (inr r) =
-    ( ap (λ (a : Result Queue IoFault). joined (received_by (Received room a)) after.arrived) r.0
-      ∙ stays before.arrived after.arrived (ap (λ (m : MailboxState). m.arrived) r.1)
-    , ap (λ (m : MailboxState). m.waiting) r.1)
+      ∙ gives_and_leaves before room ∙ sym (joined_nothing before.arrived),
+  ap (λ (m : MailboxState). m.waiting) r.2 ∙ receive_sends_nothing before room,
+)
+receive_keeps before after room answer (inr r) = (
+  ap (λ (a : Result Queue IoFault). joined (received_by (Received room a)) after.arrived) r.0
+      ∙ stays before.arrived after.arrived (ap (λ (m : MailboxState). m.arrived) r.1),
+  ap (λ (m : MailboxState). m.waiting) r.1,
+)
 
 kept_is_accepted : (answer : Result ℕ IoFault) (waiting offer : Queue) → joined nothing (kept_by answer waiting offer) ≡ joined waiting (accepted_by (Sent offer answer))
 kept_is_accepted (Ok n) waiting offer = refl
@@ -66,34 +68,39 @@ kept_is_accepted (Err fault) waiting offer = stays waiting waiting refl
 
 send_keeps : (before after : MailboxState) (offer : Queue) (answer : Result ℕ IoFault) → MailboxSends before offer answer after
     → (after.arrived ≡ before.arrived) × (joined nothing after.waiting ≡ joined before.waiting (accepted_by (Sent offer answer)))
-send_keeps before after offer answer (inl s) =
-    ( ap (λ (m : MailboxState). m.arrived) s.1
-    , ap (λ (m : MailboxState). joined nothing m.waiting) s.1
-      ∙ ap (λ (a : Result ℕ IoFault). joined nothing (kept_by a before.waiting offer)) (sym s.0) ∙ kept_is_accepted answer before.waiting offer)
-send_keeps before after offer answer (inr s) =
-    ( ap (λ (m : MailboxState). m.arrived) s.1
-    , stays before.waiting after.waiting (ap (λ (m : MailboxState). m.waiting) s.1)
-      ∙ sym (ap (λ (a : Result ℕ IoFault). joined before.waiting (accepted_by (Sent offer a))) s.0))
+send_keeps before after offer answer (inl s) = (
+  ap (λ (m : MailboxState). m.arrived) s.1,
+  ap (λ (m : MailboxState). joined nothing m.waiting) s.1
+      ∙ ap (λ (a : Result ℕ IoFault). joined nothing (kept_by a before.waiting offer)) (sym s.0) ∙ kept_is_accepted answer before.waiting offer,
+)
+send_keeps before after offer answer (inr s) = (
+  ap (λ (m : MailboxState). m.arrived) s.1,
+  stays before.waiting after.waiting (ap (λ (m : MailboxState). m.waiting) s.1)
+      ∙ sym (ap (λ (a : Result ℕ IoFault). joined before.waiting (accepted_by (Sent offer a))) s.0),
+)
 
 call_keeps : (before after : MailboxState) (c : MailboxCall) → Does before c after
     → (joined (received_by c) after.arrived ≡ joined before.arrived (arrived_by c))
     × (joined (taken_out_by c) after.waiting ≡ joined before.waiting (accepted_by c))
-call_keeps before after (PutIn chunk) d =
-    ( ap (λ (m : MailboxState). joined nothing m.arrived) d
-    , stays before.waiting after.waiting (ap (λ (m : MailboxState). m.waiting) d))
+call_keeps before after (PutIn chunk) d = (
+  ap (λ (m : MailboxState). joined nothing m.arrived) d,
+  stays before.waiting after.waiting (ap (λ (m : MailboxState). m.waiting) d),
+)
 call_keeps before after (Received room answer) d =
     let kept = receive_keeps before after room answer d in
     (kept.0, stays before.waiting after.waiting kept.1)
 call_keeps before after (Sent offer answer) d =
     let kept = send_keeps before after offer answer d in
     (stays before.arrived after.arrived kept.0, kept.1)
-call_keeps before after (TakenOut n out) d =
-    ( stays before.arrived after.arrived (ap (λ (m : MailboxState). m.arrived) d.1)
-    , ap (λ (q : Queue). joined q after.waiting) d.0 ∙ ap (λ (m : MailboxState). joined (front n before.waiting) m.waiting) d.1
-      ∙ front_and_behind n before.waiting ∙ sym (joined_nothing before.waiting))
-call_keeps before after (Told end room fault) d =
-    ( stays before.arrived after.arrived (ap (λ (m : MailboxState). m.arrived) d)
-    , stays before.waiting after.waiting (ap (λ (m : MailboxState). m.waiting) d))
+call_keeps before after (TakenOut n out) d = (
+  stays before.arrived after.arrived (ap (λ (m : MailboxState). m.arrived) d.1),
+  ap (λ (q : Queue). joined q after.waiting) d.0 ∙ ap (λ (m : MailboxState). joined (front n before.waiting) m.waiting) d.1
+      ∙ front_and_behind n before.waiting ∙ sym (joined_nothing before.waiting),
+)
+call_keeps before after (Told end room fault) d = (
+  stays before.arrived after.arrived (ap (λ (m : MailboxState). m.arrived) d),
+  stays before.waiting after.waiting (ap (λ (m : MailboxState). m.waiting) d),
+)
 
 -- ---- all of them
 
@@ -125,5 +132,5 @@ pub mailbox_stays_within_room : (before after : MailboxState) (offer : Queue) (a
     → StaysWithinRoom before offer after
 mailbox_stays_within_room before after offer answer (inl s) =
     room_stays before.send_fault (nat_lt (length before.waiting.bytes) before.room) (nat_le (length before.waiting.tokens + length offer.tokens) 28) before.room
-        before.waiting offer after.waiting (ltb-true (length before.waiting.bytes) before.room) (ap (λ (m : MailboxState). m.waiting) s.1)
+    before.waiting offer after.waiting (ltb-true (length before.waiting.bytes) before.room) (ap (λ (m : MailboxState). m.waiting) s.1)
 mailbox_stays_within_room before after offer answer (inr s) = inl (ap (λ (m : MailboxState). m.waiting) s.1)
