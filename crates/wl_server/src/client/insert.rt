@@ -195,8 +195,8 @@ impl<T: Drop, U: Drop, G: Drop, C: Drop> Backend<T, U, G, C> {
     /// The id that the next `insert_client` gives, if it is not refused for want of memory. `None` if each slot has a
     /// client, or no serial is left. So a program can decide what a client may see before there is one.
     ///
-    /// It looks for a free slot as `insert_client` does, and allocates no memory. A cleanup may free a lower slot, and another
-    /// client takes the id; so it holds until then.
+    /// It looks for a free slot as `insert_client` does, and allocates no memory. The answer holds until a client is inserted or
+    /// a cleanup frees a lower slot.
     pub fn next_client_id(&self) -> Option<ClientId>
         ensures next { NextClient self.now.server.last_client self.now.server.clients result }
         ensures given { NextClientIsGiven self.now.server.last_client self.now.server.clients result }

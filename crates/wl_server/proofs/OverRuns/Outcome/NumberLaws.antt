@@ -59,28 +59,6 @@ module _ {G : Type 0} (globals : Globals G) where
             ]
       ]
 
-  -- the id that was told is the one that is given
-  as_told : (told : Option GlobalParts) (answer : Result GlobalParts GlobalError) → NextGlobal globals told → CreatesNext globals answer → GlobalIsAsTold told answer
-  as_told (Some a) (Ok b) next given = ap Some (next_global_one a b next given)
-  as_told (Some a) (Err global.Full) next lacks = absurd (next_not_lacked a next lacks)
-  as_told (Some a) (Err global.OutOfMemory) next given = refl
-  as_told None (Ok b) lacks given = absurd (next_not_lacked b given lacks)
-  as_told None (Err global.Full) lacks full = refl
-  as_told None (Err global.OutOfMemory) lacks (b, given, unused) = absurd (next_not_lacked b given lacks)
-  as_told told (Err global.UnknownInterface) next given = absurd given
-  as_told told (Err global.VersionTooHigh) next given = absurd given
-
-  pub global_is_as_told : (table : List InterfaceRow) (told : Option GlobalParts) → NextGlobal globals told → NextGlobalIsGiven table globals told
-  global_is_as_told table told next i version answer created =
-      elim (either_option (slice_get table i.0) created) [
-        | inl (none, is) ↦ subst (GlobalIsAsTold told) (sym is) tt
-        | inr (row, some, rest) ↦
-            elim (either_bool (nat_le version row.version) rest) [
-              | inl given ↦ as_told told answer next given
-              | inr is ↦ subst (GlobalIsAsTold told) (sym is) tt
-            ]
-      ]
-
 -- ---- clients
 
 pub client_is : (a b : ClientParts) → a.slot ≡ b.slot → a.serial ≡ b.serial → a ≡ b
