@@ -10,8 +10,8 @@ use std::io::BufReader;
 use std::process::ExitCode;
 use std::rt::{Env, Files};
 use std::{env, fs, io};
-use wl_replay::{Replayed, replay};
 use wl_bench::stop::Stop;
+use wl_replay::{Replayed, replay};
 
 /// Replays the recording in a file, and prints its line. Returns whether the recording is the same today.
 fn replay_file(rt: &(impl Files + Print + AllocGlobal), name: &str) -> Result<bool, Stop> {

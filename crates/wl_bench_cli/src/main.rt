@@ -14,9 +14,9 @@ use std::rt::Env;
 use std::{env, io};
 use wl_bench::commands::{record, run_commands};
 use wl_bench::hex::hex_line;
-use wl_replay::{Replayed, replay};
 use wl_bench::stop::Stop;
 use wl_bench::sync;
+use wl_replay::{Replayed, replay};
 
 /// What the arguments ask for.
 enum Program {

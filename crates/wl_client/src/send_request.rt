@@ -271,13 +271,7 @@ impl<T: Transport + Drop, U: Drop> Backend<T, U> {
         ensures refused { self.new.refused ≡ refused_request result }
     {
         let has_data = user_data.is_some();
-        let checked = check_request(
-            &self.protocol,
-            &self.objects,
-            message,
-            has_data,
-            child_spec,
-        );
+        let checked = check_request(&self.protocol, &self.objects, message, has_data, child_spec);
         let answer = match checked {
             Ok(granted) => self.send_granted(message, granted, user_data),
             Err(error) => Err(error),

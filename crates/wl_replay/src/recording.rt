@@ -10,13 +10,13 @@ ghost use Rattle.wl_replay.specs.Replay.{IsAnother, IsNoCommand, IsOutput, Repla
 ghost use Rattle.wl_bench.specs.Table.{bench_rows};
 ghost use Rattle.wl_bench.specs.declared.stop.Stop.TheVariants.{BadLine, Failed};
 
+use std::alloc::{AllocError, Global};
+use std::io::{BufRead, Write};
 use wl_bench::bench::Bench;
 use wl_bench::command::{Command, parse_line};
 use wl_bench::commands::without_line_feed;
 use wl_bench::stop::Stop;
 use wl_bench::words::number;
-use std::alloc::{AllocError, Global};
-use std::io::{BufRead, Write};
 
 /// The verdict of a replay.
 #[derive(Clone, Copy, Debug, PartialEq, Eq)]

@@ -440,8 +440,8 @@ module _ {T U G C : Type 0} where
       let shared = shared_run w mid after later rest in
       let offer : Offer G = offer_over (new_offer table) (earlier ++ e ∷ []) in
       let known : HasInterfaces offer =
-          subst (λ (o : Offer G). HasInterfaces o) at (after_run (new_offer table) 0 (earlier ++ e ∷ []) mid.offer mid.last_client (at_first table)
-          (shared_run w (new_server table) mid (earlier ++ e ∷ []) first)) in
+      subst (λ (o : Offer G). HasInterfaces o) at (after_run (new_offer table) 0 (earlier ++ e ∷ []) mid.offer mid.last_client (at_first table)
+      (shared_run w (new_server table) mid (earlier ++ e ∷ []) first)) in
       let (numbered, ends) = mine_numbered id offer mid.last_client later after.offer after.last_client
       (subst (λ (o : Offer G). SharedAlone o mid.last_client later after.offer after.last_client) at shared) in
       subst (λ (o : Offer G). MatchOption (seen id after).part (Unit {0})

@@ -4,7 +4,6 @@ use Rattle.std.specs.Prelude.{MatchBool, MatchOption, nat_le, slice_get}
 use Rattle.std.specs.Option.{option_map_or}
 use Rattle.std.proofs.lemmas.Bool.{cases_eq}
 use Rattle.std.proofs.lemmas.Option.{same_Some, slice_get_within}
-
 use mathlib.Core.Logic.{inl, inr}
 use Rattle.wl_wire.specs.declared.interface.InterfaceId.{InterfaceId}
 use Rattle.wl_wire.specs.declared.protocol.TableError.{TableError}
