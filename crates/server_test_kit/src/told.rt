@@ -335,6 +335,7 @@ pub fn reply(log: &mut String, reply: &Reply<Memory, u32>) -> Result<(), Fail> {
         Reply::InsertClient(answer) => inserted(log, answer),
         Reply::CreateGlobal(answer) => global(log, answer),
         Reply::Flush(answer) => done(log, answer),
+        Reply::AddInterfaces(answer) => done(log, answer),
         Reply::Cleanup(answer) => cleaned(log, answer),
         Reply::TakeNotes(answer) => notes(log, answer),
         Reply::Arrive(_)

@@ -1,8 +1,9 @@
 //! A *reading*: handles messages, and receives more if none is complete.
 
-ghost use Rattle.std.specs.Prelude.{◌≡◌, ◌≤◌, OnErr, option_map};
+ghost use Rattle.std.specs.Prelude.{◌≡◌, ◌≤◌, Ok, OnErr, option_map};
+ghost use Rattle.std.specs.Result.{result_and};
 ghost use Rattle.wl_client.specs.Cutting.{CutsReading};
-ghost use Rattle.wl_client.specs.Reading.{EndsWithRoom, NextEvent, ReadsTo, answer_into, event_content};
+ghost use Rattle.wl_client.specs.Reading.{EndsWithRoom, NextEvent, ReadsTo, event_content};
 ghost use Rattle.wl_client.specs.Inside.ReadingLoop.{Live, ReceivedTo, Waited, event_answer, event_refused, with_event};
 
 use crate::backend::Backend;
@@ -123,8 +124,8 @@ impl<T: Transport + Drop, U: Drop> Backend<T, U> {
         &mut self,
         event: &mut Message<ObjectId, Token>,
     ) -> Result<(), EventError>
-        ensures cutting { CutsReading T.sends T.receives self.old.session (event_content (answer_into result event.new)) self.new.refused self.new.session }
-        ensures read { NextEvent T.sends T.receives self.old.session (event_content (answer_into result event.new)) self.new.refused self.new.session }
+        ensures cutting { CutsReading T.sends T.receives self.old.session (event_content (result_and result (Ok event.new))) self.new.refused self.new.session }
+        ensures read { NextEvent T.sends T.receives self.old.session (event_content (result_and result (Ok event.new))) self.new.refused self.new.session }
         ensures room { EndsWithRoom self.old.session self.new.session }
         ensures kept { OnErr result (event.new ≡ event.old) }
     {

@@ -6,13 +6,16 @@ use server_test_kit::steps::Call;
 use server_test_kit::values::{BOUND, FIRST, Named, SECOND, THIRD, Who};
 use std::test::Fail;
 use test_kit::quad::QUAD;
-use wl_wire::IoFault;
+use wl_wire::{InterfaceId, IoFault};
 
 /// The first global.
 const GLOBAL: Named = Named(1, 1);
 
+/// The interface that a server with the two of the tests takes next.
+const ADDED: InterfaceId = InterfaceId(6);
+
 /// The runs, and what they tell.
-static ROWS: [Row; 8] = [
+static ROWS: [Row; 9] = [
     // A registry is told of the globals, of one that is disabled once, and of a new one of a name that was used.
     Row {
         name: "registry is told",
@@ -170,6 +173,29 @@ static ROWS: [Row; 8] = [
             Act::Do(Call::Cleanup),
         ],
         told: "client 0, 1\nclient 1, 2\nIo error: would block\nIo error: would block\nglobal 147, 147\n4088 bytes\ndone\n4088 bytes\n28 bytes\ndone\n4088 bytes\ninitialized 0, 1\ninitialized 1, 2\ndisconnected 0, 1: closed\nout: client 0, 1 with 1 sends\n",
+    },
+    // A table takes an interface, of which no client is told, and a global of it is announced by its name. A name that is
+    // taken is refused, and the globals that were created keep theirs.
+    Row {
+        name: "interfaces are added",
+        acts: &[
+            Act::Do(Call::Insert(true)),
+            Act::Do(Call::Arrive(FIRST, &GET_REGISTRY)),
+            Act::Do(Call::Next(FIRST)),
+            Act::Do(Call::Global(QUAD, 3)),
+            Act::Do(Call::FlushAll),
+            Act::Do(Call::TakeSent(FIRST)),
+            Act::Do(Call::Global(ADDED, 1)),
+            Act::Do(Call::Add("solo")),
+            Act::Do(Call::FlushAll),
+            Act::Do(Call::TakeSent(FIRST)),
+            Act::Do(Call::Add("solo")),
+            Act::Do(Call::Global(ADDED, 1)),
+            Act::Do(Call::FlushAll),
+            Act::Do(Call::TakeSent(FIRST)),
+            Act::Look(Look::Global(GLOBAL)),
+        ],
+        told: "client 0, 1\nIo error: would block\nglobal 1, 1\ndone\n02 00 00 00 00 00 1c 00 01 00 00 00 05 00 00 00 71 75 61 64 00 00 00 00 03 00 00 00\nthe interface is not in the table\ndone\ndone\ninterface 0: the name is taken\nglobal 2, 2\ndone\n02 00 00 00 00 00 1c 00 02 00 00 00 05 00 00 00 73 6f 6c 6f 00 00 00 00 01 00 00 00\ninterface 4, version 3, disabled: false\n",
     },
     // Slots are used again, serials are not.
     Row {
