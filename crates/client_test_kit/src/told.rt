@@ -3,8 +3,8 @@
 use std::alloc::AllocError;
 use std::fmt::{Display, Write};
 use wl_client::{
-    DestroyError, EventError, FinishRefused, FlushError, Note, ObjectId, Reply, RequestError,
-    WaylandError,
+    DestroyError, EventError, FinishRefused, FlushError, Note, ObjectId, OpenEvent, Reply,
+    RequestError, WaylandError,
 };
 use wl_wire::{Argument, CString, Message, Token};
 
@@ -92,6 +92,32 @@ pub fn write_read(
     match answer {
         Ok(event) => write_event(log, event),
         Err(error) => writeln!(log, "{error}"),
+    }
+}
+
+/// Writes the event that is open: the number and the serial of its sender, whether it ends that, and the object that it made.
+fn write_event_open(log: &mut String, event: &OpenEvent) -> Result<(), AllocError> {
+    let sender = event.sender;
+    write!(
+        log,
+        "open: of {}, {}",
+        sender.protocol_id(),
+        sender.serial()
+    )?;
+    if event.is_destructor {
+        write!(log, " which ends")?;
+    }
+    if let Some(id) = event.created {
+        write_new(log, id)?;
+    }
+    writeln!(log)
+}
+
+/// Writes the event that is open, or that none is.
+pub fn write_open(log: &mut String, event: &Option<OpenEvent>) -> Result<(), AllocError> {
+    match event {
+        Some(event) => write_event_open(log, event),
+        None => writeln!(log, "none open"),
     }
 }
 

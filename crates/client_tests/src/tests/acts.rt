@@ -3,6 +3,7 @@
 ghost use Rattle.std.specs.Prelude.{◌<◌};
 
 use super::replayed::replay;
+use super::ways::{Read, Way, read_in, send_in};
 use client_test_kit::steps::Call;
 use client_test_kit::told::*;
 use client_test_kit::values::{Child, Object, Request, message};
@@ -13,12 +14,12 @@ use test_kit::cuts::{Cut, Stream};
 use test_kit::log::row_tells;
 use test_kit::message::padded;
 use test_kit::quad::quad_table;
-use wl_client::{Backend, EventError, ObjectId};
+use wl_client::{Backend, EventError};
 use wl_link::Memory;
-use wl_wire::{IoFault, Message, Token};
+use wl_wire::{IoFault, Token};
 
 /// A client whose objects have numbers as their data.
-type Client = Backend<Memory, u32>;
+pub type Client = Backend<Memory, u32>;
 
 /// A call of a client, a look at it, or what its script is given.
 #[derive(Clone, Copy)]
@@ -66,6 +67,8 @@ pub enum Look {
     Text(Object),
     /// The session's error.
     LastError,
+    /// The event that is open.
+    Open,
     /// How many arrivals the script has left.
     Arrivals,
     /// What was sent, a send a line.
@@ -117,11 +120,12 @@ fn send_with(
     alloc: Global,
     client: &mut Client,
     log: &mut String,
+    way: Way,
     request: Request,
     child: Child,
 ) -> Result<(), Fail> {
     let message = message(alloc, request)?;
-    let answer = client.send_request(message, child.0, child.1);
+    let answer = send_in(client, way, message, child);
     let written = write_sent(log, &answer);
     told(client, written)
 }
@@ -131,9 +135,10 @@ fn send(
     alloc: Global,
     client: &mut Client,
     log: &mut String,
+    way: Way,
     request: Request,
 ) -> Result<(), Fail> {
-    send_with(alloc, client, log, request, request.child())
+    send_with(alloc, client, log, way, request, request.child())
 }
 
 /// Sends the request, and fails if there was memory for it.
@@ -141,11 +146,11 @@ fn send_in_want(
     alloc: Global,
     client: &mut Client,
     log: &mut String,
+    way: Way,
     request: Request,
 ) -> Result<(), Fail> {
     let message = message(alloc, request)?;
-    let child = request.child();
-    let answer = client.send_request(message, child.0, child.1);
+    let answer = send_in(client, way, message, request.child());
     write_sent(log, &answer)?;
     if client.memory_refused() {
         Ok(())
@@ -155,9 +160,9 @@ fn send_in_want(
 }
 
 /// Sends the requests of the registry and of a `quad` of version 3.
-fn bound(alloc: Global, client: &mut Client, log: &mut String) -> Result<(), Fail> {
-    send(alloc, client, log, Request::GetRegistry)?;
-    send(alloc, client, log, Request::Bind)
+fn bound(alloc: Global, client: &mut Client, log: &mut String, way: Way) -> Result<(), Fail> {
+    send(alloc, client, log, way, Request::GetRegistry)?;
+    send(alloc, client, log, way, Request::Bind)
 }
 
 /// Sends what waits.
@@ -168,8 +173,8 @@ fn flush(client: &mut Client, log: &mut String) -> Result<(), Fail> {
 }
 
 /// Reads the next event.
-fn next(client: &mut Client, log: &mut String) -> Result<(), Fail> {
-    let answer = client.next_event();
+fn next(alloc: Global, client: &mut Client, log: &mut String, way: Way) -> Result<(), Fail> {
+    let answer = read_in(alloc, client, way)?;
     let written = write_read(log, &answer);
     told(client, written)
 }
@@ -194,11 +199,7 @@ enum Came {
 
 /// Tells the answer to a reading, and what it comes to. Of a reading that would block it tells nothing if something is still to
 /// arrive.
-fn comes_to(
-    client: &Client,
-    log: &mut String,
-    answer: &Result<Message<ObjectId, Token>, EventError>,
-) -> Result<Came, Fail> {
+fn comes_to(client: &Client, log: &mut String, answer: &Read) -> Result<Came, Fail> {
     let would_block = matches!(answer, Err(EventError::WouldBlock));
     if would_block && client.transport().arrivals_left() > 0 {
         return Ok(Came::NotYet);
@@ -213,14 +214,19 @@ fn comes_to(
 }
 
 /// Reads once.
-fn read_once(client: &mut Client, log: &mut String) -> Result<Came, Fail> {
-    let answer = client.next_event();
+fn read_once(alloc: Global, client: &mut Client, log: &mut String, way: Way) -> Result<Came, Fail> {
+    let answer = read_in(alloc, client, way)?;
     comes_to(client, log, &answer)
 }
 
 /// Reads once, and finishes the event; whether there may be more to read.
-fn serve_once(client: &mut Client, log: &mut String) -> Result<bool, Fail> {
-    match read_once(client, log)? {
+fn serve_once(
+    alloc: Global,
+    client: &mut Client,
+    log: &mut String,
+    way: Way,
+) -> Result<bool, Fail> {
+    match read_once(alloc, client, log, way)? {
         Came::Event => {
             finish(client, log, None)?;
             Ok(true)
@@ -231,9 +237,9 @@ fn serve_once(client: &mut Client, log: &mut String) -> Result<bool, Fail> {
 }
 
 /// Reads, and finishes each event, until nothing more is there or a reading fails.
-fn serve(client: &mut Client, log: &mut String) -> Result<(), Fail> {
+fn serve(alloc: Global, client: &mut Client, log: &mut String, way: Way) -> Result<(), Fail> {
     for _ in 0..1000 {
-        if !serve_once(client, log)? {
+        if !serve_once(alloc, client, log, way)? {
             return Ok(());
         }
     }
@@ -292,6 +298,12 @@ fn last_error(client: &Client, log: &mut String) -> Result<(), Fail> {
         Some(error) => writeln!(log, "{error}"),
         None => writeln!(log, "no error"),
     };
+    told(client, written)
+}
+
+/// Tells the event that is open.
+fn open(client: &Client, log: &mut String) -> Result<(), Fail> {
+    let written = write_open(log, &client.open_event());
     told(client, written)
 }
 
@@ -399,6 +411,7 @@ fn look_at(alloc: Global, client: &Client, log: &mut String, look: Look) -> Resu
         Look::Data(object) => data(client, log, object),
         Look::Text(object) => text(alloc, client, log, object),
         Look::LastError => last_error(client, log),
+        Look::Open => open(client, log),
         Look::Arrivals => arrivals(client, log),
         Look::Sent => sent(client, log),
         Look::Lengths => lengths(client, log),
@@ -419,17 +432,23 @@ fn play(alloc: Global, client: &mut Client, cue: Cue) -> Result<(), Fail> {
     }
 }
 
-/// Makes the call, and tells its answer.
-fn perform(alloc: Global, client: &mut Client, log: &mut String, act: Act) -> Result<(), Fail> {
+/// Makes the call in this way, and tells its answer.
+fn perform(
+    alloc: Global,
+    client: &mut Client,
+    log: &mut String,
+    way: Way,
+    act: Act,
+) -> Result<(), Fail> {
     match act {
         Act::Limit(bytes) => limit(client, bytes),
-        Act::Send(request) => send(alloc, client, log, request),
-        Act::SendWith(request, child) => send_with(alloc, client, log, request, child),
-        Act::SendInWant(request) => send_in_want(alloc, client, log, request),
-        Act::Bound => bound(alloc, client, log),
+        Act::Send(request) => send(alloc, client, log, way, request),
+        Act::SendWith(request, child) => send_with(alloc, client, log, way, request, child),
+        Act::SendInWant(request) => send_in_want(alloc, client, log, way, request),
+        Act::Bound => bound(alloc, client, log, way),
         Act::Flush => flush(client, log),
-        Act::Next => next(client, log),
-        Act::Serve => serve(client, log),
+        Act::Next => next(alloc, client, log, way),
+        Act::Serve => serve(alloc, client, log, way),
         Act::Finish(data) => finish(client, log, data),
         Act::SetData(object, data) => set_data(client, log, object, data),
         Act::Destroy(object) => destroy(client, log, object),
@@ -447,18 +466,18 @@ fn connected(alloc: Global) -> Result<Client, Fail> {
 }
 
 /// What the acts tell, one after the other.
-fn log_by(alloc: Global, client: &mut Client, acts: &[Act]) -> Result<String, Fail> {
+fn log_by(alloc: Global, client: &mut Client, way: Way, acts: &[Act]) -> Result<String, Fail> {
     let mut log = String::new(alloc);
     for act in acts {
-        perform(alloc, client, &mut log, *act)?;
+        perform(alloc, client, &mut log, way, *act)?;
     }
     Ok(log)
 }
 
 /// What the acts tell of a client in which nothing has happened.
-pub fn log_of(alloc: Global, acts: &[Act]) -> Result<String, Fail> {
+pub fn log_of(alloc: Global, way: Way, acts: &[Act]) -> Result<String, Fail> {
     let mut client = connected(alloc)?;
-    log_by(alloc, &mut client, acts)
+    log_by(alloc, &mut client, way, acts)
 }
 
 /// A row of a table of runs: what a failing one is named, its acts, and what they have to tell.
@@ -468,10 +487,20 @@ pub struct Row {
     pub told: &'static str,
 }
 
-/// Fails if a run of a client in which nothing has happened tells something else than its row says.
+/// Fails if the run in this way tells something else than its row says.
+fn row_tells_in(rt: &(impl Eprint + AllocGlobal), row: &Row, way: Way) -> Result<(), Fail> {
+    let told = row_tells(rt, row.name, log_of(rt.alloc(), way, row.acts), row.told);
+    if told.is_err() {
+        let _ = eprintln!(rt; "messages are {}", way.name());
+    }
+    told
+}
+
+/// Fails if a run of a client in which nothing has happened tells something else than its row says, in either way.
 pub fn rows_tell(rt: &(impl Eprint + AllocGlobal), rows: &[Row]) -> Result<(), Fail> {
     for row in rows {
-        row_tells(rt, row.name, log_of(rt.alloc(), row.acts), row.told)?;
+        row_tells_in(rt, row, Way::Moved)?;
+        row_tells_in(rt, row, Way::Lent)?;
     }
     Ok(())
 }

@@ -1,6 +1,7 @@
 //! What a server sends, and what breaks the protocol, in every cutting: whole, in two at each place, and byte by byte.
 
 use super::acts::{Act, Cue, Look, log_of};
+use super::ways::Way;
 use client_test_kit::values::{Object, Request};
 use std::alloc::Global;
 use std::test::Fail;
@@ -85,7 +86,7 @@ fn told_in(alloc: Global, row: &Row, number: usize) -> Result<String, Fail> {
     ];
     let mut acts = Vec::from_slice(alloc, &front)?;
     acts.extend_from_slice(row.after)?;
-    log_of(alloc, acts.as_slice())
+    log_of(alloc, Way::Moved, acts.as_slice())
 }
 
 /// Fails if the row tells something else in the cutting of that number, and names it.

@@ -1,9 +1,10 @@
 //! Events: their arguments, those that break the protocol, and errors that the server tells.
 
 use super::acts::{Act, Cue, Look, Row, rows_tell};
-use client_test_kit::values::Request;
+use client_test_kit::values::{Object, Request};
 use std::test::Fail;
 use test_kit::quad::PAIR;
+use wl_wire::IoFault;
 
 /// The runs, and what they tell: of a client with a `quad`, the object 3, or with a `pair` beside it, the object 4, whose events
 /// come with the descriptor 9. It tells the event, and the session's error.
@@ -137,6 +138,107 @@ static ROWS: [Row; 9] = [
         told: "the session failed\nProtocol error 0 on object @0: Malformed Wayland message.\n",
     },
 ];
+
+/// `quad.moved` of the `quad` 3, by 7.
+const MOVED: [u8; 12] = [3, 0, 0, 0, 0, 0, 12, 0, 7, 0, 0, 0];
+
+/// `quad.made` of the `quad` 3, with the first number of the server's range.
+const MADE: [u8; 12] = [3, 0, 0, 0, 1, 0, 12, 0, 0, 0, 0, 255];
+
+/// `quad.gone` of the `quad` 3, which the table names a destructor.
+const GONE: [u8; 8] = [3, 0, 0, 0, 2, 0, 8, 0];
+
+/// Runs of a client with a `quad`, the object 3 with the serial 2, that look at the event that is open.
+static OPEN: [Row; 5] = [
+    // None before the first event, none after its end, and none after a reading without an event.
+    Row {
+        name: "plain event",
+        acts: &[
+            Act::Look(Look::Open),
+            Act::Bound,
+            Act::Script(Cue::Arrive(&MOVED)),
+            Act::Look(Look::Open),
+            Act::Next,
+            Act::Look(Look::Open),
+            Act::Finish(None),
+            Act::Look(Look::Open),
+            Act::Next,
+            Act::Look(Look::Open),
+        ],
+        told: "none open\nsent: 2, 1\nsent: 3, 2\nnone open\nevent 0 of 3: 7\nopen: of 3, 2\nfinished\nnone open\nwould block\nnone open\n",
+    },
+    // The event stays open while its sender is destroyed.
+    Row {
+        name: "event that ends its object",
+        acts: &[
+            Act::Bound,
+            Act::Script(Cue::Arrive(&GONE)),
+            Act::Next,
+            Act::Look(Look::Open),
+            Act::Destroy(Object::Quad),
+            Act::Look(Look::Open),
+            Act::Finish(None),
+            Act::Look(Look::Open),
+        ],
+        told: "sent: 2, 1\nsent: 3, 2\nevent 2 of 3:\nopen: of 3, 2 which ends\ndestroyed\nopen: of 3, 2 which ends\nfinished\nnone open\n",
+    },
+    // Neither a refused reading nor a refused finish ends the event, and the next event is another.
+    Row {
+        name: "event that makes an object",
+        acts: &[
+            Act::Bound,
+            Act::Script(Cue::Arrive(&MADE)),
+            Act::Script(Cue::Arrive(&MOVED)),
+            Act::Next,
+            Act::Look(Look::Open),
+            Act::Next,
+            Act::Look(Look::Open),
+            Act::Finish(None),
+            Act::Look(Look::Open),
+            Act::Finish(Some(7)),
+            Act::Look(Look::Open),
+            Act::Next,
+            Act::Look(Look::Open),
+        ],
+        told: "sent: 2, 1\nsent: 3, 2\nevent 1 of 3: new 4278190080, 3\nopen: of 3, 2 new 4278190080, 3\nan event is open\nopen: of 3, 2 new 4278190080, 3\nthe new object gets no user data\nopen: of 3, 2 new 4278190080, 3\nfinished\nnone open\nevent 0 of 3: 7\nopen: of 3, 2\n",
+    },
+    // An event of a destroyed object is not handed out.
+    Row {
+        name: "dropped event",
+        acts: &[
+            Act::Bound,
+            Act::Destroy(Object::Quad),
+            Act::Script(Cue::Arrive(&MADE)),
+            Act::Next,
+            Act::Look(Look::Open),
+        ],
+        told: "sent: 2, 1\nsent: 3, 2\ndestroyed\nwould block\nnone open\n",
+    },
+    // The session fails while the event is open, by a send that fails.
+    Row {
+        name: "failed session",
+        acts: &[
+            Act::Bound,
+            Act::Script(Cue::Arrive(&MOVED)),
+            Act::Next,
+            Act::Script(Cue::AcceptFault(IoFault::Other(5))),
+            Act::Flush,
+            Act::Next,
+            Act::Look(Look::Open),
+            Act::Finish(None),
+            Act::Look(Look::Open),
+            Act::Next,
+            Act::Look(Look::Open),
+        ],
+        told: "sent: 2, 1\nsent: 3, 2\nevent 0 of 3: 7\nthe session failed\nthe session failed\nopen: of 3, 2\nfinished\nnone open\nthe session failed\nnone open\n",
+    },
+];
+
+/// Each run tells which event is open.
+#[test]
+fn open_events(rt: HostRuntime) -> Result<(), Fail> {
+    rows_tell(&rt, &OPEN)
+}
 
 /// Each run tells what it has to.
 #[test]
