@@ -6,6 +6,7 @@ ghost use Rattle.wl_link.specs.ObjectMap.{InsertsNew, NextNew};
 ghost use Rattle.wl_link.specs.Store.{held, rewritten};
 ghost use Rattle.wl_server.specs.Globals.{CreatesGlobal, as_disabled, disabled, freed, global_serial, name_range, new_global, with_created};
 
+pub mod add_interfaces;
 pub mod announce;
 pub mod create_global;
 pub mod handler;

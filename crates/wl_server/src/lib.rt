@@ -22,6 +22,7 @@
 //! | `finish_request`, `finish_bind`, and both `_returning` | `reading::finish` | `Finish`, `Cutting`, `Plain` |
 //! | `dispatch_single_client`, `dispatch_all_clients`, [`Handler`] | `dispatch` | `Dispatch`, `Reached` |
 //! | `create_global`, `disable_global`, `remove_global` | `globals::create_global`, `globals::remove_global` | `PartStep`, `Globals`, `Felt` |
+//! | `add_interfaces` | `globals::add_interfaces` | `Steps`, and `Table` of `wl_wire` |
 //! | `cleanup`, `take_notes` | `notes` | `PartStep`, `Felt` |
 //! | look-ups, `next_global_id`, `with_all_clients`, `with_all_objects_for` | `lookups`, `globals::lookups` | `Lookups`, `Next` |
 //! | `replay` | `runs::replay` | `Runs`, `Histories`, `WholeOutcome` |
