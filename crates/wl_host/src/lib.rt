@@ -1,0 +1,19 @@
+//! The sessions of the Wayland protocol for a program in another language, the *host*: numbers, flat structs and lent memory in
+//! place of enums and vectors.
+//!
+//! [`Server`] is a server's session. It is `wl_server::Backend` over mailboxes (`wl_link::Mailbox`), with what a host has to
+//! know beside it: who has something to be sent, who is gone, and which file descriptor is whose.
+#![tactic(auto)]
+
+mod descriptors;
+mod flat;
+mod rows;
+mod status;
+
+pub use flat::{
+    BIND, Counts, DESTROYED, FlatAction, FlatArgument, FlatClientId, FlatError, FlatEvent,
+    FlatGlobalId, FlatGlobalInfo, FlatNote, FlatObjectId, FlatObjectInfo, FlatRequest, Gone,
+    INSERTED, IO, KILLED, PROTOCOL, REQUEST, kind,
+};
+pub use rows::{ArgumentRow, InterfaceRow, MessageRow, Rows, TableFault, fault};
+pub use status::Status;
