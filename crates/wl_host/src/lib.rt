@@ -5,11 +5,13 @@
 //! know beside it: who has something to be sent, who is gone, and which file descriptor is whose.
 #![tactic(auto)]
 
+mod client;
 mod descriptors;
 mod flat;
 mod rows;
 mod status;
 
+pub use client::Client;
 pub use flat::{
     BIND, Counts, DESTROYED, FlatAction, FlatArgument, FlatClientId, FlatError, FlatEvent,
     FlatGlobalId, FlatGlobalInfo, FlatNote, FlatObjectId, FlatObjectInfo, FlatRequest, Gone,

@@ -1,0 +1,68 @@
+//! The objects of a client.
+
+use super::Client;
+use crate::flat::{FlatObjectId, FlatObjectInfo, interface_number};
+use crate::status::Status;
+use std::collections::VecDeque;
+use wl_client::Note;
+
+impl Client {
+    /// The number, interface and version of the object that the id names.
+    ///
+    /// The status is `InvalidId` if the id names no object, or one that the client has destroyed.
+    pub fn object_info(&self, id: &FlatObjectId) -> Result<FlatObjectInfo, Status> {
+        match self.core.info(&id.proxy()) {
+            Ok(info) => Ok(FlatObjectInfo {
+                number: info.id,
+                interface: interface_number(info.interface),
+                version: info.version,
+            }),
+            Err(error) => Err(Status::from(error)),
+        }
+    }
+
+    /// The data of the object that the id names, also if it was destroyed, until its number is free.
+    ///
+    /// The status is `InvalidId` if the id names no object, or one without data.
+    pub fn object_data(&self, id: &FlatObjectId) -> Result<u64, Status> {
+        match self.core.get_data(&id.proxy()) {
+            Ok(user_data) => Ok(*user_data),
+            Err(error) => Err(Status::from(error)),
+        }
+    }
+
+    /// Gives the object that the id names these data, in place of what it had.
+    ///
+    /// The status is `InvalidId` if the id names no object.
+    pub fn set_object_data(&mut self, id: &FlatObjectId, user_data: u64) -> Status {
+        match self.core.set_data(&id.proxy(), user_data) {
+            Ok(()) => Status::Ok,
+            Err(error) => Status::from(error),
+        }
+    }
+
+    /// Destroys the object that the id names, on the client's side. It is noted, if it has data.
+    ///
+    /// The status is `InvalidId` if the id names no object, or the display, or an object that the client has destroyed
+    /// before; else `OutOfMemory` if there is no memory for the note. Then nothing is changed.
+    pub fn destroy_object(&mut self, id: &FlatObjectId) -> Status {
+        match self.core.destroy_object(&id.proxy()) {
+            Ok(()) => Status::Ok,
+            Err(error) => Status::from(error),
+        }
+    }
+
+    /// The id of the next object that had data and was destroyed, by the client or by an event, in the order in which they
+    /// ended. Each comes once.
+    ///
+    /// The status is `WouldBlock` if there is none.
+    pub fn next_note(&mut self) -> Result<FlatObjectId, Status> {
+        if self.notes.is_empty() {
+            self.notes = VecDeque::from_vec(self.core.take_notes());
+        }
+        match self.notes.pop_front() {
+            Some(Note::Destroyed(id)) => Ok(FlatObjectId::of_proxy(id)),
+            None => Err(Status::WouldBlock),
+        }
+    }
+}
