@@ -24,7 +24,6 @@ use crate::rows::{Rows, TableFault, interfaces_of};
 use crate::status::Status;
 use smallvec::SmallVec;
 use std::alloc::Global;
-use std::collections::VecDeque;
 use wl_client::{Backend, Note, ObjectId};
 use wl_link::Mailbox;
 use wl_wire::{Message, Protocol, TableError, Token};
@@ -53,8 +52,10 @@ pub struct Client {
     is_kept: bool,
     /// The request that is being sent, kept for the same reason.
     request: Message<ObjectId, Token>,
-    /// The notes that were taken from the core and not handed out.
-    notes: VecDeque<Note>,
+    /// The notes that were taken from the core.
+    notes: Vec<Note>,
+    /// How many of them were handed out.
+    noted: usize,
 }
 
 /// A message without arguments.
@@ -95,7 +96,8 @@ impl Client {
             event: empty_message(alloc),
             is_kept: false,
             request: empty_message(alloc),
-            notes: VecDeque::new(alloc),
+            notes: Vec::new(alloc),
+            noted: 0,
         })
     }
 

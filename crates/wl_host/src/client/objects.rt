@@ -3,7 +3,6 @@
 use super::Client;
 use crate::flat::{FlatObjectId, FlatObjectInfo, interface_number};
 use crate::status::Status;
-use std::collections::VecDeque;
 use wl_client::Note;
 
 impl Client {
@@ -57,12 +56,15 @@ impl Client {
     ///
     /// The status is `WouldBlock` if there is none.
     pub fn next_note(&mut self) -> Result<FlatObjectId, Status> {
-        if self.notes.is_empty() {
-            self.notes = VecDeque::from_vec(self.core.take_notes());
+        if self.noted >= self.notes.len() {
+            self.notes = self.core.take_notes();
+            self.noted = 0;
         }
-        match self.notes.pop_front() {
-            Some(Note::Destroyed(id)) => Ok(FlatObjectId::of_proxy(id)),
-            None => Err(Status::WouldBlock),
-        }
+        let Some(note) = self.notes.get(self.noted) else {
+            return Err(Status::WouldBlock);
+        };
+        let Note::Destroyed(id) = *note;
+        self.noted += 1;
+        Ok(FlatObjectId::of_proxy(id))
     }
 }
