@@ -5,9 +5,11 @@
 //! know beside it: who has something to be sent, who is gone, and which file descriptor is whose.
 #![tactic(auto)]
 
+mod arguments;
 mod descriptors;
 mod flat;
 mod rows;
+mod server;
 mod status;
 
 pub use flat::{
@@ -16,4 +18,5 @@ pub use flat::{
     INSERTED, IO, KILLED, PROTOCOL, REQUEST, kind,
 };
 pub use rows::{ArgumentRow, InterfaceRow, MessageRow, Rows, TableFault, fault};
+pub use server::{HostClient, HostGlobal, Server};
 pub use status::Status;
