@@ -1,3 +1,4 @@
+pub mod Calls
 pub mod Descriptors
 pub mod Flat
 pub mod Status

@@ -5,10 +5,12 @@
 //! know beside it: who has something to be sent, who is gone, and which file descriptor is whose.
 #![tactic(auto)]
 
+mod arguments;
 mod client;
 mod descriptors;
 mod flat;
 mod rows;
+mod server;
 mod status;
 
 pub use client::Client;
@@ -18,4 +20,5 @@ pub use flat::{
     INSERTED, IO, KILLED, PROTOCOL, REQUEST, kind,
 };
 pub use rows::{ArgumentRow, InterfaceRow, MessageRow, Rows, TableFault, fault};
+pub use server::{HostClient, HostGlobal, Server};
 pub use status::Status;

@@ -1,0 +1,116 @@
+//! The objects of a server's session.
+
+use crate::flat::{FlatClientId, FlatObjectId, FlatObjectInfo, count_number, interface_number};
+use crate::server::Server;
+use crate::status::Status;
+use wl_server::InvalidId;
+use wl_wire::InterfaceId;
+
+impl Server {
+    /// Creates an object of the client (`wl_server::Backend::create_object`).
+    ///
+    /// The status is `MissingData` if `has_data` is 0: such an object always has data. Else it is that of
+    /// `wl_server::CreateError`.
+    pub fn create_object(
+        &mut self,
+        client: &FlatClientId,
+        interface: u32,
+        version: u32,
+        has_data: u32,
+        user_data: u64,
+    ) -> Result<FlatObjectId, Status> {
+        if has_data == 0 {
+            return Err(Status::MissingData);
+        }
+        let interface = InterfaceId(interface as usize);
+        match self
+            .core
+            .create_object(&client.id(), interface, version, user_data)
+        {
+            Ok(id) => Ok(FlatObjectId::of_resource(id)),
+            Err(error) => Err(Status::from(error)),
+        }
+    }
+
+    /// Destroys the object (`wl_server::Backend::destroy_object`). The status is that of `wl_server::DestroyError`.
+    pub fn destroy_object(&mut self, object: &FlatObjectId) -> Status {
+        let id = object.resource();
+        let answer = self.core.destroy_object(&id);
+        self.seats.list(id.client().slot());
+        self.mark();
+        match answer {
+            Ok(()) => Status::Ok,
+            Err(error) => Status::from(error),
+        }
+    }
+
+    /// What the protocol knows of the object. The status is `InvalidId` if the id names none.
+    pub fn object_info(&self, object: &FlatObjectId) -> Result<FlatObjectInfo, Status> {
+        match self.core.object_info(&object.resource()) {
+            Ok(info) => Ok(FlatObjectInfo {
+                number: info.id,
+                interface: interface_number(info.interface),
+                version: info.version,
+            }),
+            Err(error) => Err(Status::from(error)),
+        }
+    }
+
+    /// The program's data of the object. The status is `InvalidId` if the id names no object, or one without data.
+    pub fn object_data(&self, object: &FlatObjectId) -> Result<u64, Status> {
+        match self.core.get_object_data(&object.resource()) {
+            Ok(user_data) => Ok(*user_data),
+            Err(error) => Err(Status::from(error)),
+        }
+    }
+
+    /// Gives the object these data in place of those that it had. The status is `InvalidId` if the id names none.
+    pub fn set_object_data(&mut self, object: &FlatObjectId, user_data: u64) -> Status {
+        match self.core.set_object_data(&object.resource(), user_data) {
+            Ok(()) => Status::Ok,
+            Err(error) => Status::from(error),
+        }
+    }
+
+    /// The client's object that has this number. The status is `InvalidId` if the client is not stored, or no object has the
+    /// number, or it has another interface.
+    pub fn object_for_protocol_id(
+        &self,
+        client: &FlatClientId,
+        interface: u32,
+        number: u32,
+    ) -> Result<FlatObjectId, Status> {
+        let interface = InterfaceId(interface as usize);
+        match self
+            .core
+            .object_for_protocol_id(&client.id(), interface, number)
+        {
+            Ok(id) => Ok(FlatObjectId::of_resource(id)),
+            Err(error) => Err(Status::from(error)),
+        }
+    }
+
+    /// Writes the ids of the client's objects to the lent memory, by ascending number, as far as it has room. `count` is how
+    /// many there are. The status is `InvalidId` if the client is not stored, and `TooSmall` if the memory has no room for all.
+    pub fn objects(
+        &self,
+        client: &FlatClientId,
+        objects: &mut [FlatObjectId],
+        count: &mut u32,
+    ) -> Status {
+        let mut found = 0usize;
+        let places = &mut *objects;
+        let answer = self.core.with_all_objects_for(&client.id(), |id| {
+            if let Some(place) = places.get_mut(found) {
+                *place = FlatObjectId::of_resource(id);
+            }
+            found = found.saturating_add(1);
+        });
+        *count = count_number(found);
+        match answer {
+            Ok(()) if found > objects.len() => Status::TooSmall,
+            Ok(()) => Status::Ok,
+            Err(InvalidId) => Status::InvalidId,
+        }
+    }
+}
