@@ -5,7 +5,7 @@
 //! | `connect`, the table, the limits, `last_error` | this file, `client::faults` |
 //! | `received`, `received_end`, `receive_failed` | `client::receiving` |
 //! | `next_event`, `finish_event` | `client::events`, `client::flattening` |
-//! | `send_request` | `client::requests`, `client::reading` |
+//! | `send_request` | `client::requests` |
 //! | the calls about one object, `next_note` | `client::objects` |
 //! | `flush`, `to_send`, `sent`, `send_failed`, `next_dropped` | `client::sending` |
 
@@ -13,7 +13,6 @@ mod events;
 mod faults;
 mod flattening;
 mod objects;
-mod reading;
 mod receiving;
 mod requests;
 mod sending;

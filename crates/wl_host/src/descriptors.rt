@@ -54,7 +54,7 @@ impl DescriptorQueue {
     }
 
     /// How many descriptors the core holds.
-    pub fn held(&self) -> usize
+    fn held(&self) -> usize
         ensures { result ≡ length self.now.held }
     {
         self.descriptors.len() - self.passed

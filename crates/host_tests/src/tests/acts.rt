@@ -66,13 +66,18 @@ pub fn pad(client: FlatClientId, number: u32, serial: u64) -> FlatObjectId {
 }
 
 /// An argument of a number or a descriptor.
-fn number(kind: u32, value: i32) -> FlatArgument {
+pub const fn number(kind: u32, value: i32) -> FlatArgument {
     FlatArgument {
         kind,
         value,
         at: 0,
         length: 0,
-        object: FlatObjectId::null(),
+        object: FlatObjectId {
+            serial: 0,
+            client: FlatClientId { serial: 0, slot: 0 },
+            interface: 0,
+            number: 0,
+        },
         data: 0,
     }
 }
@@ -85,7 +90,7 @@ fn tell_client(log: &mut String, id: &FlatClientId) -> Result<(), Fail> {
 }
 
 /// An object as `interface@number`.
-fn tell_object(log: &mut String, id: &FlatObjectId) -> Result<(), Fail> {
+pub fn tell_object(log: &mut String, id: &FlatObjectId) -> Result<(), Fail> {
     let FlatObjectId {
         interface,
         number,
@@ -96,7 +101,7 @@ fn tell_object(log: &mut String, id: &FlatObjectId) -> Result<(), Fail> {
 }
 
 /// An argument by its kind, with what it has.
-fn tell_argument(log: &mut String, arg: &FlatArgument) -> Result<(), Fail> {
+pub fn tell_argument(log: &mut String, arg: &FlatArgument) -> Result<(), Fail> {
     let FlatArgument {
         kind,
         value,
@@ -177,7 +182,7 @@ fn tell_words(log: &mut String, bytes: &[u8]) -> Result<(), Fail> {
 }
 
 /// What is to be sent: so many of the bytes and the descriptors.
-fn tell_counts(
+pub fn tell_counts(
     log: &mut String,
     counts: &Counts,
     bytes: &[u8],
@@ -280,7 +285,7 @@ fn received(
 }
 
 /// The status of an answer, whose value is told.
-fn told<T, F: FnOnce(&mut String, T) -> Result<(), Fail>>(
+pub fn told<T, F: FnOnce(&mut String, T) -> Result<(), Fail>>(
     log: &mut String,
     answer: Result<T, Status>,
     tell: F,
@@ -315,7 +320,7 @@ fn tell_kept(log: &mut String, is_kept: bool) -> Result<(), Fail> {
 }
 
 /// Tells a descriptor.
-fn tell_descriptor(log: &mut String, descriptor: i32) -> Result<(), Fail> {
+pub fn tell_descriptor(log: &mut String, descriptor: i32) -> Result<(), Fail> {
     write!(log, " descriptor {descriptor}")?;
     Ok(())
 }

@@ -1,7 +1,8 @@
 //! Events.
 
 use super::Client;
-use super::flattening::{flat_event, flatten, needed_bytes};
+use super::flattening::flat_event;
+use crate::arguments::{Needs, write_arguments};
 use crate::flat::{FlatArgument, FlatEvent};
 use crate::status::Status;
 
@@ -45,12 +46,18 @@ impl Client {
         if status != Status::Ok {
             return status;
         }
-        *out = flat_event(&self.core, &self.event);
-        let args = self.event.args.as_slice();
-        if arguments.len() < args.len() || bytes.len() < needed_bytes(args) {
+        let needs = Needs::of(self.event.args.as_slice());
+        *out = flat_event(&self.core, &self.event, needs);
+        if !needs.fit(arguments, bytes) {
             return Status::TooSmall;
         }
-        flatten(&self.core, &mut self.arrivals, args, arguments, bytes);
+        write_arguments(
+            &self.core,
+            self.event.args.as_slice(),
+            &mut self.arrivals,
+            arguments,
+            bytes,
+        );
         self.is_kept = false;
         Status::Ok
     }

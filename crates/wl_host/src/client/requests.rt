@@ -1,7 +1,7 @@
 //! Requests.
 
 use super::Client;
-use super::reading::read_arguments;
+use crate::arguments::read_arguments;
 use crate::flat::{FlatArgument, FlatObjectId, FlatRequest};
 use crate::status::Status;
 use wl_wire::InterfaceId;
@@ -41,42 +41,26 @@ impl Client {
         arguments: &[FlatArgument],
         bytes: &[u8],
     ) -> Result<FlatObjectId, Status> {
-        let before = self.departures.held();
-        let answer = self.send(request, arguments, bytes);
-        self.request.args.clear();
-        if answer.is_err() {
-            let more = self.departures.held().saturating_sub(before);
-            self.departures.take_back(more);
-        }
-        answer
-    }
-
-    /// Reads the request, and sends it. After an error its descriptors may still be there.
-    fn send(
-        &mut self,
-        request: &FlatRequest,
-        arguments: &[FlatArgument],
-        bytes: &[u8],
-    ) -> Result<FlatObjectId, Status> {
         let Ok(opcode) = u16::try_from(request.opcode) else {
             return Err(Status::InvalidInput);
         };
-        let alloc = *self.notes.allocator();
         self.request.sender_id = request.sender.proxy();
         self.request.opcode = opcode;
-        read_arguments(
-            alloc,
-            &mut self.departures,
+        let count = read_arguments(
+            &mut self.request.args,
             arguments,
             bytes,
-            &mut self.request.args,
+            &mut self.departures,
         )?;
         let answer = self
             .core
             .send_request_lent(&self.request, data_of(request), child_of(request));
         match answer {
             Ok(id) => Ok(FlatObjectId::of_proxy(id)),
-            Err(error) => Err(Status::from(error)),
+            Err(error) => {
+                self.departures.take_back(count);
+                Err(Status::from(error))
+            }
         }
     }
 }
