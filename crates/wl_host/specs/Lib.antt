@@ -1,3 +1,4 @@
+pub mod Client
 pub mod Calls
 pub mod Descriptors
 pub mod Flat

@@ -9,6 +9,10 @@
 //! | the calls about one object, `next_note` | `client::objects` |
 //! | `flush`, `to_send`, `sent`, `send_failed`, `next_dropped` | `client::sending` |
 
+ghost use Rattle.std.specs.Prelude.{◌≡◌, Ok};
+ghost use Rattle.wl_wire.specs.Table.{display_id};
+ghost use Rattle.wl_host.specs.Flat.{flat_proxy};
+
 mod events;
 mod faults;
 mod flattening;
@@ -114,7 +118,9 @@ impl Client {
     }
 
     /// Whether memory was refused in the last call of the core that changes it.
-    pub fn memory_refused(&self) -> Result<bool, Status> {
+    pub fn memory_refused(&self) -> Result<bool, Status>
+        ensures { result ≡ Ok self.now.core.refused }
+    {
         Ok(self.core.memory_refused())
     }
 
@@ -140,7 +146,9 @@ impl Client {
     }
 
     /// The id of the display, `wl_display`, which is object 1.
-    pub fn display(&self) -> Result<FlatObjectId, Status> {
+    pub fn display(&self) -> Result<FlatObjectId, Status>
+        ensures { result ≡ Ok (flat_proxy (record { number = 1; serial = 0; interface = display_id })) }
+    {
         Ok(FlatObjectId::of_proxy(self.core.display_id()))
     }
 }

@@ -1,5 +1,8 @@
 //! Events.
 
+ghost use Rattle.std.specs.Prelude.{◌≡◌, None, Some};
+ghost use Rattle.wl_host.specs.Client.{EndsEvent, ReadsUnlessKept};
+
 use super::Client;
 use super::flattening::flat_event;
 use crate::arguments::{Needs, write_arguments};
@@ -8,7 +11,9 @@ use crate::status::Status;
 
 impl Client {
     /// Reads the next event, unless one is kept. Then it is kept.
-    fn read(&mut self) -> Status {
+    fn read(&mut self) -> Status
+        ensures { ReadsUnlessKept self.old.is_kept self.old.core self.old.event result self.new.event self.new.core }
+    {
         if self.is_kept {
             return Status::Ok;
         }
@@ -72,19 +77,28 @@ impl Client {
     /// - `OutOfMemory` if there is no memory for the note.
     ///
     /// Then the event stays open.
-    pub fn finish_event(&mut self) -> Status {
+    pub fn finish_event(&mut self) -> Status
+        ensures call { EndsEvent self.old.is_kept self.old.core None result self.new.core }
+        ensures beside { self.new ≡ record self.old { core = self.new.core } }
+    {
         self.finish(None)
     }
 
     /// Ends the event that was handed out, and gives the object that it made these data.
     ///
     /// The statuses are those of `finish_event`, with `UnexpectedData` in place of `MissingData`: the event made no object.
-    pub fn finish_event_with(&mut self, user_data: u64) -> Status {
+    pub fn finish_event_with(&mut self, user_data: u64) -> Status
+        ensures call { EndsEvent self.old.is_kept self.old.core (Some user_data) result self.new.core }
+        ensures beside { self.new ≡ record self.old { core = self.new.core } }
+    {
         self.finish(Some(user_data))
     }
 
     /// Ends the event that was handed out.
-    fn finish(&mut self, user_data: Option<u64>) -> Status {
+    fn finish(&mut self, user_data: Option<u64>) -> Status
+        ensures call { EndsEvent self.old.is_kept self.old.core user_data result self.new.core }
+        ensures beside { self.new ≡ record self.old { core = self.new.core } }
+    {
         if self.is_kept {
             return Status::NotOpen;
         }

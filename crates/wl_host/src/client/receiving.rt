@@ -1,5 +1,9 @@
 //! What the host received.
 
+ghost use Rattle.std.specs.Prelude.{◌≡◌};
+ghost use Rattle.wl_link.specs.declared.mailbox.Ending.TheVariants as ending;
+ghost use Rattle.wl_client.specs.Lending.{client_over};
+
 use super::Client;
 use crate::status::Status;
 use wl_link::{Ending, MAX_FDS_OUT};
@@ -35,7 +39,9 @@ impl Client {
 
     /// Says that the server closed the connection. The events that arrived before are still read. Then the session fails,
     /// and its error is `Closed`.
-    pub fn received_end(&mut self) -> Status {
+    pub fn received_end(&mut self) -> Status
+        ensures ended { self.new.core ≡ client_over self.old.core (record self.old.core.session.link.transport { ending = ending.Ended }) }
+    {
         self.core.transport_mut().end(Ending::Ended);
         Status::Ok
     }

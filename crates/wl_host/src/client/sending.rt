@@ -1,5 +1,8 @@
 //! What the host is to send, and the descriptors that it takes back.
 
+ghost use Rattle.std.specs.Prelude.{◌≡◌};
+ghost use Rattle.wl_host.specs.Client.{Flushes};
+
 use super::Client;
 use crate::flat::Counts;
 use crate::status::Status;
@@ -13,7 +16,10 @@ impl Client {
     /// - `Failed` if the session has an error, or gets one now;
     /// - `WouldBlock` if the host has to send first: so many bytes wait as there is room for, or 28 descriptors do;
     /// - `OutOfMemory` if there is no memory. What was not put there still waits.
-    pub fn flush(&mut self) -> Status {
+    pub fn flush(&mut self) -> Status
+        ensures call { Flushes self.old.core result self.new.core }
+        ensures beside { self.new ≡ record self.old { core = self.new.core } }
+    {
         match self.core.flush() {
             Ok(()) => Status::Ok,
             Err(error) => Status::from(error),
@@ -77,7 +83,9 @@ impl Client {
     /// event is kept, they are all that were put in and did not come out. Then nothing is left to be sent.
     ///
     /// The status is `WouldBlock` if there is none.
-    pub fn next_dropped(&mut self) -> Result<i32, Status> {
+    pub fn next_dropped(&mut self) -> Result<i32, Status>
+        ensures core { self.new.core ≡ self.old.core }
+    {
         if self.has_failed() {
             self.let_go();
         }
