@@ -3,6 +3,9 @@
 //!
 //! [`Server`] is a server's session. It is `wl_server::Backend` over mailboxes (`wl_link::Mailbox`), with what a host has to
 //! know beside it: who has something to be sent, who is gone, and which file descriptor is whose.
+//!
+//! [`Client`] is a client's session, `wl_client::Backend` over a mailbox, in the same way. `specs/Client` has the relations that
+//! its calls keep.
 #![tactic(auto)]
 
 mod arguments;

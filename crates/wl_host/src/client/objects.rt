@@ -2,7 +2,7 @@
 
 ghost use Rattle.std.specs.Prelude.{◌≡◌};
 ghost use Rattle.wl_client.specs.Objects.{info_of, user_data_of};
-ghost use Rattle.wl_host.specs.Client.{Destroys, GivesData, flat_info, found, status_of};
+ghost use Rattle.wl_host.specs.Client.{Destroys, flat_info, found, status_of};
 ghost use Rattle.wl_host.specs.declared.status.Status.TheVariants as status;
 ghost use Rattle.wl_host.specs.Flat.{proxy_of};
 
@@ -54,7 +54,6 @@ impl Client {
     ///
     /// The status is `InvalidId` if the id names no object.
     pub fn set_object_data(&mut self, id: &FlatObjectId, user_data: u64) -> Status
-        ensures call { GivesData self.old.core (proxy_of id.now) user_data result self.new.core }
         ensures beside { self.new ≡ record self.old { core = self.new.core } }
     {
         given_status(self.core.set_data(&id.proxy(), user_data))

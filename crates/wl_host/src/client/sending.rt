@@ -83,9 +83,7 @@ impl Client {
     /// event is kept, they are all that were put in and did not come out. Then nothing is left to be sent.
     ///
     /// The status is `WouldBlock` if there is none.
-    pub fn next_dropped(&mut self) -> Result<i32, Status>
-        ensures core { self.new.core ≡ self.old.core }
-    {
+    pub fn next_dropped(&mut self) -> Result<i32, Status> {
         if self.has_failed() {
             self.let_go();
         }
