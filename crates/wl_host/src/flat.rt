@@ -4,7 +4,7 @@
 //! them. Ids are values: one that is stale or made up names nothing, and the calls say so.
 
 ghost use Rattle.std.specs.Prelude.{◌≡◌};
-ghost use Rattle.wl_host.specs.Flat.{client_of, flat_client, flat_global, flat_proxy, flat_resource, global_of, proxy_of, resource_of};
+ghost use Rattle.wl_host.specs.Flat.{client_of, flat_client, flat_global, flat_proxy, flat_resource, global_of, interface_number, no_client, proxy_of, resource_of};
 
 use wl_client::ObjectId as ProxyId;
 use wl_server::{ClientId, GlobalId, ObjectId};
@@ -271,7 +271,9 @@ pub struct FlatError {
 
 /// The number of an interface. Each interface of a table has one below 2³² - 1, since each takes more than one byte of
 /// memory.
-pub fn interface_number(id: InterfaceId) -> u32 {
+pub fn interface_number(id: InterfaceId) -> u32
+    ensures { result ≡ interface_number id.0 }
+{
     u32::try_from(id.0).unwrap_or(u32::MAX)
 }
 
@@ -292,7 +294,9 @@ impl FlatClientId {
     }
 
     /// All zeros, which names no client.
-    pub fn none() -> Self {
+    pub fn none() -> Self
+        ensures { result ≡ no_client }
+    {
         FlatClientId { serial: 0, slot: 0 }
     }
 

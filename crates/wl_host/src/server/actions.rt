@@ -1,5 +1,9 @@
 //! The actions of clients.
 
+ghost use Rattle.std.specs.Prelude.{Some};
+ghost use Rattle.wl_host.specs.Calls.{EndsBind, EndsRequest};
+ghost use Rattle.wl_host.specs.Flat.{client_of};
+
 use crate::arguments::{Needs, Objects, write_arguments};
 use crate::descriptors::DescriptorQueue;
 use crate::flat::{
@@ -205,12 +209,16 @@ impl Server {
         &mut self,
         client: &FlatClientId,
         user_data: u64,
-    ) -> Result<bool, Status> {
+    ) -> Result<bool, Status>
+        ensures { EndsRequest self.old.core (client_of client.now) (Some user_data) result self.new.core }
+    {
         self.end_request(&client.id(), Some(user_data))
     }
 
     /// Finishes the open request. Returns whether the data, if any, are kept.
-    fn end_request(&mut self, id: &ClientId, user_data: Option<u64>) -> Result<bool, Status> {
+    fn end_request(&mut self, id: &ClientId, user_data: Option<u64>) -> Result<bool, Status>
+        ensures { EndsRequest self.old.core id.now user_data result self.new.core }
+    {
         let ends_sender = self.open_action_ends_sender(id)?;
         let answer = self.core.finish_request_returning(id, user_data);
         if ends_sender {
@@ -241,7 +249,9 @@ impl Server {
     /// whether they are kept: they are not if the object is gone.
     ///
     /// The status is as that of `finish_request`.
-    pub fn finish_bind(&mut self, client: &FlatClientId, user_data: u64) -> Result<bool, Status> {
+    pub fn finish_bind(&mut self, client: &FlatClientId, user_data: u64) -> Result<bool, Status>
+        ensures { EndsBind self.old.core (client_of client.now) user_data result self.new.core }
+    {
         let id = client.id();
         self.open_action_ends_sender(&id)?;
         match self.core.finish_bind_returning(&id, user_data) {

@@ -1,5 +1,10 @@
 //! The objects of a server's session.
 
+ghost use Rattle.std.specs.Prelude.{◌≡◌, option_map};
+ghost use Rattle.wl_host.specs.Calls.{CreatesObject, DestroysObject, SetsObjectData, flat_object_info, interface_of, or_invalid};
+ghost use Rattle.wl_host.specs.Flat.{client_of, flat_resource, resource_of};
+ghost use Rattle.wl_server.specs.Lookups.{object_data_of, object_for_number, object_info_of};
+
 use crate::flat::{FlatClientId, FlatObjectId, FlatObjectInfo, count_number, interface_number};
 use crate::server::Server;
 use crate::status::Status;
@@ -18,7 +23,9 @@ impl Server {
         version: u32,
         has_data: u32,
         user_data: u64,
-    ) -> Result<FlatObjectId, Status> {
+    ) -> Result<FlatObjectId, Status>
+        ensures { CreatesObject self.old.core client.now interface version has_data user_data result self.new.core }
+    {
         if has_data == 0 {
             return Err(Status::MissingData);
         }
@@ -33,7 +40,9 @@ impl Server {
     }
 
     /// Destroys the object (`wl_server::Backend::destroy_object`). The status is that of `wl_server::DestroyError`.
-    pub fn destroy_object(&mut self, object: &FlatObjectId) -> Status {
+    pub fn destroy_object(&mut self, object: &FlatObjectId) -> Status
+        ensures { DestroysObject self.old.core object.now result self.new.core }
+    {
         let id = object.resource();
         let answer = self.core.destroy_object(&id);
         self.seats.list(id.client().slot());
@@ -45,7 +54,9 @@ impl Server {
     }
 
     /// What the protocol knows of the object. The status is `InvalidId` if the id names none.
-    pub fn object_info(&self, object: &FlatObjectId) -> Result<FlatObjectInfo, Status> {
+    pub fn object_info(&self, object: &FlatObjectId) -> Result<FlatObjectInfo, Status>
+        ensures { result ≡ or_invalid (option_map flat_object_info (object_info_of self.now.core.server (resource_of object.now))) }
+    {
         match self.core.object_info(&object.resource()) {
             Ok(info) => Ok(FlatObjectInfo {
                 number: info.id,
@@ -57,7 +68,9 @@ impl Server {
     }
 
     /// The program's data of the object. The status is `InvalidId` if the id names no object, or one without data.
-    pub fn object_data(&self, object: &FlatObjectId) -> Result<u64, Status> {
+    pub fn object_data(&self, object: &FlatObjectId) -> Result<u64, Status>
+        ensures { result ≡ or_invalid (object_data_of self.now.core.server (resource_of object.now)) }
+    {
         match self.core.get_object_data(&object.resource()) {
             Ok(user_data) => Ok(*user_data),
             Err(error) => Err(Status::from(error)),
@@ -65,7 +78,9 @@ impl Server {
     }
 
     /// Gives the object these data in place of those that it had. The status is `InvalidId` if the id names none.
-    pub fn set_object_data(&mut self, object: &FlatObjectId, user_data: u64) -> Status {
+    pub fn set_object_data(&mut self, object: &FlatObjectId, user_data: u64) -> Status
+        ensures { SetsObjectData self.old.core object.now user_data result self.new.core }
+    {
         match self.core.set_object_data(&object.resource(), user_data) {
             Ok(()) => Status::Ok,
             Err(error) => Status::from(error),
@@ -79,7 +94,9 @@ impl Server {
         client: &FlatClientId,
         interface: u32,
         number: u32,
-    ) -> Result<FlatObjectId, Status> {
+    ) -> Result<FlatObjectId, Status>
+        ensures { result ≡ or_invalid (option_map flat_resource (object_for_number self.now.core.server (client_of client.now) (interface_of interface) number)) }
+    {
         let interface = InterfaceId(interface as usize);
         match self
             .core
