@@ -1,6 +1,7 @@
 -- What the calls of a server's session do, in the words of its core: the look-up or the step that each call is, and the status
 -- for what the core answered.
-use Rattle.std.specs.Prelude.{◌≡◌, ℕ, zero, suc, ◌⊎◌, Bool, true, false, not, nat_eq, List, Option, None, Some, Result, Ok, Err, option_map}
+use Rattle.std.specs.Prelude.{◌≡◌, ℕ, ◌⊎◌, Bool, true, false, not, nat_eq, List, length, Option, None, Some, Result, Ok, Err, Vec, option_map}
+use Rattle.std.specs.Global.{Global}
 use Rattle.std.specs.Int.Bits.{bit_and}
 use Rattle.std.specs.Result.{result_and}
 use Rattle.wl_wire.specs.declared.interface.InterfaceId.{InterfaceId}
@@ -10,6 +11,15 @@ use Rattle.wl_server.specs.Backend.{BackendState, Calls}
 use Rattle.wl_server.specs.Ids.{ClientParts, GlobalParts, IdParts}
 use Rattle.wl_server.specs.Next.{NextClient, NextGlobal}
 use Rattle.wl_server.specs.PartStep.{World, over}
+use Rattle.wl_wire.specs.declared.argument.Token.{Token}
+use Rattle.wl_wire.specs.declared.message.Message.{Message}
+use Rattle.wl_wire.specs.declared.error.OutOfMemory.{OutOfMemory}
+use Rattle.wl_link.specs.Exchange.{joined, nothing}
+use Rattle.wl_link.specs.declared.mailbox.Ending.TheVariants as ending
+use Rattle.wl_server.specs.Lending.{state_over}
+use Rattle.wl_server.specs.Lookups.{transport_of}
+use Rattle.wl_server.specs.declared.error.InsertClientError.{InsertClientError}
+use Rattle.wl_server.specs.declared.error.EventError.{EventError}
 use Rattle.wl_server.specs.declared.error.CreateError.{CreateError}
 use Rattle.wl_server.specs.declared.error.DestroyError.{DestroyError}
 use Rattle.wl_server.specs.declared.error.FinishRefused.{FinishRefused}
@@ -19,7 +29,7 @@ use Rattle.wl_server.specs.declared.ids.global_id.GlobalInfo.{GlobalInfo}
 use Rattle.wl_server.specs.declared.runs.step.Reply.TheVariants as reply
 use Rattle.wl_server.specs.declared.runs.step.Step.TheVariants as step
 use Rattle.wl_host.specs.Flat.{client_of, flat_client, flat_global, flat_resource, global_of, interface_number, resource_of}
-use Rattle.wl_host.specs.Status.{of_create, of_destroy, of_finish, of_global}
+use Rattle.wl_host.specs.Status.{of_create, of_destroy, of_event, of_finish, of_global, of_insert}
 use Rattle.wl_host.specs.declared.flat.FlatClientId.{FlatClientId}
 use Rattle.wl_host.specs.declared.flat.FlatGlobalId.{FlatGlobalId}
 use Rattle.wl_host.specs.declared.flat.FlatGlobalInfo.{FlatGlobalInfo}
@@ -88,10 +98,8 @@ abbrev pub status_by : {E : Type 0} → (E → Status) → Result (Unit {0}) E �
 status_by status_of (Ok u) = status.Ok
 status_by status_of (Err e) = status_of e
 
--- an object always gets data
-abbrev pub CreatesObject : CoreState → FlatClientId → ℕ → ℕ → ℕ → ℕ → Result FlatObjectId Status → CoreState → Type 0
-CreatesObject before client interface version zero u result after = (result ≡ Err status.MissingData) × (after ≡ before)
-CreatesObject before client interface version (suc n) u result after =
+abbrev pub CreatesObject : CoreState → FlatClientId → ℕ → ℕ → ℕ → Result FlatObjectId Status → CoreState → Type 0
+CreatesObject before client interface version u result after =
     (answer : Result IdParts CreateError)
     × Calls world before (step.CreateObject (client_of client) (interface_of interface) version u) (reply.CreateObject answer) after
     × (result ≡ flattened flat_resource of_create answer)
@@ -140,3 +148,50 @@ EndsBind before client data_given result after =
     × Calls world before (step.FinishBind client data_given) (reply.FinishBind (result_and answer (Ok tt))) after
     × (result ≡ kept_by answer))
     ⊎ IsNotOpen before result after
+
+-- ---- the mailbox of a client
+
+-- the client's mailbox is changed so, and all else is as before
+abbrev pub HasMailbox : CoreState → ClientParts → (MailboxState → MailboxState) → CoreState → Type 0
+HasMailbox before id change after =
+    (m : MailboxState) × (transport_of before.server id ≡ Some m) × (after ≡ state_over before id (change m))
+
+-- the bytes arrived, with as many tokens as there were descriptors
+abbrev pub Receives : CoreState → ClientParts → List ℕ → ℕ → CoreState → Type 0
+Receives before id bytes count after =
+    (tokens : List Token) × (length tokens ≡ count)
+    × HasMailbox before id (λ m. record m { arrived = joined m.arrived (record { bytes = bytes; tokens = tokens }) }) after
+
+-- ---- clients and events
+
+-- the mailbox of a new client
+abbrev pub new_mailbox : MailboxState
+new_mailbox = record { arrived = nothing; ending = ending.Open; waiting = nothing; room = 65536; send_fault = None }
+
+-- or no client can be inserted, or there was no memory for what is kept of it
+abbrev pub InsertsClient : CoreState → HostClient → Result FlatClientId Status → CoreState → Type 0
+InsertsClient before client result after =
+    ((answer : Result ClientParts InsertClientError)
+    × Calls world before (step.InsertClient new_mailbox client) (reply.InsertClient answer) after
+    × (result ≡ flattened flat_client of_insert answer))
+    ⊎ (((result ≡ Err status.Full) ⊎ (result ≡ Err status.OutOfMemory)) × (after ≡ before))
+
+-- the event that was read; or the flat structs were refused, and the core was not called
+abbrev pub SendsEvent : CoreState → Status → CoreState → Type 0
+SendsEvent before s after =
+    ((event : Message IdParts Token) × (answer : Result (Unit {0}) EventError)
+    × Calls world before (step.SendEvent event) (reply.SendEvent answer) after × (s ≡ status_by of_event answer))
+    ⊎ (after ≡ before)
+
+-- the message has a zero byte, or there was no memory for it: the core is not called
+abbrev pub PostsError : CoreState → FlatObjectId → ℕ → List ℕ → Status → CoreState → Type 0
+PostsError before object code message s after =
+    (Calls world before (step.PostError (resource_of object) code message) reply.PostError after × (s ≡ status.Ok))
+    ⊎ (((s ≡ status.InvalidInput) ⊎ (s ≡ status.OutOfMemory)) × (after ≡ before))
+
+-- the cleanup of the core; or no call since the last one can have killed a client
+abbrev pub CleansUp : CoreState → Status → CoreState → Type 0
+CleansUp before s after =
+    ((answer : Result (Vec (ClientParts × MailboxState) Global) OutOfMemory)
+    × Calls world before step.Cleanup (reply.Cleanup answer) after)
+    ⊎ ((s ≡ status.Ok) × (after ≡ before))

@@ -1,7 +1,7 @@
 //! The clients of a server's session.
 
 ghost use Rattle.std.specs.Prelude.{◌≡◌, option_map};
-ghost use Rattle.wl_host.specs.Calls.{TellsNextClient, or_invalid, world};
+ghost use Rattle.wl_host.specs.Calls.{HasMailbox, InsertsClient, TellsNextClient, or_invalid, world};
 ghost use Rattle.wl_host.specs.Flat.{client_of};
 ghost use Rattle.wl_server.specs.Backend.{Calls};
 ghost use Rattle.wl_server.specs.Lookups.{client_data_of};
@@ -15,7 +15,7 @@ use crate::server::ledger::Ledger;
 use crate::server::{HostClient, Server};
 use crate::status::Status;
 use wl_link::Mailbox;
-use wl_server::{ClientId, DisconnectReason};
+use wl_server::DisconnectReason;
 
 /// How many bytes wait in the mailbox of a client until no more are put there, if the host sets no other number. What comes
 /// behind them waits in the core, up to the limit of the client's buffers.
@@ -25,7 +25,9 @@ impl Server {
     /// Inserts a client. It sees each global with which it has a group in common: a bit of `groups`.
     ///
     /// The status is that of `wl_server::InsertClientError`: `Full`, or `OutOfMemory`. Then nothing is changed.
-    pub fn insert_client(&mut self, user_data: u64, groups: u64) -> Result<FlatClientId, Status> {
+    pub fn insert_client(&mut self, user_data: u64, groups: u64) -> Result<FlatClientId, Status>
+        ensures { InsertsClient self.old.core (record { user_data = user_data; groups = groups }) result self.new.core }
+    {
         let Some(next) = self.core.next_client_id() else {
             return Err(Status::Full);
         };
@@ -106,21 +108,15 @@ impl Server {
 
     /// Sets how many bytes wait in the client's mailbox until no more are put there (`wl_link::Mailbox::set_room`). The status
     /// is `InvalidId` if the client is not stored.
-    pub fn set_room(&mut self, client: &FlatClientId, room: u64) -> Status {
-        match self.mailbox(&client.id()) {
+    pub fn set_room(&mut self, client: &FlatClientId, room: u64) -> Status
+        ensures room { result ≡ status.Ok → HasMailbox self.old.core (client_of client.now) (λ m. record m { room = room }) self.new.core }
+    {
+        match self.core.transport_mut(&client.id()) {
             Ok(mailbox) => {
                 mailbox.set_room(room as usize);
                 Status::Ok
             }
-            Err(status) => status,
-        }
-    }
-
-    /// The client's mailbox. The status is `InvalidId` if the client is not stored.
-    pub(crate) fn mailbox(&mut self, id: &ClientId) -> Result<&mut Mailbox, Status> {
-        match self.core.transport_mut(id) {
-            Ok(mailbox) => Ok(mailbox),
-            Err(error) => Err(Status::from(error)),
+            Err(error) => Status::from(error),
         }
     }
 }

@@ -1,15 +1,37 @@
 //! The objects of a server's session.
 
-ghost use Rattle.std.specs.Prelude.{◌≡◌, option_map};
-ghost use Rattle.wl_host.specs.Calls.{CreatesObject, DestroysObject, SetsObjectData, flat_object_info, interface_of, or_invalid};
+ghost use Rattle.std.specs.Prelude.{◌≡◌, ◌≢◌, Err, option_map};
+ghost use Rattle.wl_host.specs.Status.{of_create};
+ghost use Rattle.wl_host.specs.declared.status.Status.TheVariants as status;
+ghost use Rattle.wl_host.specs.Calls.{CreatesObject, DestroysObject, SetsObjectData, flat_object_info, flattened, interface_of, of_invalid, or_invalid, status_by};
 ghost use Rattle.wl_host.specs.Flat.{client_of, flat_resource, resource_of};
 ghost use Rattle.wl_server.specs.Lookups.{object_data_of, object_for_number, object_info_of};
 
 use crate::flat::{FlatClientId, FlatObjectId, FlatObjectInfo, count_number, interface_number};
 use crate::server::Server;
 use crate::status::Status;
-use wl_server::InvalidId;
+use wl_server::{CreateError, InvalidId, ObjectId};
 use wl_wire::InterfaceId;
+
+/// The object that was created, or the status of the error.
+fn created(answer: Result<ObjectId, CreateError>) -> Result<FlatObjectId, Status>
+    ensures { result ≡ flattened flat_resource of_create answer }
+{
+    match answer {
+        Ok(id) => Ok(FlatObjectId::of_resource(id)),
+        Err(error) => Err(Status::from(error)),
+    }
+}
+
+/// The status of an answer of `set_object_data`.
+fn data_set(answer: Result<(), InvalidId>) -> Status
+    ensures { result ≡ status_by of_invalid answer }
+{
+    match answer {
+        Ok(()) => Status::Ok,
+        Err(error) => Status::from(error),
+    }
+}
 
 impl Server {
     /// Creates an object of the client (`wl_server::Backend::create_object`).
@@ -24,19 +46,18 @@ impl Server {
         has_data: u32,
         user_data: u64,
     ) -> Result<FlatObjectId, Status>
-        ensures { CreatesObject self.old.core client.now interface version has_data user_data result self.new.core }
+        ensures none { has_data ≡ 0 → (result ≡ Err status.MissingData) × (self.new.core ≡ self.old.core) }
+        ensures created { has_data ≢ 0 → CreatesObject self.old.core client.now interface version user_data result self.new.core }
     {
         if has_data == 0 {
             return Err(Status::MissingData);
         }
         let interface = InterfaceId(interface as usize);
-        match self
-            .core
-            .create_object(&client.id(), interface, version, user_data)
-        {
-            Ok(id) => Ok(FlatObjectId::of_resource(id)),
-            Err(error) => Err(Status::from(error)),
-        }
+        let client = client.id();
+        created(
+            self.core
+                .create_object(&client, interface, version, user_data),
+        )
     }
 
     /// Destroys the object (`wl_server::Backend::destroy_object`). The status is that of `wl_server::DestroyError`.
@@ -81,10 +102,7 @@ impl Server {
     pub fn set_object_data(&mut self, object: &FlatObjectId, user_data: u64) -> Status
         ensures { SetsObjectData self.old.core object.now user_data result self.new.core }
     {
-        match self.core.set_object_data(&object.resource(), user_data) {
-            Ok(()) => Status::Ok,
-            Err(error) => Status::from(error),
-        }
+        data_set(self.core.set_object_data(&object.resource(), user_data))
     }
 
     /// The client's object that has this number. The status is `InvalidId` if the client is not stored, or no object has the
