@@ -78,6 +78,7 @@ impl DescriptorQueue {
     }
 
     /// Takes the last `count` descriptors back, or all that are held if there are fewer: the core did not take them.
+    #[tactic(auto, using(crate::proofs::Queues::passed_of_shorter, crate::proofs::Queues::held_of_shorter))]
     pub fn take_back(&mut self, count: usize)
         ensures { self.new ≡ record self.old { held = take (length self.old.held - count) self.old.held } }
     {
@@ -119,6 +120,7 @@ impl DescriptorQueue {
 
     /// Takes the descriptor of this token out. Those that stood before it are passed over. `None` if the core holds none
     /// that has the token; then nothing is changed.
+    #[tactic(auto, using(crate::proofs::Queues::passed_of_taken, crate::proofs::Queues::held_of_taken))]
     pub fn take_out(&mut self, token: Token) -> Option<i32>
         ensures descriptor { result ≡ slice_get self.old.held (distance self.old token) }
         ensures after { self.new ≡ taken_out self.old token result }

@@ -3,8 +3,8 @@
 //! They are plain numbers in the layout of C (`repr(C)`), so that a program in another language can make, read and copy
 //! them. Ids are values: one that is stale or made up names nothing, and the calls say so.
 
-ghost use Rattle.std.specs.Prelude.{◌≡◌};
-ghost use Rattle.wl_host.specs.Flat.{client_of, flat_client, flat_global, flat_proxy, flat_resource, global_of, proxy_of, resource_of};
+ghost use Rattle.std.specs.Prelude.{◌≡◌, ◌<◌, ◌^◌};
+ghost use Rattle.wl_host.specs.Flat.{client_of, flat_client, flat_global, flat_proxy, flat_resource, global_of, interface_number, no_client, proxy_of, resource_of};
 
 use wl_client::ObjectId as ProxyId;
 use wl_server::{ClientId, GlobalId, ObjectId};
@@ -271,7 +271,9 @@ pub struct FlatError {
 
 /// The number of an interface. Each interface of a table has one below 2³² - 1, since each takes more than one byte of
 /// memory.
-pub fn interface_number(id: InterfaceId) -> u32 {
+pub fn interface_number(id: InterfaceId) -> u32
+    ensures { result ≡ interface_number id.0 }
+{
     u32::try_from(id.0).unwrap_or(u32::MAX)
 }
 
@@ -283,7 +285,8 @@ pub fn count_number(count: usize) -> u32 {
 impl FlatClientId {
     /// The id as a flat struct.
     pub fn new(id: ClientId) -> Self
-        ensures { result ≡ flat_client id }
+        ensures flat { result ≡ flat_client id }
+        ensures back { client_of result ≡ id }
     {
         FlatClientId {
             serial: id.serial(),
@@ -292,13 +295,16 @@ impl FlatClientId {
     }
 
     /// All zeros, which names no client.
-    pub fn none() -> Self {
+    pub fn none() -> Self
+        ensures { result ≡ no_client }
+    {
         FlatClientId { serial: 0, slot: 0 }
     }
 
     /// The id for the core.
     pub fn id(&self) -> ClientId
-        ensures { result ≡ client_of self.now }
+        ensures id { result ≡ client_of self.now }
+        ensures back { flat_client result ≡ self.now }
     {
         ClientId::from_parts(self.slot, self.serial)
     }
@@ -307,7 +313,8 @@ impl FlatClientId {
 impl FlatGlobalId {
     /// The id as a flat struct.
     pub fn new(id: GlobalId) -> Self
-        ensures { result ≡ flat_global id }
+        ensures flat { result ≡ flat_global id }
+        ensures back { global_of result ≡ id }
     {
         FlatGlobalId {
             serial: id.serial(),
@@ -322,7 +329,8 @@ impl FlatGlobalId {
 
     /// The id for the core.
     pub fn id(&self) -> GlobalId
-        ensures { result ≡ global_of self.now }
+        ensures id { result ≡ global_of self.now }
+        ensures back { flat_global result ≡ self.now }
     {
         GlobalId::from_parts(self.name, self.serial)
     }
@@ -341,7 +349,8 @@ impl FlatObjectId {
 
     /// The id of an object of a server's session, as a flat struct.
     pub fn of_resource(id: ObjectId) -> Self
-        ensures { result ≡ flat_resource id }
+        ensures flat { result ≡ flat_resource id }
+        ensures back { id.interface.0 < 2 ^ 32 → resource_of result ≡ id }
     {
         FlatObjectId {
             serial: id.serial(),
@@ -353,7 +362,8 @@ impl FlatObjectId {
 
     /// The id for the core of a server's session.
     pub fn resource(&self) -> ObjectId
-        ensures { result ≡ resource_of self.now }
+        ensures id { result ≡ resource_of self.now }
+        ensures back { flat_resource result ≡ self.now }
     {
         ObjectId::from_parts(
             self.number,

@@ -22,6 +22,13 @@ pub mod objects;
 pub mod seats;
 pub mod sending;
 
+ghost use Rattle.std.specs.Prelude.{◌≡◌, true};
+ghost use Rattle.wl_host.specs.Calls.{world};
+ghost use Rattle.wl_server.specs.Backend.{Calls};
+ghost use Rattle.wl_server.specs.declared.runs.step.Reply.TheVariants as reply;
+ghost use Rattle.wl_server.specs.declared.runs.step.Step.TheVariants as step;
+ghost use Rattle.wl_host.specs.declared.status.Status.TheVariants as status;
+
 use crate::arguments::{FromFlat, Objects};
 use crate::flat::FlatObjectId;
 use crate::rows::{Rows, TableFault, interfaces_of};
@@ -149,19 +156,26 @@ impl Server {
     }
 
     /// Whether memory was refused in the last call of the core that changed it (`wl_server::Backend::memory_refused`).
-    pub fn memory_refused(&self) -> bool {
+    pub fn memory_refused(&self) -> bool
+        ensures { result ≡ self.now.core.refused }
+    {
         self.core.memory_refused()
     }
 
     /// Sets how far the buffers of each client that is inserted from now on may grow, in bytes
     /// (`wl_server::Backend::set_default_max_buffer_size`).
-    pub fn set_default_max_buffer_size(&mut self, size: u64) -> Status {
+    pub fn set_default_max_buffer_size(&mut self, size: u64) -> Status
+        ensures call { Calls world self.old.core (step.SetDefaultMaxBufferSize size) reply.SetDefaultMaxBufferSize self.new.core }
+        ensures status { result ≡ status.Ok }
+    {
         self.core.set_default_max_buffer_size(size as usize);
         Status::Ok
     }
 
     /// A call may have killed clients and made notes.
-    pub(crate) fn mark(&mut self) {
+    pub(crate) fn mark(&mut self)
+        ensures { self.new ≡ record self.old { may_clean_up = true; may_have_notes = true } }
+    {
         self.may_clean_up = true;
         self.may_have_notes = true;
     }

@@ -1,5 +1,10 @@
 //! The actions of clients.
 
+ghost use Rattle.std.specs.Prelude.{◌≡◌, ◌⊎◌, IfErr, Some};
+ghost use Rattle.wl_host.specs.declared.status.Status.TheVariants as status;
+ghost use Rattle.wl_host.specs.Calls.{EndsBind, EndsRequest, kept_by};
+ghost use Rattle.wl_host.specs.Flat.{client_of};
+
 use crate::arguments::{Needs, Objects, write_arguments};
 use crate::descriptors::DescriptorQueue;
 use crate::flat::{
@@ -8,7 +13,7 @@ use crate::flat::{
 use crate::server::{Core, Server, no_action};
 use crate::status::Status;
 use std::mem;
-use wl_server::{Action, ActionError, ClientId, GlobalId, ObjectId};
+use wl_server::{Action, ActionError, ClientId, FinishRefused, GlobalId, ObjectId};
 use wl_wire::IoFault;
 
 /// Whether a reading that ended so killed the client.
@@ -102,6 +107,17 @@ fn write_action(
             out.global = FlatGlobalId::new(*global);
             write_created(core, object, out);
         }
+    }
+}
+
+/// Whether the data are kept after the end of an action: none came back.
+fn is_kept<R: Drop>(answer: Result<Option<u64>, FinishRefused<R>>) -> Result<bool, Status>
+    ensures { result ≡ kept_by answer }
+{
+    match answer {
+        Ok(None) => Ok(true),
+        Ok(Some(_)) => Ok(false),
+        Err(refused) => Err(Status::from(refused.error)),
     }
 }
 
@@ -205,29 +221,41 @@ impl Server {
         &mut self,
         client: &FlatClientId,
         user_data: u64,
-    ) -> Result<bool, Status> {
+    ) -> Result<bool, Status>
+        ensures { EndsRequest self.old.core (client_of client.now) (Some user_data) result self.new.core }
+    {
         self.end_request(&client.id(), Some(user_data))
     }
 
     /// Finishes the open request. Returns whether the data, if any, are kept.
-    fn end_request(&mut self, id: &ClientId, user_data: Option<u64>) -> Result<bool, Status> {
-        let ends_sender = self.open_action_ends_sender(id)?;
+    fn end_request(&mut self, id: &ClientId, user_data: Option<u64>) -> Result<bool, Status>
+        ensures { EndsRequest self.old.core id.now user_data result self.new.core }
+    {
+        let ends_sender = match self.open_action_ends_sender(id) {
+            Ok(ends_sender) => ends_sender,
+            Err(status) => return Err(status),
+        };
         let answer = self.core.finish_request_returning(id, user_data);
+        self.tell_end(id, ends_sender);
+        is_kept(answer)
+    }
+
+    /// If the request ended its sender, the client is told that the number is free, and there is a note of the end.
+    fn tell_end(&mut self, id: &ClientId, ends_sender: bool)
+        ensures { self.new.core ≡ self.old.core }
+    {
         if ends_sender {
-            // The client is told that the number is free, and there is a note of the end.
             self.seats.list(id.slot());
             self.mark();
-        }
-        match answer {
-            Ok(back) => Ok(back.is_none()),
-            Err(refused) => Err(Status::from(refused.error)),
         }
     }
 
     /// Whether the open action of the client ends the object that it was sent to.
     ///
     /// The status is `NotOpen` if the action was not handed out yet, and `InvalidId` if the client is not stored.
-    fn open_action_ends_sender(&self, id: &ClientId) -> Result<bool, Status> {
+    fn open_action_ends_sender(&self, id: &ClientId) -> Result<bool, Status>
+        ensures { IfErr result (λ s. (s ≡ status.NotOpen) ⊎ (s ≡ status.InvalidId)) }
+    {
         let Some(ledger) = self.seats.get(id) else {
             return Err(Status::InvalidId);
         };
@@ -241,12 +269,13 @@ impl Server {
     /// whether they are kept: they are not if the object is gone.
     ///
     /// The status is as that of `finish_request`.
-    pub fn finish_bind(&mut self, client: &FlatClientId, user_data: u64) -> Result<bool, Status> {
+    pub fn finish_bind(&mut self, client: &FlatClientId, user_data: u64) -> Result<bool, Status>
+        ensures { EndsBind self.old.core (client_of client.now) user_data result self.new.core }
+    {
         let id = client.id();
-        self.open_action_ends_sender(&id)?;
-        match self.core.finish_bind_returning(&id, user_data) {
-            Ok(back) => Ok(back.is_none()),
-            Err(refused) => Err(Status::from(refused.error)),
+        if let Err(status) = self.open_action_ends_sender(&id) {
+            return Err(status);
         }
+        is_kept(self.core.finish_bind_returning(&id, user_data))
     }
 }

@@ -1,5 +1,7 @@
 //! Clients that are gone, and descriptors that belong to nobody.
 
+ghost use Rattle.wl_host.specs.Calls.{CleansUp};
+
 use crate::flat::{Counts, FlatClientId, Gone};
 use crate::server::Server;
 use crate::server::ledger::{Ledger, Stage};
@@ -36,7 +38,9 @@ impl Server {
     /// Takes the clients out that were killed (`wl_server::Backend::cleanup`). `next_gone` hands them out.
     ///
     /// The status is `OutOfMemory` if there was no memory. Then nothing is changed.
-    pub fn cleanup(&mut self) -> Status {
+    pub fn cleanup(&mut self) -> Status
+        ensures { CleansUp self.old.core result self.new.core }
+    {
         if !self.may_clean_up {
             return Status::Ok;
         }

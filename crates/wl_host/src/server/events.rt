@@ -1,5 +1,8 @@
 //! Events, and protocol errors that the program posts.
 
+ghost use Rattle.std.specs.Prelude.{◌≡◌};
+ghost use Rattle.wl_host.specs.Calls.{PostsError, SendsEvent};
+
 use crate::arguments::{read_arguments, text_of};
 use crate::flat::{FlatArgument, FlatObjectId};
 use crate::server::Server;
@@ -18,7 +21,9 @@ impl Server {
         opcode: u32,
         arguments: &[FlatArgument],
         bytes: &[u8],
-    ) -> Status {
+    ) -> Status
+        ensures { SendsEvent self.old.core result self.new.core }
+    {
         let id = sender.client.id();
         match self.read_event(&id, sender, opcode, arguments, bytes) {
             Ok(count) => self.send_read(&id, count),
@@ -34,7 +39,9 @@ impl Server {
         opcode: u32,
         arguments: &[FlatArgument],
         bytes: &[u8],
-    ) -> Result<usize, Status> {
+    ) -> Result<usize, Status>
+        ensures { self.new.core ≡ self.old.core }
+    {
         let Some(ledger) = self.seats.get_mut(id) else {
             return Err(Status::InvalidId);
         };
@@ -47,7 +54,9 @@ impl Server {
     }
 
     /// Sends the event in `self.event`, for which so many descriptors were put in.
-    fn send_read(&mut self, id: &ClientId, count: usize) -> Status {
+    fn send_read(&mut self, id: &ClientId, count: usize) -> Status
+        ensures { SendsEvent self.old.core result self.new.core }
+    {
         let answer = self.core.send_event_lent(&self.event);
         self.seats.list(id.slot());
         self.mark();
@@ -66,7 +75,9 @@ impl Server {
     /// there, the client is killed all the same; if the client is not stored, nothing happens.
     ///
     /// The status is `InvalidInput` if the message has a zero byte, and `OutOfMemory`. Then nothing is changed.
-    pub fn post_error(&mut self, object: &FlatObjectId, code: u32, message: &[u8]) -> Status {
+    pub fn post_error(&mut self, object: &FlatObjectId, code: u32, message: &[u8]) -> Status
+        ensures { PostsError self.old.core object.now code message.now result self.new.core }
+    {
         let text = match text_of(self.alloc(), message) {
             Ok(text) => text,
             Err(status) => return status,

@@ -1,10 +1,37 @@
 //! The objects of a server's session.
 
+ghost use Rattle.std.specs.Prelude.{◌≡◌, ◌≢◌, Err, option_map};
+ghost use Rattle.wl_host.specs.Status.{of_create};
+ghost use Rattle.wl_host.specs.declared.status.Status.TheVariants as status;
+ghost use Rattle.wl_host.specs.Calls.{CreatesObject, DestroysObject, SetsObjectData, flat_object_info, flattened, interface_of, of_invalid, or_invalid, status_by};
+ghost use Rattle.wl_host.specs.Flat.{client_of, flat_resource, resource_of};
+ghost use Rattle.wl_server.specs.Lookups.{object_data_of, object_for_number, object_info_of};
+
 use crate::flat::{FlatClientId, FlatObjectId, FlatObjectInfo, count_number, interface_number};
 use crate::server::Server;
 use crate::status::Status;
-use wl_server::InvalidId;
+use wl_server::{CreateError, InvalidId, ObjectId};
 use wl_wire::InterfaceId;
+
+/// The object that was created, or the status of the error.
+fn created(answer: Result<ObjectId, CreateError>) -> Result<FlatObjectId, Status>
+    ensures { result ≡ flattened flat_resource of_create answer }
+{
+    match answer {
+        Ok(id) => Ok(FlatObjectId::of_resource(id)),
+        Err(error) => Err(Status::from(error)),
+    }
+}
+
+/// The status of an answer of `set_object_data`.
+fn data_set(answer: Result<(), InvalidId>) -> Status
+    ensures { result ≡ status_by of_invalid answer }
+{
+    match answer {
+        Ok(()) => Status::Ok,
+        Err(error) => Status::from(error),
+    }
+}
 
 impl Server {
     /// Creates an object of the client (`wl_server::Backend::create_object`).
@@ -18,22 +45,25 @@ impl Server {
         version: u32,
         has_data: u32,
         user_data: u64,
-    ) -> Result<FlatObjectId, Status> {
+    ) -> Result<FlatObjectId, Status>
+        ensures none { has_data ≡ 0 → (result ≡ Err status.MissingData) × (self.new.core ≡ self.old.core) }
+        ensures created { has_data ≢ 0 → CreatesObject self.old.core client.now interface version user_data result self.new.core }
+    {
         if has_data == 0 {
             return Err(Status::MissingData);
         }
         let interface = InterfaceId(interface as usize);
-        match self
-            .core
-            .create_object(&client.id(), interface, version, user_data)
-        {
-            Ok(id) => Ok(FlatObjectId::of_resource(id)),
-            Err(error) => Err(Status::from(error)),
-        }
+        let client = client.id();
+        created(
+            self.core
+                .create_object(&client, interface, version, user_data),
+        )
     }
 
     /// Destroys the object (`wl_server::Backend::destroy_object`). The status is that of `wl_server::DestroyError`.
-    pub fn destroy_object(&mut self, object: &FlatObjectId) -> Status {
+    pub fn destroy_object(&mut self, object: &FlatObjectId) -> Status
+        ensures { DestroysObject self.old.core object.now result self.new.core }
+    {
         let id = object.resource();
         let answer = self.core.destroy_object(&id);
         self.seats.list(id.client().slot());
@@ -45,7 +75,9 @@ impl Server {
     }
 
     /// What the protocol knows of the object. The status is `InvalidId` if the id names none.
-    pub fn object_info(&self, object: &FlatObjectId) -> Result<FlatObjectInfo, Status> {
+    pub fn object_info(&self, object: &FlatObjectId) -> Result<FlatObjectInfo, Status>
+        ensures { result ≡ or_invalid (option_map flat_object_info (object_info_of self.now.core.server (resource_of object.now))) }
+    {
         match self.core.object_info(&object.resource()) {
             Ok(info) => Ok(FlatObjectInfo {
                 number: info.id,
@@ -57,7 +89,9 @@ impl Server {
     }
 
     /// The program's data of the object. The status is `InvalidId` if the id names no object, or one without data.
-    pub fn object_data(&self, object: &FlatObjectId) -> Result<u64, Status> {
+    pub fn object_data(&self, object: &FlatObjectId) -> Result<u64, Status>
+        ensures { result ≡ or_invalid (object_data_of self.now.core.server (resource_of object.now)) }
+    {
         match self.core.get_object_data(&object.resource()) {
             Ok(user_data) => Ok(*user_data),
             Err(error) => Err(Status::from(error)),
@@ -65,11 +99,10 @@ impl Server {
     }
 
     /// Gives the object these data in place of those that it had. The status is `InvalidId` if the id names none.
-    pub fn set_object_data(&mut self, object: &FlatObjectId, user_data: u64) -> Status {
-        match self.core.set_object_data(&object.resource(), user_data) {
-            Ok(()) => Status::Ok,
-            Err(error) => Status::from(error),
-        }
+    pub fn set_object_data(&mut self, object: &FlatObjectId, user_data: u64) -> Status
+        ensures { SetsObjectData self.old.core object.now user_data result self.new.core }
+    {
+        data_set(self.core.set_object_data(&object.resource(), user_data))
     }
 
     /// The client's object that has this number. The status is `InvalidId` if the client is not stored, or no object has the
@@ -79,7 +112,9 @@ impl Server {
         client: &FlatClientId,
         interface: u32,
         number: u32,
-    ) -> Result<FlatObjectId, Status> {
+    ) -> Result<FlatObjectId, Status>
+        ensures { result ≡ or_invalid (option_map flat_resource (object_for_number self.now.core.server (client_of client.now) (interface_of interface) number)) }
+    {
         let interface = InterfaceId(interface as usize);
         match self
             .core
