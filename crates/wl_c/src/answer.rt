@@ -1,0 +1,43 @@
+//! How the answer of a session's call goes out to C.
+
+ghost use Rattle.std.specs.Prelude.{MatchResult, ◌≡◌, ◌≢◌};
+ghost use Rattle.wl_host.specs.Status.{code_of};
+
+use wl_host::{Status, TableFault};
+
+/// The fault that there is no memory for a table.
+pub const OUT_OF_MEMORY: u32 = 8;
+
+/// Writes what a call answers, unless it was refused, and answers the number of its status.
+pub fn write_answer<T: Drop>(answer: Result<T, Status>, out: &mut T) -> u32
+    ensures answered { MatchResult answer (λ value. (result ≡ 0) × (out.new ≡ value)) (λ status. (result ≡ code_of status) × (out.new ≡ out.old)) }
+    ensures unwritten { result ≢ 0 → out.new ≡ out.old }
+{
+    match answer {
+        Ok(value) => {
+            *out = value;
+            Status::Ok.code()
+        }
+        Err(status) => status.code(),
+    }
+}
+
+/// The same for a call that answers yes or no, which is 1 or 0 in C.
+pub fn write_flag(answer: Result<bool, Status>, out: &mut u32) -> u32
+    ensures unwritten { result ≢ 0 → out.new ≡ out.old }
+{
+    write_answer(answer.map(u32::from), out)
+}
+
+/// Writes why a table was refused, and answers the number of the status.
+pub fn write_fault(refused: TableFault, fault: &mut TableFault) -> u32
+    ensures written { fault.new ≡ refused }
+    ensures refused { result ≢ 0 }
+{
+    *fault = refused;
+    if refused.fault == OUT_OF_MEMORY {
+        Status::OutOfMemory.code()
+    } else {
+        Status::BadTable.code()
+    }
+}

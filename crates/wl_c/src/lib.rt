@@ -1,0 +1,7 @@
+//! The sessions for C.
+#![tactic(auto)]
+
+mod answer;
+mod client;
+mod parts;
+mod server;
