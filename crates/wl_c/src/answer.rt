@@ -3,10 +3,7 @@
 ghost use Rattle.std.specs.Prelude.{MatchResult, ◌≡◌, ◌≢◌};
 ghost use Rattle.wl_host.specs.Status.{code_of};
 
-use wl_host::{Status, TableFault};
-
-/// The fault that there is no memory for a table.
-pub const OUT_OF_MEMORY: u32 = 8;
+use wl_host::{Status, TableFault, fault};
 
 /// Writes what a call answers, unless it was refused, and answers the number of its status.
 pub fn write_answer<T: Drop>(answer: Result<T, Status>, out: &mut T) -> u32
@@ -30,12 +27,12 @@ pub fn write_flag(answer: Result<bool, Status>, out: &mut u32) -> u32
 }
 
 /// Writes why a table was refused, and answers the number of the status.
-pub fn write_fault(refused: TableFault, fault: &mut TableFault) -> u32
-    ensures written { fault.new ≡ refused }
+pub fn write_fault(refused: TableFault, out: &mut TableFault) -> u32
+    ensures written { out.new ≡ refused }
     ensures refused { result ≢ 0 }
 {
-    *fault = refused;
-    if refused.fault == OUT_OF_MEMORY {
+    *out = refused;
+    if refused.fault == fault::OUT_OF_MEMORY {
         Status::OutOfMemory.code()
     } else {
         Status::BadTable.code()

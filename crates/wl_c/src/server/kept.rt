@@ -1,4 +1,4 @@
-//! A box behind a pointer without a type.
+//! A server's session in a box, behind a pointer that C may keep.
 
 ghost use Rattle.std.specs.Prelude.{IsSome, None, Option, Some, ◌≡◌};
 ghost use Rattle.std.specs.contracts.option.Option as option;
@@ -7,15 +7,19 @@ ghost use Rattle.wl_host.specs.declared.server.Server.{Server};
 
 use crate::parts::Parts;
 use std::alloc::Global;
-use std::marker::Model;
+use std::marker::{Model, Send};
 use std::ptr;
 use wl_host::Server;
 
-/// Nothing, or a boxed session behind a pointer.
+/// Nothing, or a server's session in a box. C keeps the pointer to it, and follows it never.
+///
+/// It owns the box: `held` is the value in it. A drop frees nothing, so the box is taken out first.
 #[repr(C)]
 #[derive(Drop)]
 pub struct ServerKept {
+    /// Where the session lies. The type has no name in C.
     at: *mut u8,
+    /// The session.
     pub ghost held: { Option Server } by { (option.the_row session.the_row).coded },
 }
 
@@ -71,3 +75,6 @@ impl ServerKept {
         self.unpack(handle).whole()
     }
 }
+
+// A session may go to another thread, and any thread may free its block.
+unsafe impl Send for ServerKept {}

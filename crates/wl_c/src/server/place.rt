@@ -1,4 +1,4 @@
-//! Where a session lives between two calls.
+//! Where a server's session lives between two calls.
 
 ghost use Rattle.std.specs.Prelude.{IsSome, MatchOption, None, Option, Some, ◌≡◌, ◌↔◌};
 
@@ -7,27 +7,37 @@ use std::alloc::Global;
 use std::mem;
 use wl_host::Server;
 
-/// The number of a place that holds a session.
+/// The state of a place without a session. Memory of zeros is such a place.
+const EMPTY: u64 = 0;
+
+/// The state of a place that holds a session.
 const HOLDS: u64 = 1;
 
+/// Memory of C for a server's session: zeros at first, and then what the calls leave there.
+///
+/// C does not copy it, and gives it to one call at a time.
 #[repr(C)]
 #[derive(Drop)]
 pub struct ServerPlace {
+    /// Whether there is a session.
     state: u64,
-    kept: ServerKept,
+    /// The session.
+    pub kept: ServerKept,
     ghost fits: { (state ≡ 1) ↔ IsSome kept.held },
 }
 
 impl ServerPlace {
+    /// A place without a session.
     fn empty() -> ServerPlace
         ensures { result.kept.held ≡ None }
     {
         ServerPlace {
-            state: 0,
+            state: EMPTY,
             kept: ServerKept::nothing(),
         }
     }
 
+    /// A place that holds this session.
     fn holding(session: Box<Server>) -> ServerPlace
         ensures { result.kept.held ≡ Some session.value }
     {
@@ -37,7 +47,7 @@ impl ServerPlace {
         }
     }
 
-    /// Takes the session out, if there is one.
+    /// Takes the session out, if there is one. The place is empty then.
     pub fn take(&mut self, alloc: Global) -> Option<Box<Server>>
         ensures taken { MatchOption result (self.old.kept.held ≡ None) (λ session. self.old.kept.held ≡ Some session.value) }
         ensures empty { self.new.kept.held ≡ None }
@@ -49,7 +59,7 @@ impl ServerPlace {
         Some(kept.session(alloc))
     }
 
-    /// Puts a session in.
+    /// Puts a session into an empty place.
     pub fn put(&mut self, session: Box<Server>)
         requires { self.old.kept.held ≡ None }
         ensures { self.new.kept.held ≡ Some session.value }

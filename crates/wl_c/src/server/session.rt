@@ -3,10 +3,10 @@
 ghost use Rattle.std.specs.Prelude.{IsSome, None, ◌≡◌, ◌≢◌, ◌↔◌};
 
 use super::place::ServerPlace;
-use crate::answer::{OUT_OF_MEMORY, write_fault, write_flag};
+use crate::answer::{write_fault, write_flag};
 use std::alloc::Global;
 use wl_host::{
-    ArgumentRow, FlatClientId, InterfaceRow, MessageRow, Rows, Server, Status, TableFault,
+    ArgumentRow, FlatClientId, InterfaceRow, MessageRow, Rows, Server, Status, TableFault, fault,
 };
 
 /// Begins a session over this table of interfaces, in an empty place. A place that holds a session keeps it, and the status
@@ -90,7 +90,7 @@ pub extern "C" fn nb_server_add_interfaces(
     }
 }
 
-/// Writes 1 where an allocation of the session was refused since it began, and 0 else.
+/// Writes 1 where memory was refused in the last call of the core that changes it, and 0 else.
 #[unsafe(no_mangle)]
 pub extern "C" fn nb_server_memory_refused(
     alloc: Global,
@@ -172,7 +172,7 @@ fn boxed(alloc: Global, rows: &Rows) -> Result<Box<Server>, TableFault> {
         Ok(session) => Ok(session),
         Err(_) => Err(TableFault {
             interface: 0,
-            fault: OUT_OF_MEMORY,
+            fault: fault::OUT_OF_MEMORY,
         }),
     }
 }
