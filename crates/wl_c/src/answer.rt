@@ -1,0 +1,40 @@
+//! How the answer of a session's call goes out to C.
+
+ghost use Rattle.std.specs.Prelude.{MatchResult, ◌≡◌, ◌≢◌};
+ghost use Rattle.wl_host.specs.Status.{code_of};
+
+use wl_host::{Status, TableFault, fault};
+
+/// Writes what a call answers, unless it was refused, and answers the number of its status.
+pub fn write_answer<T: Drop>(answer: Result<T, Status>, out: &mut T) -> u32
+    ensures answered { MatchResult answer (λ value. (result ≡ 0) × (out.new ≡ value)) (λ status. (result ≡ code_of status) × (out.new ≡ out.old)) }
+    ensures unwritten { result ≢ 0 → out.new ≡ out.old }
+{
+    match answer {
+        Ok(value) => {
+            *out = value;
+            Status::Ok.code()
+        }
+        Err(status) => status.code(),
+    }
+}
+
+/// The same for a call that answers yes or no, which is 1 or 0 in C.
+pub fn write_flag(answer: Result<bool, Status>, out: &mut u32) -> u32
+    ensures unwritten { result ≢ 0 → out.new ≡ out.old }
+{
+    write_answer(answer.map(u32::from), out)
+}
+
+/// Writes why a table was refused, and answers the number of the status.
+pub fn write_fault(refused: TableFault, out: &mut TableFault) -> u32
+    ensures written { out.new ≡ refused }
+    ensures refused { result ≢ 0 }
+{
+    *out = refused;
+    if refused.fault == fault::OUT_OF_MEMORY {
+        Status::OutOfMemory.code()
+    } else {
+        Status::BadTable.code()
+    }
+}

@@ -1,0 +1,17 @@
+//! A client's session for C: its place, and the calls of `nb_client_`.
+//!
+//! | Calls | File |
+//! |---|---|
+//! | `connect`, `end`, `add_interfaces`, `memory_refused`, the limits, `last_error` | `session` |
+//! | `received`, `next_event`, `finish_event`, `send_request`, .. | `events` |
+//! | `display`, `object_data`, .. | `objects` |
+//! | `flush`, `to_send`, `sent`, `next_note`, `next_dropped` | `sending` |
+
+mod events;
+mod kept;
+mod objects;
+mod place;
+mod sending;
+mod session;
+
+pub use place::ClientPlace;

@@ -1,0 +1,147 @@
+//! What a client's session receives, its events and its requests.
+
+ghost use Rattle.std.specs.Prelude.{IsSome, None, ◌≡◌, ◌≢◌};
+
+use super::place::ClientPlace;
+use crate::answer::write_answer;
+use std::alloc::Global;
+use wl_host::{FlatArgument, FlatEvent, FlatObjectId, FlatRequest, Status};
+
+/// Takes what the host received. The descriptors are the session's if, and only if, the status is `NB_OK`.
+#[unsafe(no_mangle)]
+pub extern "C" fn nb_client_received(
+    alloc: Global,
+    place: &mut ClientPlace,
+    bytes: &[u8],
+    descriptors: &[i32],
+) -> u32
+    ensures none { place.old.kept.held ≡ None → (result ≡ 1) × (place.new.kept.held ≡ None) }
+    ensures stays { IsSome place.old.kept.held → IsSome place.new.kept.held }
+{
+    let Some(mut session) = place.take(alloc) else {
+        return Status::NoSession.code();
+    };
+    let status = session.received(bytes, descriptors);
+    place.put(session);
+    status.code()
+}
+
+/// Says that the server closed the connection. The session ends once all that came before is read.
+#[unsafe(no_mangle)]
+pub extern "C" fn nb_client_received_end(alloc: Global, place: &mut ClientPlace) -> u32
+    ensures none { place.old.kept.held ≡ None → (result ≡ 1) × (place.new.kept.held ≡ None) }
+    ensures stays { IsSome place.old.kept.held → IsSome place.new.kept.held }
+{
+    let Some(mut session) = place.take(alloc) else {
+        return Status::NoSession.code();
+    };
+    let status = session.received_end();
+    place.put(session);
+    status.code()
+}
+
+/// Says that receiving failed with this number of the system.
+#[unsafe(no_mangle)]
+pub extern "C" fn nb_client_receive_failed(
+    alloc: Global,
+    place: &mut ClientPlace,
+    number: i32,
+) -> u32
+    ensures none { place.old.kept.held ≡ None → (result ≡ 1) × (place.new.kept.held ≡ None) }
+    ensures stays { IsSome place.old.kept.held → IsSome place.new.kept.held }
+{
+    let Some(mut session) = place.take(alloc) else {
+        return Status::NoSession.code();
+    };
+    let status = session.receive_failed(number);
+    place.put(session);
+    status.code()
+}
+
+/// Says that sending failed with this number of the system.
+#[unsafe(no_mangle)]
+pub extern "C" fn nb_client_send_failed(alloc: Global, place: &mut ClientPlace, number: i32) -> u32
+    ensures none { place.old.kept.held ≡ None → (result ≡ 1) × (place.new.kept.held ≡ None) }
+    ensures stays { IsSome place.old.kept.held → IsSome place.new.kept.held }
+{
+    let Some(mut session) = place.take(alloc) else {
+        return Status::NoSession.code();
+    };
+    let status = session.send_failed(number);
+    place.put(session);
+    status.code()
+}
+
+/// Reads the next event. What it says of strings and arrays goes into `bytes`.
+#[unsafe(no_mangle)]
+pub extern "C" fn nb_client_next_event(
+    alloc: Global,
+    place: &mut ClientPlace,
+    event: &mut FlatEvent,
+    arguments: &mut [FlatArgument],
+    bytes: &mut [u8],
+) -> u32
+    ensures none { place.old.kept.held ≡ None → (result ≡ 1) × (place.new.kept.held ≡ None) × (event.new ≡ event.old) × (arguments.new ≡ arguments.old) × (bytes.new ≡ bytes.old) }
+    ensures stays { IsSome place.old.kept.held → IsSome place.new.kept.held }
+{
+    let Some(mut session) = place.take(alloc) else {
+        return Status::NoSession.code();
+    };
+    let status = session.next_event(event, arguments, bytes);
+    place.put(session);
+    status.code()
+}
+
+/// Finishes the open event. An object that it made gets no data.
+#[unsafe(no_mangle)]
+pub extern "C" fn nb_client_finish_event(alloc: Global, place: &mut ClientPlace) -> u32
+    ensures none { place.old.kept.held ≡ None → (result ≡ 1) × (place.new.kept.held ≡ None) }
+    ensures stays { IsSome place.old.kept.held → IsSome place.new.kept.held }
+{
+    let Some(mut session) = place.take(alloc) else {
+        return Status::NoSession.code();
+    };
+    let status = session.finish_event();
+    place.put(session);
+    status.code()
+}
+
+/// Finishes the open event and gives this data to the object that it made.
+#[unsafe(no_mangle)]
+pub extern "C" fn nb_client_finish_event_with(
+    alloc: Global,
+    place: &mut ClientPlace,
+    data: u64,
+) -> u32
+    ensures none { place.old.kept.held ≡ None → (result ≡ 1) × (place.new.kept.held ≡ None) }
+    ensures stays { IsSome place.old.kept.held → IsSome place.new.kept.held }
+{
+    let Some(mut session) = place.take(alloc) else {
+        return Status::NoSession.code();
+    };
+    let status = session.finish_event_with(data);
+    place.put(session);
+    status.code()
+}
+
+/// Sends a request. Its descriptors are the session's if, and only if, the status is `NB_OK`.
+#[unsafe(no_mangle)]
+pub extern "C" fn nb_client_send_request(
+    alloc: Global,
+    place: &mut ClientPlace,
+    request: &FlatRequest,
+    arguments: &[FlatArgument],
+    bytes: &[u8],
+    created: &mut FlatObjectId,
+) -> u32
+    ensures none { place.old.kept.held ≡ None → (result ≡ 1) × (place.new.kept.held ≡ None) × (created.new ≡ created.old) }
+    ensures stays { IsSome place.old.kept.held → IsSome place.new.kept.held }
+    ensures unwritten { result ≢ 0 → created.new ≡ created.old }
+{
+    let Some(mut session) = place.take(alloc) else {
+        return Status::NoSession.code();
+    };
+    let answer = session.send_request(request, arguments, bytes);
+    place.put(session);
+    write_answer(answer, created)
+}

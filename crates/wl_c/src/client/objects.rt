@@ -1,0 +1,104 @@
+//! The objects of a client's session.
+
+ghost use Rattle.std.specs.Prelude.{IsSome, None, ◌≡◌, ◌≢◌};
+
+use super::place::ClientPlace;
+use crate::answer::write_answer;
+use std::alloc::Global;
+use wl_host::{FlatObjectId, FlatObjectInfo, Status};
+
+/// Writes the id of the display.
+#[unsafe(no_mangle)]
+pub extern "C" fn nb_client_display(
+    alloc: Global,
+    place: &mut ClientPlace,
+    object: &mut FlatObjectId,
+) -> u32
+    ensures none { place.old.kept.held ≡ None → (result ≡ 1) × (place.new.kept.held ≡ None) × (object.new ≡ object.old) }
+    ensures kept { place.new.kept.held ≡ place.old.kept.held }
+    ensures unwritten { result ≢ 0 → object.new ≡ object.old }
+{
+    let Some(session) = place.take(alloc) else {
+        return Status::NoSession.code();
+    };
+    let answer = session.display();
+    place.put(session);
+    write_answer(answer, object)
+}
+
+/// Writes the number, the interface and the version of an object.
+#[unsafe(no_mangle)]
+pub extern "C" fn nb_client_object_info(
+    alloc: Global,
+    place: &mut ClientPlace,
+    object: &FlatObjectId,
+    info: &mut FlatObjectInfo,
+) -> u32
+    ensures none { place.old.kept.held ≡ None → (result ≡ 1) × (place.new.kept.held ≡ None) × (info.new ≡ info.old) }
+    ensures kept { place.new.kept.held ≡ place.old.kept.held }
+    ensures unwritten { result ≢ 0 → info.new ≡ info.old }
+{
+    let Some(session) = place.take(alloc) else {
+        return Status::NoSession.code();
+    };
+    let answer = session.object_info(object);
+    place.put(session);
+    write_answer(answer, info)
+}
+
+/// Writes the program's data of an object.
+#[unsafe(no_mangle)]
+pub extern "C" fn nb_client_object_data(
+    alloc: Global,
+    place: &mut ClientPlace,
+    object: &FlatObjectId,
+    user_data: &mut u64,
+) -> u32
+    ensures none { place.old.kept.held ≡ None → (result ≡ 1) × (place.new.kept.held ≡ None) × (user_data.new ≡ user_data.old) }
+    ensures kept { place.new.kept.held ≡ place.old.kept.held }
+    ensures unwritten { result ≢ 0 → user_data.new ≡ user_data.old }
+{
+    let Some(session) = place.take(alloc) else {
+        return Status::NoSession.code();
+    };
+    let answer = session.object_data(object);
+    place.put(session);
+    write_answer(answer, user_data)
+}
+
+/// Gives an object other data.
+#[unsafe(no_mangle)]
+pub extern "C" fn nb_client_set_object_data(
+    alloc: Global,
+    place: &mut ClientPlace,
+    object: &FlatObjectId,
+    data: u64,
+) -> u32
+    ensures none { place.old.kept.held ≡ None → (result ≡ 1) × (place.new.kept.held ≡ None) }
+    ensures stays { IsSome place.old.kept.held → IsSome place.new.kept.held }
+{
+    let Some(mut session) = place.take(alloc) else {
+        return Status::NoSession.code();
+    };
+    let status = session.set_object_data(object, data);
+    place.put(session);
+    status.code()
+}
+
+/// Destroys an object that the program lets go without a request.
+#[unsafe(no_mangle)]
+pub extern "C" fn nb_client_destroy_object(
+    alloc: Global,
+    place: &mut ClientPlace,
+    object: &FlatObjectId,
+) -> u32
+    ensures none { place.old.kept.held ≡ None → (result ≡ 1) × (place.new.kept.held ≡ None) }
+    ensures stays { IsSome place.old.kept.held → IsSome place.new.kept.held }
+{
+    let Some(mut session) = place.take(alloc) else {
+        return Status::NoSession.code();
+    };
+    let status = session.destroy_object(object);
+    place.put(session);
+    status.code()
+}

@@ -1,0 +1,27 @@
+//! The sessions for C: a place for each session in memory that C owns, and an exported function for each call of
+//! `embed/numbyroga.h`.
+//!
+//! A *place* is 16 bytes of C's, with zeros in them at first ([`server::ServerPlace`], [`client::ClientPlace`]). `nb_server_new` and
+//! `nb_client_connect` put a session there, `nb_server_end` and `nb_client_end` take it away. Each other call takes the
+//! session out, calls its method of `wl_host`, and puts it back before it returns. So a call on an empty place, or within a
+//! call on the same place, answers `NB_NO_SESSION`.
+//!
+//! All that a call does is done by the method of the same name. The contract of an export says what becomes of the place,
+//! and what is written where the call is refused:
+//!
+//! | Clause | What it says |
+//! |---|---|
+//! | `none` | An empty place answers `NB_NO_SESSION`, stays empty, and nothing is written. |
+//! | `stays` | A session that was there is there after the call. |
+//! | `kept` | A look-up changes nothing that is held. |
+//! | `unwritten` | What is answered is written only where the status is `NB_OK`. |
+//! | `in_use`, `begun` | A session begins only in an empty place, and exactly where the status is `NB_OK`. |
+//! | `ended` | The place is empty after the end. |
+#![tactic(auto)]
+
+mod answer;
+pub mod client;
+mod parts;
+pub mod server;
+mod sizes;
+mod threads;

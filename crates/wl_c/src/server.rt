@@ -1,0 +1,21 @@
+//! A server's session for C: its place, and the calls of `nb_server_`.
+//!
+//! | Calls | File |
+//! |---|---|
+//! | `new`, `end`, `add_interfaces`, `memory_refused`, the limits | `session` |
+//! | `insert_client`, `received`, .. | `clients` |
+//! | `next_action`, `finish_request`, `send_event`, .. | `actions` |
+//! | `create_object`, `object_data`, .. | `objects` |
+//! | `create_global`, `global_name`, .. | `globals` |
+//! | `next_writable`, `to_send`, `cleanup`, `next_gone`, .. | `sending` |
+
+mod actions;
+mod clients;
+mod globals;
+mod kept;
+mod objects;
+mod place;
+mod sending;
+mod session;
+
+pub use place::ServerPlace;

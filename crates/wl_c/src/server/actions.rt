@@ -1,0 +1,130 @@
+//! What clients ask for, and what the program answers.
+
+ghost use Rattle.std.specs.Prelude.{IsSome, None, ◌≡◌, ◌≢◌};
+
+use super::place::ServerPlace;
+use crate::answer::write_flag;
+use std::alloc::Global;
+use wl_host::{FlatAction, FlatArgument, FlatClientId, FlatObjectId, Status};
+
+/// Reads the next request or bind of a client. What it says of strings and arrays goes into `bytes`.
+#[unsafe(no_mangle)]
+pub extern "C" fn nb_server_next_action(
+    alloc: Global,
+    place: &mut ServerPlace,
+    client: &FlatClientId,
+    action: &mut FlatAction,
+    arguments: &mut [FlatArgument],
+    bytes: &mut [u8],
+) -> u32
+    ensures none { place.old.kept.held ≡ None → (result ≡ 1) × (place.new.kept.held ≡ None) × (action.new ≡ action.old) × (arguments.new ≡ arguments.old) × (bytes.new ≡ bytes.old) }
+    ensures stays { IsSome place.old.kept.held → IsSome place.new.kept.held }
+{
+    let Some(mut session) = place.take(alloc) else {
+        return Status::NoSession.code();
+    };
+    let status = session.next_action(client, action, arguments, bytes);
+    place.put(session);
+    status.code()
+}
+
+/// Finishes the open request, which made no object.
+#[unsafe(no_mangle)]
+pub extern "C" fn nb_server_finish_request(
+    alloc: Global,
+    place: &mut ServerPlace,
+    client: &FlatClientId,
+) -> u32
+    ensures none { place.old.kept.held ≡ None → (result ≡ 1) × (place.new.kept.held ≡ None) }
+    ensures stays { IsSome place.old.kept.held → IsSome place.new.kept.held }
+{
+    let Some(mut session) = place.take(alloc) else {
+        return Status::NoSession.code();
+    };
+    let status = session.finish_request(client);
+    place.put(session);
+    status.code()
+}
+
+/// Finishes the open request and gives this data to the object that it made. `is_kept` tells whether that object lives.
+#[unsafe(no_mangle)]
+pub extern "C" fn nb_server_finish_request_with(
+    alloc: Global,
+    place: &mut ServerPlace,
+    client: &FlatClientId,
+    data: u64,
+    is_kept: &mut u32,
+) -> u32
+    ensures none { place.old.kept.held ≡ None → (result ≡ 1) × (place.new.kept.held ≡ None) × (is_kept.new ≡ is_kept.old) }
+    ensures stays { IsSome place.old.kept.held → IsSome place.new.kept.held }
+    ensures unwritten { result ≢ 0 → is_kept.new ≡ is_kept.old }
+{
+    let Some(mut session) = place.take(alloc) else {
+        return Status::NoSession.code();
+    };
+    let answer = session.finish_request_with(client, data);
+    place.put(session);
+    write_flag(answer, is_kept)
+}
+
+/// Finishes the open bind and gives this data to the object that it made. `is_kept` tells whether that object lives.
+#[unsafe(no_mangle)]
+pub extern "C" fn nb_server_finish_bind(
+    alloc: Global,
+    place: &mut ServerPlace,
+    client: &FlatClientId,
+    data: u64,
+    is_kept: &mut u32,
+) -> u32
+    ensures none { place.old.kept.held ≡ None → (result ≡ 1) × (place.new.kept.held ≡ None) × (is_kept.new ≡ is_kept.old) }
+    ensures stays { IsSome place.old.kept.held → IsSome place.new.kept.held }
+    ensures unwritten { result ≢ 0 → is_kept.new ≡ is_kept.old }
+{
+    let Some(mut session) = place.take(alloc) else {
+        return Status::NoSession.code();
+    };
+    let answer = session.finish_bind(client, data);
+    place.put(session);
+    write_flag(answer, is_kept)
+}
+
+/// Sends an event. Its descriptors are the session's if, and only if, the status is `NB_OK`.
+#[unsafe(no_mangle)]
+pub extern "C" fn nb_server_send_event(
+    alloc: Global,
+    place: &mut ServerPlace,
+    sender: &FlatObjectId,
+    opcode: u32,
+    arguments: &[FlatArgument],
+    bytes: &[u8],
+) -> u32
+    ensures none { place.old.kept.held ≡ None → (result ≡ 1) × (place.new.kept.held ≡ None) }
+    ensures stays { IsSome place.old.kept.held → IsSome place.new.kept.held }
+{
+    let Some(mut session) = place.take(alloc) else {
+        return Status::NoSession.code();
+    };
+    let status = session.send_event(sender, opcode, arguments, bytes);
+    place.put(session);
+    status.code()
+}
+
+/// Tells the client of an object of a protocol error, and kills it.
+#[unsafe(no_mangle)]
+pub extern "C" fn nb_server_post_error(
+    alloc: Global,
+    place: &mut ServerPlace,
+    object: &FlatObjectId,
+    code: u32,
+    message: &[u8],
+) -> u32
+    ensures none { place.old.kept.held ≡ None → (result ≡ 1) × (place.new.kept.held ≡ None) }
+    ensures stays { IsSome place.old.kept.held → IsSome place.new.kept.held }
+{
+    let Some(mut session) = place.take(alloc) else {
+        return Status::NoSession.code();
+    };
+    let status = session.post_error(object, code, message);
+    place.put(session);
+    status.code()
+}

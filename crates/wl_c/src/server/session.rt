@@ -1,0 +1,178 @@
+//! A server's session as a whole: its begin and its end, its table, its limits.
+
+ghost use Rattle.std.specs.Prelude.{IsSome, None, ◌≡◌, ◌≢◌, ◌↔◌};
+
+use super::place::ServerPlace;
+use crate::answer::{write_fault, write_flag};
+use std::alloc::Global;
+use wl_host::{
+    ArgumentRow, FlatClientId, InterfaceRow, MessageRow, Rows, Server, Status, TableFault, fault,
+};
+
+/// Begins a session over this table of interfaces, in an empty place. A place that holds a session keeps it, and the status
+/// is
+/// `NB_IN_USE`. Where the table is refused, `fault` says which interface and why, and the place stays empty.
+#[unsafe(no_mangle)]
+pub extern "C" fn nb_server_new(
+    alloc: Global,
+    place: &mut ServerPlace,
+    text: &[u8],
+    interfaces: &[InterfaceRow],
+    messages: &[MessageRow],
+    arguments: &[ArgumentRow],
+    fault: &mut TableFault,
+) -> u32
+    ensures in_use { IsSome place.old.kept.held → (result ≡ 2) × (place.new.kept.held ≡ place.old.kept.held) × (fault.new ≡ fault.old) }
+    ensures begun { place.old.kept.held ≡ None → (result ≡ 0) ↔ IsSome place.new.kept.held }
+    ensures unfaulted { result ≡ 0 → fault.new ≡ fault.old }
+{
+    if let Some(session) = place.take(alloc) {
+        place.put(session);
+        return Status::InUse.code();
+    }
+    let rows = Rows {
+        text,
+        interfaces,
+        messages,
+        arguments,
+    };
+    match boxed(alloc, &rows) {
+        Ok(session) => {
+            place.put(session);
+            Status::Ok.code()
+        }
+        Err(refused) => write_fault(refused, fault),
+    }
+}
+
+/// Ends the session, and frees its memory. The place is empty then, and may be begun again.
+#[unsafe(no_mangle)]
+pub extern "C" fn nb_server_end(alloc: Global, place: &mut ServerPlace) -> u32
+    ensures none { place.old.kept.held ≡ None → result ≡ 1 }
+    ensures some { IsSome place.old.kept.held → result ≡ 0 }
+    ensures ended { place.new.kept.held ≡ None }
+{
+    match place.take(alloc) {
+        Some(_) => Status::Ok.code(),
+        None => Status::NoSession.code(),
+    }
+}
+
+/// Adds interfaces to the table. Where they are refused, `fault` says which and why, and the table is as before.
+#[unsafe(no_mangle)]
+pub extern "C" fn nb_server_add_interfaces(
+    alloc: Global,
+    place: &mut ServerPlace,
+    text: &[u8],
+    interfaces: &[InterfaceRow],
+    messages: &[MessageRow],
+    arguments: &[ArgumentRow],
+    fault: &mut TableFault,
+) -> u32
+    ensures none { place.old.kept.held ≡ None → (result ≡ 1) × (place.new.kept.held ≡ None) × (fault.new ≡ fault.old) }
+    ensures stays { IsSome place.old.kept.held → IsSome place.new.kept.held }
+    ensures unfaulted { result ≡ 0 → fault.new ≡ fault.old }
+{
+    let Some(mut session) = place.take(alloc) else {
+        return Status::NoSession.code();
+    };
+    let rows = Rows {
+        text,
+        interfaces,
+        messages,
+        arguments,
+    };
+    let added = session.add_interfaces(&rows);
+    place.put(session);
+    match added {
+        Ok(()) => Status::Ok.code(),
+        Err(refused) => write_fault(refused, fault),
+    }
+}
+
+/// Writes 1 where memory was refused in the last call of the core that changes it, and 0 else.
+#[unsafe(no_mangle)]
+pub extern "C" fn nb_server_memory_refused(
+    alloc: Global,
+    place: &mut ServerPlace,
+    is_refused: &mut u32,
+) -> u32
+    ensures none { place.old.kept.held ≡ None → (result ≡ 1) × (place.new.kept.held ≡ None) × (is_refused.new ≡ is_refused.old) }
+    ensures kept { place.new.kept.held ≡ place.old.kept.held }
+    ensures unwritten { result ≢ 0 → is_refused.new ≡ is_refused.old }
+{
+    let Some(session) = place.take(alloc) else {
+        return Status::NoSession.code();
+    };
+    let answer = session.memory_refused();
+    place.put(session);
+    write_flag(answer, is_refused)
+}
+
+/// Sets how many bytes may wait for a client that is inserted from now on.
+#[unsafe(no_mangle)]
+pub extern "C" fn nb_server_set_default_max_buffer_size(
+    alloc: Global,
+    place: &mut ServerPlace,
+    size: u64,
+) -> u32
+    ensures none { place.old.kept.held ≡ None → (result ≡ 1) × (place.new.kept.held ≡ None) }
+    ensures stays { IsSome place.old.kept.held → IsSome place.new.kept.held }
+{
+    let Some(mut session) = place.take(alloc) else {
+        return Status::NoSession.code();
+    };
+    let status = session.set_default_max_buffer_size(size);
+    place.put(session);
+    status.code()
+}
+
+/// Sets how many bytes may wait for this client.
+#[unsafe(no_mangle)]
+pub extern "C" fn nb_server_set_max_buffer_size(
+    alloc: Global,
+    place: &mut ServerPlace,
+    client: &FlatClientId,
+    size: u64,
+) -> u32
+    ensures none { place.old.kept.held ≡ None → (result ≡ 1) × (place.new.kept.held ≡ None) }
+    ensures stays { IsSome place.old.kept.held → IsSome place.new.kept.held }
+{
+    let Some(mut session) = place.take(alloc) else {
+        return Status::NoSession.code();
+    };
+    let status = session.set_max_buffer_size(client, size);
+    place.put(session);
+    status.code()
+}
+
+/// Sets how many bytes the mailbox of this client takes from the core before the host has sent them.
+#[unsafe(no_mangle)]
+pub extern "C" fn nb_server_set_room(
+    alloc: Global,
+    place: &mut ServerPlace,
+    client: &FlatClientId,
+    room: u64,
+) -> u32
+    ensures none { place.old.kept.held ≡ None → (result ≡ 1) × (place.new.kept.held ≡ None) }
+    ensures stays { IsSome place.old.kept.held → IsSome place.new.kept.held }
+{
+    let Some(mut session) = place.take(alloc) else {
+        return Status::NoSession.code();
+    };
+    let status = session.set_room(client, room);
+    place.put(session);
+    status.code()
+}
+
+/// A session in a box of its own.
+fn boxed(alloc: Global, rows: &Rows) -> Result<Box<Server>, TableFault> {
+    let session = Server::new(alloc, rows)?;
+    match Box::new(alloc, session) {
+        Ok(session) => Ok(session),
+        Err(_) => Err(TableFault {
+            interface: 0,
+            fault: fault::OUT_OF_MEMORY,
+        }),
+    }
+}

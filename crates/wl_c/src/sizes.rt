@@ -1,0 +1,50 @@
+//! How many bytes each struct has that goes between Rattle and C, proved.
+//!
+//! C asserts the same numbers: `embed/check-header` compares each struct's size and each field's place.
+
+use crate::client::ClientPlace;
+use crate::server::ServerPlace;
+use std::mem::size_of;
+use wl_host::{
+    ArgumentRow, Counts, FlatAction, FlatArgument, FlatClientId, FlatError, FlatEvent,
+    FlatGlobalId, FlatGlobalInfo, FlatNote, FlatObjectId, FlatObjectInfo, FlatRequest, Gone,
+    InterfaceRow, MessageRow, TableFault,
+};
+
+const _: () = prove!(size_of::<ServerPlace>() == 16);
+
+const _: () = prove!(size_of::<ClientPlace>() == 16);
+
+const _: () = prove!(size_of::<FlatClientId>() == 16);
+
+const _: () = prove!(size_of::<FlatObjectId>() == 32);
+
+const _: () = prove!(size_of::<FlatGlobalId>() == 16);
+
+const _: () = prove!(size_of::<InterfaceRow>() == 20);
+
+const _: () = prove!(size_of::<MessageRow>() == 20);
+
+const _: () = prove!(size_of::<ArgumentRow>() == 12);
+
+const _: () = prove!(size_of::<TableFault>() == 8);
+
+const _: () = prove!(size_of::<FlatArgument>() == 56);
+
+const _: () = prove!(size_of::<FlatAction>() == 112);
+
+const _: () = prove!(size_of::<FlatEvent>() == 96);
+
+const _: () = prove!(size_of::<FlatRequest>() == 64);
+
+const _: () = prove!(size_of::<FlatObjectInfo>() == 12);
+
+const _: () = prove!(size_of::<FlatGlobalInfo>() == 16);
+
+const _: () = prove!(size_of::<FlatNote>() == 80);
+
+const _: () = prove!(size_of::<FlatError>() == 28);
+
+const _: () = prove!(size_of::<Counts>() == 8);
+
+const _: () = prove!(size_of::<Gone>() == 32);
