@@ -483,14 +483,12 @@ static void watch(struct client *client, int operation)
     epoll_ctl(queue, operation, client->socket, &event);
 }
 
-static void accept_client(void)
+static void add_client(int socket)
 {
-    int socket = accept4(listener, NULL, NULL, SOCK_CLOEXEC | SOCK_NONBLOCK);
-    if (socket < 0)
-        return;
-    struct client *client = client_count < MOST_CLIENTS ? calloc(1, sizeof *client) : NULL;
+    struct client *client = socket >= 0 && client_count < MOST_CLIENTS ? calloc(1, sizeof *client) : NULL;
     if (!client || nb_server_insert_client(&server, (uint64_t)(uintptr_t)client, 1, &client->id) != NB_OK) {
-        close(socket);
+        if (socket >= 0)
+            close(socket);
         free(client);
         return;
     }
@@ -674,7 +672,7 @@ int main(int argc, char **argv)
         for (int i = 0; i < count; i++) {
             struct client *client = events[i].data.ptr;
             if (events[i].data.ptr == &listener)
-                accept_client();
+                add_client(accept4(listener, NULL, NULL, SOCK_CLOEXEC | SOCK_NONBLOCK));
             else if (events[i].data.ptr == &timer) {
                 if (read(timer, &frames, sizeof frames) > 0)
                     show_frame();
