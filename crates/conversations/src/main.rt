@@ -10,7 +10,7 @@ use std::io::BufReader;
 use std::process::ExitCode;
 use std::rt::{Env, Files};
 use std::{env, fs, io};
-use wl_bench::replay::{Replayed, replay};
+use wl_replay::{Replayed, replay};
 use wl_bench::stop::Stop;
 
 /// Replays the recording in a file, and prints its line. Returns whether the recording is the same today.

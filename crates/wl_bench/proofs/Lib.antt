@@ -4,12 +4,11 @@ mod HexWords
 mod InputLines
 mod Lines
 mod Making
-mod OneCommand
-mod Numbers
+pub mod OneCommand
+pub mod Numbers
 mod Others
 mod Places
-mod Recordings
 mod Rows
-mod RunLines
+pub mod RunLines
 mod Sharing
 mod Slots

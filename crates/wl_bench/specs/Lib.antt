@@ -3,7 +3,6 @@ pub mod Apart
 pub mod Bench
 pub mod Commands
 pub mod Hex
-pub mod Inside
 pub mod Record
 pub mod Rows
 pub mod Sync

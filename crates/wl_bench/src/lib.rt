@@ -1,7 +1,7 @@
 //! The commands of the program `wl-bench`, which drive a server by lines of text, and recordings of them.
 //!
 //! [`commands::run_commands`] carries out the lines of a reader and writes what they answer, [`commands::record`] writes each line
-//! with its answer, and [`replay::replay`] compares such a recording with the answers of today. [`sync::request`] and
+//! with its answer; the crate `wl_replay` compares such a recording with the answers of today. [`sync::request`] and
 //! [`sync::answer`] are the first exchange of a client and a server. `docs/BENCH.md` has the language of the lines.
 //!
 //! | Subject | Code | Definitions, in `specs/` |
@@ -9,19 +9,18 @@
 //! | the first exchange | `sync`, `hex` | `Sync`, `Hex` |
 //! | which lines are commands | `command`, `words` | `Commands` |
 //! | what a command does, and what it prints | `bench`, `latest`, `table`, `answer` | `Bench`, `Table`, `Answers` |
-//! | runs, records and replays | `commands`, `replay`, `stop` | `Record` |
+//! | runs and records | `commands`, `stop` | `Record` |
 //! | a law of commands | `laws` | `Apart` |
 #![tactic(auto)]
 
 mod answer;
-mod bench;
-mod command;
+pub mod bench;
+pub mod command;
 pub mod commands;
 pub mod hex;
 mod latest;
 mod laws;
-pub mod replay;
 pub mod stop;
 pub mod sync;
 mod table;
-mod words;
+pub mod words;

@@ -14,7 +14,7 @@ use std::rt::Env;
 use std::{env, io};
 use wl_bench::commands::{record, run_commands};
 use wl_bench::hex::hex_line;
-use wl_bench::replay::{Replayed, replay};
+use wl_replay::{Replayed, replay};
 use wl_bench::stop::Stop;
 use wl_bench::sync;
 

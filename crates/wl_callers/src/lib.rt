@@ -9,4 +9,5 @@ pub mod data;
 pub mod destruction;
 pub mod ending;
 pub mod finishing;
+pub mod labels;
 pub mod proxy;

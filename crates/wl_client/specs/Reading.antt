@@ -37,6 +37,11 @@ abbrev pub event_content : Result (Message IdParts Token) EventError → Result 
 event_content (Ok m) = Ok (session_content m)
 event_content (Err e) = Err e
 
+-- the answer of a reading that puts its event into a message of the caller
+abbrev pub answer_into : Result (Unit {0}) EventError → Message IdParts Token → Result (Message IdParts Token) EventError
+answer_into (Ok _) m = Ok m
+answer_into (Err e) m = Err e
+
 -- an event asks for memory before it is read: for the object that it makes, or for arguments beyond four
 abbrev pub row_asks : Option MessageRow → Bool
 row_asks None = false

@@ -22,6 +22,7 @@
 //! | `finish_request`, `finish_bind` | `reading::finish` | `Finish`, `Cutting` |
 //! | `dispatch_single_client`, `dispatch_all_clients`, [`Handler`] | `dispatch` | `Dispatch`, `Reached` |
 //! | `create_global`, `disable_global`, `remove_global` | `globals::create_global`, `globals::remove_global` | `PartStep`, `Globals`, `Felt` |
+//! | `add_interfaces` | `globals::add_interfaces` | `Steps`, and `Table` of `wl_wire` |
 //! | `cleanup`, `take_notes` | `notes` | `PartStep`, `Felt` |
 //! | look-ups, `with_all_clients`, `with_all_objects_for` | `lookups`, `globals::lookups` | `Lookups` |
 //! | `replay` | `runs::replay` | `Runs`, `Histories`, `WholeOutcome` |

@@ -7,7 +7,7 @@ use std::alloc::Global;
 use std::test::Fail;
 use test_kit::log::{row_tells, tells};
 use wl_bench::commands::record;
-use wl_bench::replay::replay;
+use wl_replay::replay;
 use wl_bench::stop::Stop;
 
 /// The output, and after it how the run ended if that was not at the end of the input.

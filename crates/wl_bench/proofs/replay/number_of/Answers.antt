@@ -1,5 +1,0 @@
-use Rattle.wl_bench.proofs.Recordings.{number_text}
-use Rattle.wl_bench.proofs.replay.number_of.Goals as goal
-
-pub returns-in_default : goal.returns-in_default
-returns-in_default c = number_text c.args.bytes.now c.in_default.ensures.cases.0

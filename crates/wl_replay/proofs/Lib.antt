@@ -1,0 +1,2 @@
+mod Recordings
+mod Rows
