@@ -181,7 +181,7 @@ typedef struct {
 /* A table is four slices; embed/scan makes them from protocol XML files. The rows of interfaces stand in order, and have the
  * numbers 4, 5, .. (NB_INTERFACE_FIRST). The messages of the first interface stand first: its requests in order, then its events;
  * then those of the next one. In the same way the arguments of all messages stand behind each other. Names are ranges of the
- * text. `wl_display`, `wl_registry` and `wl_callback` are in each table beforehand, with these numbers: */
+ * text, in UTF-8. `wl_display`, `wl_registry` and `wl_callback` are in each table beforehand, with these numbers: */
 enum {
     NB_INTERFACE_ANY = 0, /* no interface: an object argument that may be of any */
     NB_INTERFACE_DISPLAY = 1,
@@ -202,7 +202,7 @@ typedef struct {
 } nb_message_row;
 
 /* An argument: its kind (NB_INT to NB_DESCRIPTOR, below), whether a string or object may be null (0 or 1), and the number of the
- * interface of an object or new id. A message has one new id at most. */
+ * interface of an object or new id. Any number but 0 is a yes. A message has one new id at most. */
 typedef struct {
     uint32_t kind, is_nullable, interface;
 } nb_argument_row;
@@ -214,7 +214,7 @@ typedef struct {
 
 enum {
     NB_FAULT_NONE = 0,
-    NB_FAULT_ROW = 1,                 /* a row names what is not there, or has a kind or flag that it cannot have; or rows are left over */
+    NB_FAULT_ROW = 1,                 /* a row names what is not there, has a kind that is none, or its name is not UTF-8 */
     NB_FAULT_ZERO_IN_NAME = 2,        /* a name has a zero byte */
     NB_FAULT_DUPLICATE_NAME = 3,      /* another interface has the name */
     NB_FAULT_UNKNOWN_INTERFACE = 4,   /* an argument names an interface that is not in the table */
@@ -354,8 +354,9 @@ typedef struct {
 
 /* Makes a session in the place, with this table and no client. nb_server_start, below, takes an nb_table.
  *
- * The rows and the text are copied. `fault` is always written: it is NB_FAULT_NONE after NB_OK and NB_IN_USE. Statuses: NB_IN_USE; NB_BAD_TABLE (the fault
- * says which interface and why); NB_OUT_OF_MEMORY (the fault is NB_FAULT_OUT_OF_MEMORY). The place stays empty after an error. */
+ * The rows and the text are copied; rows that no other row counts are not looked at. `fault` is written after NB_BAD_TABLE and NB_OUT_OF_MEMORY.
+ * Statuses: NB_IN_USE; NB_BAD_TABLE (the fault says which interface and why); NB_OUT_OF_MEMORY (the fault is NB_FAULT_OUT_OF_MEMORY). The place
+ * stays as it was after an error. */
 nb_status nb_server_new(nb_server *place, const uint8_t *text, size_t text_length, const nb_interface_row *interfaces,
                         size_t interface_count, const nb_message_row *messages, size_t message_count,
                         const nb_argument_row *arguments, size_t argument_count, nb_table_fault *fault);

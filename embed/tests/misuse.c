@@ -5,7 +5,7 @@ static nb_client session;
 
 /* ---- tables */
 
-static const uint8_t text[] = "onetwo\0four";
+static const uint8_t text[] = "onetwo\0four\xff";
 
 /* One interface of this name, with one request of this name and these arguments. */
 static nb_status table(uint32_t name_at, uint32_t name_length, const nb_argument_row *rows, uint32_t count, uint32_t said)
@@ -33,7 +33,6 @@ static void tables(void)
     const nb_argument_row one[] = { { NB_INT, 0, 0 } };
     nb_argument_row row = { NB_OBJECT, 1, 4 };
     OK(table(0, 3, NULL, 0, 0));
-    HOLDS(fault.fault == NB_FAULT_NONE);
     OK(table(0, 3, &row, 1, 1));
     FAULTY(table(0, 99, NULL, 0, 0), NB_FAULT_ROW, 0);
     FAULTY(table(0xffffffff, 0xffffffff, NULL, 0, 0), NB_FAULT_ROW, 0);
@@ -43,22 +42,18 @@ static void tables(void)
     FAULTY(table(0, 3, &row, 1, 1), NB_FAULT_ROW, 0);
     row.kind = 99;
     FAULTY(table(0, 3, &row, 1, 1), NB_FAULT_ROW, 0);
-    row = (nb_argument_row){ NB_OBJECT, 2, 4 };
-    FAULTY(table(0, 3, &row, 1, 1), NB_FAULT_ROW, 0);
     row = (nb_argument_row){ NB_OBJECT, 0, 5 };
     FAULTY(table(0, 3, &row, 1, 1), NB_FAULT_UNKNOWN_INTERFACE, 0);
     row = (nb_argument_row){ NB_NEW_ID, 0, 0 };
     FAULTY(table(0, 3, &row, 1, 1), NB_FAULT_MISSING_CHILD, 0);
     FAULTY(table(0, 3, two_new, 2, 2), NB_FAULT_TOO_MANY_NEW_IDS, 0);
     FAULTY(table(4, 4, NULL, 0, 0), NB_FAULT_ZERO_IN_NAME, 0);
+    FAULTY(table(8, 4, NULL, 0, 0), NB_FAULT_ROW, 0); /* no UTF-8 */
     const nb_interface_row twice[] = { { 0, 3, 1, 0, 0 }, { 3, 3, 1, 0, 0 }, { 0, 3, 1, 0, 0 } };
     FAULTY(nb_server_new(&server, text, sizeof text, twice, 3, NULL, 0, NULL, 0, &fault), NB_FAULT_DUPLICATE_NAME, 2);
     const nb_interface_row fixed = { 0, 10, 1, 0, 0 };
     FAULTY(nb_server_new(&server, (const uint8_t *)"wl_display", 10, &fixed, 1, NULL, 0, NULL, 0, &fault), NB_FAULT_DUPLICATE_NAME, 0);
-    /* A message, or an argument, that belongs to nothing. */
     const nb_message_row message = { 3, 3, 1, 0, 0 };
-    FAULTY(nb_server_new(&server, text, sizeof text, twice, 2, &message, 1, NULL, 0, &fault), NB_FAULT_ROW, 2);
-    FAULTY(nb_server_new(&server, text, sizeof text, twice, 2, NULL, 0, one, 1, &fault), NB_FAULT_ROW, 2);
     const nb_interface_row many = { 0, 3, 1, 0xffffffff, 0xffffffff };
     FAULTY(nb_server_new(&server, text, sizeof text, &many, 1, &message, 1, NULL, 0, &fault), NB_FAULT_ROW, 0);
     /* No table at all is one with the three fixed interfaces. */
