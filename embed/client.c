@@ -2,10 +2,11 @@
  *
  *   client [FRAMES]
  *
- * It connects to $WAYLAND_DISPLAY in $XDG_RUNTIME_DIR. FRAMES is 1 if it is left out; with 0 it lists the globals alone. Its status is 0 if
- * all frames were shown, and 1 if something failed.
+ * It connects to $WAYLAND_DISPLAY in $XDG_RUNTIME_DIR. FRAMES is 1 if it is left out; with 0 it lists the globals
+ * alone. Its status is 0 if all frames were shown, and 1 if something failed.
  *
- * Read it from the end: `main` takes turns in sending (`send_all`) and receiving (`receive`), and `act` takes the events out. */
+ * Read it from the end: `main` takes turns in sending (`send_all`) and receiving (`receive`), and `act` takes the
+ * events out. */
 #define _GNU_SOURCE
 #include "protocol.h"
 #include "socket.h"
@@ -49,16 +50,19 @@ static nb_object_id ask(const nb_request *request, const nb_argument *arguments,
     return created;
 }
 
-/* A request that makes no object: DO(&surface, NB_WL_SURFACE_REQUEST_ATTACH, "", nb_object(buffer), nb_int(0), nb_int(0)). */
-#define DO(to, which, text, ...)                                                        \
-    do {                                                                                \
-        const nb_argument arguments_[] = { __VA_ARGS__ };                               \
-        const nb_request request_ = { .sender = *(to), .opcode = (which) };             \
-        ask(&request_, arguments_, sizeof arguments_ / sizeof *arguments_, text);       \
+/* A request that makes no object: DO(&surface, NB_WL_SURFACE_REQUEST_ATTACH, "", nb_object(buffer), nb_int(0),
+ * nb_int(0)). */
+#define DO(to, which, text, ...)                                                                                       \
+    do {                                                                                                               \
+        const nb_argument arguments_[] = { __VA_ARGS__ };                                                              \
+        const nb_request request_ = { .sender = *(to), .opcode = (which) };                                            \
+        ask(&request_, arguments_, sizeof arguments_ / sizeof *arguments_, text);                                      \
     } while (0)
 
-/* A request that makes an object, whose data are a number. The new id stands first among its arguments, and the session chooses it. */
-static nb_object_id make(const nb_object_id *sender, uint32_t opcode, uint64_t data, nb_argument second, nb_argument third, size_t count)
+/* A request that makes an object, whose data are a number. The new id stands first among its arguments, and the session
+ * chooses it. */
+static nb_object_id make(const nb_object_id *sender, uint32_t opcode, uint64_t data, nb_argument second,
+                         nb_argument third, size_t count)
 {
     const nb_argument arguments[] = { nb_placeholder(), second, third };
     const nb_request request = { .sender = *sender, .opcode = opcode, .has_data = 1, .data = data };
@@ -67,10 +71,15 @@ static nb_object_id make(const nb_object_id *sender, uint32_t opcode, uint64_t d
 
 static nb_object_id bind_global(uint32_t name, const char *interface_name, uint32_t interface, uint32_t version)
 {
-    const nb_argument arguments[] = { nb_uint(name), nb_string(0, (uint32_t)strlen(interface_name)), nb_uint(version), nb_placeholder() };
+    const nb_argument arguments[] = { nb_uint(name), nb_string(0, (uint32_t)strlen(interface_name)), nb_uint(version),
+                                      nb_placeholder() };
     const nb_request request = {
-        .sender = registry, .opcode = NB_WL_REGISTRY_REQUEST_BIND, .has_data = 1,
-        .has_child = 1, .child_interface = interface, .child_version = version,
+        .sender = registry,
+        .opcode = NB_WL_REGISTRY_REQUEST_BIND,
+        .has_data = 1,
+        .has_child = 1,
+        .child_interface = interface,
+        .child_version = version,
     };
     return ask(&request, arguments, 4, interface_name);
 }
@@ -87,7 +96,8 @@ static void make_buffer(void)
     if (pixels == MAP_FAILED)
         fail("no memory for a buffer");
     nb_object_id pool = make(&shm, NB_WL_SHM_REQUEST_CREATE_POOL, 0, nb_descriptor(file), nb_int(STRIDE * HEIGHT), 3);
-    const nb_argument arguments[] = { nb_placeholder(), nb_int(0), nb_int(WIDTH), nb_int(HEIGHT), nb_int(STRIDE), nb_uint(NB_WL_SHM_FORMAT_XRGB8888) };
+    const nb_argument arguments[] = { nb_placeholder(), nb_int(0),      nb_int(WIDTH),
+                                      nb_int(HEIGHT),   nb_int(STRIDE), nb_uint(NB_WL_SHM_FORMAT_XRGB8888) };
     const nb_request request = { .sender = pool, .opcode = NB_WL_SHM_POOL_REQUEST_CREATE_BUFFER, .has_data = 1 };
     buffer = ask(&request, arguments, 6, "");
     const nb_request destroy = { .sender = pool, .opcode = NB_WL_SHM_POOL_REQUEST_DESTROY };
@@ -158,11 +168,10 @@ static void handle(const nb_event *event, const nb_argument *arguments)
 {
     switch (event->sender.interface << 16 | event->opcode) {
     case ON(WL_REGISTRY, GLOBAL):
-        take_global(nb_uint_of(&arguments[0]), (const char *)bytes + arguments[1].at, arguments[1].length, nb_uint_of(&arguments[2]));
+        take_global(nb_uint_of(&arguments[0]), (const char *)bytes + arguments[1].at, arguments[1].length,
+                    nb_uint_of(&arguments[2]));
         break;
-    case ON(WL_CALLBACK, DONE):
-        take_callback(event->data);
-        break;
+    case ON(WL_CALLBACK, DONE): take_callback(event->data); break;
     case ON(XDG_WM_BASE, PING):
         DO(&wm_base, NB_XDG_WM_BASE_REQUEST_PONG, "", nb_uint(nb_uint_of(&arguments[0])));
         break;
@@ -170,9 +179,7 @@ static void handle(const nb_event *event, const nb_argument *arguments)
         DO(&xdg_surface, NB_XDG_SURFACE_REQUEST_ACK_CONFIGURE, "", nb_uint(nb_uint_of(&arguments[0])));
         draw();
         break;
-    case ON(XDG_TOPLEVEL, CLOSE):
-        is_done = 1;
-        break;
+    case ON(XDG_TOPLEVEL, CLOSE): is_done = 1; break;
     }
     for (uint32_t i = 0; i < event->arguments; i++)
         if (arguments[i].kind == NB_DESCRIPTOR)
@@ -199,7 +206,8 @@ static void act(void)
     nb_status status;
     while ((status = nb_client_next_event(&session, &event, arguments, MOST_ARGUMENTS, bytes, sizeof bytes)) == NB_OK) {
         handle(&event, arguments);
-        status = nb_is_null(&event.created) ? nb_client_finish_event(&session) : nb_client_finish_event_with(&session, 0);
+        status =
+            nb_is_null(&event.created) ? nb_client_finish_event(&session) : nb_client_finish_event_with(&session, 0);
         if (status != NB_OK)
             fail(nb_status_text(status));
     }
@@ -244,7 +252,8 @@ static int send_all(void)
 {
     nb_counts counts;
     nb_client_flush(&session);
-    while (nb_client_to_send(&session, bytes, sizeof bytes, descriptors, NB_MOST_DESCRIPTORS, &counts) == NB_OK && counts.bytes > 0) {
+    while (nb_client_to_send(&session, bytes, sizeof bytes, descriptors, NB_MOST_DESCRIPTORS, &counts) == NB_OK &&
+           counts.bytes > 0) {
         ssize_t taken = socket_send(connection, bytes, counts.bytes, descriptors, counts.descriptors);
         if (taken == -EAGAIN)
             return 0;

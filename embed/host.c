@@ -2,12 +2,14 @@
  *
  *   host [-v] SOCKET
  *
- * SOCKET is a path, or a name in $XDG_RUNTIME_DIR. With -v each action is logged. It serves wl_compositor, wl_subcompositor, wl_shm,
- * wl_seat, wl_output, xdg_wm_base and wl_data_device_manager: surfaces get their configure events, frame callbacks and buffers back, the
- * surface that was mapped last has the keyboard, and what one client copies another one can paste.
+ * SOCKET is a path, or a name in $XDG_RUNTIME_DIR. With -v each action is logged. It serves wl_compositor,
+ * wl_subcompositor, wl_shm, wl_seat, wl_output, xdg_wm_base and wl_data_device_manager: surfaces get their configure
+ * events, frame callbacks and buffers back, the surface that was mapped last has the keyboard, and what one client
+ * copies another one can paste.
  *
- * Read it from the end: `main` waits, `read_from` and `act` take requests in, `settle` sends and cleans up. What is between is the
- * compositor. It keeps ids of objects and never pointers: of an id that names nothing any more `find` answers NULL. */
+ * Read it from the end: `main` waits, `read_from` and `act` take requests in, `settle` sends and cleans up. What is
+ * between is the compositor. It keeps ids of objects and never pointers: of an id that names nothing any more `find`
+ * answers NULL. */
 #define _GNU_SOURCE
 #include "protocol.h"
 #include "socket.h"
@@ -25,7 +27,8 @@
 
 enum {
     MOST_CLIENTS = 1000,
-    MOST_HELD = 4 * NB_MOST_DESCRIPTORS, /* descriptors of one client that wait in each direction: nobody makes the host run out of them */
+    MOST_HELD = 4 * NB_MOST_DESCRIPTORS, /* descriptors of one client that wait in each direction: nobody makes the host
+                                            run out of them */
     MOST_ARGUMENTS = 20,                 /* no message of the table has more */
     MOST_TYPES = 64,                     /* of a selection */
     MOST_FRAMES = 16,                    /* callbacks of a surface that wait */
@@ -37,11 +40,12 @@ enum {
 struct client {
     int socket;
     nb_client_id id;
-    int is_full;            /* the socket took no more: epoll tells when it does */
-    size_t unread, unsent;  /* descriptors that came and are in no action yet; that are in an event and not sent yet */
+    int is_full;           /* the socket took no more: epoll tells when it does */
+    size_t unread, unsent; /* descriptors that came and are in no action yet; that are in an event and not sent yet */
 };
 
-/* What the host keeps of an object: the data of each surface, of its roles, and of keyboards, data devices, sources and offers. */
+/* What the host keeps of an object: the data of each surface, of its roles, and of keyboards, data devices, sources and
+ * offers. */
 struct object {
     nb_object_id id;
     uint32_t version;
@@ -114,8 +118,10 @@ static struct object *next_of(struct object *after, uint32_t interface, const nb
 
 /* ======== Events */
 
-/* Sends an event. The strings and arrays of `arguments` are in `text`. A descriptor among them is the session's afterwards, or closed. */
-static void send_event(const nb_object_id *to, uint32_t opcode, const nb_argument *arguments, size_t count, const void *text, size_t length)
+/* Sends an event. The strings and arrays of `arguments` are in `text`. A descriptor among them is the session's
+ * afterwards, or closed. */
+static void send_event(const nb_object_id *to, uint32_t opcode, const nb_argument *arguments, size_t count,
+                       const void *text, size_t length)
 {
     int32_t descriptor = -1;
     for (size_t i = 0; i < count; i++)
@@ -130,10 +136,10 @@ static void send_event(const nb_object_id *to, uint32_t opcode, const nb_argumen
 }
 
 /* The same with a C string for the text: SEND(&seat, NB_WL_SEAT_EVENT_NAME, "seat0", nb_string(0, 5)). */
-#define SEND(to, opcode, text, ...)                                                                   \
-    do {                                                                                              \
-        const nb_argument arguments_[] = { __VA_ARGS__ };                                             \
-        send_event(to, opcode, arguments_, sizeof arguments_ / sizeof *arguments_, text, strlen(text)); \
+#define SEND(to, opcode, text, ...)                                                                                    \
+    do {                                                                                                               \
+        const nb_argument arguments_[] = { __VA_ARGS__ };                                                              \
+        send_event(to, opcode, arguments_, sizeof arguments_ / sizeof *arguments_, text, strlen(text));                \
     } while (0)
 
 static void post_error(const nb_object_id *id, uint32_t code, const char *message)
@@ -157,15 +163,17 @@ static void greet(const nb_object_id *id, uint32_t version)
         SEND(id, NB_WL_SHM_EVENT_FORMAT, "", nb_uint(NB_WL_SHM_FORMAT_XRGB8888));
         break;
     case NB_WL_SEAT:
-        SEND(id, NB_WL_SEAT_EVENT_CAPABILITIES, "", nb_uint(NB_WL_SEAT_CAPABILITY_POINTER | NB_WL_SEAT_CAPABILITY_KEYBOARD));
+        SEND(id, NB_WL_SEAT_EVENT_CAPABILITIES, "",
+             nb_uint(NB_WL_SEAT_CAPABILITY_POINTER | NB_WL_SEAT_CAPABILITY_KEYBOARD));
         if (version >= 2)
             SEND(id, NB_WL_SEAT_EVENT_NAME, "seat0", nb_string(0, 5));
         break;
     case NB_WL_OUTPUT:
         SEND(id, NB_WL_OUTPUT_EVENT_GEOMETRY, "makermodel", nb_int(0), nb_int(0), nb_int(300), nb_int(200),
-             nb_int(NB_WL_OUTPUT_SUBPIXEL_UNKNOWN), nb_string(0, 5), nb_string(5, 5), nb_int(NB_WL_OUTPUT_TRANSFORM_NORMAL));
-        SEND(id, NB_WL_OUTPUT_EVENT_MODE, "", nb_uint(NB_WL_OUTPUT_MODE_CURRENT | NB_WL_OUTPUT_MODE_PREFERRED), nb_int(1280),
-             nb_int(720), nb_int(60000));
+             nb_int(NB_WL_OUTPUT_SUBPIXEL_UNKNOWN), nb_string(0, 5), nb_string(5, 5),
+             nb_int(NB_WL_OUTPUT_TRANSFORM_NORMAL));
+        SEND(id, NB_WL_OUTPUT_EVENT_MODE, "", nb_uint(NB_WL_OUTPUT_MODE_CURRENT | NB_WL_OUTPUT_MODE_PREFERRED),
+             nb_int(1280), nb_int(720), nb_int(60000));
         if (version >= 2) {
             SEND(id, NB_WL_OUTPUT_EVENT_SCALE, "", nb_int(1));
             send_event(id, NB_WL_OUTPUT_EVENT_DONE, NULL, 0, NULL, 0);
@@ -176,13 +184,15 @@ static void greet(const nb_object_id *id, uint32_t version)
 
 /* ======== The keyboard, and what is copied */
 
-static const char keymap[] = "xkb_keymap { xkb_keycodes { include \"evdev+aliases(qwerty)\" }; xkb_types { include \"complete\" };"
-                             " xkb_compat { include \"complete\" }; xkb_symbols { include \"pc+us+inet(evdev)\" }; };";
+static const char keymap[] =
+    "xkb_keymap { xkb_keycodes { include \"evdev+aliases(qwerty)\" }; xkb_types { include \"complete\" };"
+    " xkb_compat { include \"complete\" }; xkb_symbols { include \"pc+us+inet(evdev)\" }; };";
 
 static void enter(const struct object *keyboard)
 {
     SEND(&keyboard->id, NB_WL_KEYBOARD_EVENT_ENTER, "", nb_uint(++serial), nb_object(focus), nb_array(0, 0));
-    SEND(&keyboard->id, NB_WL_KEYBOARD_EVENT_MODIFIERS, "", nb_uint(serial), nb_uint(0), nb_uint(0), nb_uint(0), nb_uint(0));
+    SEND(&keyboard->id, NB_WL_KEYBOARD_EVENT_MODIFIERS, "", nb_uint(serial), nb_uint(0), nb_uint(0), nb_uint(0),
+         nb_uint(0));
 }
 
 /* A new keyboard: its keymap goes as a file, and the session takes over the descriptor. */
@@ -195,8 +205,8 @@ static void begin_keyboard(const struct object *keyboard)
         close(file);
         return;
     }
-    SEND(&keyboard->id, NB_WL_KEYBOARD_EVENT_KEYMAP, "", nb_uint(NB_WL_KEYBOARD_KEYMAP_FORMAT_XKB_V1), nb_descriptor(file),
-         nb_uint(sizeof keymap));
+    SEND(&keyboard->id, NB_WL_KEYBOARD_EVENT_KEYMAP, "", nb_uint(NB_WL_KEYBOARD_KEYMAP_FORMAT_XKB_V1),
+         nb_descriptor(file), nb_uint(sizeof keymap));
     if (keyboard->version >= 4)
         SEND(&keyboard->id, NB_WL_KEYBOARD_EVENT_REPEAT_INFO, "", nb_int(25), nb_int(400));
     if (find(&focus) && nb_same_client(&keyboard->id.client, &focus.client))
@@ -353,38 +363,30 @@ static void is_gone(struct object *object)
 
 static int is_kept(uint32_t interface)
 {
-    return interface == NB_WL_SURFACE || interface == NB_XDG_SURFACE || interface == NB_XDG_TOPLEVEL || interface == NB_XDG_POPUP ||
-           interface == NB_WL_KEYBOARD || interface == NB_WL_DATA_DEVICE || interface == NB_WL_DATA_SOURCE;
+    return interface == NB_WL_SURFACE || interface == NB_XDG_SURFACE || interface == NB_XDG_TOPLEVEL ||
+           interface == NB_XDG_POPUP || interface == NB_WL_KEYBOARD || interface == NB_WL_DATA_DEVICE ||
+           interface == NB_WL_DATA_SOURCE;
 }
 
 /* A case of a switch: a request of an interface. */
 #define ON(interface, request) ((uint32_t)NB_##interface << 16 | NB_##interface##_REQUEST_##request)
 
-/* A request, which is finished. `self` is the data of its sender, `made` that of the object that it made, if the host keeps some. */
+/* A request, which is finished. `self` is the data of its sender, `made` that of the object that it made, if the host
+ * keeps some. */
 static void handle(const nb_action *action, const nb_argument *arguments, struct object *self, struct object *made)
 {
     struct object *other;
     switch (action->sender.interface << 16 | action->opcode) {
-    case ON(WL_SURFACE, ATTACH):
-        self->attached = arguments[0].object;
-        break;
-    case ON(WL_SURFACE, FRAME):
-        add_frame(self, &action->created);
-        break;
-    case ON(WL_SURFACE, COMMIT):
-        commit(self);
-        break;
+    case ON(WL_SURFACE, ATTACH): self->attached = arguments[0].object; break;
+    case ON(WL_SURFACE, FRAME): add_frame(self, &action->created); break;
+    case ON(WL_SURFACE, COMMIT): commit(self); break;
     case ON(XDG_WM_BASE, GET_XDG_SURFACE):
         if ((other = find(&arguments[1].object)))
             other->other = made->id;
         break;
     case ON(XDG_SURFACE, GET_TOPLEVEL):
-    case ON(XDG_SURFACE, GET_POPUP):
-        self->other = made->id;
-        break;
-    case ON(WL_SEAT, GET_KEYBOARD):
-        begin_keyboard(made);
-        break;
+    case ON(XDG_SURFACE, GET_POPUP): self->other = made->id; break;
+    case ON(WL_SEAT, GET_KEYBOARD): begin_keyboard(made); break;
     case ON(WL_SEAT, GET_TOUCH):
         post_error(&action->sender, NB_WL_SEAT_ERROR_MISSING_CAPABILITY, "there is no touch screen");
         break;
@@ -392,14 +394,11 @@ static void handle(const nb_action *action, const nb_argument *arguments, struct
         if (find(&focus) && nb_same_client(&made->id.client, &focus.client))
             tell_selection(made);
         break;
-    case ON(WL_DATA_SOURCE, OFFER):
-        add_type(self, (const char *)bytes + arguments[0].at, arguments[0].length);
-        break;
-    case ON(WL_DATA_DEVICE, SET_SELECTION):
-        select_source(&arguments[0].object);
-        break;
+    case ON(WL_DATA_SOURCE, OFFER): add_type(self, (const char *)bytes + arguments[0].at, arguments[0].length); break;
+    case ON(WL_DATA_DEVICE, SET_SELECTION): select_source(&arguments[0].object); break;
     case ON(WL_DATA_OFFER, RECEIVE):
-        paste(self, (const char *)bytes + arguments[0].at, arguments[0].length, fcntl(arguments[1].value, F_DUPFD_CLOEXEC, 0));
+        paste(self, (const char *)bytes + arguments[0].at, arguments[0].length,
+              fcntl(arguments[1].value, F_DUPFD_CLOEXEC, 0));
         break;
     }
 }
@@ -417,17 +416,19 @@ static void close_descriptors(struct client *client, const nb_action *action, co
 static void log_action(const struct client *client, const nb_action *action)
 {
     uint32_t interface = action->kind == NB_BIND ? action->created.interface : action->sender.interface;
-    const nb_interface_row *row = &protocol.interfaces[interface < NB_INTERFACE_FIRST ? 0 : interface - NB_INTERFACE_FIRST];
+    const nb_interface_row *row =
+        &protocol.interfaces[interface < NB_INTERFACE_FIRST ? 0 : interface - NB_INTERFACE_FIRST];
     const nb_message_row *message = protocol.messages;
     for (const nb_interface_row *before = protocol.interfaces; before < row; before++)
         message += before->requests + before->events;
     const char *text = (const char *)protocol.text;
     if (action->kind == NB_BIND)
-        fprintf(stderr, "client %u binds %.*s@%u version %u\n", client->id.slot, (int)row->name_length, text + row->name_at,
-                action->created.number, action->version);
+        fprintf(stderr, "client %u binds %.*s@%u version %u\n", client->id.slot, (int)row->name_length,
+                text + row->name_at, action->created.number, action->version);
     else if (interface >= NB_INTERFACE_FIRST)
         fprintf(stderr, "client %u: %.*s@%u.%.*s\n", client->id.slot, (int)row->name_length, text + row->name_at,
-                action->sender.number, (int)message[action->opcode].name_length, text + message[action->opcode].name_at);
+                action->sender.number, (int)message[action->opcode].name_length,
+                text + message[action->opcode].name_at);
 }
 
 /* Finishes a request or a bind. The object that it made gets its data, if the host keeps some: `made` is that. */
@@ -436,7 +437,8 @@ static nb_status finish(struct client *client, const nb_action *action, struct o
     uint32_t kept = 1;
     nb_status status;
     *made = NULL;
-    if (!nb_is_null(&action->created) && is_kept(action->created.interface) && !(*made = make(&action->created, action->version)))
+    if (!nb_is_null(&action->created) && is_kept(action->created.interface) &&
+        !(*made = make(&action->created, action->version)))
         return NB_OUT_OF_MEMORY;
     if (action->kind == NB_BIND)
         status = nb_server_finish_bind(&server, &client->id, 0, &kept);
@@ -469,7 +471,8 @@ static void act(struct client *client)
     static nb_action action;
     static nb_argument arguments[MOST_ARGUMENTS];
     nb_status status;
-    while ((status = nb_server_next_action(&server, &client->id, &action, arguments, MOST_ARGUMENTS, bytes, sizeof bytes)) == NB_OK)
+    while ((status = nb_server_next_action(&server, &client->id, &action, arguments, MOST_ARGUMENTS, bytes,
+                                           sizeof bytes)) == NB_OK)
         take(client, &action, arguments);
     if (status != NB_WOULD_BLOCK)
         nb_server_kill_client(&server, &client->id);
@@ -523,7 +526,9 @@ static void send_to(struct client *client)
 {
     nb_counts counts;
     int is_full = 0;
-    while (!is_full && nb_server_to_send(&server, &client->id, bytes, sizeof bytes, descriptors, NB_MOST_DESCRIPTORS, &counts) == NB_OK &&
+    while (!is_full &&
+           nb_server_to_send(&server, &client->id, bytes, sizeof bytes, descriptors, NB_MOST_DESCRIPTORS, &counts) ==
+               NB_OK &&
            counts.bytes > 0) {
         ssize_t taken = socket_send(client->socket, bytes, counts.bytes, descriptors, counts.descriptors);
         if (taken == -EAGAIN) {
@@ -569,7 +574,8 @@ static void settle(void)
         if (note.kind == NB_DESTROYED && note.data)
             is_gone((struct object *)(uintptr_t)note.data);
         if (note.kind == NB_KILLED && is_logging)
-            fprintf(stderr, "client %u is gone: %.*s\n", note.client.slot, note.is_protocol_error ? (int)note.message_length : 6,
+            fprintf(stderr, "client %u is gone: %.*s\n", note.client.slot,
+                    note.is_protocol_error ? (int)note.message_length : 6,
                     note.is_protocol_error ? (const char *)text : "closed");
     }
     while (nb_server_next_dropped(&server, &descriptor) == NB_OK)
@@ -585,7 +591,10 @@ static struct sockaddr_un address = { .sun_family = AF_UNIX };
 static int listen_at(const char *name)
 {
     const char *folder = getenv("XDG_RUNTIME_DIR");
-    int length = snprintf(address.sun_path, sizeof address.sun_path, "%s%s%s", strchr(name, '/') ? "" : folder ? folder : "/tmp",
+    int length = snprintf(address.sun_path, sizeof address.sun_path, "%s%s%s",
+                          strchr(name, '/') ? ""
+                          : folder          ? folder
+                                            : "/tmp",
                           strchr(name, '/') ? "" : "/", name);
     int it = socket(AF_UNIX, SOCK_STREAM | SOCK_CLOEXEC | SOCK_NONBLOCK, 0);
     if (length >= (int)sizeof address.sun_path || it < 0 || bind(it, (struct sockaddr *)&address, sizeof address) < 0 ||

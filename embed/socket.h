@@ -9,7 +9,8 @@
 #include <sys/types.h>
 #include <unistd.h>
 
-/* Room for as many descriptors as the kernel gives in one message: if there were less, it would open some and tell of none. */
+/* Room for as many descriptors as the kernel gives in one message: if there were less, it would open some and tell of
+ * none. */
 enum { SOCKET_MOST_DESCRIPTORS = 253 };
 
 union socket_control {
@@ -23,9 +24,10 @@ static inline void close_all(const int32_t *descriptors, size_t count)
         close(descriptors[i]);
 }
 
-/* How many of the bytes were taken, and with the first of them all descriptors; or the negative of `errno`. The descriptors stay
- * open here, too. */
-static inline ssize_t socket_send(int socket, const uint8_t *bytes, size_t length, const int32_t *descriptors, size_t count)
+/* How many of the bytes were taken, and with the first of them all descriptors; or the negative of `errno`. The
+ * descriptors stay open here, too. */
+static inline ssize_t socket_send(int socket, const uint8_t *bytes, size_t length, const int32_t *descriptors,
+                                  size_t count)
 {
     union socket_control control;
     struct iovec part = { (void *)bytes, length };
@@ -47,14 +49,16 @@ static inline ssize_t socket_send(int socket, const uint8_t *bytes, size_t lengt
     return taken < 0 ? -errno : taken;
 }
 
-/* How many bytes came, 0 at the end of the stream, with `*count` descriptors, at most NB_MOST_DESCRIPTORS; or the negative of `errno`. It is
- * -EPROTO if the other side sent more at once, which Wayland does not allow, or if this process may open no more: then the stream has a hole, and
- * none is left open. */
+/* How many bytes came, 0 at the end of the stream, with `*count` descriptors, at most NB_MOST_DESCRIPTORS; or the
+ * negative of `errno`. It is -EPROTO if the other side sent more at once, which Wayland does not allow, or if this
+ * process may open no more: then the stream has a hole, and none is left open. */
 static inline ssize_t socket_receive(int socket, uint8_t *bytes, size_t length, int32_t *descriptors, size_t *count)
 {
     union socket_control control;
     struct iovec part = { bytes, length };
-    struct msghdr message = { .msg_iov = &part, .msg_iovlen = 1, .msg_control = control.space, .msg_controllen = sizeof control.space };
+    struct msghdr message = {
+        .msg_iov = &part, .msg_iovlen = 1, .msg_control = control.space, .msg_controllen = sizeof control.space
+    };
     int32_t came_with[SOCKET_MOST_DESCRIPTORS];
     ssize_t came;
     *count = 0;

@@ -1,8 +1,9 @@
 /* One load on the library's host and on libwayland-server, by turns, over socket pairs: bench [REPEATS] [CASE]
  *
- * The server and the clients are two processes, so the times are the server's alone. It prints, for each case and number of clients, the least user
- * time of an operation of each server in nanoseconds, their ratio, and the same of user and system time. Both handle the same requests and send the
- * same bytes, which is checked. Case: the name of one alone. */
+ * The server and the clients are two processes, so the times are the server's alone. It prints, for each case and
+ * number of clients, the least user time of an operation of each server in nanoseconds, their ratio, and the same of
+ * user and system time. Both handle the same requests and send the same bytes, which is checked. Case: the name of one
+ * alone. */
 #define _GNU_SOURCE
 #include "bench.h"
 #include <errno.h>
@@ -72,10 +73,10 @@ static void put(uint32_t to, uint32_t opcode, const uint32_t *arguments, size_t 
     for (size_t i = 0; i < count; i++)
         words[length++] = arguments[i];
 }
-#define PUT(to, opcode, ...)                                             \
-    do {                                                                 \
-        const uint32_t arguments_[] = { __VA_ARGS__ };                   \
-        put(to, opcode, arguments_, sizeof arguments_ / sizeof(uint32_t)); \
+#define PUT(to, opcode, ...)                                                                                           \
+    do {                                                                                                               \
+        const uint32_t arguments_[] = { __VA_ARGS__ };                                                                 \
+        put(to, opcode, arguments_, sizeof arguments_ / sizeof(uint32_t));                                             \
     } while (0)
 
 static void put_bind(uint32_t name, const char *interface, uint32_t version, uint32_t id)
@@ -304,7 +305,8 @@ int main(int argc, char **argv)
     getrlimit(RLIMIT_NOFILE, &files);
     files.rlim_cur = files.rlim_max;
     setrlimit(RLIMIT_NOFILE, &files);
-    printf("| Load | Clients | Library, user | libwayland, user | Ratio | Library, all | libwayland, all | Ratio |\n|---|---|---|---|---|---|---|---|\n");
+    printf("| Load | Clients | Library, user | libwayland, user | Ratio | Library, all | libwayland, all | Ratio "
+           "|\n|---|---|---|---|---|---|---|---|\n");
     for (size_t t = 0; t < sizeof tests / sizeof *tests; t++)
         for (size_t c = 0; c < sizeof counts / sizeof *counts; c++) {
             const struct test *test = &tests[t];
@@ -326,8 +328,9 @@ int main(int argc, char **argv)
                 fprintf(stderr, "%s: %.0f requests were handled, and %.0f\n", test->name, requests[0], requests[1]);
                 return 1;
             }
-            printf("| %s | %d | %.0f | %.0f | %.2f | %.0f | %.0f | %.2f |\n", test->name, counts[c], user[0] / operations * 1e9, user[1] / operations * 1e9,
-                   user[0] / user[1], all[0] / operations * 1e9, all[1] / operations * 1e9, all[0] / all[1]);
+            printf("| %s | %d | %.0f | %.0f | %.2f | %.0f | %.0f | %.2f |\n", test->name, counts[c],
+                   user[0] / operations * 1e9, user[1] / operations * 1e9, user[0] / user[1], all[0] / operations * 1e9,
+                   all[1] / operations * 1e9, all[0] / all[1]);
             fflush(stdout);
         }
     return 0;

@@ -1,4 +1,5 @@
-/* The library's host: epoll, one receive of up to 64 KiB from each socket that can be read, and what waits is sent at the end of a round. */
+/* The library's host: epoll, one receive of up to 64 KiB from each socket that can be read, and what waits is sent at
+ * the end of a round. */
 #define _GNU_SOURCE
 #include "bench.h"
 #include "../socket.h"
@@ -68,7 +69,9 @@ static void settle(void)
     int32_t descriptor;
     while (nb_server_next_writable(&place, &id) == NB_OK) {
         must(nb_server_client_data(&place, &id, &index));
-        while (nb_server_to_send(&place, &id, bytes, sizeof bytes, descriptors, NB_MOST_DESCRIPTORS, &counts) == NB_OK && counts.bytes > 0) {
+        while (nb_server_to_send(&place, &id, bytes, sizeof bytes, descriptors, NB_MOST_DESCRIPTORS, &counts) ==
+                   NB_OK &&
+               counts.bytes > 0) {
             ssize_t taken = socket_send(clients[index].socket, bytes, counts.bytes, descriptors, counts.descriptors);
             if (taken <= 0)
                 break;
@@ -98,7 +101,8 @@ static void serve(const int *sockets, int count, int control)
     for (int i = 0; i < count; i++) {
         clients[i].socket = sockets[i];
         must(nb_server_insert_client(&place, (uint64_t)i, 1, &clients[i].id));
-        epoll_ctl(queue, EPOLL_CTL_ADD, sockets[i], &(struct epoll_event){ .events = EPOLLIN, .data.u32 = (uint32_t)i });
+        epoll_ctl(queue, EPOLL_CTL_ADD, sockets[i],
+                  &(struct epoll_event){ .events = EPOLLIN, .data.u32 = (uint32_t)i });
     }
     for (int is_over = 0; !is_over;) {
         struct epoll_event events[32]; /* as many as libwayland takes at once */

@@ -6,8 +6,8 @@
 #include <unistd.h>
 #include <wayland-server-core.h>
 
-extern const struct wl_interface wl_compositor_interface, wl_output_interface, wl_shm_interface, wl_surface_interface, wl_region_interface,
-    wl_shm_pool_interface;
+extern const struct wl_interface wl_compositor_interface, wl_output_interface, wl_shm_interface, wl_surface_interface,
+    wl_region_interface, wl_shm_pool_interface;
 
 static struct wl_display *display;
 static struct wl_client *clients[MOST_CLIENTS];
@@ -23,7 +23,8 @@ static void destroy(struct wl_client *client, struct wl_resource *self)
     wl_resource_destroy(self);
 }
 
-static void damage(struct wl_client *client, struct wl_resource *self, int32_t x, int32_t y, int32_t width, int32_t height)
+static void damage(struct wl_client *client, struct wl_resource *self, int32_t x, int32_t y, int32_t width,
+                   int32_t height)
 {
     (void)client, (void)self, (void)x, (void)y, (void)width, (void)height;
     handled++;
@@ -34,10 +35,12 @@ static const request surface_requests[16] = { (request)destroy, NULL, (request)d
 static const request region_requests[16] = { (request)destroy };
 static const request pool_requests[16] = { NULL, (request)destroy };
 
-static void make(struct wl_client *client, struct wl_resource *self, const struct wl_interface *interface, const request *requests, uint32_t id)
+static void make(struct wl_client *client, struct wl_resource *self, const struct wl_interface *interface,
+                 const request *requests, uint32_t id)
 {
     handled++;
-    wl_resource_set_implementation(wl_resource_create(client, interface, wl_resource_get_version(self), id), requests, NULL, NULL);
+    wl_resource_set_implementation(wl_resource_create(client, interface, wl_resource_get_version(self), id), requests,
+                                   NULL, NULL);
 }
 
 static void create_surface(struct wl_client *client, struct wl_resource *self, uint32_t id)
@@ -65,7 +68,11 @@ static void bind_global(struct wl_client *client, void *data, uint32_t version, 
 {
     const struct wl_interface *interface = data;
     struct wl_resource *resource = wl_resource_create(client, interface, (int)version, id);
-    wl_resource_set_implementation(resource, interface == &wl_compositor_interface ? compositor_requests : interface == &wl_shm_interface ? shm_requests : output_requests, NULL, NULL);
+    wl_resource_set_implementation(resource,
+                                   interface == &wl_compositor_interface ? compositor_requests
+                                   : interface == &wl_shm_interface      ? shm_requests
+                                                                         : output_requests,
+                                   NULL, NULL);
     for (int i = 0; interface == &wl_output_interface && i < client_count; i++)
         if (clients[i] == client)
             outputs[i] = resource;

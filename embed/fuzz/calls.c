@@ -1,7 +1,8 @@
 /* A fuzzer's target: calls of both sessions, in an order and with arguments that the input chooses.
  *
- * What has to hold whatever is called: a call of a place with a session never answers that there is none; no call writes behind the memory that it was
- * lent; what an action or event says of strings and arrays lies in the bytes; and each descriptor that went in comes back once. */
+ * What has to hold whatever is called: a call of a place with a session never answers that there is none; no call
+ * writes behind the memory that it was lent; what an action or event says of strings and arrays lies in the bytes; and
+ * each descriptor that went in comes back once. */
 #define _GNU_SOURCE
 #include "quad.h"
 #include <numbyroga.h>
@@ -253,7 +254,8 @@ static void send_of(nb_status status, nb_counts counts, size_t room, const nb_cl
     uint32_t taken = take() % 4 == 0 ? take() % (counts.bytes + 1) : counts.bytes;
     int32_t numbers[NB_MOST_DESCRIPTORS];
     memcpy(numbers, descriptors, counts.descriptors * sizeof numbers[0]);
-    must(see(id ? nb_server_sent(&server, id, taken) : nb_client_sent(&session, taken)) == NB_OK, "what was handed out can be sent");
+    must(see(id ? nb_server_sent(&server, id, taken) : nb_client_sent(&session, taken)) == NB_OK,
+         "what was handed out can be sent");
     if (taken > 0)
         for (uint32_t i = 0; i < counts.descriptors; i++)
             came_back(numbers[i]);
@@ -292,10 +294,10 @@ static void call_of_server(void)
     nb_counts counts = { 0, 0 };
     nb_table_fault fault;
     switch (take() % 24) {
-    case 0:
-        see(nb_server_insert_client(&server, 5, take(), &clients[take() % 4]));
-        break;
-    case 1: case 2: case 3:
+    case 0: see(nb_server_insert_client(&server, 5, take(), &clients[take() % 4])); break;
+    case 1:
+    case 2:
+    case 3:
         id = any_client();
         length = some_bytes(text);
         count = take();
@@ -303,9 +305,8 @@ static void call_of_server(void)
         if (see(nb_server_received(&server, &id, text, length, numbers, count)) == NB_OK)
             gave(numbers, count);
         break;
-    case 4: case 5:
-        next_action();
-        break;
+    case 4:
+    case 5: next_action(); break;
     case 6:
         id = any_client();
         see(nb_server_finish_request(&server, &id));
@@ -318,7 +319,8 @@ static void call_of_server(void)
         id = any_client();
         see(nb_server_finish_bind(&server, &id, take(), &kept));
         break;
-    case 9: case 10:
+    case 9:
+    case 10:
         object = any_object(objects);
         count = some_arguments(with, text, &length, objects);
         if (see(nb_server_send_event(&server, &object, take_word(), with, count, text, length)) == NB_OK)
@@ -347,7 +349,8 @@ static void call_of_server(void)
     case 16:
         while (see(nb_server_next_writable(&server, &id)) == NB_OK) {
             length = some_room();
-            nb_status status = see(nb_server_to_send(&server, &id, bytes, length, descriptors, NB_MOST_DESCRIPTORS, &counts));
+            nb_status status =
+                see(nb_server_to_send(&server, &id, bytes, length, descriptors, NB_MOST_DESCRIPTORS, &counts));
             send_of(status, counts, length, &id);
         }
         break;
@@ -367,9 +370,7 @@ static void call_of_server(void)
         case 5: see(nb_server_set_max_buffer_size(&server, &id, take_word())); break;
         }
         break;
-    case 19:
-        settle();
-        break;
+    case 19: settle(); break;
     case 20:
         object = any_object(objects);
         see(nb_server_object_info(&server, &object, &info));
@@ -408,7 +409,8 @@ static void call_of_server(void)
             messages[i] = (nb_message_row){ take(), take(), take(), take() % 3, take() % 3 };
         for (int i = 0; i < 4; i++)
             rows[i] = (nb_argument_row){ take() % 9, take() % 3, take() % 8 };
-        see(nb_server_add_interfaces(&server, text, take() % 129, interfaces, take() % 3, messages, take() % 4, rows, take() % 5, &fault));
+        see(nb_server_add_interfaces(&server, text, take() % 129, interfaces, take() % 3, messages, take() % 4, rows,
+                                     take() % 5, &fault));
         break;
     }
     }
@@ -429,23 +431,20 @@ static void call_of_client(void)
     nb_error error;
     nb_status status;
     switch (take() % 12) {
-    case 0: case 1: case 2:
+    case 0:
+    case 1:
+    case 2:
         length = some_bytes(text);
         count = take();
         count = fresh(numbers, count < 200 ? 0 : count % (NB_MOST_DESCRIPTORS + 2));
         if (see(nb_client_received(&session, text, length, numbers, count)) == NB_OK)
             gave(numbers, count);
         break;
-    case 3:
-        next_event();
-        break;
-    case 4:
-        see(nb_client_finish_event(&session));
-        break;
-    case 5:
-        see(nb_client_finish_event_with(&session, take()));
-        break;
-    case 6: case 7:
+    case 3: next_event(); break;
+    case 4: see(nb_client_finish_event(&session)); break;
+    case 5: see(nb_client_finish_event_with(&session, take())); break;
+    case 6:
+    case 7:
         memset(&request, 0, sizeof request);
         request.sender = any_object(own);
         request.opcode = take_word();
@@ -495,7 +494,8 @@ static void begin(void)
     nb_table_fault fault;
     nb_request request;
     const nb_argument placeholder = nb_placeholder();
-    must(nb_server_start(&server, &quad, &fault) == NB_OK && nb_client_start(&session, &quad, &fault) == NB_OK, "sessions begin");
+    must(nb_server_start(&server, &quad, &fault) == NB_OK && nb_client_start(&session, &quad, &fault) == NB_OK,
+         "sessions begin");
     must(nb_server_create_global(&server, NB_QUAD, 3, 8, 1, &globals[0]) == NB_OK, "a global is made");
     must(nb_server_insert_client(&server, 5, 1, &clients[0]) == NB_OK, "a client is inserted");
     must(nb_client_display(&session, &own[0]) == NB_OK, "the display is there");
@@ -503,7 +503,8 @@ static void begin(void)
     request.sender = own[0];
     request.opcode = 1;
     request.has_data = 1;
-    must(nb_client_send_request(&session, &request, &placeholder, 1, NULL, 0, &own[1]) == NB_OK, "a registry is asked for");
+    must(nb_client_send_request(&session, &request, &placeholder, 1, NULL, 0, &own[1]) == NB_OK,
+         "a registry is asked for");
 }
 
 static void end(void)

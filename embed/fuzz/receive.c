@@ -1,6 +1,7 @@
 /* A fuzzer's target: what a client sends to host.c, with descriptors and cut into any pieces, over a socket pair.
  *
- * The input is a list of pieces: how many bytes (two bytes), how many descriptors (a byte), and the bytes. After all of it nothing that came may be open. */
+ * The input is a list of pieces: how many bytes (two bytes), how many descriptors (a byte), and the bytes. After all of
+ * it nothing that came may be open. */
 #define main main_of_host
 #include "../host.c"
 #undef main

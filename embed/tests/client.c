@@ -1,11 +1,13 @@
-/* Each call of a client's session does what it says, against bytes that are written here by hand; and a client's session talks to a server's. */
+/* Each call of a client's session does what it says, against bytes that are written here by hand; and a client's
+ * session talks to a server's. */
 #include "tests.h"
 
 static nb_client session;
 static nb_object_id display, registry, object;
 static nb_event event;
 
-static nb_object_id ask(const nb_object_id *sender, uint32_t opcode, uint64_t data, const nb_argument *with, size_t count, const char *text)
+static nb_object_id ask(const nb_object_id *sender, uint32_t opcode, uint64_t data, const nb_argument *with,
+                        size_t count, const char *text)
 {
     nb_object_id created = nb_null();
     nb_request request = { *sender, opcode, 1, data, 0, 0, 0, 0 };
@@ -128,7 +130,8 @@ static void events(void)
     IS(nb_client_finish_event(&session), NB_NOT_OPEN);
     IS(nb_client_next_event(&session, &event, arguments, 3, bytes, 3), NB_TOO_SMALL);
     OK(nb_client_next_event(&session, &event, arguments, 3, bytes, 4));
-    HOLDS(event.sender.number == 2 && event.data == 60 && arguments[1].length == 4 && memcmp(bytes + arguments[1].at, "quad", 4) == 0);
+    HOLDS(event.sender.number == 2 && event.data == 60 && arguments[1].length == 4 &&
+          memcmp(bytes + arguments[1].at, "quad", 4) == 0);
     OK(nb_client_finish_event(&session));
     IS(next_event(), NB_WOULD_BLOCK);
     /* A destructor event. */

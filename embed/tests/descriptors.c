@@ -1,5 +1,5 @@
-/* Each descriptor that a session was given comes back exactly once, whatever a client does: in an action, to be sent, with a client that is gone,
- * or as dropped. The numbers are made up: a session opens and closes nothing. */
+/* Each descriptor that a session was given comes back exactly once, whatever a client does: in an action, to be sent,
+ * with a client that is gone, or as dropped. The numbers are made up: a session opens and closes nothing. */
 #include "tests.h"
 
 enum { FIRST = 1000, MOST = 100000 };
@@ -54,7 +54,9 @@ static void send_all(void)
 {
     nb_client_id writable;
     while (nb_server_next_writable(&server, &writable) == NB_OK)
-        while (nb_server_to_send(&server, &writable, bytes, sizeof bytes, descriptors, NB_MOST_DESCRIPTORS, &counts) == NB_OK && counts.bytes > 0) {
+        while (nb_server_to_send(&server, &writable, bytes, sizeof bytes, descriptors, NB_MOST_DESCRIPTORS, &counts) ==
+                   NB_OK &&
+               counts.bytes > 0) {
             came_back(descriptors, counts.descriptors);
             OK(nb_server_sent(&server, &writable, counts.bytes));
         }
@@ -265,15 +267,9 @@ static void at_random(void)
                 put(3, NB_QUAD_REQUEST_POKE, "u", 1);
                 arrive_with(random_below(10) == 0 ? 20 : 0);
                 break;
-            case 2:
-                act();
-                break;
-            case 3:
-                send_two(&files, random_below(20) == 0);
-                break;
-            case 4:
-                send_all();
-                break;
+            case 2: act(); break;
+            case 3: send_two(&files, random_below(20) == 0); break;
+            case 4: send_all(); break;
             case 5:
                 put_give();
                 wire_length -= 4;
@@ -281,9 +277,7 @@ static void at_random(void)
                     arrive_with(1);
                 wire_length = 0;
                 break;
-            case 6:
-                nb_server_next_action(&server, &client, &action, arguments, 0, bytes, 0);
-                break;
+            case 6: nb_server_next_action(&server, &client, &action, arguments, 0, bytes, 0); break;
             case 7:
                 if (random_below(10) == 0)
                     nb_server_post_error(&server, &files, 1, NULL, 0);

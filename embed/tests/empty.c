@@ -1,4 +1,5 @@
-/* Each call on a place without a session answers NB_NO_SESSION: before there was one, after its end, and after one that was refused. */
+/* Each call on a place without a session answers NB_NO_SESSION: before there was one, after its end, and after one that
+ * was refused. */
 #include "tests.h"
 
 static nb_client session;

@@ -1,7 +1,8 @@
-/* The layout of each struct, as the library has it. tools/try-embed compares the fields themselves with the library's sources. */
+/* The layout of each struct, as the library has it. tools/try-embed compares the fields themselves with the library's
+ * sources. */
 #include "tests.h"
 
-#define SIZE(type, size) _Static_assert(sizeof(type) == (size), #type)
+#define SIZE(type, size)        _Static_assert(sizeof(type) == (size), #type)
 #define AT(type, field, offset) _Static_assert(offsetof(type, field) == (offset), #type "." #field)
 
 SIZE(nb_server, 16);
@@ -95,7 +96,8 @@ AT(nb_error, object_number, 16);
 AT(nb_error, message_length, 20);
 AT(nb_error, interface_length, 24);
 
-/* An action whose fields have different numbers: if one stood elsewhere in the library, another number would be here. */
+/* An action whose fields have different numbers: if one stood elsewhere in the library, another number would be here.
+ */
 int main(void)
 {
     nb_object_id object = begin();
@@ -113,27 +115,35 @@ int main(void)
     memset(&action, 0xee, sizeof action);
     memset(arguments, 0xee, sizeof arguments);
     OK(next_action());
-    HOLDS(action.kind == NB_REQUEST && action.opcode == NB_QUAD_REQUEST_GIVE && action.arguments == 3 && action.is_destructor == 0);
-    HOLDS(nb_same_object(&action.sender, &object) && action.data == 77 && nb_is_null(&action.created) && action.version == 0);
+    HOLDS(action.kind == NB_REQUEST && action.opcode == NB_QUAD_REQUEST_GIVE && action.arguments == 3 &&
+          action.is_destructor == 0);
+    HOLDS(nb_same_object(&action.sender, &object) && action.data == 77 && nb_is_null(&action.created) &&
+          action.version == 0);
     HOLDS(action.bytes == 9);
-    HOLDS(arguments[0].kind == NB_STRING && arguments[0].length == 4 && memcmp(bytes + arguments[0].at, "text", 4) == 0);
-    HOLDS(arguments[1].kind == NB_ARRAY && arguments[1].length == 5 && memcmp(bytes + arguments[1].at, "array", 5) == 0);
+    HOLDS(arguments[0].kind == NB_STRING && arguments[0].length == 4 &&
+          memcmp(bytes + arguments[0].at, "text", 4) == 0);
+    HOLDS(arguments[1].kind == NB_ARRAY && arguments[1].length == 5 &&
+          memcmp(bytes + arguments[1].at, "array", 5) == 0);
     HOLDS(arguments[2].kind == NB_DESCRIPTOR && arguments[2].value == 61);
     OK(nb_server_finish_request(&server, &client));
     OK(next_action());
     uint32_t is_kept = 7;
-    HOLDS(action.opcode == NB_QUAD_REQUEST_MAKE && action.created.number == 4 && action.version == 3 && action.arguments == 1);
-    HOLDS(arguments[0].kind == NB_NEW_ID && nb_same_object(&arguments[0].object, &action.created) && arguments[0].data == 0);
+    HOLDS(action.opcode == NB_QUAD_REQUEST_MAKE && action.created.number == 4 && action.version == 3 &&
+          action.arguments == 1);
+    HOLDS(arguments[0].kind == NB_NEW_ID && nb_same_object(&arguments[0].object, &action.created) &&
+          arguments[0].data == 0);
     OK(nb_server_finish_request_with(&server, &client, 78, &is_kept));
     HOLDS(is_kept == 1);
     OK(next_action());
-    HOLDS(action.opcode == NB_QUAD_REQUEST_LINK && arguments[0].kind == NB_OBJECT && nb_is_null(&arguments[0].object) && arguments[0].data == 0);
+    HOLDS(action.opcode == NB_QUAD_REQUEST_LINK && arguments[0].kind == NB_OBJECT && nb_is_null(&arguments[0].object) &&
+          arguments[0].data == 0);
     HOLDS(arguments[1].kind == NB_OBJECT && nb_same_object(&arguments[1].object, &object) && arguments[1].data == 77);
     OK(nb_server_finish_request(&server, &client));
     OK(nb_server_kill_client(&server, &client));
     OK(nb_server_cleanup(&server));
     OK(nb_server_next_gone(&server, &gone, bytes, sizeof bytes, descriptors, NB_MOST_DESCRIPTORS));
-    HOLDS(nb_same_client(&gone.client, &client) && gone.data == 5 && gone.waiting.bytes == 0 && gone.waiting.descriptors == 0);
+    HOLDS(nb_same_client(&gone.client, &client) && gone.data == 5 && gone.waiting.bytes == 0 &&
+          gone.waiting.descriptors == 0);
     OK(nb_server_end(&server));
     return tell();
 }

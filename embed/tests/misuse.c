@@ -8,7 +8,8 @@ static nb_client session;
 static const uint8_t text[] = "onetwo\0four\xff";
 
 /* One interface of this name, with one request of this name and these arguments. */
-static nb_status table(uint32_t name_at, uint32_t name_length, const nb_argument_row *rows, uint32_t count, uint32_t said)
+static nb_status table(uint32_t name_at, uint32_t name_length, const nb_argument_row *rows, uint32_t count,
+                       uint32_t said)
 {
     const nb_interface_row interface = { name_at, name_length, 1, 1, 0 };
     const nb_message_row message = { 3, 3, 1, 0, said };
@@ -52,7 +53,8 @@ static void tables(void)
     const nb_interface_row twice[] = { { 0, 3, 1, 0, 0 }, { 3, 3, 1, 0, 0 }, { 0, 3, 1, 0, 0 } };
     FAULTY(nb_server_new(&server, text, sizeof text, twice, 3, NULL, 0, NULL, 0, &fault), NB_FAULT_DUPLICATE_NAME, 2);
     const nb_interface_row fixed = { 0, 10, 1, 0, 0 };
-    FAULTY(nb_server_new(&server, (const uint8_t *)"wl_display", 10, &fixed, 1, NULL, 0, NULL, 0, &fault), NB_FAULT_DUPLICATE_NAME, 0);
+    FAULTY(nb_server_new(&server, (const uint8_t *)"wl_display", 10, &fixed, 1, NULL, 0, NULL, 0, &fault),
+           NB_FAULT_DUPLICATE_NAME, 0);
     const nb_message_row message = { 3, 3, 1, 0, 0 };
     const nb_interface_row many = { 0, 3, 1, 0xffffffff, 0xffffffff };
     FAULTY(nb_server_new(&server, text, sizeof text, &many, 1, &message, 1, NULL, 0, &fault), NB_FAULT_ROW, 0);
@@ -61,7 +63,8 @@ static void tables(void)
     IS(nb_server_start(&server, &quad, &fault), NB_IN_USE);
     OK(nb_server_extend(&server, &quad, &fault));
     FAULTY(nb_server_extend(&server, &quad, &fault), NB_FAULT_DUPLICATE_NAME, 0);
-    FAULTY(nb_server_add_interfaces(&server, text, sizeof text, twice, 3, NULL, 0, NULL, 0, &fault), NB_FAULT_DUPLICATE_NAME, 2);
+    FAULTY(nb_server_add_interfaces(&server, text, sizeof text, twice, 3, NULL, 0, NULL, 0, &fault),
+           NB_FAULT_DUPLICATE_NAME, 2);
     nb_global_id global;
     OK(nb_server_create_global(&server, NB_QUAD, 3, 0, 1, &global));
     IS(nb_server_create_global(&server, NB_QUAD + 1, 1, 0, 1, &global), NB_UNKNOWN_INTERFACE);
@@ -342,7 +345,8 @@ static void requests(void)
     IS(nb_client_send_request(&session, &request, given, 4, (const uint8_t *)"quad", 4, &created), NB_MISSING_CHILD);
     request.has_child = 1;
     request.child_interface = 99;
-    IS(nb_client_send_request(&session, &request, given, 4, (const uint8_t *)"quad", 4, &created), NB_UNKNOWN_INTERFACE);
+    IS(nb_client_send_request(&session, &request, given, 4, (const uint8_t *)"quad", 4, &created),
+       NB_UNKNOWN_INTERFACE);
     request.child_interface = NB_QUAD;
     request.child_version = 3;
     IS(nb_client_send_request(&session, &request, given, 4, (const uint8_t *)"quad", 3, &created), NB_INVALID_INPUT);

@@ -1,5 +1,5 @@
-/* Each allocation of a run is refused in turn: the run goes to its end, no memory is lost (the address sanitizer tells), and a session that
- * is told so afterwards still ends. Linked with -Wl,--wrap=malloc,--wrap=realloc. */
+/* Each allocation of a run is refused in turn: the run goes to its end, no memory is lost (the address sanitizer
+ * tells), and a session that is told so afterwards still ends. Linked with -Wl,--wrap=malloc,--wrap=realloc. */
 #include "tests.h"
 
 static long left, asked;
@@ -19,8 +19,14 @@ static int refuses(void)
     return 1;
 }
 
-void *__wrap_malloc(size_t size) { return refuses() ? NULL : __real_malloc(size); }
-void *__wrap_realloc(void *at, size_t size) { return refuses() ? NULL : __real_realloc(at, size); }
+void *__wrap_malloc(size_t size)
+{
+    return refuses() ? NULL : __real_malloc(size);
+}
+void *__wrap_realloc(void *at, size_t size)
+{
+    return refuses() ? NULL : __real_realloc(at, size);
+}
 
 static nb_client session;
 static long statuses[64];
@@ -114,14 +120,16 @@ static void serve(void)
         }
         see(nb_server_create_global(&server, NB_QUAD, 1, 0, 1, &global));
         while (nb_server_next_writable(&server, &writable) == NB_OK)
-            if (see(nb_server_to_send(&server, &writable, bytes, sizeof bytes, descriptors, NB_MOST_DESCRIPTORS, &counts)) == NB_OK) {
+            if (see(nb_server_to_send(&server, &writable, bytes, sizeof bytes, descriptors, NB_MOST_DESCRIPTORS,
+                                      &counts)) == NB_OK) {
                 if (counts.bytes > 0)
                     came_back(descriptors, counts.descriptors);
                 see(nb_server_sent(&server, &writable, counts.bytes));
             }
         see(nb_server_memory_refused(&server, &refused));
         if (round == 1)
-            see(nb_server_post_error(&server, &(nb_object_id){ 1, client, NB_INTERFACE_DISPLAY, 1 }, 1, (const uint8_t *)"text", 4));
+            see(nb_server_post_error(&server, &(nb_object_id){ 1, client, NB_INTERFACE_DISPLAY, 1 }, 1,
+                                     (const uint8_t *)"text", 4));
         see(nb_server_kill_client(&server, &client));
         for (int again = 0; again < 3 && see(nb_server_cleanup(&server)) == NB_OUT_OF_MEMORY; again++)
             ;
@@ -160,7 +168,8 @@ static void use(void)
     for (int i = 0; i < 12; i++)
         if (see(nb_client_next_event(&session, &event, arguments, 16, bytes, sizeof bytes)) == NB_OK)
             for (int again = 0; again < 3; again++)
-                if (see(nb_is_null(&event.created) ? nb_client_finish_event(&session) : nb_client_finish_event_with(&session, 1)) == NB_OK)
+                if (see(nb_is_null(&event.created) ? nb_client_finish_event(&session)
+                                                   : nb_client_finish_event_with(&session, 1)) == NB_OK)
                     break;
     see(nb_client_flush(&session));
     see(nb_client_to_send(&session, bytes, sizeof bytes, descriptors, NB_MOST_DESCRIPTORS, &counts));
@@ -196,7 +205,8 @@ static void refuse_each(void (*run)(void), const char *name)
     }
     HOLDS(all > 0 && refused_runs == all);
     HOLDS(statuses[NB_OUT_OF_MEMORY] > 0);
-    printf("%s: %ld allocations, each refused once; out of memory was answered %ld times\n", name, all, statuses[NB_OUT_OF_MEMORY]);
+    printf("%s: %ld allocations, each refused once; out of memory was answered %ld times\n", name, all,
+           statuses[NB_OUT_OF_MEMORY]);
 }
 
 int main(void)

@@ -1,7 +1,7 @@
 /* Carries out recordings of wl-bench (docs/BENCH.md) through the library, and compares each line: replay FILE..
  *
- * A recording that says `dispatch`, or whose sends fail by another fault than WouldBlock, is passed over: the library counts no requests, and
- * a host's failed send kills its client. */
+ * A recording that says `dispatch`, or whose sends fail by another fault than WouldBlock, is passed over: the library
+ * counts no requests, and a host's failed send kills its client. */
 #define _GNU_SOURCE
 #include "quad.h"
 #include <numbyroga.h>
@@ -14,7 +14,7 @@ enum { MOST_CLIENTS = 64, LINE = 1 << 18, DEFAULT_ROOM = 65536 };
 static nb_server server;
 static nb_client_id ids[MOST_CLIENTS];
 static int is_inserted[MOST_CLIENTS], is_in[MOST_CLIENTS]; /* ever; now */
-static int is_blocked[MOST_CLIENTS];                       /* the next flush finds only as much room as the counts come to */
+static int is_blocked[MOST_CLIENTS]; /* the next flush finds only as much room as the counts come to */
 static uint64_t counts_given[MOST_CLIENTS];
 static nb_action action[MOST_CLIENTS];
 
@@ -64,19 +64,27 @@ static void answer(nb_status status)
     case NB_VERSION_TOO_HIGH: print_text("> refused VersionTooHigh\n"); break;
     case NB_TOO_MANY_DESCRIPTORS: print_text("> refused TooManyTokens\n"); break;
     case NB_FULL: print_text("> refused Full\n"); break;
-    default: print_text("> "); print_text(nb_status_text(status)); print_text("\n");
+    default:
+        print_text("> ");
+        print_text(nb_status_text(status));
+        print_text("\n");
     }
 }
 
 static void print_argument(const nb_argument *argument)
 {
-    static const char *const names[] = { "int:", "uint:", "fixed:", "str:", "object:", "new:", "array:", "fd:", "str:null" };
+    static const char *const names[] = { "int:", "uint:",  "fixed:", "str:",    "object:",
+                                         "new:", "array:", "fd:",    "str:null" };
     print_text(names[argument->kind]);
     switch (argument->kind) {
     case NB_UINT: print_number((uint32_t)argument->value); break;
-    case NB_INT: case NB_FIXED: case NB_DESCRIPTOR: print_number(argument->value); break;
-    case NB_STRING: case NB_ARRAY: print_hex(bytes + argument->at, argument->length); break;
-    case NB_OBJECT: case NB_NEW_ID: print_number(argument->object.number); break;
+    case NB_INT:
+    case NB_FIXED:
+    case NB_DESCRIPTOR: print_number(argument->value); break;
+    case NB_STRING:
+    case NB_ARRAY: print_hex(bytes + argument->at, argument->length); break;
+    case NB_OBJECT:
+    case NB_NEW_ID: print_number(argument->object.number); break;
     }
 }
 
@@ -201,7 +209,9 @@ static void notes(void)
     int count = 0;
     while (nb_server_next_note(&server, &note, bytes, sizeof bytes) == NB_OK) {
         count++;
-        print_text(note.kind == NB_INSERTED ? "> initialized " : note.kind == NB_KILLED ? "> disconnected " : "> destroyed ");
+        print_text(note.kind == NB_INSERTED ? "> initialized "
+                   : note.kind == NB_KILLED ? "> disconnected "
+                                            : "> destroyed ");
         print_number(note.client.slot);
         if (note.kind == NB_KILLED && !note.is_protocol_error) {
             print_text(" closed");
@@ -211,8 +221,8 @@ static void notes(void)
             print_text(" ");
             print_number(note.object_number);
             print_text(" ");
-            out_length += (size_t)snprintf(out + out_length, sizeof out - out_length, "%.*s ", (int)note.interface_length,
-                                           (const char *)bytes + note.message_length);
+            out_length += (size_t)snprintf(out + out_length, sizeof out - out_length, "%.*s ",
+                                           (int)note.interface_length, (const char *)bytes + note.message_length);
             print_hex(bytes, note.message_length);
         } else if (note.kind == NB_DESTROYED) {
             print_text(" ");
@@ -240,7 +250,8 @@ static void arrive(int slot, const char *hex, const char *numbers)
         with[count++] = (int32_t)strtol(numbers, &end, 10);
         numbers = *end == ',' ? end + 1 : end;
     }
-    answer(length ? nb_server_received(&server, &ids[slot], came, length, with, count) : nb_server_received_end(&server, &ids[slot]));
+    answer(length ? nb_server_received(&server, &ids[slot], came, length, with, count)
+                  : nb_server_received_end(&server, &ids[slot]));
 }
 
 static uint32_t interface_of(const char *name)
@@ -275,7 +286,8 @@ static void run(uint64_t number, char **words, int count)
         print_number((long long)id.serial);
         print_text("\n");
     } else if (strcmp(word, "global") == 0) {
-        status = nb_server_create_global(&server, interface_of(words[1]), (uint32_t)strtoul(words[2], NULL, 10), 0, 1, &global);
+        status = nb_server_create_global(&server, interface_of(words[1]), (uint32_t)strtoul(words[2], NULL, 10), 0, 1,
+                                         &global);
         if (status != NB_OK) {
             answer(status);
             return;
@@ -286,7 +298,8 @@ static void run(uint64_t number, char **words, int count)
         print_number((long long)global.serial);
         print_text("\n");
     } else if (strcmp(word, "disable") == 0 || strcmp(word, "remove") == 0) {
-        /* The command names a global that has this name now: its serial is looked for, from the last one that was given out. */
+        /* The command names a global that has this name now: its serial is looked for, from the last one that was given
+         * out. */
         nb_global_info info;
         nb_global_id next = { 0, 0 };
         nb_server_next_global_id(&server, &next);
@@ -363,7 +376,8 @@ static int replay(const char *path)
         return -1;
     }
     while (fgets(line, sizeof line, file))
-        if (strstr(line, " dispatch ") || (strstr(line, " fail ") && strstr(line, " out ") && !strstr(line, "WouldBlock"))) {
+        if (strstr(line, " dispatch ") ||
+            (strstr(line, " fail ") && strstr(line, " out ") && !strstr(line, "WouldBlock"))) {
             fclose(file);
             return 0;
         }

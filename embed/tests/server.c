@@ -105,7 +105,8 @@ static void events(void)
     OK(nb_server_next_note(&server, &note, bytes, sizeof bytes));
     HOLDS(note.kind == NB_INSERTED);
     OK(nb_server_next_note(&server, &note, bytes, sizeof bytes));
-    HOLDS(note.kind == NB_DESTROYED && note.data == 91 && nb_same_object(&note.object, &made) && nb_same_client(&note.client, &client));
+    HOLDS(note.kind == NB_DESTROYED && note.data == 91 && nb_same_object(&note.object, &made) &&
+          nb_same_client(&note.client, &client));
     OK(nb_server_next_note(&server, &note, bytes, sizeof bytes));
     HOLDS(note.kind == NB_DESTROYED && note.data == 77 && nb_same_object(&note.object, &object));
     IS(nb_server_next_note(&server, &note, bytes, sizeof bytes), NB_WOULD_BLOCK);
@@ -118,7 +119,9 @@ static void texts(void)
     static const char names[] = "textssaid";
     const nb_interface_row interface = { 0, 5, 1, 0, 1 };
     const nb_message_row message = { 5, 4, 1, 0, 4 };
-    const nb_argument_row rows[] = { { NB_STRING, 1, 0 }, { NB_ARRAY, 0, 0 }, { NB_FIXED, 0, 0 }, { NB_DESCRIPTOR, 0, 0 } };
+    const nb_argument_row rows[] = {
+        { NB_STRING, 1, 0 }, { NB_ARRAY, 0, 0 }, { NB_FIXED, 0, 0 }, { NB_DESCRIPTOR, 0, 0 }
+    };
     nb_object_id object = begin(), made;
     OK(nb_server_add_interfaces(&server, (const uint8_t *)names, 9, &interface, 1, &message, 1, rows, 4, &fault));
     OK(nb_server_create_object(&server, &client, NB_QUAD + 1, 1, 0, 0, &made));
@@ -189,7 +192,8 @@ static void globals(void)
     OK(nb_server_end(&server));
 }
 
-/* What does not fit into the room waits in the client's buffer, and comes when something was sent; beyond the limit the client is killed. */
+/* What does not fit into the room waits in the client's buffer, and comes when something was sent; beyond the limit the
+ * client is killed. */
 static void back_pressure(void)
 {
     nb_object_id object = begin();
@@ -208,7 +212,8 @@ static void back_pressure(void)
         memcpy(all + length, bytes, some);
         length += some;
         /* What was left over of the bytes is the host's to go on with. */
-        while (nb_server_to_send(&server, &client, bytes, 7, descriptors, NB_MOST_DESCRIPTORS, &counts) == NB_OK && counts.bytes > 0) {
+        while (nb_server_to_send(&server, &client, bytes, 7, descriptors, NB_MOST_DESCRIPTORS, &counts) == NB_OK &&
+               counts.bytes > 0) {
             memcpy(all + length, bytes, counts.bytes);
             length += counts.bytes;
             OK(nb_server_sent(&server, &client, counts.bytes));

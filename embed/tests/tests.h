@@ -24,12 +24,13 @@ static inline void check_status(nb_status status, nb_status wanted, int line, co
     passed += status == wanted;
     failed += status != wanted;
     if (status != wanted)
-        printf("FAILED line %d: %s is %u (%s), and not %u (%s)\n", line, call, status, nb_status_text(status), wanted, nb_status_text(wanted));
+        printf("FAILED line %d: %s is %u (%s), and not %u (%s)\n", line, call, status, nb_status_text(status), wanted,
+               nb_status_text(wanted));
 }
 
 #define HOLDS(condition) check((condition), __LINE__, #condition)
 #define IS(call, wanted) check_status((call), (wanted), __LINE__, #call)
-#define OK(call) IS(call, NB_OK)
+#define OK(call)         IS(call, NB_OK)
 
 static inline int tell(void)
 {
@@ -37,8 +38,9 @@ static inline int tell(void)
     return failed != 0;
 }
 
-/* ---- messages: put(2, 0, "usuu", 1, "quad", 3, 3) is a message to object 2 with opcode 0. `u` is a word, `s` a string, `0` a
- * string that is null, `a` an array: a pointer and a length. Messages stand behind each other in `wire`, until they are handed over. */
+/* ---- messages: put(2, 0, "usuu", 1, "quad", 3, 3) is a message to object 2 with opcode 0. `u` is a word, `s` a
+ * string, `0` a string that is null, `a` an array: a pointer and a length. Messages stand behind each other in `wire`,
+ * until they are handed over. */
 
 static uint8_t wire[1 << 17];
 static size_t wire_length;
@@ -126,8 +128,8 @@ static inline nb_status next_action(void)
     return nb_server_next_action(&server, &client, &action, arguments, 16, bytes, sizeof bytes);
 }
 
-/* Makes a session with `quad`, a global of it with data 8, and a client with data 5 whose registry is object 2 and whose object
- * 3 is a `quad` of version 3 with data 77. What it was told is sent. */
+/* Makes a session with `quad`, a global of it with data 8, and a client with data 5 whose registry is object 2 and
+ * whose object 3 is a `quad` of version 3 with data 77. What it was told is sent. */
 static inline nb_object_id begin(void)
 {
     nb_global_id global;
