@@ -1,0 +1,551 @@
+/* A fuzzer's target: calls of both sessions, in an order and with arguments that the input chooses.
+ *
+ * What has to hold whatever is called: a call of a place with a session never answers that there is none; no call
+ * writes behind the memory that it was lent; what an action or event says of strings and arrays lies in the bytes; and
+ * each descriptor that went in comes back once. */
+#define _GNU_SOURCE
+#include "quad.h"
+#include <numbyroga.h>
+#include <stdio.h>
+#include <stdlib.h>
+#include <string.h>
+
+int LLVMFuzzerTestOneInput(const uint8_t *data, size_t size);
+
+enum { MOST_IDS = 16, MOST_NUMBERS = 4096, GUARD = 64, MOST_ROOM = 16 };
+
+static const uint8_t *input;
+static size_t input_left;
+
+static nb_server server;
+static nb_client session;
+static nb_client_id clients[4];
+static nb_object_id objects[MOST_IDS], own[MOST_IDS];
+static nb_global_id globals[4];
+static nb_action action;
+static nb_event event;
+static nb_argument arguments[MOST_ROOM + 1];
+static uint8_t bytes[NB_MOST_BYTES + GUARD];
+static int32_t descriptors[NB_MOST_DESCRIPTORS + 1];
+static uint8_t is_out[MOST_NUMBERS], came[MOST_NUMBERS]; /* a descriptor is the session's; how often it came back */
+static int32_t next_number;
+
+static void must(int holds, const char *what)
+{
+    if (!holds) {
+        fprintf(stderr, "does not hold: %s\n", what);
+        abort();
+    }
+}
+
+static uint8_t take(void)
+{
+    if (input_left == 0)
+        return 0;
+    input_left--;
+    return *input++;
+}
+
+static uint32_t take_word(void)
+{
+    uint32_t word = take();
+    /* Small numbers mostly. */
+    return word < 240 ? word : word << 24 | (uint32_t)take() << 16 | (uint32_t)take() << 8 | take();
+}
+
+static nb_status see(nb_status status)
+{
+    must(status != NB_NO_SESSION && status != NB_IN_USE && status <= NB_NOT_PLACEHOLDER, "a status that may come");
+    return status;
+}
+
+/* ---- descriptors */
+
+static size_t fresh(int32_t *to, size_t count)
+{
+    size_t made = 0;
+    while (made < count && next_number < MOST_NUMBERS)
+        to[made++] = next_number++;
+    return made;
+}
+
+static void gave(const int32_t *numbers, size_t count)
+{
+    for (size_t i = 0; i < count; i++)
+        is_out[numbers[i]] = 1;
+}
+
+static void came_back(int32_t number)
+{
+    must(number >= 0 && number < MOST_NUMBERS && is_out[number] && !came[number], "a descriptor comes back once");
+    came[number] = 1;
+}
+
+/* ---- ids: those that were handed out, and others */
+
+static nb_client_id any_client(void)
+{
+    nb_client_id id = clients[take() % 4];
+    if (take() == 255)
+        id.serial += take_word();
+    return id;
+}
+
+static nb_object_id any_object(const nb_object_id *from)
+{
+    nb_object_id id = from[take() % MOST_IDS];
+    uint8_t change = take();
+    if (change == 255)
+        id.serial += 1;
+    else if (change == 254)
+        id.number = take_word();
+    else if (change == 253)
+        id.interface = take_word();
+    return id;
+}
+
+static nb_global_id any_global(void)
+{
+    nb_global_id id = globals[take() % 4];
+    if (take() == 255)
+        id.name = take_word();
+    return id;
+}
+
+static void keep(nb_object_id *in, nb_object_id id)
+{
+    if (!nb_is_null(&id))
+        in[take() % MOST_IDS] = id;
+}
+
+/* ---- what is handed in */
+
+/* Bytes from a connection: raw ones, or a message that may be good. */
+static size_t some_bytes(uint8_t *to)
+{
+    size_t length = 0;
+    uint8_t kind = take();
+    if (kind < 64) {
+        for (length = 0; length < kind; length++)
+            to[length] = take();
+        return length;
+    }
+    uint32_t words[24] = { take_word(), take_word() & 0xff }, count = 2, want = kind % 8;
+    for (uint32_t i = 0; i < want; i++) {
+        uint8_t what = take();
+        if (what < 200) {
+            words[count++] = take_word();
+        } else {
+            words[count++] = 5;
+            words[count++] = 0x64617571; /* "quad" */
+            words[count++] = 0;
+        }
+        if (count > 20)
+            break;
+    }
+    words[1] |= (count * 4) << 16;
+    memcpy(to, words, count * 4);
+    return count * 4;
+}
+
+/* Arguments, and the bytes beside them. Descriptors among them are fresh. */
+static size_t some_arguments(nb_argument *to, uint8_t *text, size_t *text_length, const nb_object_id *from)
+{
+    size_t count = take() % 6;
+    *text_length = take() % 40;
+    for (size_t i = 0; i < *text_length; i++)
+        text[i] = take();
+    for (size_t i = 0; i < count; i++) {
+        to[i] = nb_argument_of(take() % 10);
+        to[i].value = (int32_t)take_word();
+        to[i].at = take_word();
+        to[i].length = take_word();
+        if (to[i].kind == NB_OBJECT || (to[i].kind == NB_NEW_ID && take() > 128))
+            to[i].object = any_object(from);
+        if (to[i].kind == NB_DESCRIPTOR && fresh(&to[i].value, 1) == 0)
+            to[i].kind = NB_INT;
+    }
+    return count;
+}
+
+static void gave_arguments(const nb_argument *of, size_t count)
+{
+    for (size_t i = 0; i < count; i++)
+        if (of[i].kind == NB_DESCRIPTOR)
+            gave(&of[i].value, 1);
+}
+
+/* ---- what is handed out */
+
+static void check_arguments(uint32_t count, size_t room, uint32_t length, size_t byte_room, nb_object_id *into)
+{
+    must(count <= room && length <= byte_room, "no more than was lent");
+    for (uint32_t i = 0; i < count; i++) {
+        const nb_argument *argument = &arguments[i];
+        must(argument->kind <= NB_NULL_STRING, "a kind");
+        if (argument->kind == NB_STRING || argument->kind == NB_ARRAY)
+            must(argument->at <= length && argument->length <= length - argument->at, "a range within the bytes");
+        if (argument->kind == NB_STRING)
+            must(memchr(bytes + argument->at, 0, argument->length) == NULL, "no zero in a string");
+        if (argument->kind == NB_DESCRIPTOR)
+            came_back(argument->value);
+        if (argument->kind == NB_OBJECT || argument->kind == NB_NEW_ID)
+            keep(into, argument->object);
+    }
+}
+
+static void set_guards(size_t room, size_t byte_room)
+{
+    memset(bytes + byte_room, 0xa5, GUARD);
+    memset(&arguments[room], 0xa5, sizeof arguments[0]);
+}
+
+static void check_guards(size_t room, size_t byte_room)
+{
+    for (size_t i = 0; i < GUARD; i++)
+        must(bytes[byte_room + i] == 0xa5, "nothing is written behind the bytes");
+    for (size_t i = 0; i < sizeof arguments[0]; i++)
+        must(((uint8_t *)&arguments[room])[i] == 0xa5, "nothing is written behind the arguments");
+}
+
+static size_t some_room(void)
+{
+    uint8_t choice = take();
+    return choice < 128 ? NB_MOST_BYTES : choice - 128;
+}
+
+static void next_action(void)
+{
+    nb_client_id id = any_client();
+    size_t room = take() % (MOST_ROOM + 1), byte_room = some_room();
+    set_guards(room, byte_room);
+    nb_status status = see(nb_server_next_action(&server, &id, &action, arguments, room, bytes, byte_room));
+    check_guards(room, byte_room);
+    if (status == NB_OK) {
+        check_arguments(action.arguments, room, action.bytes, byte_room, objects);
+        keep(objects, action.created);
+        keep(objects, action.sender);
+    } else if (status == NB_TOO_SMALL) {
+        must(action.arguments > room || action.bytes > byte_room, "what is needed is more than was lent");
+    }
+}
+
+static void next_event(void)
+{
+    size_t room = take() % (MOST_ROOM + 1), byte_room = some_room();
+    set_guards(room, byte_room);
+    nb_status status = see(nb_client_next_event(&session, &event, arguments, room, bytes, byte_room));
+    check_guards(room, byte_room);
+    if (status == NB_OK) {
+        check_arguments(event.arguments, room, event.bytes, byte_room, own);
+        keep(own, event.created);
+        keep(own, event.sender);
+    } else if (status == NB_TOO_SMALL) {
+        must(event.arguments > room || event.bytes > byte_room, "what is needed is more than was lent");
+    }
+}
+
+/* Takes what is to be sent, and a part of it, or all, is sent. */
+static void send_of(nb_status status, nb_counts counts, size_t room, const nb_client_id *id)
+{
+    if (status != NB_OK)
+        return;
+    must(counts.bytes <= room && counts.descriptors <= NB_MOST_DESCRIPTORS, "no more than was lent");
+    uint32_t taken = take() % 4 == 0 ? take() % (counts.bytes + 1) : counts.bytes;
+    int32_t numbers[NB_MOST_DESCRIPTORS];
+    memcpy(numbers, descriptors, counts.descriptors * sizeof numbers[0]);
+    must(see(id ? nb_server_sent(&server, id, taken) : nb_client_sent(&session, taken)) == NB_OK,
+         "what was handed out can be sent");
+    if (taken > 0)
+        for (uint32_t i = 0; i < counts.descriptors; i++)
+            came_back(numbers[i]);
+}
+
+static void settle(void)
+{
+    nb_gone gone;
+    nb_note note;
+    int32_t number;
+    see(nb_server_cleanup(&server));
+    while (see(nb_server_next_gone(&server, &gone, bytes, NB_MOST_BYTES, descriptors, NB_MOST_DESCRIPTORS)) == NB_OK)
+        for (uint32_t i = 0; i < gone.waiting.descriptors; i++)
+            came_back(descriptors[i]);
+    while (see(nb_server_next_note(&server, &note, bytes, NB_MOST_BYTES)) == NB_OK)
+        must(note.kind >= NB_INSERTED && note.kind <= NB_DESTROYED, "a kind of a note");
+    while (see(nb_server_next_dropped(&server, &number)) == NB_OK)
+        came_back(number);
+}
+
+/* ---- the calls */
+
+static void call_of_server(void)
+{
+    nb_client_id id;
+    nb_object_id object, made = nb_null();
+    nb_global_id global;
+    nb_argument with[6];
+    uint8_t text[128];
+    size_t length, count;
+    uint64_t number;
+    uint32_t kept;
+    int32_t numbers[NB_MOST_DESCRIPTORS + 1];
+    nb_object_info info;
+    nb_global_info offered;
+    nb_counts counts = { 0, 0 };
+    nb_table_fault fault;
+    switch (take() % 24) {
+    case 0: see(nb_server_insert_client(&server, 5, take(), &clients[take() % 4])); break;
+    case 1:
+    case 2:
+    case 3:
+        id = any_client();
+        length = some_bytes(text);
+        count = take();
+        count = fresh(numbers, count < 200 ? 0 : count % (NB_MOST_DESCRIPTORS + 2));
+        if (see(nb_server_received(&server, &id, text, length, numbers, count)) == NB_OK)
+            gave(numbers, count);
+        break;
+    case 4:
+    case 5: next_action(); break;
+    case 6:
+        id = any_client();
+        see(nb_server_finish_request(&server, &id));
+        break;
+    case 7:
+        id = any_client();
+        see(nb_server_finish_request_with(&server, &id, take(), &kept));
+        break;
+    case 8:
+        id = any_client();
+        see(nb_server_finish_bind(&server, &id, take(), &kept));
+        break;
+    case 9:
+    case 10:
+        object = any_object(objects);
+        count = some_arguments(with, text, &length, objects);
+        if (see(nb_server_send_event(&server, &object, take_word(), with, count, text, length)) == NB_OK)
+            gave_arguments(with, count);
+        break;
+    case 11:
+        id = any_client();
+        if (see(nb_server_create_object(&server, &id, take_word(), take_word(), take() % 3, take(), &made)) == NB_OK)
+            keep(objects, made);
+        break;
+    case 12:
+        object = any_object(objects);
+        see(nb_server_destroy_object(&server, &object));
+        break;
+    case 13:
+        object = any_object(objects);
+        see(nb_server_post_error(&server, &object, take(), (const uint8_t *)"some\0error", take() % 11));
+        break;
+    case 14:
+        see(nb_server_create_global(&server, take_word(), take_word(), take(), take(), &globals[take() % 4]));
+        break;
+    case 15:
+        global = any_global();
+        see(take() % 2 ? nb_server_disable_global(&server, &global) : nb_server_remove_global(&server, &global));
+        break;
+    case 16:
+        while (see(nb_server_next_writable(&server, &id)) == NB_OK) {
+            length = some_room();
+            nb_status status =
+                see(nb_server_to_send(&server, &id, bytes, length, descriptors, NB_MOST_DESCRIPTORS, &counts));
+            send_of(status, counts, length, &id);
+        }
+        break;
+    case 17:
+        id = any_client();
+        length = some_room();
+        see(nb_server_to_send(&server, &id, bytes, length, descriptors, take() % (NB_MOST_DESCRIPTORS + 1), &counts));
+        break;
+    case 18:
+        id = any_client();
+        switch (take() % 6) {
+        case 0: see(nb_server_kill_client(&server, &id)); break;
+        case 1: see(nb_server_received_end(&server, &id)); break;
+        case 2: see(nb_server_receive_failed(&server, &id, take())); break;
+        case 3: see(nb_server_send_failed(&server, &id, take())); break;
+        case 4: see(nb_server_set_room(&server, &id, take())); break;
+        case 5: see(nb_server_set_max_buffer_size(&server, &id, take_word())); break;
+        }
+        break;
+    case 19: settle(); break;
+    case 20:
+        object = any_object(objects);
+        see(nb_server_object_info(&server, &object, &info));
+        see(nb_server_object_data(&server, &object, &number));
+        see(nb_server_set_object_data(&server, &object, take()));
+        see(nb_server_object_for_protocol_id(&server, &object.client, object.interface, object.number, &made));
+        break;
+    case 21:
+        global = any_global();
+        id = any_client();
+        see(nb_server_global_info(&server, &global, &offered));
+        see(nb_server_global_data(&server, &global, &number));
+        see(nb_server_global_name(&server, &global, &id, &kept));
+        see(nb_server_next_global_id(&server, &global));
+        see(nb_server_next_client_id(&server, &id));
+        break;
+    case 22: {
+        nb_object_id list[8];
+        nb_client_id all[4];
+        id = any_client();
+        see(nb_server_objects(&server, &id, list, take() % 9, &kept));
+        see(nb_server_clients(&server, all, take() % 5, &kept));
+        see(nb_server_client_data(&server, &id, &number));
+        see(nb_server_memory_refused(&server, &kept));
+        break;
+    }
+    case 23: {
+        nb_interface_row interfaces[2];
+        nb_message_row messages[3];
+        nb_argument_row rows[4];
+        for (size_t i = 0; i < sizeof text; i++)
+            text[i] = (uint8_t)('a' + i % 26);
+        for (int i = 0; i < 2; i++)
+            interfaces[i] = (nb_interface_row){ take(), take(), take(), take() % 3, take() % 3 };
+        for (int i = 0; i < 3; i++)
+            messages[i] = (nb_message_row){ take(), take(), take(), take() % 3, take() % 3 };
+        for (int i = 0; i < 4; i++)
+            rows[i] = (nb_argument_row){ take() % 9, take() % 3, take() % 8 };
+        see(nb_server_add_interfaces(&server, text, take() % 129, interfaces, take() % 3, messages, take() % 4, rows,
+                                     take() % 5, &fault));
+        break;
+    }
+    }
+}
+
+static void call_of_client(void)
+{
+    nb_argument with[6];
+    uint8_t text[128];
+    size_t length, count;
+    uint64_t number;
+    uint32_t refused;
+    int32_t numbers[NB_MOST_DESCRIPTORS + 1];
+    nb_object_id object, made = nb_null();
+    nb_request request;
+    nb_counts counts = { 0, 0 };
+    nb_object_info info;
+    nb_error error;
+    nb_status status;
+    switch (take() % 12) {
+    case 0:
+    case 1:
+    case 2:
+        length = some_bytes(text);
+        count = take();
+        count = fresh(numbers, count < 200 ? 0 : count % (NB_MOST_DESCRIPTORS + 2));
+        if (see(nb_client_received(&session, text, length, numbers, count)) == NB_OK)
+            gave(numbers, count);
+        break;
+    case 3: next_event(); break;
+    case 4: see(nb_client_finish_event(&session)); break;
+    case 5: see(nb_client_finish_event_with(&session, take())); break;
+    case 6:
+    case 7:
+        memset(&request, 0, sizeof request);
+        request.sender = any_object(own);
+        request.opcode = take_word();
+        request.has_data = take() % 3;
+        request.has_child = take() % 3;
+        request.child_interface = take_word();
+        request.child_version = take_word();
+        count = some_arguments(with, text, &length, own);
+        if (see(nb_client_send_request(&session, &request, with, count, text, length, &made)) == NB_OK) {
+            gave_arguments(with, count);
+            keep(own, made);
+        }
+        break;
+    case 8:
+        see(nb_client_flush(&session));
+        length = some_room();
+        status = see(nb_client_to_send(&session, bytes, length, descriptors, NB_MOST_DESCRIPTORS, &counts));
+        send_of(status, counts, length, NULL);
+        break;
+    case 9:
+        object = any_object(own);
+        see(nb_client_object_info(&session, &object, &info));
+        see(nb_client_object_data(&session, &object, &number));
+        see(nb_client_set_object_data(&session, &object, take()));
+        see(nb_client_memory_refused(&session, &refused));
+        break;
+    case 10:
+        object = any_object(own);
+        see(nb_client_destroy_object(&session, &object));
+        while (see(nb_client_next_note(&session, &object)) == NB_OK)
+            ;
+        see(nb_client_last_error(&session, &error, bytes, NB_MOST_BYTES));
+        break;
+    case 11:
+        switch (take() % 16) {
+        case 0: see(nb_client_received_end(&session)); break;
+        case 1: see(nb_client_receive_failed(&session, take())); break;
+        case 2: see(nb_client_send_failed(&session, take())); break;
+        default: see(nb_client_set_room(&session, take())); break;
+        }
+        break;
+    }
+}
+
+static void begin(void)
+{
+    nb_table_fault fault;
+    nb_request request;
+    const nb_argument placeholder = nb_placeholder();
+    must(nb_server_start(&server, &quad, &fault) == NB_OK && nb_client_start(&session, &quad, &fault) == NB_OK,
+         "sessions begin");
+    must(nb_server_create_global(&server, NB_QUAD, 3, 8, 1, &globals[0]) == NB_OK, "a global is made");
+    must(nb_server_insert_client(&server, 5, 1, &clients[0]) == NB_OK, "a client is inserted");
+    must(nb_client_display(&session, &own[0]) == NB_OK, "the display is there");
+    memset(&request, 0, sizeof request);
+    request.sender = own[0];
+    request.opcode = 1;
+    request.has_data = 1;
+    must(nb_client_send_request(&session, &request, &placeholder, 1, NULL, 0, &own[1]) == NB_OK,
+         "a registry is asked for");
+}
+
+static void end(void)
+{
+    nb_client_id all[256];
+    nb_counts counts = { 0, 0 };
+    int32_t number;
+    uint32_t count = 0;
+    see(nb_server_clients(&server, all, 256, &count));
+    for (uint32_t i = 0; i < count && i < 256; i++)
+        see(nb_server_kill_client(&server, &all[i]));
+    settle();
+    while (see(nb_client_next_dropped(&session, &number)) == NB_OK)
+        came_back(number);
+    input_left = 0;
+    see(nb_client_to_send(&session, bytes, NB_MOST_BYTES, descriptors, NB_MOST_DESCRIPTORS, &counts));
+    must(nb_server_end(&server) == NB_OK && nb_client_end(&session) == NB_OK, "sessions end");
+}
+
+int LLVMFuzzerTestOneInput(const uint8_t *data, size_t size)
+{
+    int server_numbers;
+    input = data;
+    input_left = size;
+    memset(clients, 0, sizeof clients);
+    memset(objects, 0, sizeof objects);
+    memset(own, 0, sizeof own);
+    memset(globals, 0, sizeof globals);
+    memset(is_out, 0, sizeof is_out);
+    memset(came, 0, sizeof came);
+    next_number = 0;
+    begin();
+    /* First the server's calls: each of its descriptors has to be back at its end. */
+    size_t of_client = size / 4;
+    while (input_left > of_client)
+        call_of_server();
+    server_numbers = next_number;
+    while (input_left > 0)
+        call_of_client();
+    end();
+    for (int i = 0; i < server_numbers; i++)
+        must(came[i] == is_out[i], "each descriptor of the server came back");
+    return 0;
+}

@@ -1,0 +1,930 @@
+/* Numbyroga for C and C++: a server's and a client's session of the Wayland protocol, proved, as plain calls.
+ *
+ * A session opens no socket, starts no thread, asks no clock and closes no descriptor. Its *host*, which is your
+ * program, waits, receives, sends and owns the descriptors. It hands a session what it received, takes actions (a
+ * server) or events (a client) out, answers them, and sends what the session says is to be sent. host.c and client.c
+ * beside this file do that over Unix sockets.
+ *
+ * One round of a server's host:
+ *
+ *   1. Wait until a client connects, a socket can be read, or one can be written for which something was left over.
+ *   2. Insert each new client (nb_server_insert_client).
+ *   3. Receive from each socket that can be read, once: nb_server_received. Then take its actions
+ * (nb_server_next_action) and finish each one, until the answer is not NB_OK.
+ *   4. Send to each client that nb_server_next_writable answers: nb_server_to_send, sendmsg, nb_server_sent.
+ *   5. nb_server_cleanup. Send the last bytes of each client that nb_server_next_gone answers, and close its socket.
+ *   6. Forget what nb_server_next_note says is gone. Close each descriptor that nb_server_next_dropped answers.
+ *
+ * Places. A session lives in a *place*: an nb_server or nb_client of yours, which has zeros in it at first (NB_EMPTY).
+ * The session's memory comes from malloc and goes back by free; nb_server_end and nb_client_end give all of it back. A
+ * place may stand anywhere, and may be moved between calls, but it must not be copied while it is in use: two places
+ * with one session would free it twice. A place that is empty, ended, or in a call answers NB_NO_SESSION to each call
+ * but the one that makes a session.
+ *
+ * Threads. A place is for one thread at a time: any thread may call, if no two calls of one place overlap in time.
+ * Different places have nothing to do with each other. The library has no lock and no global variable.
+ *
+ * Memory. What a pointer names is lent for the call: nothing is kept of it when the call returns, and nothing in it is
+ * allocated or freed. A *slice* is a pointer with how many elements it has; a slice without elements may have any
+ * pointer, NULL too. Every other pointer has to name what its type says. Memory that a call writes must overlap no
+ * other memory of the same call.
+ *
+ * Answers. Each call answers a status. What else it answers is written through its last parameters, and is to be read
+ * only if the status is NB_OK, or NB_TOO_SMALL, or NB_BAD_TABLE where that says so. Statuses stand in the order in
+ * which they are looked for: if several reasons hold, the first one is answered. NB_NO_SESSION is the first of each
+ * call and not listed again. After every status but NB_OK the session is as it was, unless the call says otherwise.
+ *
+ * Ids. Ids are plain values: copy, keep, compare, and throw them away as you like. An id that names nothing (any more),
+ * or was never handed out, is refused with NB_INVALID_ID; it never names another object later. So keep an id rather
+ * than a pointer to what you made for it, and ask for the data by the id.
+ *
+ * Data. Each client, object and global may have a number of yours: `data`, 64 bits, often a pointer to a struct of
+ * yours. A session never looks at it. Where `data` is answered for an object that has none, it is 0.
+ *
+ * Descriptors. Each descriptor has one owner at a time.
+ *
+ *   - What you hand to nb_server_received, nb_server_send_event, nb_client_received or nb_client_send_request is the
+ * session's if the status is NB_OK, and else stays yours.
+ *   - The session hands each one back exactly once: as an argument of an action or event, by to_send and sent, by
+ *     nb_server_next_gone, or by next_dropped. It is yours then: close it when you need it no more.
+ *   - nb_server_end and nb_client_end forget those that are left. So before the end kill all clients, clean up, and
+ * empty next_gone and next_dropped; for a client's session empty to_send and next_dropped.
+ *   - Actions and events that you do not care for may have descriptors, too. Close them.
+ *
+ * What a C program must not do: copy a place that is in use; call one place from two threads at once; pass a pointer
+ * that names no memory, or a count above what is there; let memory that is written overlap other memory of the call;
+ * write into a place. The library cannot see these. All else that a program may do wrong is answered with a status.
+ *
+ * Link with -lnumbyroga, or with libnumbyroga.a. It needs the C library alone. / */
+#ifndef NUMBYROGA_H
+#define NUMBYROGA_H
+
+#include <stddef.h>
+#include <stdint.h>
+
+#ifdef __cplusplus
+extern "C" {
+#endif
+
+/* ======== Places */
+
+/* The place of a server's session. Its fields are the library's. */
+typedef struct {
+    uint64_t state;
+    void *session;
+} nb_server;
+
+/* The place of a client's session. Its fields are the library's. */
+typedef struct {
+    uint64_t state;
+    void *session;
+} nb_client;
+
+/* A place without a session: `nb_server server = NB_EMPTY;`. Static memory is empty by itself. */
+#define NB_EMPTY                                                                                                       \
+    {                                                                                                                  \
+        0, NULL                                                                                                        \
+    }
+
+/* ======== Statuses */
+
+/* What a call answers: one of the values below. */
+typedef uint32_t nb_status;
+
+enum {
+    NB_OK = 0,
+    NB_NO_SESSION = 1,    /* the place is empty, or in a call */
+    NB_IN_USE = 2,        /* the place has a session already */
+    NB_OUT_OF_MEMORY = 3, /* malloc refused */
+    NB_WOULD_BLOCK = 4,   /* nothing more is there now */
+    NB_TOO_SMALL = 5,     /* the memory that was lent is too small; what is needed is told, and nothing is lost */
+    NB_INVALID_INPUT =
+        6, /* a struct has what it cannot have: a kind, an opcode above 65535, a range outside of the bytes */
+    NB_INVALID_ID = 7,           /* the id names nothing that the call may use */
+    NB_BAD_TABLE = 8,            /* the rows make no table; the fault says which and why */
+    NB_TOO_MANY_DESCRIPTORS = 9, /* more than NB_MOST_DESCRIPTORS would wait */
+    NB_CLOSED = 10,              /* the client is killed, or the connection has ended */
+    NB_PROTOCOL_ERROR = 11,      /* the bytes are no message that the other side may send */
+    NB_TOO_BIG = 12,             /* a message is longer than a message, or than the buffer, may be */
+    NB_IO_ERROR = 13,            /* the socket failed, as the host told the session */
+    NB_FAILED = 14,              /* a client's session has an error: nb_client_last_error */
+    NB_OPEN = 15,                /* an action, or event, was handed out and is not finished */
+    NB_NOT_OPEN = 16,            /* no action, or event, is open */
+    NB_WRONG_KIND = 17,          /* a request is finished as a bind, or a bind as a request */
+    NB_MISSING_DATA = 18,        /* an object is made, and no data are given for it */
+    NB_UNEXPECTED_DATA = 19,     /* no object is made, and data are given */
+    NB_UNKNOWN_OPCODE = 20,      /* the interface has no such event, or request */
+    NB_BAD_SIGNATURE = 21,       /* the arguments are not those of the message: their number, or the kind of one */
+    NB_NULL_OBJECT = 22,         /* an object argument is null, and may not be */
+    NB_NULL_NEW_ID = 23,         /* an event has a new id that is null */
+    NB_FOREIGN_OBJECT = 24,      /* an argument is an object of another client */
+    NB_WRONG_INTERFACE = 25,     /* an argument is an object of another interface than the table asks for */
+    NB_UNKNOWN_INTERFACE = 26,   /* no interface of the table has the number */
+    NB_VERSION_TOO_HIGH = 27,    /* the version is above that of the interface in the table */
+    NB_IDS_EXHAUSTED = 28,       /* no number is left for an object */
+    NB_SERIALS_EXHAUSTED = 29,   /* no serial is left */
+    NB_FULL = 30,                /* no slot, or no name, is left */
+    NB_WRONG_CHILD = 31,         /* a request makes an object of another interface than the table says */
+    NB_WRONG_CHILD_VERSION = 32, /* a request makes an object of another version than that of its sender */
+    NB_MISSING_CHILD = 33,       /* nobody says of which interface the new object is */
+    NB_NOT_PLACEHOLDER = 34      /* a request's new id is not null: the session chooses it */
+};
+
+/* The text of a status, in English, for logs. It is static memory; never NULL. */
+static inline const char *nb_status_text(nb_status status)
+{
+    static const char *const texts[] = { "ok",
+                                         "no session is in the place",
+                                         "the place has a session already",
+                                         "out of memory",
+                                         "nothing more is there now",
+                                         "the memory that was lent is too small",
+                                         "a struct has what it cannot have",
+                                         "the id names nothing",
+                                         "the rows make no table",
+                                         "too many descriptors would wait",
+                                         "the connection has ended",
+                                         "protocol error",
+                                         "the message is too long",
+                                         "the socket failed",
+                                         "the session has an error",
+                                         "an action or event is open",
+                                         "no action or event is open",
+                                         "the open action is of the other kind",
+                                         "the new object gets no data",
+                                         "there is no new object for the data",
+                                         "the interface has no message of that opcode",
+                                         "the arguments do not fit the message",
+                                         "an object argument is null",
+                                         "a new id is null",
+                                         "an argument is an object of another client",
+                                         "an argument has another interface",
+                                         "the interface is not in the table",
+                                         "the version is above the interface's",
+                                         "no number is left for an object",
+                                         "no serial is left",
+                                         "no slot or no name is left",
+                                         "the new object has another interface in the table",
+                                         "the new object's version is not its sender's",
+                                         "the interface of the new object is not named",
+                                         "the new id is not null" };
+    return status < sizeof texts / sizeof texts[0] ? texts[status] : "unknown status";
+}
+
+/* ======== Limits */
+
+enum {
+    NB_MOST_DESCRIPTORS =
+        28,               /* as many descriptors wait on each side of a connection, and are in one receive or send */
+    NB_MOST_BYTES = 65536 /* no message has more; what is lent for strings and arrays, and for what is to be sent, is
+                             never too small with so many */
+};
+
+/* ======== Ids */
+
+/* A client of a server: 16 bytes. Two ids are of one client if both numbers are equal. A slot is used again, a serial
+ * never. */
+typedef struct {
+    uint64_t serial;
+    uint32_t slot;
+} nb_client_id;
+
+/* An object: 32 bytes. `number` is its number in the protocol; an id with the number 0 is null. `interface` is the
+ * number of its interface in the table. In a client's session `client` has zeros. */
+typedef struct {
+    uint64_t serial;
+    nb_client_id client;
+    uint32_t interface, number;
+} nb_object_id;
+
+/* A global of a server: 16 bytes. `name` is what clients bind. A name is used again, a serial never. */
+typedef struct {
+    uint64_t serial;
+    uint32_t name;
+} nb_global_id;
+
+/* ======== The table of interfaces */
+
+/* A table is four slices; embed/scan makes them from protocol XML files. The rows of interfaces stand in order, and
+ * have the numbers 4, 5, .. (NB_INTERFACE_FIRST). The messages of the first interface stand first: its requests in
+ * order, then its events; then those of the next one. In the same way the arguments of all messages stand behind each
+ * other. Names are ranges of the text, in UTF-8. `wl_display`, `wl_registry` and `wl_callback` are in each table
+ * beforehand, with these numbers: */
+enum {
+    NB_INTERFACE_ANY = 0, /* no interface: an object argument that may be of any */
+    NB_INTERFACE_DISPLAY = 1,
+    NB_INTERFACE_REGISTRY = 2,
+    NB_INTERFACE_CALLBACK = 3,
+    NB_INTERFACE_FIRST = 4 /* the first row of the first table that a session was given */
+};
+
+/* An interface: its name, its version, and how many requests and events it has. */
+typedef struct {
+    uint32_t name_at, name_length, version, requests, events;
+} nb_interface_row;
+
+/* A request or an event: its name, the version since which it is there, whether it ends its object (0 or 1), and how
+ * many arguments it has. */
+typedef struct {
+    uint32_t name_at, name_length, since, is_destructor, arguments;
+} nb_message_row;
+
+/* An argument: its kind (NB_INT to NB_DESCRIPTOR, below), whether a string or object may be null (0 or 1), and the
+ * number of the interface of an object or new id. Any number but 0 is a yes. A message has one new id at most. */
+typedef struct {
+    uint32_t kind, is_nullable, interface;
+} nb_argument_row;
+
+/* What is wrong with rows. `interface` is the index of the interface's row among those that were passed, from 0. */
+typedef struct {
+    uint32_t interface, fault;
+} nb_table_fault;
+
+enum {
+    NB_FAULT_NONE = 0,
+    NB_FAULT_ROW = 1,            /* a row names what is not there, has a kind that is none, or its name is not UTF-8 */
+    NB_FAULT_ZERO_IN_NAME = 2,   /* a name has a zero byte */
+    NB_FAULT_DUPLICATE_NAME = 3, /* another interface has the name */
+    NB_FAULT_UNKNOWN_INTERFACE = 4,   /* an argument names an interface that is not in the table */
+    NB_FAULT_TOO_MANY_NEW_IDS = 5,    /* a message makes two objects */
+    NB_FAULT_MISSING_CHILD = 6,       /* a new id names no interface */
+    NB_FAULT_ARGUMENT_INTERFACES = 7, /* the interfaces of a message are not those of its object arguments */
+    NB_FAULT_OUT_OF_MEMORY = 8        /* malloc refused */
+};
+
+/* The four slices in one struct, as embed/scan writes them. */
+typedef struct {
+    const uint8_t *text;
+    size_t text_length;
+    const nb_interface_row *interfaces;
+    size_t interface_count;
+    const nb_message_row *messages;
+    size_t message_count;
+    const nb_argument_row *arguments;
+    size_t argument_count;
+} nb_table;
+
+/* ======== Messages */
+
+/* What an argument is. */
+enum {
+    NB_INT = 0,
+    NB_UINT = 1,
+    NB_FIXED = 2, /* a number in 256ths */
+    NB_STRING = 3,
+    NB_OBJECT = 4,
+    NB_NEW_ID = 5,
+    NB_ARRAY = 6,
+    NB_DESCRIPTOR = 7,
+    NB_NULL_STRING = 8 /* a string that is null; no kind of a row */
+};
+
+/* An argument: 56 bytes. */
+typedef struct {
+    uint32_t kind;       /* one of the above; the fields that it does not use are 0 */
+    int32_t value;       /* NB_INT, NB_UINT, NB_FIXED: the number. NB_DESCRIPTOR: the descriptor */
+    uint32_t at, length; /* NB_STRING, NB_ARRAY: where it stands in the bytes that are lent beside. A string has no zero
+                            in it, and none at its end */
+    nb_object_id object; /* NB_OBJECT, NB_NEW_ID: the object; null if its number is 0 */
+    uint64_t data;       /* out: the data of that object; 0 if it has none. Not read */
+} nb_argument;
+
+enum { NB_REQUEST = 1, NB_BIND = 2 };
+
+/* What a client asks of the server: 112 bytes. It is open until it is finished. */
+typedef struct {
+    uint32_t kind;          /* NB_REQUEST, or NB_BIND: an object was bound to a global */
+    uint32_t opcode;        /* of a request; its index among the requests of the sender's interface */
+    uint32_t arguments;     /* of a request: how many */
+    uint32_t is_destructor; /* of a request: whether finishing it ends its sender (0 or 1) */
+    nb_object_id sender;    /* of a request: the object that it was sent to. Null for a bind */
+    uint64_t data;          /* of the sender, or of the global */
+    nb_object_id created;   /* the object that was made or bound; null if none was */
+    uint32_t version;       /* of `created`; 0 if none was */
+    uint32_t bytes;         /* how many bytes its strings and arrays take */
+    nb_global_id global;    /* of a bind */
+} nb_action;
+
+/* What the server tells a client: 96 bytes. It is open until it is finished. */
+typedef struct {
+    uint32_t opcode;        /* its index among the events of the sender's interface */
+    uint32_t arguments;     /* how many */
+    uint32_t is_destructor; /* whether finishing it ends its sender (0 or 1) */
+    uint32_t bytes;         /* how many bytes its strings and arrays take */
+    nb_object_id sender;    /* the object that it was sent to */
+    uint64_t data;          /* of the sender; 0 if it has none */
+    nb_object_id created;   /* the object that the event made; null if none was */
+    uint32_t version;       /* of `created`; 0 if none was */
+    uint32_t has_data;      /* whether the sender has data (0 or 1) */
+} nb_event;
+
+/* What a client asks its session to send: 64 bytes. */
+typedef struct {
+    nb_object_id sender;
+    uint32_t opcode;          /* its index among the requests of the sender's interface */
+    uint32_t has_data;        /* whether `data` are given for the object that it makes (0 or 1) */
+    uint64_t data;            /* of that object */
+    uint32_t has_child;       /* whether the next two are given (0 or 1). They have to be for wl_registry.bind alone */
+    uint32_t child_interface; /* of the object that it makes */
+    uint32_t child_version;
+    uint32_t unused; /* 0 */
+} nb_request;
+
+/* An object's number in the protocol, its interface and version. */
+typedef struct {
+    uint32_t number, interface, version;
+} nb_object_info;
+
+/* What a global offers: its interface, the greatest version that clients may bind, and whether it is disabled (0 or 1).
+ */
+typedef struct {
+    uint32_t interface, version, is_disabled, unused;
+} nb_global_info;
+
+/* ======== What is to be sent; what has happened */
+
+/* How many bytes and descriptors. */
+typedef struct {
+    uint32_t bytes, descriptors;
+} nb_counts;
+
+enum { NB_INSERTED = 1, NB_KILLED = 2, NB_DESTROYED = 3 };
+
+/* A note of what happened in a server's session: 80 bytes. */
+typedef struct {
+    uint32_t kind;              /* NB_INSERTED, NB_KILLED: the client was; NB_DESTROYED: an object with data is gone */
+    uint32_t is_protocol_error; /* of NB_KILLED: 1 if it was for an error, 0 if the connection closed */
+    uint32_t code, object_number; /* of that error */
+    nb_client_id client;          /* always */
+    nb_object_id object;          /* of NB_DESTROYED: the object, which is gone */
+    uint64_t data;                /* of NB_DESTROYED: its data */
+    uint32_t message_length,
+        interface_length; /* of the error: the text has its message, and behind it the interface's name */
+} nb_note;
+
+/* A client that is gone: 32 bytes. `data` is the client's; `waiting` is what is still to be sent. */
+typedef struct {
+    nb_client_id client;
+    uint64_t data;
+    nb_counts waiting;
+} nb_gone;
+
+enum { NB_NO_ERROR = 0, NB_ERROR_OF_IO = 1, NB_ERROR_OF_PROTOCOL = 2 };
+
+/* The error of a client's session. */
+typedef struct {
+    uint32_t kind;    /* NB_NO_ERROR, NB_ERROR_OF_IO, NB_ERROR_OF_PROTOCOL */
+    nb_status status; /* of NB_ERROR_OF_IO: NB_CLOSED, NB_PROTOCOL_ERROR, NB_TOO_BIG, NB_IO_ERROR, .. */
+    int32_t number;   /* of NB_IO_ERROR: that of the system, as the host told it */
+    uint32_t code,
+        object_number; /* of NB_ERROR_OF_PROTOCOL: what the server said. 0 and 0 if the server broke the protocol */
+    uint32_t message_length, interface_length; /* the text has the message, and behind it the interface's name */
+} nb_error;
+
+/* ======== A server's session: making and ending it */
+
+/* Makes a session in the place, with this table and no client. nb_server_start, below, takes an nb_table.
+ *
+ * The rows and the text are copied; rows that no other row counts are not looked at. `fault` is written after
+ * NB_BAD_TABLE and NB_OUT_OF_MEMORY. Statuses: NB_IN_USE; NB_BAD_TABLE (the fault says which interface and why);
+ * NB_OUT_OF_MEMORY (the fault is NB_FAULT_OUT_OF_MEMORY). The place stays as it was after an error. */
+nb_status nb_server_new(nb_server *place, const uint8_t *text, size_t text_length, const nb_interface_row *interfaces,
+                        size_t interface_count, const nb_message_row *messages, size_t message_count,
+                        const nb_argument_row *arguments, size_t argument_count, nb_table_fault *fault);
+
+/* Ends the session, and frees all that it has. The place is empty then, and can have another one. Clients are told
+ * nothing, and descriptors that wait are forgotten: see "Descriptors" above. */
+nb_status nb_server_end(nb_server *place);
+
+/* Appends interfaces to the table: all of them, or none. The interfaces that are there keep their numbers, and the new
+ * ones have those behind them; arguments may name old ones and new ones. Nothing else changes. nb_server_extend, below,
+ * takes an nb_table.
+ *
+ * `fault` is as for nb_server_new; the index counts the rows of this call. Statuses: NB_BAD_TABLE; NB_OUT_OF_MEMORY. */
+nb_status nb_server_add_interfaces(nb_server *place, const uint8_t *text, size_t text_length,
+                                   const nb_interface_row *interfaces, size_t interface_count,
+                                   const nb_message_row *messages, size_t message_count,
+                                   const nb_argument_row *arguments, size_t argument_count, nb_table_fault *fault);
+
+/* Writes 1 if malloc refused in the last call that changes the session, also where the call did its work all the same
+ * (a client that could not be told something is killed then), and else 0. */
+nb_status nb_server_memory_refused(nb_server *place, uint32_t *is_refused);
+
+/* ======== A server's session: clients */
+
+/* Sets how far the buffers of clients that are inserted from now on may grow, in bytes: the one of what is to be sent,
+ * and the one of what was received and is not read yet. It is rounded up to a power of two of at least 4096; the buffer
+ * of what was received never grows beyond 65536. A client for which more would wait is killed. At first it is 4096,
+ * which is too little for most hosts: 1048576 is a good choice. */
+nb_status nb_server_set_default_max_buffer_size(nb_server *place, uint64_t size);
+
+/* Sets the same for a client that is there. An unknown client is no error: nothing is done. */
+nb_status nb_server_set_max_buffer_size(nb_server *place, const nb_client_id *client, uint64_t size);
+
+/* Sets how many bytes may wait in what nb_server_to_send answers (its *room*); what is beyond it waits in the client's
+ * buffer, up to its limit. It is 65536 at first. With 0 nothing is handed over any more, until more room is set.
+ * Statuses: NB_INVALID_ID. */
+nb_status nb_server_set_room(nb_server *place, const nb_client_id *client, uint64_t room);
+
+/* Inserts a client, over a connection of the host. It has one object, the display. It sees each global with which it
+ * has a bit of `groups` in common; so a host that hides nothing passes 1 for all. A note says that it was inserted.
+ *
+ * Statuses: NB_FULL (no slot or no serial is left), NB_OUT_OF_MEMORY. */
+nb_status nb_server_insert_client(nb_server *place, uint64_t data, uint64_t groups, nb_client_id *client);
+
+/* The data of a client. Statuses: NB_INVALID_ID. */
+nb_status nb_server_client_data(nb_server *place, const nb_client_id *client, uint64_t *data);
+
+/* The clients, by ascending slot, those that were killed and not cleaned up among them. `count` is how many there are.
+ * Statuses: NB_TOO_SMALL (`count` is written all the same). */
+nb_status nb_server_clients(nb_server *place, nb_client_id *clients, size_t room, uint32_t *count);
+
+/* Kills a client, as if its connection had ended. It is told nothing more, takes no more events, and is taken out by
+ * the next nb_server_cleanup. A note says so, unless it was killed before. An unknown client is no error: nothing is
+ * done. */
+nb_status nb_server_kill_client(nb_server *place, const nb_client_id *client);
+
+/* ======== A server's session: what came */
+
+/* The host received this from the client, by one recvmsg or several. The bytes are copied; they are read by
+ * nb_server_next_action. Pass at most 65536 at once: a reading takes that much.
+ *
+ * After NB_OK the descriptors are the session's. They come out in their order, each with the request that it belongs
+ * to. Without bytes nothing arrives but the descriptors: that is not the end of the stream (nb_server_received_end).
+ *
+ * Statuses: NB_INVALID_ID; NB_TOO_MANY_DESCRIPTORS (more than 28 would wait to be read: read first; if the client sends
+ * them with no request that takes them, kill it); NB_OUT_OF_MEMORY. After an error nothing has arrived: the stream has
+ * a hole, so hand it in later, or kill the client. */
+nb_status nb_server_received(nb_server *place, const nb_client_id *client, const uint8_t *bytes, size_t length,
+                             const int32_t *descriptors, size_t count);
+
+/* recvmsg answered 0: the client has closed the connection. The reading that gets to it answers NB_CLOSED, and the
+ * client is killed. Statuses: NB_INVALID_ID. */
+nb_status nb_server_received_end(nb_server *place, const nb_client_id *client);
+
+/* recvmsg failed with this errno, which is not EAGAIN, EWOULDBLOCK or EINTR. The reading that gets to it answers
+ * NB_IO_ERROR (EPIPE and ECONNRESET: NB_CLOSED), and the client is killed. Statuses: NB_INVALID_ID. */
+nb_status nb_server_receive_failed(nb_server *place, const nb_client_id *client, int32_t number);
+
+/* sendmsg failed with this errno, which is not EAGAIN, EWOULDBLOCK or EINTR: nothing more can be sent to the client,
+ * and it is killed. Statuses: NB_INVALID_ID. */
+nb_status nb_server_send_failed(nb_server *place, const nb_client_id *client, int32_t number);
+
+/* ======== A server's session: actions */
+
+/* Hands out the next thing that the client asks of the program. sync and get_registry are answered by the session
+ * itself, as is each request that breaks the protocol. The action is open, and no other of this client comes, until it
+ * is finished.
+ *
+ * The arguments are written into `arguments`, and their strings and arrays into `bytes`. Its descriptors are yours.
+ *
+ * Statuses:
+ *   NB_INVALID_ID       the client is not there (any more)
+ *   NB_OPEN             an action of the client is open
+ *   NB_CLOSED           the client is killed: it was before, its connection has ended, or it broke the protocol by a
+ * well-formed request, and is told so by wl_display.error NB_PROTOCOL_ERROR   what it sent is no message that it may
+ * send; it is killed NB_WOULD_BLOCK      no whole message is there; receive first NB_OUT_OF_MEMORY    read again later;
+ * what was handled stays handled NB_IO_ERROR, ..     what the host told by nb_server_receive_failed; it is killed
+ *   NB_TOO_SMALL        `action` has in `arguments` and `bytes` how many are needed, and nothing else. The action is
+ * kept: call again with more. With 65536 bytes and as many arguments as the largest message of the table has, this
+ * never comes */
+nb_status nb_server_next_action(nb_server *place, const nb_client_id *client, nb_action *action, nb_argument *arguments,
+                                size_t argument_room, uint8_t *bytes, size_t byte_room);
+
+/* Finishes a request that made no object. If it is a destructor, its sender ends: the client is told that the number is
+ * free, and if it had data, a note is made of it.
+ *
+ * Statuses: NB_INVALID_ID; NB_NOT_OPEN (also for an action that was kept and is not handed out yet); NB_WRONG_KIND (it
+ * is a bind); NB_MISSING_DATA (it made an object; never for a client that was killed in the meantime);
+ * NB_OUT_OF_MEMORY. The action is still open after NB_WRONG_KIND, NB_MISSING_DATA and NB_OUT_OF_MEMORY. */
+nb_status nb_server_finish_request(nb_server *place, const nb_client_id *client);
+
+/* Finishes a request that made an object, which gets the data. `is_kept` is 1 if the object has it now; 0 if the object
+ * was gone before: then free what `data` stands for, since no note will name it.
+ *
+ * Statuses: those of nb_server_finish_request, but NB_UNEXPECTED_DATA (it made no object) in place of NB_MISSING_DATA.
+ */
+nb_status nb_server_finish_request_with(nb_server *place, const nb_client_id *client, uint64_t data, uint32_t *is_kept);
+
+/* Finishes a bind: its object gets the data. `is_kept` is as above. Statuses: NB_INVALID_ID; NB_NOT_OPEN; NB_WRONG_KIND
+ * (it is a request; it is still open). */
+nb_status nb_server_finish_bind(nb_server *place, const nb_client_id *client, uint64_t data, uint32_t *is_kept);
+
+/* Sends an event of an object: it waits until the host sends it. Strings and arrays are ranges of `bytes`; ranges may
+ * overlap. An event that is a destructor ends its sender. To a client that was killed nothing is sent, and the answer
+ * is NB_OK.
+ *
+ * After NB_OK the descriptors among the arguments are the session's, also if nothing is sent.
+ *
+ * Statuses: NB_INVALID_INPUT (an opcode above 65535; a kind that is none; a range outside of `bytes`; a zero byte in a
+ * string); NB_INVALID_ID (of the sender); NB_UNKNOWN_OPCODE; NB_BAD_SIGNATURE; then of the arguments from left to
+ * right, of each in this order: NB_NULL_OBJECT or NB_NULL_NEW_ID, NB_FOREIGN_OBJECT, NB_INVALID_ID, NB_WRONG_INTERFACE;
+ * NB_OUT_OF_MEMORY. An event that is too long for the client's buffer kills the client, and the answer is NB_OK. */
+nb_status nb_server_send_event(nb_server *place, const nb_object_id *sender, uint32_t opcode,
+                               const nb_argument *arguments, size_t argument_count, const uint8_t *bytes,
+                               size_t byte_count);
+
+/* Ends a client for an error: it is told by wl_display.error of this object, code and message, and killed. If the
+ * object is gone, or null, see the order: a null id does nothing; a client that is not there, neither; an object that
+ * is gone kills its client untold.
+ *
+ * `message` has no zero byte. Statuses: NB_INVALID_INPUT (it has one); NB_OUT_OF_MEMORY (there was none for a copy of
+ * the message; nothing is done). */
+nb_status nb_server_post_error(nb_server *place, const nb_object_id *object, uint32_t code, const uint8_t *message,
+                               size_t length);
+
+/* ======== A server's session: objects */
+
+/* Makes an object of the server for a client, with the least number from 0xFF000000 on that is free. The client hears
+ * of it by an event that has it as a new id. It has data if `has_data` is 1. The version is not checked.
+ *
+ * Statuses: NB_INVALID_INPUT (`has_data` is neither 0 nor 1); NB_INVALID_ID; NB_UNKNOWN_INTERFACE; NB_IDS_EXHAUSTED;
+ * NB_SERIALS_EXHAUSTED; NB_OUT_OF_MEMORY. */
+nb_status nb_server_create_object(nb_server *place, const nb_client_id *client, uint32_t interface, uint32_t version,
+                                  uint32_t has_data, uint64_t data, nb_object_id *object);
+
+/* Destroys an object. If its number is one of the client's own, the client is told that it is free. If it had data, a
+ * note is made. Statuses: NB_INVALID_ID (also of the display); NB_OUT_OF_MEMORY (it stays). */
+nb_status nb_server_destroy_object(nb_server *place, const nb_object_id *object);
+
+/* An object's number, interface and version. Statuses: NB_INVALID_ID. */
+nb_status nb_server_object_info(nb_server *place, const nb_object_id *object, nb_object_info *info);
+
+/* An object's data. Statuses: NB_INVALID_ID (also of an object without data). */
+nb_status nb_server_object_data(nb_server *place, const nb_object_id *object, uint64_t *data);
+
+/* Sets an object's data. What it had before is forgotten: no note names it. Statuses: NB_INVALID_ID. */
+nb_status nb_server_set_object_data(nb_server *place, const nb_object_id *object, uint64_t data);
+
+/* The client's object with this number. Statuses: NB_INVALID_ID (the client is not there, or has no object with the
+ * number, or that is of another interface). */
+nb_status nb_server_object_for_protocol_id(nb_server *place, const nb_client_id *client, uint32_t interface,
+                                           uint32_t number, nb_object_id *object);
+
+/* The objects of a client, by ascending number. `count` is how many there are. Statuses: NB_INVALID_ID; NB_TOO_SMALL
+ * (`count` is written all the same). */
+nb_status nb_server_objects(nb_server *place, const nb_client_id *client, nb_object_id *objects, size_t room,
+                            uint32_t *count);
+
+/* ======== A server's session: globals */
+
+/* The id that the next client will have that is inserted. Statuses: NB_FULL. */
+nb_status nb_server_next_client_id(nb_server *place, nb_client_id *client);
+
+/* The id that the next global will have that is created: so its data can be made ready before clients hear of it.
+ * Statuses: NB_FULL. */
+nb_status nb_server_next_global_id(nb_server *place, nb_global_id *global);
+
+/* Creates a global, and announces it to each client that has a bit of `groups` in common with it, now and later.
+ * `version` is the greatest that clients may bind. A client that cannot be told is killed.
+ *
+ * Statuses: NB_UNKNOWN_INTERFACE; NB_VERSION_TOO_HIGH; NB_FULL (no name or no serial is left); NB_OUT_OF_MEMORY. */
+nb_status nb_server_create_global(nb_server *place, uint32_t interface, uint32_t version, uint64_t data,
+                                  uint64_t groups, nb_global_id *global);
+
+/* Announces a global no more, and tells all registries that it is gone. Clients may still bind it, since a bind may be
+ * on its way. An unknown global is no error: nothing is done. */
+nb_status nb_server_disable_global(nb_server *place, const nb_global_id *global);
+
+/* Removes a global: its name is free for another. If it was not disabled, registries are told first. Disable it, and
+ * remove it some seconds later, so that no client breaks the protocol by a bind that was on its way. An unknown global
+ * is no error: nothing is done. */
+nb_status nb_server_remove_global(nb_server *place, const nb_global_id *global);
+
+/* What a global offers, also of one that is disabled. Statuses: NB_INVALID_ID. */
+nb_status nb_server_global_info(nb_server *place, const nb_global_id *global, nb_global_info *info);
+
+/* A global's data, also of one that is disabled. Statuses: NB_INVALID_ID. */
+nb_status nb_server_global_data(nb_server *place, const nb_global_id *global, uint64_t *data);
+
+/* The name that a client binds a global by. Statuses: NB_INVALID_ID (the global or the client is not there, or the
+ * client may not see it). */
+nb_status nb_server_global_name(nb_server *place, const nb_global_id *global, const nb_client_id *client,
+                                uint32_t *name);
+
+/* ======== A server's session: sending, and the end of a round */
+
+/* The next client to which something is to be sent. Only clients that a call has touched are looked at, and each comes
+ * once; it comes again when more is to be sent, or when what waited was sent and its buffer has more. So call it until
+ * NB_WOULD_BLOCK at the end of each round; and for a client whose socket was full go on with nb_server_to_send when the
+ * socket can be written.
+ *
+ * Statuses: NB_WOULD_BLOCK (there is none). */
+nb_status nb_server_next_writable(nb_server *place, nb_client_id *client);
+
+/* Copies what is to be sent to a client next. `counts` says how much was copied. Nothing is taken away until
+ * nb_server_sent. Send the descriptors with the first byte, by one sendmsg.
+ *
+ * `descriptor_room` is at least 28, or as many as wait. If the bytes do not fit, as many are copied as do. After NB_OK
+ * with 0 bytes nothing waits. Statuses: NB_INVALID_ID; NB_TOO_SMALL (the descriptors do not fit; `counts` has how many
+ * bytes and descriptors wait). */
+nb_status nb_server_to_send(nb_server *place, const nb_client_id *client, uint8_t *bytes, size_t byte_room,
+                            int32_t *descriptors, size_t descriptor_room, nb_counts *counts);
+
+/* sendmsg took this many bytes, and with the first of them all descriptors. Those are yours now: close them. If more
+ * was to be sent, the client comes by nb_server_next_writable again. Statuses: NB_INVALID_ID; NB_INVALID_INPUT (more
+ * than what waits). */
+nb_status nb_server_sent(nb_server *place, const nb_client_id *client, uint32_t count);
+
+/* Takes the clients out that were killed: each comes once by nb_server_next_gone, and each of their objects with data
+ * is noted. It costs nothing if none was killed. Statuses: NB_OUT_OF_MEMORY (they stay; call again). */
+nb_status nb_server_cleanup(nb_server *place);
+
+/* The next client that was taken out: its id, its data, and the last bytes and descriptors for it, the error message
+ * among them. Send what the socket takes, close all these descriptors, and close the socket.
+ *
+ * Statuses: NB_WOULD_BLOCK (there is none); NB_TOO_SMALL (`gone` is written, with what waits; the client is kept: call
+ * again with more). */
+nb_status nb_server_next_gone(nb_server *place, nb_gone *gone, uint8_t *bytes, size_t byte_room, int32_t *descriptors,
+                              size_t descriptor_room);
+
+/* The next note, the oldest first. The message of an error and the name of its interface are written into `text`,
+ * behind each other.
+ *
+ * Statuses: NB_WOULD_BLOCK (there is none); NB_OUT_OF_MEMORY (call again later); NB_TOO_SMALL (`note` is written; it is
+ * kept: call again with room for message_length + interface_length). */
+nb_status nb_server_next_note(nb_server *place, nb_note *note, uint8_t *text, size_t text_room);
+
+/* The next descriptor that the session had and no call will hand out: its message was refused, or its client is gone.
+ * Close it. Statuses: NB_WOULD_BLOCK (there is none). */
+nb_status nb_server_next_dropped(nb_server *place, int32_t *descriptor);
+
+/* ======== A client's session: making and ending it */
+
+/* Makes a session in the place, with this table. It has one object, the display. nb_client_start, below, takes an
+ * nb_table. As nb_server_new. */
+nb_status nb_client_connect(nb_client *place, const uint8_t *text, size_t text_length,
+                            const nb_interface_row *interfaces, size_t interface_count, const nb_message_row *messages,
+                            size_t message_count, const nb_argument_row *arguments, size_t argument_count,
+                            nb_table_fault *fault);
+
+/* Ends the session, and frees all that it has. The place is empty then. Descriptors that wait are forgotten. */
+nb_status nb_client_end(nb_client *place);
+
+/* Appends interfaces to the table, as nb_server_add_interfaces. */
+nb_status nb_client_add_interfaces(nb_client *place, const uint8_t *text, size_t text_length,
+                                   const nb_interface_row *interfaces, size_t interface_count,
+                                   const nb_message_row *messages, size_t message_count,
+                                   const nb_argument_row *arguments, size_t argument_count, nb_table_fault *fault);
+
+/* Writes 1 if malloc refused in the last call that changes the session, and else 0. */
+nb_status nb_client_memory_refused(nb_client *place, uint32_t *is_refused);
+
+/* Sets how far the buffers may grow, as nb_server_set_max_buffer_size. If `has_limit` is 0 there is no limit, as at
+ * first. Statuses: NB_INVALID_INPUT (`has_limit` is neither 0 nor 1). */
+nb_status nb_client_set_max_buffer_size(nb_client *place, uint32_t has_limit, uint64_t size);
+
+/* Sets how many bytes may wait in what nb_client_to_send answers, 65536 at first; what is beyond it waits in the
+ * session's buffer. */
+nb_status nb_client_set_room(nb_client *place, uint64_t room);
+
+/* The display, which is object 1. */
+nb_status nb_client_display(nb_client *place, nb_object_id *display);
+
+/* ======== A client's session: what came */
+
+/* The host received this from the server; as nb_server_received. Statuses: NB_TOO_MANY_DESCRIPTORS; NB_OUT_OF_MEMORY.
+ */
+nb_status nb_client_received(nb_client *place, const uint8_t *bytes, size_t length, const int32_t *descriptors,
+                             size_t count);
+
+/* recvmsg answered 0: the server has closed the connection. The reading that gets to it answers NB_FAILED. */
+nb_status nb_client_received_end(nb_client *place);
+
+/* recvmsg failed with this errno, which is not EAGAIN, EWOULDBLOCK or EINTR. The reading that gets to it answers
+ * NB_FAILED. */
+nb_status nb_client_receive_failed(nb_client *place, int32_t number);
+
+/* sendmsg failed with this errno, which is not EAGAIN, EWOULDBLOCK or EINTR. The next flush answers NB_FAILED. */
+nb_status nb_client_send_failed(nb_client *place, int32_t number);
+
+/* ======== A client's session: events and requests */
+
+/* Hands out the next event. It is open, and no other comes, until it is finished. Events of the display the session
+ * handles by itself, and those for an object that the client has destroyed it drops. Its descriptors are yours.
+ *
+ * Statuses:
+ *   NB_FAILED          the session has an error, or gets one now: nb_client_last_error
+ *   NB_OPEN            an event is open
+ *   NB_WOULD_BLOCK     no whole message is there; receive first
+ *   NB_OUT_OF_MEMORY   read again later; what was handled stays handled
+ *   NB_TOO_SMALL       as for nb_server_next_action: `arguments` and `bytes` of `event` say what is needed, and the
+ * event is kept */
+nb_status nb_client_next_event(nb_client *place, nb_event *event, nb_argument *arguments, size_t argument_room,
+                               uint8_t *bytes, size_t byte_room);
+
+/* Finishes an event that made no object. If it is a destructor, its sender ends. Statuses: NB_NOT_OPEN; NB_MISSING_DATA
+ * (it made an object); NB_OUT_OF_MEMORY. It is still open after the last two. */
+nb_status nb_client_finish_event(nb_client *place);
+
+/* Finishes an event that made an object, which gets the data. Statuses: NB_NOT_OPEN; NB_UNEXPECTED_DATA (it made no
+ * object; it is still open); NB_OUT_OF_MEMORY. */
+nb_status nb_client_finish_event_with(nb_client *place, uint64_t data);
+
+/* Sends a request: it waits until the host sends it. If the request makes an object, the argument of its new id is null
+ * (nb_placeholder), `has_data` is 1, and `created` is its id; else that is null. wl_registry.bind has the arguments
+ * name, interface's name, version and new id, and `has_child` is 1 with the interface and version of the object. A
+ * request that is a destructor ends its sender.
+ *
+ * After NB_OK the descriptors among the arguments are the session's. A session that has an error sends nothing more,
+ * and the answer is NB_OK.
+ *
+ * Statuses: NB_INVALID_INPUT (an opcode above 65535; has_data or has_child neither 0 nor 1; a kind that is none; a
+ * range outside of `bytes`; a zero byte in a string); NB_INVALID_ID (of the sender); NB_UNKNOWN_OPCODE;
+ * NB_BAD_SIGNATURE; NB_UNKNOWN_INTERFACE; NB_WRONG_CHILD; NB_WRONG_CHILD_VERSION; NB_MISSING_CHILD; NB_MISSING_DATA;
+ * NB_NOT_PLACEHOLDER; then of the object arguments from left to right the first of: NB_INVALID_ID, NB_WRONG_INTERFACE,
+ * NB_NULL_OBJECT; NB_IDS_EXHAUSTED; NB_SERIALS_EXHAUSTED; NB_OUT_OF_MEMORY. */
+nb_status nb_client_send_request(nb_client *place, const nb_request *request, const nb_argument *arguments,
+                                 size_t argument_count, const uint8_t *bytes, size_t byte_count, nb_object_id *created);
+
+/* ======== A client's session: objects */
+
+/* An object's number, interface and version. Statuses: NB_INVALID_ID (also of one that the client has destroyed). */
+nb_status nb_client_object_info(nb_client *place, const nb_object_id *object, nb_object_info *info);
+
+/* An object's data, also of one that was destroyed, as long as its number is not free. Statuses: NB_INVALID_ID (also of
+ * an object without data). */
+nb_status nb_client_object_data(nb_client *place, const nb_object_id *object, uint64_t *data);
+
+/* Sets an object's data. Statuses: NB_INVALID_ID. */
+nb_status nb_client_set_object_data(nb_client *place, const nb_object_id *object, uint64_t data);
+
+/* Destroys an object on the client's side, without a request. Statuses: NB_INVALID_ID (also of the display, and of one
+ * that was destroyed); NB_OUT_OF_MEMORY. */
+nb_status nb_client_destroy_object(nb_client *place, const nb_object_id *object);
+
+/* ======== A client's session: sending */
+
+/* Hands what waits over to nb_client_to_send, as far as there is room. Statuses: NB_FAILED (the session has an error,
+ * or gets one now); NB_WOULD_BLOCK (there is no more room; call again when something was sent); NB_OUT_OF_MEMORY (call
+ * again later). */
+nb_status nb_client_flush(nb_client *place);
+
+/* Copies what is to be sent next, as nb_server_to_send. Statuses: NB_TOO_SMALL. */
+nb_status nb_client_to_send(nb_client *place, uint8_t *bytes, size_t byte_room, int32_t *descriptors,
+                            size_t descriptor_room, nb_counts *counts);
+
+/* sendmsg took this many bytes, and with the first of them all descriptors: close them. Statuses: NB_INVALID_INPUT
+ * (more than what waits). */
+nb_status nb_client_sent(nb_client *place, uint32_t count);
+
+/* ======== A client's session: what has happened */
+
+/* The session's error; its kind is NB_NO_ERROR if it has none. A session that has one reads and flushes no more.
+ * Statuses: NB_TOO_SMALL (`error` is written; call again with room for message_length + interface_length). */
+nb_status nb_client_last_error(nb_client *place, nb_error *error, uint8_t *text, size_t text_room);
+
+/* The next object with data that was destroyed, by the client or by an event, the oldest first. Its data can be asked
+ * for until its number is free. Statuses: NB_WOULD_BLOCK (there is none). */
+nb_status nb_client_next_note(nb_client *place, nb_object_id *destroyed);
+
+/* The next descriptor that the session had and no call will hand out. Close it. Statuses: NB_WOULD_BLOCK (there is
+ * none). */
+nb_status nb_client_next_dropped(nb_client *place, int32_t *descriptor);
+
+/* ======== Shorter to write */
+
+/* nb_server_new with a table. */
+static inline nb_status nb_server_start(nb_server *place, const nb_table *table, nb_table_fault *fault)
+{
+    return nb_server_new(place, table->text, table->text_length, table->interfaces, table->interface_count,
+                         table->messages, table->message_count, table->arguments, table->argument_count, fault);
+}
+
+/* nb_server_add_interfaces with a table. */
+static inline nb_status nb_server_extend(nb_server *place, const nb_table *table, nb_table_fault *fault)
+{
+    return nb_server_add_interfaces(place, table->text, table->text_length, table->interfaces, table->interface_count,
+                                    table->messages, table->message_count, table->arguments, table->argument_count,
+                                    fault);
+}
+
+/* nb_client_connect with a table. */
+static inline nb_status nb_client_start(nb_client *place, const nb_table *table, nb_table_fault *fault)
+{
+    return nb_client_connect(place, table->text, table->text_length, table->interfaces, table->interface_count,
+                             table->messages, table->message_count, table->arguments, table->argument_count, fault);
+}
+
+/* nb_client_add_interfaces with a table. */
+static inline nb_status nb_client_extend(nb_client *place, const nb_table *table, nb_table_fault *fault)
+{
+    return nb_client_add_interfaces(place, table->text, table->text_length, table->interfaces, table->interface_count,
+                                    table->messages, table->message_count, table->arguments, table->argument_count,
+                                    fault);
+}
+
+/* The null object. */
+static inline nb_object_id nb_null(void)
+{
+    nb_object_id id = { 0, { 0, 0 }, 0, 0 };
+    return id;
+}
+
+static inline int nb_is_null(const nb_object_id *id)
+{
+    return id->number == 0;
+}
+
+static inline int nb_same_client(const nb_client_id *one, const nb_client_id *other)
+{
+    return one->serial == other->serial && one->slot == other->slot;
+}
+
+static inline int nb_same_object(const nb_object_id *one, const nb_object_id *other)
+{
+    return one->number == other->number && one->serial == other->serial && nb_same_client(&one->client, &other->client);
+}
+
+/* An argument of this kind, with zeros in it. The ones below fill in the rest. */
+static inline nb_argument nb_argument_of(uint32_t kind)
+{
+    nb_argument argument = { 0, 0, 0, 0, { 0, { 0, 0 }, 0, 0 }, 0 };
+    argument.kind = kind;
+    return argument;
+}
+
+static inline nb_argument nb_int(int32_t value)
+{
+    nb_argument argument = nb_argument_of(NB_INT);
+    argument.value = value;
+    return argument;
+}
+
+static inline nb_argument nb_uint(uint32_t value)
+{
+    nb_argument argument = nb_argument_of(NB_UINT);
+    argument.value = (int32_t)value;
+    return argument;
+}
+
+/* A number in 256ths: nb_fixed(384) is 1.5. */
+static inline nb_argument nb_fixed(int32_t value)
+{
+    nb_argument argument = nb_argument_of(NB_FIXED);
+    argument.value = value;
+    return argument;
+}
+
+/* The string that stands there in the bytes beside; without a zero at its end. */
+static inline nb_argument nb_string(uint32_t at, uint32_t length)
+{
+    nb_argument argument = nb_argument_of(NB_STRING);
+    argument.at = at;
+    argument.length = length;
+    return argument;
+}
+
+static inline nb_argument nb_null_string(void)
+{
+    return nb_argument_of(NB_NULL_STRING);
+}
+
+/* The array that stands there in the bytes beside. */
+static inline nb_argument nb_array(uint32_t at, uint32_t length)
+{
+    nb_argument argument = nb_argument_of(NB_ARRAY);
+    argument.at = at;
+    argument.length = length;
+    return argument;
+}
+
+/* An object, or nb_null(). */
+static inline nb_argument nb_object(nb_object_id object)
+{
+    nb_argument argument = nb_argument_of(NB_OBJECT);
+    argument.object = object;
+    return argument;
+}
+
+/* The object that an event makes, from nb_server_create_object. */
+static inline nb_argument nb_new_id(nb_object_id object)
+{
+    nb_argument argument = nb_argument_of(NB_NEW_ID);
+    argument.object = object;
+    return argument;
+}
+
+/* The object that a request makes: the session chooses its id. */
+static inline nb_argument nb_placeholder(void)
+{
+    return nb_argument_of(NB_NEW_ID);
+}
+
+static inline nb_argument nb_descriptor(int32_t descriptor)
+{
+    nb_argument argument = nb_argument_of(NB_DESCRIPTOR);
+    argument.value = descriptor;
+    return argument;
+}
+
+/* The number of an argument of kind NB_UINT. */
+static inline uint32_t nb_uint_of(const nb_argument *argument)
+{
+    return (uint32_t)argument->value;
+}
+
+#ifdef __cplusplus
+}
+#endif
+#endif

@@ -1,0 +1,284 @@
+/* Each call of a client's session does what it says, against bytes that are written here by hand; and a client's
+ * session talks to a server's. */
+#include "tests.h"
+
+static nb_client session;
+static nb_object_id display, registry, object;
+static nb_event event;
+
+static nb_object_id ask(const nb_object_id *sender, uint32_t opcode, uint64_t data, const nb_argument *with,
+                        size_t count, const char *text)
+{
+    nb_object_id created = nb_null();
+    nb_request request = { *sender, opcode, 1, data, 0, 0, 0, 0 };
+    if (sender->interface == NB_INTERFACE_REGISTRY) {
+        request.has_child = 1;
+        request.child_interface = NB_QUAD;
+        request.child_version = 3;
+    }
+    OK(nb_client_send_request(&session, &request, with, count, (const uint8_t *)text, strlen(text), &created));
+    return created;
+}
+
+static int sends(void)
+{
+    OK(nb_client_flush(&session));
+    OK(nb_client_to_send(&session, bytes, sizeof bytes, descriptors, NB_MOST_DESCRIPTORS, &counts));
+    int same = is_wire(bytes, counts.bytes);
+    OK(nb_client_sent(&session, counts.bytes));
+    return same;
+}
+
+static nb_status come(const int32_t *with, size_t count)
+{
+    nb_status status = nb_client_received(&session, wire, wire_length, with, count);
+    wire_length = 0;
+    return status;
+}
+
+static nb_status next_event(void)
+{
+    return nb_client_next_event(&session, &event, arguments, 16, bytes, sizeof bytes);
+}
+
+/* A session whose object 2 is its registry and whose object 3 a `quad` of version 3 with data 70. */
+static void connect_session(void)
+{
+    OK(nb_client_start(&session, &quad, &fault));
+    OK(nb_client_display(&session, &display));
+    const nb_argument placeholder = nb_placeholder();
+    registry = ask(&display, 1, 60, &placeholder, 1, "");
+    const nb_argument bind[] = { nb_uint(1), nb_string(0, 4), nb_uint(3), nb_placeholder() };
+    object = ask(&registry, 0, 70, bind, 4, "quad");
+    put(1, 1, "u", 2);
+    put(2, 0, "usuu", 1, "quad", 3, 3);
+    HOLDS(sends());
+}
+
+static void requests(void)
+{
+    nb_object_info info;
+    uint64_t data;
+    uint32_t is_refused = 7;
+    connect_session();
+    OK(nb_client_object_info(&session, &object, &info));
+    HOLDS(info.number == 3 && info.interface == NB_QUAD && info.version == 3);
+    OK(nb_client_object_data(&session, &object, &data));
+    HOLDS(data == 70);
+    OK(nb_client_set_object_data(&session, &object, 71));
+    OK(nb_client_object_data(&session, &object, &data));
+    HOLDS(data == 71);
+    const nb_argument give[] = { nb_string(0, 2), nb_array(2, 3), nb_descriptor(50) };
+    nb_object_id none = ask(&object, NB_QUAD_REQUEST_GIVE, 0, give, 3, "abxyz");
+    HOLDS(nb_is_null(&none));
+    const nb_argument placeholder = nb_placeholder();
+    nb_object_id other = ask(&object, NB_QUAD_REQUEST_MAKE, 72, &placeholder, 1, "");
+    HOLDS(other.number == 4 && other.interface == NB_QUAD && other.serial != object.serial);
+    const nb_argument both[] = { nb_object(nb_null()), nb_object(other) };
+    ask(&object, NB_QUAD_REQUEST_LINK, 0, both, 2, "");
+    put(3, NB_QUAD_REQUEST_GIVE, "sa", "ab", "xyz", 3);
+    put(3, NB_QUAD_REQUEST_MAKE, "u", 4);
+    put(3, NB_QUAD_REQUEST_LINK, "uu", 0, 4);
+    HOLDS(sends());
+    HOLDS(counts.descriptors == 1 && descriptors[0] == 50);
+    OK(nb_client_memory_refused(&session, &is_refused));
+    HOLDS(is_refused == 0);
+    /* A destructor ends its sender, which is noted, and whose number is free when the server says so. */
+    nb_object_id noted;
+    nb_request destroy = { other, NB_QUAD_REQUEST_DESTROY, 0, 0, 0, 0, 0, 0 };
+    OK(nb_client_send_request(&session, &destroy, NULL, 0, NULL, 0, &none));
+    put(4, NB_QUAD_REQUEST_DESTROY, "");
+    HOLDS(sends());
+    OK(nb_client_next_note(&session, &noted));
+    HOLDS(nb_same_object(&noted, &other));
+    IS(nb_client_next_note(&session, &noted), NB_WOULD_BLOCK);
+    IS(nb_client_object_info(&session, &other, &info), NB_INVALID_ID);
+    OK(nb_client_object_data(&session, &other, &data));
+    HOLDS(data == 72);
+    put(1, 1, "u", 4);
+    OK(come(NULL, 0));
+    IS(next_event(), NB_WOULD_BLOCK);
+    IS(nb_client_object_data(&session, &other, &data), NB_INVALID_ID);
+    OK(nb_client_end(&session));
+}
+
+static void events(void)
+{
+    nb_object_id noted;
+    nb_error error;
+    connect_session();
+    put(3, NB_QUAD_EVENT_MOVED, "u", (uint32_t)-9);
+    put(3, NB_QUAD_EVENT_MADE, "u", 0xff000000);
+    put(2, 0, "usu", 1, "quad", 3);
+    OK(come(NULL, 0));
+    OK(next_event());
+    HOLDS(event.opcode == NB_QUAD_EVENT_MOVED && event.arguments == 1 && event.data == 70 && event.has_data == 1);
+    HOLDS(nb_same_object(&event.sender, &object) && nb_is_null(&event.created) && event.is_destructor == 0);
+    HOLDS(arguments[0].kind == NB_INT && arguments[0].value == -9);
+    IS(next_event(), NB_OPEN);
+    IS(nb_client_finish_event_with(&session, 1), NB_UNEXPECTED_DATA);
+    OK(nb_client_finish_event(&session));
+    OK(next_event());
+    HOLDS(event.opcode == NB_QUAD_EVENT_MADE && event.created.number == 0xff000000 && event.version == 3);
+    HOLDS(arguments[0].kind == NB_NEW_ID && nb_same_object(&arguments[0].object, &event.created));
+    IS(nb_client_finish_event(&session), NB_MISSING_DATA);
+    OK(nb_client_finish_event_with(&session, 73));
+    /* Too little memory: the event is kept. */
+    memset(&event, 0, sizeof event);
+    IS(nb_client_next_event(&session, &event, arguments, 2, bytes, 4), NB_TOO_SMALL);
+    HOLDS(event.arguments == 3 && event.bytes == 4);
+    IS(nb_client_finish_event(&session), NB_NOT_OPEN);
+    IS(nb_client_next_event(&session, &event, arguments, 3, bytes, 3), NB_TOO_SMALL);
+    OK(nb_client_next_event(&session, &event, arguments, 3, bytes, 4));
+    HOLDS(event.sender.number == 2 && event.data == 60 && arguments[1].length == 4 &&
+          memcmp(bytes + arguments[1].at, "quad", 4) == 0);
+    OK(nb_client_finish_event(&session));
+    IS(next_event(), NB_WOULD_BLOCK);
+    /* A destructor event. */
+    put(3, NB_QUAD_EVENT_GONE, "");
+    OK(come(NULL, 0));
+    OK(next_event());
+    HOLDS(event.is_destructor == 1 && event.arguments == 0);
+    OK(nb_client_finish_event(&session));
+    OK(nb_client_next_note(&session, &noted));
+    HOLDS(nb_same_object(&noted, &object));
+    /* The error that the server sends. */
+    OK(nb_client_last_error(&session, &error, bytes, 0));
+    HOLDS(error.kind == NB_NO_ERROR);
+    put(1, 0, "uus", 2, 7, "no such thing");
+    OK(come(NULL, 0));
+    IS(next_event(), NB_FAILED);
+    IS(next_event(), NB_FAILED);
+    IS(nb_client_flush(&session), NB_FAILED);
+    IS(nb_client_last_error(&session, &error, bytes, 5), NB_TOO_SMALL);
+    HOLDS(error.message_length == 13 && error.interface_length == 11);
+    OK(nb_client_last_error(&session, &error, bytes, 24));
+    HOLDS(error.kind == NB_ERROR_OF_PROTOCOL && error.code == 7 && error.object_number == 2);
+    HOLDS(memcmp(bytes, "no such thingwl_registry", 24) == 0);
+    OK(nb_client_end(&session));
+}
+
+/* The ends of a connection, as the host tells them. */
+static void ends(void)
+{
+    nb_error error;
+    connect_session();
+    OK(nb_client_received_end(&session));
+    IS(next_event(), NB_FAILED);
+    OK(nb_client_last_error(&session, &error, bytes, sizeof bytes));
+    HOLDS(error.kind == NB_ERROR_OF_IO && error.status == NB_CLOSED);
+    OK(nb_client_end(&session));
+    connect_session();
+    OK(nb_client_receive_failed(&session, 71));
+    IS(next_event(), NB_FAILED);
+    OK(nb_client_last_error(&session, &error, bytes, sizeof bytes));
+    HOLDS(error.kind == NB_ERROR_OF_IO && error.status == NB_IO_ERROR && error.number == 71);
+    OK(nb_client_end(&session));
+    connect_session();
+    OK(nb_client_send_failed(&session, 32));
+    const nb_argument poke = nb_int(1);
+    ask(&object, NB_QUAD_REQUEST_POKE, 0, &poke, 1, "");
+    IS(nb_client_flush(&session), NB_FAILED);
+    OK(nb_client_last_error(&session, &error, bytes, sizeof bytes));
+    HOLDS(error.kind == NB_ERROR_OF_IO);
+    OK(nb_client_end(&session));
+    /* Little room: the rest waits. */
+    connect_session();
+    OK(nb_client_set_room(&session, 12));
+    ask(&object, NB_QUAD_REQUEST_POKE, 0, &poke, 1, "");
+    ask(&object, NB_QUAD_REQUEST_POKE, 0, &poke, 1, "");
+    IS(nb_client_flush(&session), NB_WOULD_BLOCK);
+    for (int i = 0; i < 2; i++) {
+        OK(nb_client_to_send(&session, bytes, sizeof bytes, descriptors, NB_MOST_DESCRIPTORS, &counts));
+        put(3, NB_QUAD_REQUEST_POKE, "u", 1);
+        HOLDS(is_wire(bytes, counts.bytes));
+        OK(nb_client_sent(&session, counts.bytes));
+        OK(nb_client_flush(&session));
+    }
+    OK(nb_client_end(&session));
+}
+
+/* A conversation of both sessions, in pieces of every size: what one sends the other one receives. */
+static void both(size_t piece)
+{
+    int poked = 0, moved = 0, given = 0, synced = 0;
+    nb_object_id served = nb_null();
+    nb_client_id writable;
+    nb_global_id global;
+    uint32_t kept;
+    OK(nb_server_start(&server, &quad, &fault));
+    OK(nb_server_create_global(&server, NB_QUAD, 3, 0, 1, &global));
+    OK(nb_server_insert_client(&server, 0, 1, &client));
+    OK(nb_client_start(&session, &quad, &fault));
+    OK(nb_client_display(&session, &display));
+    const nb_argument placeholder = nb_placeholder();
+    registry = ask(&display, 1, 60, &placeholder, 1, "");
+    for (int turn = 0; turn < 2000 && !synced; turn++) {
+        OK(nb_client_flush(&session));
+        OK(nb_client_to_send(&session, bytes, piece, descriptors, NB_MOST_DESCRIPTORS, &counts));
+        if (counts.bytes > 0) {
+            OK(nb_server_received(&server, &client, bytes, counts.bytes, descriptors, counts.descriptors));
+            OK(nb_client_sent(&session, counts.bytes));
+        }
+        while (next_action() == NB_OK) {
+            if (action.kind == NB_BIND) {
+                served = action.created;
+                OK(nb_server_finish_bind(&server, &client, 1, &kept));
+                continue;
+            }
+            if (action.opcode == NB_QUAD_REQUEST_POKE) {
+                poked += arguments[0].value;
+                const nb_argument argument = nb_int(arguments[0].value * 2);
+                OK(nb_server_send_event(&server, &served, NB_QUAD_EVENT_MOVED, &argument, 1, NULL, 0));
+            } else {
+                given += arguments[2].value == 40 && arguments[1].length == 1000;
+            }
+            OK(nb_server_finish_request(&server, &client));
+        }
+        while (nb_server_next_writable(&server, &writable) == NB_OK)
+            ;
+        OK(nb_server_to_send(&server, &client, bytes, piece, descriptors, NB_MOST_DESCRIPTORS, &counts));
+        if (counts.bytes > 0) {
+            OK(nb_client_received(&session, bytes, counts.bytes, descriptors, counts.descriptors));
+            OK(nb_server_sent(&server, &client, counts.bytes));
+        }
+        while (next_event() == NB_OK) {
+            uint32_t opcode = event.opcode;
+            nb_object_id sender = event.sender;
+            moved += sender.interface == NB_QUAD ? arguments[0].value : 0;
+            synced = sender.interface == NB_INTERFACE_CALLBACK;
+            OK(nb_client_finish_event(&session));
+            if (sender.interface == NB_INTERFACE_REGISTRY && opcode == 0) {
+                static char text[1004];
+                const nb_argument bind[] = { nb_uint(global.name), nb_string(0, 4), nb_uint(3), nb_placeholder() };
+                const nb_argument give[] = { nb_string(0, 4), nb_array(4, 1000), nb_descriptor(40) };
+                object = ask(&registry, 0, 70, bind, 4, "quad");
+                for (int i = 1; i <= 10; i++) {
+                    const nb_argument poke = nb_int(i);
+                    ask(&object, NB_QUAD_REQUEST_POKE, 0, &poke, 1, "");
+                }
+                memset(text, 'x', 1003);
+                memcpy(text, "quad", 4);
+                nb_object_id none;
+                nb_request request = { object, NB_QUAD_REQUEST_GIVE, 0, 0, 0, 0, 0, 0 };
+                OK(nb_client_send_request(&session, &request, give, 3, (const uint8_t *)text, 1004, &none));
+                ask(&display, 0, 80, &placeholder, 1, "");
+            }
+        }
+    }
+    HOLDS(poked == 55 && moved == 110 && given == 1 && synced);
+    OK(nb_client_end(&session));
+    OK(nb_server_end(&server));
+}
+
+int main(void)
+{
+    requests();
+    events();
+    ends();
+    both(1);
+    both(7);
+    both(13);
+    both(4096);
+    return tell();
+}

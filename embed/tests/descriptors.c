@@ -1,0 +1,344 @@
+/* Each descriptor that a session was given comes back exactly once, whatever a client does: in an action, to be sent,
+ * with a client that is gone, or as dropped. The numbers are made up: a session opens and closes nothing. */
+#include "tests.h"
+
+enum { FIRST = 1000, MOST = 100000 };
+
+static unsigned char seen[MOST]; /* how often a number came back */
+static int32_t next_number;
+
+static void came_back(const int32_t *numbers, size_t count)
+{
+    for (size_t i = 0; i < count; i++)
+        if (numbers[i] >= FIRST && numbers[i] < FIRST + MOST)
+            seen[numbers[i] - FIRST]++;
+        else
+            check(0, __LINE__, "a number came back that was never given");
+}
+
+static const int32_t *fresh(size_t count)
+{
+    static int32_t numbers[NB_MOST_DESCRIPTORS];
+    for (size_t i = 0; i < count; i++)
+        numbers[i] = FIRST + next_number++;
+    return numbers;
+}
+
+/* What was put arrives with so many descriptors. They come back at once if they are refused. */
+static nb_status arrive_with(size_t count)
+{
+    const int32_t *numbers = fresh(count);
+    nb_status status = arrive(numbers, count);
+    if (status != NB_OK)
+        came_back(numbers, count);
+    return status;
+}
+
+static void act(void)
+{
+    uint32_t kept;
+    while (next_action() == NB_OK) {
+        for (uint32_t i = 0; i < action.arguments; i++)
+            if (arguments[i].kind == NB_DESCRIPTOR)
+                came_back(&arguments[i].value, 1);
+        if (action.kind == NB_BIND)
+            nb_server_finish_bind(&server, &client, 1, &kept);
+        else if (!nb_is_null(&action.created))
+            nb_server_finish_request_with(&server, &client, 1, &kept);
+        else
+            nb_server_finish_request(&server, &client);
+    }
+}
+
+static void send_all(void)
+{
+    nb_client_id writable;
+    while (nb_server_next_writable(&server, &writable) == NB_OK)
+        while (nb_server_to_send(&server, &writable, bytes, sizeof bytes, descriptors, NB_MOST_DESCRIPTORS, &counts) ==
+                   NB_OK &&
+               counts.bytes > 0) {
+            came_back(descriptors, counts.descriptors);
+            OK(nb_server_sent(&server, &writable, counts.bytes));
+        }
+}
+
+/* The client ends, and everything has come back once. */
+static void end(int line)
+{
+    nb_gone gone;
+    int32_t number;
+    OK(nb_server_kill_client(&server, &client));
+    OK(nb_server_cleanup(&server));
+    while (nb_server_next_gone(&server, &gone, bytes, sizeof bytes, descriptors, NB_MOST_DESCRIPTORS) == NB_OK)
+        came_back(descriptors, gone.waiting.descriptors);
+    while (nb_server_next_dropped(&server, &number) == NB_OK)
+        came_back(&number, 1);
+    int wrong = 0;
+    for (int i = 0; i < next_number; i++)
+        wrong += seen[i] != 1;
+    check(wrong == 0, line, "each descriptor came back once");
+    if (wrong)
+        printf("  %d of %d did not\n", wrong, next_number);
+    memset(seen, 0, sizeof seen);
+    next_number = 0;
+    OK(nb_server_end(&server));
+}
+#define END() end(__LINE__)
+
+static void put_give(void)
+{
+    put(3, NB_QUAD_REQUEST_GIVE, "sa", "t", "", 0);
+}
+
+static void received(void)
+{
+    begin(); /* with requests that take them, before and after */
+    put_give();
+    put_give();
+    OK(arrive_with(2));
+    act();
+    put_give();
+    OK(arrive_with(0));
+    act(); /* waits for its descriptor */
+    OK(arrive_with(3));
+    act();
+    END();
+
+    begin(); /* no request takes them */
+    put(3, NB_QUAD_REQUEST_POKE, "u", 1);
+    OK(arrive_with(NB_MOST_DESCRIPTORS));
+    IS(arrive_with(1), NB_TOO_MANY_DESCRIPTORS);
+    act();
+    END();
+
+    begin(); /* a breach behind them */
+    put_give();
+    put(3, 99, "");
+    OK(arrive_with(5));
+    act();
+    END();
+
+    begin(); /* a request that takes one, and is refused for another reason */
+    put(3, NB_QUAD_REQUEST_GIVE, "0a", "", 0);
+    OK(arrive_with(2));
+    act();
+    END();
+
+    begin(); /* half a message */
+    put_give();
+    wire_length -= 3;
+    OK(arrive_with(4));
+    act();
+    END();
+
+    begin(); /* a dead object: its number names nothing, so the client is killed */
+    put(3, NB_QUAD_REQUEST_DESTROY, "");
+    put_give();
+    OK(arrive_with(2));
+    act();
+    END();
+
+    begin(); /* nothing was read */
+    put_give();
+    OK(arrive_with(7));
+    OK(nb_server_received_end(&server, &client));
+    END();
+
+    begin(); /* an action that was kept, and never handed out */
+    put_give();
+    OK(arrive_with(2));
+    IS(nb_server_next_action(&server, &client, &action, arguments, 0, bytes, 0), NB_TOO_SMALL);
+    END();
+
+    begin(); /* an action that is open at the end */
+    put_give();
+    put_give();
+    OK(arrive_with(2));
+    OK(next_action());
+    came_back(&arguments[2].value, 1);
+    END();
+
+    begin(); /* the same number twice, and numbers that are no descriptors: the session does not look at them */
+    const int32_t odd[] = { 7, 7, -1, -1 };
+    int sevens = 0, negative = 0;
+    int32_t number;
+    nb_gone gone;
+    put_give();
+    put_give();
+    put_give();
+    OK(arrive(odd, 4));
+    while (next_action() == NB_OK) {
+        sevens += arguments[2].value == 7;
+        negative += arguments[2].value == -1;
+        OK(nb_server_finish_request(&server, &client));
+    }
+    HOLDS(sevens == 2 && negative == 1);
+    OK(nb_server_kill_client(&server, &client));
+    OK(nb_server_cleanup(&server));
+    OK(nb_server_next_gone(&server, &gone, bytes, sizeof bytes, descriptors, NB_MOST_DESCRIPTORS));
+    OK(nb_server_next_dropped(&server, &number));
+    HOLDS(number == -1);
+    IS(nb_server_next_dropped(&server, &number), NB_WOULD_BLOCK);
+    OK(nb_server_end(&server));
+}
+
+/* Events with a descriptor, of an interface of their own. */
+static nb_object_id begin_sending(void)
+{
+    static const char names[] = "filesfile";
+    const nb_interface_row interface = { 0, 5, 1, 0, 1 };
+    const nb_message_row message = { 5, 4, 1, 0, 2 };
+    const nb_argument_row rows[] = { { NB_DESCRIPTOR, 0, 0 }, { NB_DESCRIPTOR, 0, 0 } };
+    nb_object_id made;
+    begin();
+    OK(nb_server_add_interfaces(&server, (const uint8_t *)names, 9, &interface, 1, &message, 1, rows, 2, &fault));
+    OK(nb_server_create_object(&server, &client, NB_QUAD + 1, 1, 0, 0, &made));
+    return made;
+}
+
+static nb_status send_two(const nb_object_id *to, uint32_t opcode)
+{
+    const int32_t *numbers = fresh(2);
+    const nb_argument given[] = { nb_descriptor(numbers[0]), nb_descriptor(numbers[1]) };
+    nb_status status = nb_server_send_event(&server, to, opcode, given, 2, NULL, 0);
+    if (status != NB_OK)
+        came_back(numbers, 2);
+    return status;
+}
+
+static void sent(void)
+{
+    nb_object_id files = begin_sending(), wrong = files;
+    wrong.serial++;
+    OK(send_two(&files, 0));
+    IS(send_two(&files, 1), NB_UNKNOWN_OPCODE);
+    IS(send_two(&wrong, 0), NB_INVALID_ID);
+    OK(send_two(&files, 0));
+    send_all();
+    END();
+
+    files = begin_sending(); /* many more than one send takes */
+    for (int i = 0; i < 100; i++)
+        OK(send_two(&files, 0));
+    send_all();
+    END();
+
+    files = begin_sending(); /* nobody reads */
+    OK(nb_server_set_room(&server, &client, 20));
+    for (int i = 0; i < 2000; i++)
+        OK(send_two(&files, 0));
+    END();
+
+    files = begin_sending(); /* some are in the mailbox, some not */
+    OK(nb_server_set_room(&server, &client, 20));
+    for (int i = 0; i < 10; i++)
+        OK(send_two(&files, 0));
+    nb_client_id writable;
+    OK(nb_server_next_writable(&server, &writable));
+    OK(nb_server_to_send(&server, &client, bytes, 3, descriptors, NB_MOST_DESCRIPTORS, &counts));
+    came_back(descriptors, counts.descriptors);
+    OK(nb_server_sent(&server, &client, counts.bytes));
+    OK(nb_server_post_error(&server, &files, 1, NULL, 0));
+    OK(send_two(&files, 0)); /* the client is killed: it goes nowhere */
+    END();
+}
+
+/* Random acts, in both directions, with ends in the middle. */
+static uint32_t random_state = 7;
+static uint32_t random_below(uint32_t limit)
+{
+    random_state = random_state * 1664525 + 1013904223;
+    return (random_state >> 8) % limit;
+}
+
+static void at_random(void)
+{
+    for (int run = 0; run < 300; run++) {
+        nb_object_id files = begin_sending();
+        if (random_below(2))
+            OK(nb_server_set_room(&server, &client, random_below(200)));
+        for (int step = 0; step < 60; step++) {
+            switch (random_below(8)) {
+            case 0:
+                put_give();
+                arrive_with(random_below(4));
+                break;
+            case 1:
+                put(3, NB_QUAD_REQUEST_POKE, "u", 1);
+                arrive_with(random_below(10) == 0 ? 20 : 0);
+                break;
+            case 2: act(); break;
+            case 3: send_two(&files, random_below(20) == 0); break;
+            case 4: send_all(); break;
+            case 5:
+                put_give();
+                wire_length -= 4;
+                if (random_below(10) == 0)
+                    arrive_with(1);
+                wire_length = 0;
+                break;
+            case 6: nb_server_next_action(&server, &client, &action, arguments, 0, bytes, 0); break;
+            case 7:
+                if (random_below(10) == 0)
+                    nb_server_post_error(&server, &files, 1, NULL, 0);
+                break;
+            }
+        }
+        END();
+    }
+}
+
+/* The same of a client's session, in short. */
+static void of_a_client(void)
+{
+    static nb_client session;
+    nb_object_id display, registry, object, none;
+    nb_event event;
+    int32_t number;
+    OK(nb_client_start(&session, &quad, &fault));
+    OK(nb_client_display(&session, &display));
+    nb_argument given[] = { nb_placeholder(), nb_string(0, 4), nb_uint(3), nb_placeholder() };
+    nb_request request = { display, 1, 1, 1, 0, 0, 0, 0 };
+    OK(nb_client_send_request(&session, &request, given, 1, NULL, 0, &registry));
+    given[0] = nb_uint(1);
+    request = (nb_request){ registry, 0, 1, 1, 1, NB_QUAD, 3, 0 };
+    OK(nb_client_send_request(&session, &request, given, 4, (const uint8_t *)"quad", 4, &object));
+    request = (nb_request){ object, NB_QUAD_REQUEST_GIVE, 0, 0, 0, 0, 0, 0 };
+    const int32_t *numbers = fresh(3);
+    nb_argument give[] = { nb_string(0, 4), nb_array(0, 0), nb_descriptor(numbers[0]) };
+    OK(nb_client_send_request(&session, &request, give, 3, (const uint8_t *)"quad", 4, &none));
+    give[2] = nb_descriptor(numbers[1]);
+    OK(nb_client_send_request(&session, &request, give, 3, (const uint8_t *)"quad", 4, &none));
+    give[0] = nb_null_string();
+    give[2] = nb_descriptor(numbers[2]);
+    IS(nb_client_send_request(&session, &request, give, 3, (const uint8_t *)"quad", 4, &none), NB_BAD_SIGNATURE);
+    came_back(numbers + 2, 1);
+    OK(nb_client_flush(&session));
+    OK(nb_client_to_send(&session, bytes, sizeof bytes, descriptors, NB_MOST_DESCRIPTORS, &counts));
+    came_back(descriptors, counts.descriptors);
+    OK(nb_client_sent(&session, counts.bytes));
+    /* The server sends some that no event takes, and breaks off. */
+    put(3, NB_QUAD_EVENT_MOVED, "u", 1);
+    OK(nb_client_received(&session, wire, wire_length, fresh(5), 5));
+    wire_length = 0;
+    OK(nb_client_next_event(&session, &event, arguments, 16, bytes, sizeof bytes));
+    OK(nb_client_finish_event(&session));
+    OK(nb_client_received_end(&session));
+    IS(nb_client_next_event(&session, &event, arguments, 16, bytes, sizeof bytes), NB_FAILED);
+    while (nb_client_next_dropped(&session, &number) == NB_OK)
+        came_back(&number, 1);
+    int wrong = 0;
+    for (int i = 0; i < next_number; i++)
+        wrong += seen[i] != 1;
+    HOLDS(wrong == 0);
+    OK(nb_client_end(&session));
+}
+
+int main(void)
+{
+    received();
+    sent();
+    at_random();
+    of_a_client();
+    return tell();
+}

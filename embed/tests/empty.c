@@ -1,0 +1,125 @@
+/* Each call on a place without a session answers NB_NO_SESSION: before there was one, after its end, and after one that
+ * was refused. */
+#include "tests.h"
+
+static nb_client session;
+
+#define NONE(call) IS(call, NB_NO_SESSION)
+
+static void server_calls(void)
+{
+    uint32_t number = 7;
+    uint64_t data = 7;
+    nb_client_id id = { 7, 3 };
+    nb_object_id object = { 1, { 7, 3 }, 4, 9 };
+    nb_global_id global = { 1, 1 };
+    nb_object_info info;
+    nb_global_info offered;
+    nb_gone gone;
+    nb_note note;
+    NONE(nb_server_end(&server));
+    NONE(nb_server_extend(&server, &quad, &fault));
+    NONE(nb_server_memory_refused(&server, &number));
+    NONE(nb_server_set_default_max_buffer_size(&server, 1));
+    NONE(nb_server_set_max_buffer_size(&server, &id, 1));
+    NONE(nb_server_set_room(&server, &id, 1));
+    NONE(nb_server_insert_client(&server, 1, 1, &id));
+    NONE(nb_server_client_data(&server, &id, &data));
+    NONE(nb_server_clients(&server, &id, 1, &number));
+    NONE(nb_server_kill_client(&server, &id));
+    NONE(nb_server_received(&server, &id, bytes, 8, descriptors, 1));
+    NONE(nb_server_received_end(&server, &id));
+    NONE(nb_server_receive_failed(&server, &id, 5));
+    NONE(nb_server_send_failed(&server, &id, 5));
+    NONE(nb_server_next_action(&server, &id, &action, arguments, 16, bytes, sizeof bytes));
+    NONE(nb_server_finish_request(&server, &id));
+    NONE(nb_server_finish_request_with(&server, &id, 1, &number));
+    NONE(nb_server_finish_bind(&server, &id, 1, &number));
+    NONE(nb_server_send_event(&server, &object, 0, arguments, 0, bytes, 0));
+    NONE(nb_server_post_error(&server, &object, 0, bytes, 3));
+    NONE(nb_server_create_object(&server, &id, 4, 1, 1, 1, &object));
+    NONE(nb_server_destroy_object(&server, &object));
+    NONE(nb_server_object_info(&server, &object, &info));
+    NONE(nb_server_object_data(&server, &object, &data));
+    NONE(nb_server_set_object_data(&server, &object, 1));
+    NONE(nb_server_object_for_protocol_id(&server, &id, 4, 3, &object));
+    NONE(nb_server_objects(&server, &id, &object, 1, &number));
+    NONE(nb_server_next_client_id(&server, &id));
+    NONE(nb_server_next_global_id(&server, &global));
+    NONE(nb_server_create_global(&server, 4, 1, 1, 1, &global));
+    NONE(nb_server_disable_global(&server, &global));
+    NONE(nb_server_remove_global(&server, &global));
+    NONE(nb_server_global_info(&server, &global, &offered));
+    NONE(nb_server_global_data(&server, &global, &data));
+    NONE(nb_server_global_name(&server, &global, &id, &number));
+    NONE(nb_server_next_writable(&server, &id));
+    NONE(nb_server_to_send(&server, &id, bytes, 9, descriptors, NB_MOST_DESCRIPTORS, &counts));
+    NONE(nb_server_sent(&server, &id, 1));
+    NONE(nb_server_cleanup(&server));
+    NONE(nb_server_next_gone(&server, &gone, bytes, 9, descriptors, NB_MOST_DESCRIPTORS));
+    NONE(nb_server_next_note(&server, &note, bytes, 9));
+    NONE(nb_server_next_dropped(&server, descriptors));
+    HOLDS(number == 7 && data == 7 && server.state == 0);
+}
+
+static void client_calls(void)
+{
+    uint32_t number = 7;
+    uint64_t data = 7;
+    nb_object_id object = { 1, { 0, 0 }, 4, 9 };
+    nb_object_info info;
+    nb_event event;
+    nb_request request = { { 1, { 0, 0 }, 4, 9 }, 0, 0, 0, 0, 0, 0, 0 };
+    nb_error error;
+    NONE(nb_client_end(&session));
+    NONE(nb_client_extend(&session, &quad, &fault));
+    NONE(nb_client_memory_refused(&session, &number));
+    NONE(nb_client_set_max_buffer_size(&session, 1, 1));
+    NONE(nb_client_set_room(&session, 1));
+    NONE(nb_client_display(&session, &object));
+    NONE(nb_client_received(&session, bytes, 8, descriptors, 1));
+    NONE(nb_client_received_end(&session));
+    NONE(nb_client_receive_failed(&session, 5));
+    NONE(nb_client_send_failed(&session, 5));
+    NONE(nb_client_next_event(&session, &event, arguments, 16, bytes, sizeof bytes));
+    NONE(nb_client_finish_event(&session));
+    NONE(nb_client_finish_event_with(&session, 1));
+    NONE(nb_client_send_request(&session, &request, arguments, 0, bytes, 0, &object));
+    NONE(nb_client_object_info(&session, &object, &info));
+    NONE(nb_client_object_data(&session, &object, &data));
+    NONE(nb_client_set_object_data(&session, &object, 1));
+    NONE(nb_client_destroy_object(&session, &object));
+    NONE(nb_client_flush(&session));
+    NONE(nb_client_to_send(&session, bytes, 9, descriptors, NB_MOST_DESCRIPTORS, &counts));
+    NONE(nb_client_sent(&session, 1));
+    NONE(nb_client_last_error(&session, &error, bytes, 9));
+    NONE(nb_client_next_note(&session, &object));
+    NONE(nb_client_next_dropped(&session, descriptors));
+    HOLDS(number == 7 && data == 7 && session.state == 0);
+}
+
+int main(void)
+{
+    const nb_interface_row wrong = { 0, 99, 1, 0, 0 };
+    server_calls();
+    client_calls();
+    IS(nb_server_new(&server, bytes, 4, &wrong, 1, NULL, 0, NULL, 0, &fault), NB_BAD_TABLE);
+    IS(nb_client_connect(&session, bytes, 4, &wrong, 1, NULL, 0, NULL, 0, &fault), NB_BAD_TABLE);
+    server_calls();
+    client_calls();
+    OK(nb_server_start(&server, &quad, &fault));
+    OK(nb_client_start(&session, &quad, &fault));
+    IS(nb_server_start(&server, &quad, &fault), NB_IN_USE);
+    IS(nb_client_start(&session, &quad, &fault), NB_IN_USE);
+    /* A place may be moved between calls. */
+    nb_server elsewhere = server;
+    memset(&server, 0, sizeof server);
+    server_calls();
+    OK(nb_server_cleanup(&elsewhere));
+    OK(nb_server_end(&elsewhere));
+    OK(nb_client_end(&session));
+    IS(nb_server_end(&elsewhere), NB_NO_SESSION);
+    server_calls();
+    client_calls();
+    return tell();
+}

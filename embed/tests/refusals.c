@@ -1,0 +1,217 @@
+/* Each allocation of a run is refused in turn: the run goes to its end, no memory is lost (the address sanitizer
+ * tells), and a session that is told so afterwards still ends. Linked with -Wl,--wrap=malloc,--wrap=realloc. */
+#include "tests.h"
+
+static long left, asked;
+static int is_refused;
+
+void *__real_malloc(size_t);
+void *__real_realloc(void *, size_t);
+void *__wrap_malloc(size_t size);
+void *__wrap_realloc(void *at, size_t size);
+
+static int refuses(void)
+{
+    asked++;
+    if (left == 0 || --left > 0)
+        return 0;
+    is_refused = 1;
+    return 1;
+}
+
+void *__wrap_malloc(size_t size)
+{
+    return refuses() ? NULL : __real_malloc(size);
+}
+void *__wrap_realloc(void *at, size_t size)
+{
+    return refuses() ? NULL : __real_realloc(at, size);
+}
+
+static nb_client session;
+static long statuses[64];
+
+static nb_status see(nb_status status)
+{
+    statuses[status < 64 ? status : 63]++;
+    return status;
+}
+
+/* ---- each descriptor that went in comes back once, though memory is refused */
+
+static int given[4096], back[4096], next_number;
+
+static void came_back(const int32_t *numbers, size_t count)
+{
+    for (size_t i = 0; i < count; i++)
+        back[numbers[i]]++;
+}
+
+static nb_status receive(size_t count)
+{
+    int32_t numbers[NB_MOST_DESCRIPTORS];
+    for (size_t i = 0; i < count; i++)
+        given[numbers[i] = next_number++] = 1;
+    nb_status status = see(arrive(numbers, count));
+    if (status != NB_OK)
+        came_back(numbers, count);
+    return status;
+}
+
+static void take_actions(void)
+{
+    uint32_t kept;
+    for (int i = 0; i < 20; i++) {
+        nb_status status = see(next_action());
+        if (status == NB_WOULD_BLOCK)
+            break;
+        if (status != NB_OK)
+            continue;
+        for (uint32_t k = 0; k < action.arguments; k++)
+            if (arguments[k].kind == NB_DESCRIPTOR)
+                came_back(&arguments[k].value, 1);
+        for (int again = 0; again < 3; again++) {
+            if (action.kind == NB_BIND)
+                status = see(nb_server_finish_bind(&server, &client, 1, &kept));
+            else if (!nb_is_null(&action.created))
+                status = see(nb_server_finish_request_with(&server, &client, 1, &kept));
+            else
+                status = see(nb_server_finish_request(&server, &client));
+            if (status != NB_OUT_OF_MEMORY)
+                break;
+        }
+    }
+}
+
+static void serve(void)
+{
+    static const char names[] = "filesfile";
+    const nb_interface_row interface = { 0, 5, 1, 0, 1 };
+    const nb_message_row message = { 5, 4, 1, 0, 2 };
+    const nb_argument_row rows[] = { { NB_DESCRIPTOR, 0, 0 }, { NB_STRING, 0, 0 } };
+    nb_global_id global;
+    nb_client_id writable;
+    nb_object_id made;
+    nb_gone gone;
+    nb_note note;
+    int32_t number;
+    uint32_t refused;
+    if (see(nb_server_start(&server, &quad, &fault)) != NB_OK)
+        return;
+    see(nb_server_add_interfaces(&server, (const uint8_t *)names, 9, &interface, 1, &message, 1, rows, 2, &fault));
+    see(nb_server_create_global(&server, NB_QUAD, 3, 0, 1, &global));
+    for (int round = 0; round < 3; round++) {
+        if (see(nb_server_insert_client(&server, 5, 1, &client)) != NB_OK)
+            continue;
+        put(1, 1, "u", 2);
+        put(2, 0, "usuu", 1, "quad", 3, 3);
+        put(3, NB_QUAD_REQUEST_MAKE, "u", 4);
+        put(3, NB_QUAD_REQUEST_GIVE, "sa", "some text", "array", 5);
+        put(1, 0, "u", 5);
+        put(4, NB_QUAD_REQUEST_DESTROY, "");
+        receive(3);
+        take_actions();
+        if (see(nb_server_create_object(&server, &client, NB_QUAD + 1, 1, 1, 1, &made)) == NB_OK) {
+            given[number = next_number++] = 1;
+            const nb_argument with[] = { nb_descriptor(number), nb_string(0, 4) };
+            if (see(nb_server_send_event(&server, &made, 0, with, 2, (const uint8_t *)"text", 4)) != NB_OK)
+                came_back(&number, 1);
+            see(nb_server_destroy_object(&server, &made));
+        }
+        see(nb_server_create_global(&server, NB_QUAD, 1, 0, 1, &global));
+        while (nb_server_next_writable(&server, &writable) == NB_OK)
+            if (see(nb_server_to_send(&server, &writable, bytes, sizeof bytes, descriptors, NB_MOST_DESCRIPTORS,
+                                      &counts)) == NB_OK) {
+                if (counts.bytes > 0)
+                    came_back(descriptors, counts.descriptors);
+                see(nb_server_sent(&server, &writable, counts.bytes));
+            }
+        see(nb_server_memory_refused(&server, &refused));
+        if (round == 1)
+            see(nb_server_post_error(&server, &(nb_object_id){ 1, client, NB_INTERFACE_DISPLAY, 1 }, 1,
+                                     (const uint8_t *)"text", 4));
+        see(nb_server_kill_client(&server, &client));
+        for (int again = 0; again < 3 && see(nb_server_cleanup(&server)) == NB_OUT_OF_MEMORY; again++)
+            ;
+        while (nb_server_next_gone(&server, &gone, bytes, sizeof bytes, descriptors, NB_MOST_DESCRIPTORS) == NB_OK)
+            came_back(descriptors, gone.waiting.descriptors);
+        for (nb_status status = NB_OK; status == NB_OK || status == NB_OUT_OF_MEMORY;)
+            status = see(nb_server_next_note(&server, &note, bytes, sizeof bytes));
+        while (nb_server_next_dropped(&server, &number) == NB_OK)
+            came_back(&number, 1);
+    }
+    see(nb_server_end(&server));
+    HOLDS(memcmp(given, back, sizeof given) == 0);
+}
+
+static void use(void)
+{
+    nb_object_id display, registry, object = nb_null();
+    nb_event event;
+    nb_error error;
+    if (see(nb_client_start(&session, &quad, &fault)) != NB_OK)
+        return;
+    see(nb_client_display(&session, &display));
+    nb_argument with[] = { nb_placeholder(), nb_string(0, 4), nb_uint(3), nb_placeholder() };
+    nb_request request = { display, 1, 1, 1, 0, 0, 0, 0 };
+    if (see(nb_client_send_request(&session, &request, with, 1, NULL, 0, &registry)) == NB_OK) {
+        with[0] = nb_uint(1);
+        request = (nb_request){ registry, 0, 1, 1, 1, NB_QUAD, 3, 0 };
+        see(nb_client_send_request(&session, &request, with, 4, (const uint8_t *)"quad", 4, &object));
+    }
+    put(2, 0, "usu", 1, "quad", 3);
+    put(3, NB_QUAD_EVENT_MOVED, "u", 1);
+    put(3, NB_QUAD_EVENT_MADE, "u", 0xff000000);
+    put(3, NB_QUAD_EVENT_GONE, "");
+    see(nb_client_received(&session, wire, wire_length, NULL, 0));
+    wire_length = 0;
+    for (int i = 0; i < 12; i++)
+        if (see(nb_client_next_event(&session, &event, arguments, 16, bytes, sizeof bytes)) == NB_OK)
+            for (int again = 0; again < 3; again++)
+                if (see(nb_is_null(&event.created) ? nb_client_finish_event(&session)
+                                                   : nb_client_finish_event_with(&session, 1)) == NB_OK)
+                    break;
+    see(nb_client_flush(&session));
+    see(nb_client_to_send(&session, bytes, sizeof bytes, descriptors, NB_MOST_DESCRIPTORS, &counts));
+    see(nb_client_sent(&session, counts.bytes));
+    put(1, 0, "uus", 2, 7, "wrong");
+    see(nb_client_received(&session, wire, wire_length, NULL, 0));
+    wire_length = 0;
+    see(nb_client_next_event(&session, &event, arguments, 16, bytes, sizeof bytes));
+    see(nb_client_last_error(&session, &error, bytes, sizeof bytes));
+    while (nb_client_next_note(&session, &object) == NB_OK)
+        ;
+    see(nb_client_end(&session));
+}
+
+/* Runs once as it is, and then with each of its allocations refused. */
+static void refuse_each(void (*run)(void), const char *name)
+{
+    memset(statuses, 0, sizeof statuses);
+    left = asked = 0;
+    run();
+    HOLDS(statuses[NB_OUT_OF_MEMORY] == 0);
+    long all = asked, refused_runs = 0;
+    for (long which = 1; which <= all; which++) {
+        memset(given, 0, sizeof given);
+        memset(back, 0, sizeof back);
+        next_number = 0;
+        left = which;
+        is_refused = 0;
+        run();
+        refused_runs += is_refused;
+        left = 0;
+        HOLDS(server.state == 0 && session.state == 0);
+    }
+    HOLDS(all > 0 && refused_runs == all);
+    HOLDS(statuses[NB_OUT_OF_MEMORY] > 0);
+    printf("%s: %ld allocations, each refused once; out of memory was answered %ld times\n", name, all,
+           statuses[NB_OUT_OF_MEMORY]);
+}
+
+int main(void)
+{
+    refuse_each(serve, "a server");
+    refuse_each(use, "a client");
+    return tell();
+}

@@ -1,0 +1,293 @@
+/* Each call of a server's session does what it says: the bytes that a client is sent are written here by hand. */
+#include "tests.h"
+
+/* Hands the client's next bytes out, as far as the room goes, and says that they were sent. */
+static size_t send_some(const nb_client_id *to, size_t room)
+{
+    OK(nb_server_to_send(&server, to, bytes, room, descriptors, NB_MOST_DESCRIPTORS, &counts));
+    OK(nb_server_sent(&server, to, counts.bytes));
+    return counts.bytes;
+}
+
+/* Whether the next client to which something is to be sent is this one, and is sent what was put. */
+static int sends(const nb_client_id *to)
+{
+    nb_client_id next = { 0, 0 };
+    IS(nb_server_next_writable(&server, &next), NB_OK);
+    HOLDS(nb_same_client(&next, to));
+    return is_wire(bytes, send_some(to, sizeof bytes));
+}
+
+static int sends_nothing(void)
+{
+    nb_client_id next;
+    return nb_server_next_writable(&server, &next) == NB_WOULD_BLOCK;
+}
+
+static void answers(void)
+{
+    nb_client_id next, wanted;
+    begin();
+    put(1, 0, "u", 4);
+    OK(arrive(NULL, 0));
+    IS(next_action(), NB_WOULD_BLOCK);
+    put(4, 0, "u", 0);
+    put(1, 1, "u", 4);
+    HOLDS(sends(&client));
+    /* Byte by byte, too. */
+    put(1, 0, "u", 4);
+    size_t length = wire_length;
+    for (size_t i = 0; i < length; i++) {
+        OK(nb_server_received(&server, &client, wire + i, 1, NULL, 0));
+        IS(next_action(), NB_WOULD_BLOCK);
+        if (i + 1 < length)
+            HOLDS(sends_nothing());
+    }
+    wire_length = 0;
+    put(4, 0, "u", 0);
+    put(1, 1, "u", 4);
+    HOLDS(sends(&client));
+    OK(nb_server_next_client_id(&server, &wanted));
+    OK(nb_server_insert_client(&server, 6, 1, &next));
+    HOLDS(nb_same_client(&next, &wanted) && !nb_same_client(&next, &client));
+    uint64_t data;
+    uint32_t count;
+    nb_client_id clients[2];
+    OK(nb_server_client_data(&server, &next, &data));
+    HOLDS(data == 6);
+    OK(nb_server_client_data(&server, &client, &data));
+    HOLDS(data == 5);
+    OK(nb_server_clients(&server, clients, 2, &count));
+    HOLDS(count == 2 && nb_same_client(&clients[0], &client) && nb_same_client(&clients[1], &next));
+    uint32_t is_refused = 7;
+    OK(nb_server_memory_refused(&server, &is_refused));
+    HOLDS(is_refused == 0);
+    OK(nb_server_end(&server));
+}
+
+static void events(void)
+{
+    nb_object_id object = begin(), made, found;
+    nb_argument argument;
+    nb_note note;
+    uint64_t data;
+    argument = nb_int(-2);
+    OK(nb_server_send_event(&server, &object, NB_QUAD_EVENT_MOVED, &argument, 1, NULL, 0));
+    put(3, NB_QUAD_EVENT_MOVED, "u", (uint32_t)-2);
+    HOLDS(sends(&client));
+    HOLDS(sends_nothing());
+    OK(nb_server_create_object(&server, &client, NB_QUAD, 2, 1, 90, &made));
+    HOLDS(made.number == 0xff000000 && made.interface == NB_QUAD && nb_same_client(&made.client, &client));
+    argument = nb_new_id(made);
+    OK(nb_server_send_event(&server, &object, NB_QUAD_EVENT_MADE, &argument, 1, NULL, 0));
+    put(3, NB_QUAD_EVENT_MADE, "u", 0xff000000);
+    HOLDS(sends(&client));
+    OK(nb_server_object_data(&server, &made, &data));
+    HOLDS(data == 90);
+    OK(nb_server_set_object_data(&server, &made, 91));
+    OK(nb_server_object_data(&server, &made, &data));
+    HOLDS(data == 91);
+    OK(nb_server_object_for_protocol_id(&server, &client, NB_QUAD, 0xff000000, &found));
+    HOLDS(nb_same_object(&found, &made));
+    IS(nb_server_object_for_protocol_id(&server, &client, NB_INTERFACE_CALLBACK, 0xff000000, &found), NB_INVALID_ID);
+    IS(nb_server_object_for_protocol_id(&server, &client, NB_QUAD, 9, &found), NB_INVALID_ID);
+    /* An object of the server has no delete_id. */
+    OK(nb_server_destroy_object(&server, &made));
+    HOLDS(sends_nothing());
+    IS(nb_server_object_data(&server, &made, &data), NB_INVALID_ID);
+    /* A destructor event ends its sender, whose number is the client's. */
+    OK(nb_server_send_event(&server, &object, NB_QUAD_EVENT_GONE, NULL, 0, NULL, 0));
+    put(3, NB_QUAD_EVENT_GONE, "");
+    put(1, 1, "u", 3);
+    HOLDS(sends(&client));
+    IS(nb_server_object_data(&server, &object, &data), NB_INVALID_ID);
+    OK(nb_server_cleanup(&server));
+    OK(nb_server_next_note(&server, &note, bytes, sizeof bytes));
+    HOLDS(note.kind == NB_INSERTED);
+    OK(nb_server_next_note(&server, &note, bytes, sizeof bytes));
+    HOLDS(note.kind == NB_DESTROYED && note.data == 91 && nb_same_object(&note.object, &made) &&
+          nb_same_client(&note.client, &client));
+    OK(nb_server_next_note(&server, &note, bytes, sizeof bytes));
+    HOLDS(note.kind == NB_DESTROYED && note.data == 77 && nb_same_object(&note.object, &object));
+    IS(nb_server_next_note(&server, &note, bytes, sizeof bytes), NB_WOULD_BLOCK);
+    OK(nb_server_end(&server));
+}
+
+/* An event with a string and an array, and null in their place, from a table of its own. */
+static void texts(void)
+{
+    static const char names[] = "textssaid";
+    const nb_interface_row interface = { 0, 5, 1, 0, 1 };
+    const nb_message_row message = { 5, 4, 1, 0, 4 };
+    const nb_argument_row rows[] = {
+        { NB_STRING, 1, 0 }, { NB_ARRAY, 0, 0 }, { NB_FIXED, 0, 0 }, { NB_DESCRIPTOR, 0, 0 }
+    };
+    nb_object_id object = begin(), made;
+    OK(nb_server_add_interfaces(&server, (const uint8_t *)names, 9, &interface, 1, &message, 1, rows, 4, &fault));
+    OK(nb_server_create_object(&server, &client, NB_QUAD + 1, 1, 0, 0, &made));
+    const nb_argument given[] = { nb_string(2, 5), nb_array(1, 3), nb_fixed(384), nb_descriptor(60) };
+    OK(nb_server_send_event(&server, &made, 0, given, 4, (const uint8_t *)"xxhello", 7));
+    const nb_argument null[] = { nb_null_string(), nb_array(0, 0), nb_fixed(-1), nb_descriptor(61) };
+    OK(nb_server_send_event(&server, &made, 0, null, 4, NULL, 0));
+    put(made.number, 0, "sau", "hello", "xhe", 3, 384);
+    put(made.number, 0, "0au", "", 0, (uint32_t)-1);
+    HOLDS(sends(&client));
+    HOLDS(counts.descriptors == 2 && descriptors[0] == 60 && descriptors[1] == 61);
+    HOLDS(object.number == 3);
+    OK(nb_server_end(&server));
+}
+
+static void globals(void)
+{
+    nb_object_id object = begin();
+    nb_global_id global, wanted, hidden, first = { 1, 1 };
+    nb_global_info info;
+    nb_client_id other;
+    uint64_t data;
+    uint32_t name;
+    HOLDS(object.number == 3);
+    OK(nb_server_next_global_id(&server, &wanted));
+    OK(nb_server_create_global(&server, NB_QUAD, 2, 30, 3, &global));
+    HOLDS(global.name == wanted.name && global.serial == wanted.serial);
+    put(2, 0, "usu", global.name, "quad", 2);
+    HOLDS(sends(&client));
+    OK(nb_server_create_global(&server, NB_QUAD, 1, 31, 4, &hidden));
+    HOLDS(sends_nothing());
+    OK(nb_server_global_info(&server, &global, &info));
+    HOLDS(info.interface == NB_QUAD && info.version == 2 && info.is_disabled == 0);
+    OK(nb_server_global_data(&server, &global, &data));
+    HOLDS(data == 30);
+    OK(nb_server_global_name(&server, &global, &client, &name));
+    HOLDS(name == global.name);
+    IS(nb_server_global_name(&server, &hidden, &client, &name), NB_INVALID_ID);
+    /* A client of another group is told of others; a bind of a hidden one is refused. */
+    OK(nb_server_insert_client(&server, 6, 6, &other));
+    put(1, 1, "u", 2);
+    OK(nb_server_received(&server, &other, wire, wire_length, NULL, 0));
+    wire_length = 0;
+    IS(nb_server_next_action(&server, &other, &action, arguments, 16, bytes, sizeof bytes), NB_WOULD_BLOCK);
+    put(2, 0, "usu", global.name, "quad", 2);
+    put(2, 0, "usu", hidden.name, "quad", 1);
+    HOLDS(sends(&other));
+    put(2, 0, "usuu", 1, "quad", 1, 3);
+    OK(nb_server_received(&server, &other, wire, wire_length, NULL, 0));
+    wire_length = 0;
+    IS(nb_server_next_action(&server, &other, &action, arguments, 16, bytes, sizeof bytes), NB_CLOSED);
+    nb_gone gone;
+    OK(nb_server_cleanup(&server));
+    OK(nb_server_next_gone(&server, &gone, bytes, sizeof bytes, descriptors, NB_MOST_DESCRIPTORS));
+    put(1, 0, "uus", 1, 0, "Invalid binding of quad version 1 for global 1.");
+    HOLDS(gone.data == 6 && is_wire(bytes, gone.waiting.bytes));
+    HOLDS(sends_nothing());
+    OK(nb_server_disable_global(&server, &first));
+    put(2, 1, "u", 1);
+    HOLDS(sends(&client));
+    OK(nb_server_global_info(&server, &first, &info));
+    HOLDS(info.is_disabled == 1);
+    OK(nb_server_remove_global(&server, &first));
+    IS(nb_server_global_info(&server, &first, &info), NB_INVALID_ID);
+    OK(nb_server_remove_global(&server, &global));
+    put(2, 1, "u", global.name);
+    HOLDS(sends(&client));
+    OK(nb_server_end(&server));
+}
+
+/* What does not fit into the room waits in the client's buffer, and comes when something was sent; beyond the limit the
+ * client is killed. */
+static void back_pressure(void)
+{
+    nb_object_id object = begin();
+    nb_client_id next;
+    nb_gone gone;
+    const nb_argument argument = nb_int(7);
+    OK(nb_server_set_room(&server, &client, 20));
+    for (int i = 0; i < 3; i++)
+        OK(nb_server_send_event(&server, &object, NB_QUAD_EVENT_MOVED, &argument, 1, NULL, 0));
+    uint8_t all[64];
+    size_t length = 0;
+    for (int i = 0; i < 20 && nb_server_next_writable(&server, &next) == NB_OK; i++) {
+        HOLDS(nb_same_client(&next, &client));
+        size_t some = send_some(&client, 7);
+        HOLDS(some > 0 && some <= 7);
+        memcpy(all + length, bytes, some);
+        length += some;
+        /* What was left over of the bytes is the host's to go on with. */
+        while (nb_server_to_send(&server, &client, bytes, 7, descriptors, NB_MOST_DESCRIPTORS, &counts) == NB_OK &&
+               counts.bytes > 0) {
+            memcpy(all + length, bytes, counts.bytes);
+            length += counts.bytes;
+            OK(nb_server_sent(&server, &client, counts.bytes));
+        }
+    }
+    for (int i = 0; i < 3; i++)
+        put(3, NB_QUAD_EVENT_MOVED, "u", 7);
+    HOLDS(is_wire(all, length));
+    /* The limit is 4096 bytes, and the room 20. */
+    int sent = 0;
+    for (; sent < 1000; sent++)
+        if (nb_server_send_event(&server, &object, NB_QUAD_EVENT_MOVED, &argument, 1, NULL, 0) != NB_OK)
+            break;
+    HOLDS(sent == 1000); /* the client was killed, and events to it go nowhere */
+    IS(next_action(), NB_CLOSED);
+    OK(nb_server_cleanup(&server));
+    OK(nb_server_next_gone(&server, &gone, bytes, sizeof bytes, descriptors, NB_MOST_DESCRIPTORS));
+    HOLDS(gone.data == 5);
+    OK(nb_server_end(&server));
+}
+
+/* The ends of a connection, as the host tells them. */
+static void ends(void)
+{
+    nb_note note;
+    begin();
+    put(3, NB_QUAD_REQUEST_POKE, "u", 6);
+    OK(arrive(NULL, 0));
+    OK(nb_server_received_end(&server, &client));
+    OK(next_action()); /* what came before the end is read first */
+    HOLDS(arguments[0].value == 6);
+    OK(nb_server_finish_request(&server, &client));
+    IS(next_action(), NB_CLOSED);
+    IS(next_action(), NB_CLOSED);
+    OK(nb_server_end(&server));
+    begin();
+    OK(nb_server_receive_failed(&server, &client, 71));
+    IS(next_action(), NB_IO_ERROR);
+    IS(next_action(), NB_CLOSED);
+    OK(nb_server_end(&server));
+    begin();
+    OK(nb_server_send_failed(&server, &client, 71));
+    IS(next_action(), NB_CLOSED);
+    OK(nb_server_cleanup(&server));
+    OK(nb_server_next_note(&server, &note, bytes, sizeof bytes));
+    OK(nb_server_next_note(&server, &note, bytes, sizeof bytes));
+    HOLDS(note.kind == NB_KILLED && note.is_protocol_error == 0 && note.message_length == 0);
+    OK(nb_server_end(&server));
+    begin();
+    put_word(3);
+    put_word(4 << 16); /* a message of 4 bytes is none */
+    OK(arrive(NULL, 0));
+    IS(next_action(), NB_PROTOCOL_ERROR);
+    IS(next_action(), NB_CLOSED);
+    OK(nb_server_end(&server));
+    begin();
+    put(3, NB_QUAD_REQUEST_LINK, "uu", 0, 9);
+    OK(arrive(NULL, 0));
+    IS(next_action(), NB_CLOSED);
+    OK(nb_server_cleanup(&server));
+    nb_gone gone;
+    OK(nb_server_next_gone(&server, &gone, bytes, sizeof bytes, descriptors, NB_MOST_DESCRIPTORS));
+    put(1, 0, "uus", 1, 0, "Unknown id: 9.");
+    HOLDS(is_wire(bytes, gone.waiting.bytes));
+    OK(nb_server_end(&server));
+}
+
+int main(void)
+{
+    answers();
+    events();
+    texts();
+    globals();
+    back_pressure();
+    ends();
+    return tell();
+}
