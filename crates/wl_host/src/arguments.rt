@@ -1,5 +1,8 @@
 //! Arguments of messages, from flat structs and into memory that the host lends.
 
+ghost use Rattle.std.specs.Prelude.{◌≡◌, ◌⊎◌, IfErr, IfOk};
+ghost use Rattle.wl_host.specs.declared.status.Status.TheVariants as status;
+
 use crate::descriptors::DescriptorQueue;
 use crate::flat::{FlatArgument, FlatObjectId, count_number, kind};
 use crate::status::Status;
@@ -137,7 +140,10 @@ fn copy_bytes(alloc: Global, arg: &FlatArgument, bytes: &[u8]) -> Result<Vec<u8>
 /// A string with a copy of these bytes.
 ///
 /// The status is `InvalidInput` if one of them is zero, and `OutOfMemory`.
-fn string_of(bytes: Vec<u8>) -> Result<CString, Status> {
+fn string_of(bytes: Vec<u8>) -> Result<CString, Status>
+    ensures ok { IfOk result (λ text. text ≡ bytes.items) }
+    ensures err { IfErr result (λ s. s ≡ status.InvalidInput) }
+{
     match CString::new(bytes) {
         Ok(text) => Ok(text),
         Err(_) => Err(Status::InvalidInput),
@@ -147,7 +153,10 @@ fn string_of(bytes: Vec<u8>) -> Result<CString, Status> {
 /// A text for a person, which the host passes on its own.
 ///
 /// The status is `OutOfMemory`, or `InvalidInput` if one of the bytes is zero.
-pub fn text_of(alloc: Global, bytes: &[u8]) -> Result<CString, Status> {
+pub fn text_of(alloc: Global, bytes: &[u8]) -> Result<CString, Status>
+    ensures ok { IfOk result (λ text. text ≡ bytes.now) }
+    ensures err { IfErr result (λ s. (s ≡ status.InvalidInput) ⊎ (s ≡ status.OutOfMemory)) }
+{
     match Vec::from_slice(alloc, bytes) {
         Ok(copy) => string_of(copy),
         Err(_) => Err(Status::OutOfMemory),

@@ -4,8 +4,17 @@
 //! [`Server`] is a server's session. It is `wl_server::Backend` over mailboxes (`wl_link::Mailbox`), with what a host has to
 //! know beside it: who has something to be sent, who is gone, and which file descriptor is whose.
 //!
-//! [`Client`] is a client's session, `wl_client::Backend` over a mailbox, in the same way. `specs/Client` has the relations that
-//! its calls keep.
+//! [`Client`] is a client's session, `wl_client::Backend` over a mailbox, in the same way.
+//!
+//! | Subject | Code | Definitions, in `specs/` |
+//! |---|---|---|
+//! | a server's session | `server` and its modules | `Calls` |
+//! | a client's session | `client` and its modules | `Client` |
+//! | flat structs and ids | `flat` | `Flat` |
+//! | what a call came to | `status` | `Status` |
+//! | the table of interfaces as rows | `rows` | none |
+//! | arguments of messages, from flat structs and into lent memory | `arguments` | none |
+//! | which file descriptor a token stands for | `descriptors` | `Descriptors` |
 #![tactic(auto)]
 
 mod arguments;

@@ -5,8 +5,11 @@ ghost use Rattle.wl_host.specs.Calls.{CleansUp};
 use crate::flat::{Counts, FlatClientId, Gone};
 use crate::server::Server;
 use crate::server::ledger::{Ledger, Stage};
+use crate::server::seats::Seats;
 use crate::server::sending::copy_out;
 use crate::status::Status;
+use wl_link::Mailbox;
+use wl_server::ClientId;
 
 /// Writes what is left of the client, with what is still to be sent to it.
 ///
@@ -34,6 +37,13 @@ fn write_gone(
     }
 }
 
+/// The core let these clients go, and gave their mailboxes back.
+fn depart_all(seats: &mut Seats, gone: Vec<(ClientId, Mailbox)>) {
+    for (id, mailbox) in gone {
+        seats.depart(&id, mailbox);
+    }
+}
+
 impl Server {
     /// Takes the clients out that were killed (`wl_server::Backend::cleanup`). `next_gone` hands them out.
     ///
@@ -46,9 +56,7 @@ impl Server {
         }
         match self.core.cleanup() {
             Ok(gone) => {
-                for (id, mailbox) in gone {
-                    self.seats.depart(&id, mailbox);
-                }
+                depart_all(&mut self.seats, gone);
                 self.may_clean_up = false;
                 self.may_have_notes = true;
                 Status::Ok
