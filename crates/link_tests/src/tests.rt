@@ -1,7 +1,8 @@
 //! The link to a peer and the map of objects: each test hands a list of calls to the one function that owns the link,
-//! the script or the map, and compares what the calls told.
+//! the script, the mailbox or the map, and compares what the calls told.
 
 mod limits;
+mod mailbox;
 mod objects;
 mod received;
 mod run;

@@ -3,6 +3,7 @@
 //! A run is a list of `Act`s, and `log_of` makes its calls, most of them by `replay`.
 
 mod arguments;
+mod beside;
 mod buffers;
 mod cuts;
 mod cutting;

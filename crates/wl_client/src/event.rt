@@ -17,14 +17,14 @@ use crate::protocol_error::EventFault;
 use wl_link::ObjectMap;
 use wl_wire::{Message, MessageDesc, Token};
 
-/// What is kept of an event until it is finished.
-#[derive(Clone, Copy)]
+/// An event that is open: it was handed out and is not finished yet. `Backend::open_event` returns it.
+#[derive(Clone, Copy, Debug, PartialEq, Eq)]
 pub struct OpenEvent {
     /// The object that the event was sent to.
     pub sender: ObjectId,
-    /// Whether the event ends that object.
+    /// Whether the event ends that object: the table names it a destructor.
     pub is_destructor: bool,
-    /// The object that the event made, if it made one.
+    /// The object that the event made, if it made one. `finish_event` wants its user data.
     pub created: Option<ObjectId>,
 }
 

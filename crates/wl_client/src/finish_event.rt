@@ -53,6 +53,15 @@ impl<T: Drop, U: Drop> Backend<T, U> {
         Ok(())
     }
 
+    /// The event that is open: it was handed out, and `finish_event` has not ended it. `None` if no event is open.
+    ///
+    /// It says what the table says of the event and which object the event made, so a program need not look that up.
+    pub fn open_event(&self) -> Option<OpenEvent>
+        ensures { result ≡ self.now.session.open_event }
+    {
+        self.open_event
+    }
+
     /// Gives the user data to the object that an event made, if it made one.
     fn give_created(&mut self, created: Option<ObjectId>, user_data: Option<U>)
         ensures given { self.new.session ≡ with_core self.old.session (with_data_for (core_of self.old.session) created user_data) }

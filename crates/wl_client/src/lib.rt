@@ -13,9 +13,9 @@
 //! | Calls | Code | Relations, in `specs/` |
 //! |---|---|---|
 //! | `connect`, `take_notes`, the limit, `transport_mut`, .. | `backend`: read it first | `Session`, `Lending` |
-//! | `send_request`, `flush` | `request`, `send_request`, `flush` | `Requests`, `Steps`, `Finish` |
-//! | `next_event` | `next_event`, `message`, `event`, `arguments`, `display` | `Reading`, `Handling`, `Events`, `Cutting` |
-//! | `finish_event` | `finish_event` | `Finish`, `Steps`, `Cutting` |
+//! | `send_request`, `send_request_lent`, `flush` | `request`, `send_request`, `flush` | `Requests`, `Steps`, `Finish` |
+//! | `next_event`, `next_event_into` | `next_event`, `message`, `event`, `arguments`, `display` | `Reading`, `Handling`, `Events`, `Cutting` |
+//! | `finish_event`, `open_event` | `finish_event` | `Finish`, `Steps`, `Cutting` |
 //! | `info`, `get_data`, `set_data`, `destroy_object` | `objects` | `Objects` |
 //! | `replay` | `step`, `replay` | `Steps`, `Handed`, `Named`, `Noted`, `Replies`, `Stretches` |
 //!
@@ -47,6 +47,7 @@ pub use error::{
     DestroyError, EventError, FinishError, FinishRefused, FlushError, InvalidId, RequestError,
     WaylandError,
 };
+pub use event::OpenEvent;
 pub use next_event::READ_TURNS;
 pub use object_id::ObjectId;
 pub use objects::Note;

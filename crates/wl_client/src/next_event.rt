@@ -1,6 +1,7 @@
 //! A *reading*: handles messages, and receives more if none is complete.
 
-ghost use Rattle.std.specs.Prelude.{◌≤◌, option_map};
+ghost use Rattle.std.specs.Prelude.{◌≡◌, ◌≤◌, Ok, OnErr, option_map};
+ghost use Rattle.std.specs.Result.{result_and};
 ghost use Rattle.wl_client.specs.Cutting.{CutsReading};
 ghost use Rattle.wl_client.specs.Reading.{EndsWithRoom, NextEvent, ReadsTo, event_content};
 ghost use Rattle.wl_client.specs.Inside.ReadingLoop.{Live, ReceivedTo, Waited, event_answer, event_refused, with_event};
@@ -114,6 +115,26 @@ impl<T: Transport + Drop, U: Drop> Backend<T, U> {
                 self.refused = end.refused;
                 Err(end.error)
             }
+        }
+    }
+
+    /// Reads the next event as `next_event` does, and puts it into `event`, whose arguments are dropped. The errors are those of
+    /// `next_event`; after an error `event` is as it was.
+    pub fn next_event_into(
+        &mut self,
+        event: &mut Message<ObjectId, Token>,
+    ) -> Result<(), EventError>
+        ensures cutting { CutsReading T.sends T.receives self.old.session (event_content (result_and result (Ok event.new))) self.new.refused self.new.session }
+        ensures read { NextEvent T.sends T.receives self.old.session (event_content (result_and result (Ok event.new))) self.new.refused self.new.session }
+        ensures room { EndsWithRoom self.old.session self.new.session }
+        ensures kept { OnErr result (event.new ≡ event.old) }
+    {
+        match self.next_event() {
+            Ok(next) => {
+                *event = next;
+                Ok(())
+            }
+            Err(error) => Err(error),
         }
     }
 

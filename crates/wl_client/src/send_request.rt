@@ -256,16 +256,30 @@ impl<T: Transport + Drop, U: Drop> Backend<T, U> {
         ensures requested { Requested T.sends self.old.session (session_content message) user_data child_spec result self.new.session }
         ensures refused { self.new.refused ≡ refused_request result }
     {
+        self.send_request_lent(&message, user_data, child_spec)
+    }
+
+    /// Sends a request that is lent, as `send_request` does: a caller that keeps the message may use its memory again. The
+    /// errors are those of `send_request`.
+    pub fn send_request_lent(
+        &mut self,
+        message: &Message<ObjectId, Token>,
+        user_data: Option<U>,
+        child_spec: Option<(InterfaceId, u32)>,
+    ) -> Result<ObjectId, RequestError>
+        ensures requested { Requested T.sends self.old.session (session_content message.now) user_data child_spec result self.new.session }
+        ensures refused { self.new.refused ≡ refused_request result }
+    {
         let has_data = user_data.is_some();
         let checked = check_request(
             &self.protocol,
             &self.objects,
-            &message,
+            message,
             has_data,
             child_spec,
         );
         let answer = match checked {
-            Ok(granted) => self.send_granted(&message, granted, user_data),
+            Ok(granted) => self.send_granted(message, granted, user_data),
             Err(error) => Err(error),
         };
         self.refused = lacks_memory(&answer);

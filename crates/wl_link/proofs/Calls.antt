@@ -12,3 +12,5 @@ pub mod LaterLaws
 pub mod FoundLaws
 pub mod Growth
 pub mod OneScript
+pub mod OneMailbox
+pub mod MailboxLaws

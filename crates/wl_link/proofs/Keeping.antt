@@ -5,6 +5,7 @@ use Rattle.std.proofs.lemmas.Bool.{eq-eqb, ne_eqb, lt-leb, le-leb, lt-ltb, cases
 use Rattle.std.proofs.lemmas.List.{get_or_past}
 use Rattle.std.proofs.lemmas.Grind.{get_or-set_at}
 use Rattle.std.specs.Option.{option_or}
+use Rattle.std.specs.Prelude.{IfSome}
 use Rattle.std.specs.Cmp.{unsigned_tied, nat_cmp_total, nat_cmp_is}
 use Rattle.std.specs.Ordering.{eq_by_cmp}
 use Rattle.std.specs.FinMap as map
@@ -343,6 +344,24 @@ module _ {D : Type 0} (c s : List (Option (Object D))) (w : Within c s) where
 
 pub first_is_free : {A : Type 0} (places : List (Option A)) (at : ℕ) → IsFirstFree places at → is_free_place places at ≡ true
 first_is_free places at first = rw (first.free, le-leb at (length places) first.within) refl
+
+module _ {D : Type 0} (c s : List (Option (Object D))) (w : Within c s) where
+  -- ---- the number of the first free place
+
+  abbrev Numbered : ℕ → ℕ → ℕ → Option ℕ → Type 0
+  Numbered at first end number = MatchOption number (end ≤ at) (λ n. (at < end) × (n ≡ at + first))
+
+  pub next_client : (at : ℕ) (number : Option ℕ) → IsFirstFree c at → Numbered at 1 0xFEFFFFFF number → NextNew client_range (store_of c s) number
+  next_client at None free past = full_client c s w at (omega arith) free
+  next_client at (Some n) free (below, is) = least_client c s w at n (omega arith) (omega arith) free
+
+  pub next_server : (at : ℕ) (number : Option ℕ) → IsFirstFree s at → Numbered at 0xFF000000 0x1000000 number → NextNew server_range (store_of c s) number
+  next_server at None free past = full_server c s w at (omega arith) free
+  next_server at (Some n) free (below, is) = least_server c s w at n (omega arith) (omega arith) free
+
+  pub next_is_free : (at : ℕ) (number : Option ℕ) → IsFirstFree c at → Numbered at 1 0xFEFFFFFF number → IfSome number (λ n. is_free (store_of c s) n ≡ true)
+  next_is_free at None free past = tt
+  next_is_free at (Some n) free (below, is) = free_client c s w n at (omega arith) (omega arith) ∙ first_is_free c at free
 
 -- ---- the number that is told
 

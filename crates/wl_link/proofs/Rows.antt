@@ -22,6 +22,9 @@ use Rattle.wl_link.proofs.Calls.FlushLaws.{some_bytes}
 use Rattle.wl_link.specs.Inside.FreeTree.{IsHeight, lowest_bit, reads_of}
 use Rattle.wl_link.specs.Identity.{named_in, names}
 use Rattle.wl_link.specs.Link.{AreLimits, FilledBy, Flushes, Grows, IsLimit, LinkState, ReadOne, Wants, WroteBy, grown_capacity, ignoring, incoming_limit, left_of, offer_of, offer_size, spelled, with_incoming_capacity}
+use Rattle.wl_link.specs.Mailbox.{MailboxState, behind, front, mailbox_after_receive, mailbox_after_send, mailbox_answer, mailbox_gives}
+use Rattle.wl_link.specs.declared.mailbox.Ending.{Ending}
+use Rattle.wl_link.specs.declared.mailbox.Ending.TheVariants as ending
 use Rattle.wl_link.specs.ObjectMap.{InsertsAt, InsertsNew, NextNew, WordsRead}
 use Rattle.wl_link.specs.Script.{Script, ScriptReceives, ScriptSends, script_after_receive, script_after_send, script_gives, send_answer}
 use Rattle.wl_link.specs.Store.{Store, client_range, empty_store, first_unused, held, is_free, removed, server_range, stored}
@@ -199,6 +202,75 @@ fault_of_a_send = (refl, refl)
 -- where no answer is left all is taken
 no_answer_left : (send_answer (answering []) chunk ≡ Ok 3) × (script_after_send (answering []) chunk ≡ recording [] (chunk ∷ []))
 no_answer_left = (refl, refl)
+
+-- ---- a mailbox
+
+abbrev holding : Queue → Ending → MailboxState
+holding arrived end = record { arrived = arrived; ending = end; waiting = nothing; room = 3; send_fault = None }
+
+-- what arrived gives the bytes that fit with all tokens, and its other bytes stay
+mailbox_in_two : (mailbox_gives (holding chunk ending.Ended) 2 ≡ Ok (queue (1 ∷ 2 ∷ []) chunk.tokens))
+    × (mailbox_after_receive (holding chunk ending.Ended) 2 ≡ holding (queue (3 ∷ []) []) ending.Ended)
+mailbox_in_two = (refl, refl)
+
+-- then comes the end, which stays
+end_stays : (mailbox_gives (holding nothing ending.Ended) 5 ≡ Ok nothing)
+    × (mailbox_after_receive (holding nothing ending.Ended) 5 ≡ holding nothing ending.Ended)
+end_stays = (refl, refl)
+
+-- so does a fault
+fault_stays : (mailbox_gives (holding nothing (ending.Failed fault.Pipe)) 5 ≡ Err fault.Pipe)
+    × (mailbox_after_receive (holding nothing (ending.Failed fault.Pipe)) 5 ≡ holding nothing (ending.Failed fault.Pipe))
+fault_stays = (refl, refl)
+
+-- tokens alone wait for a byte
+tokens_alone_stay : (mailbox_gives (holding (queue [] (token 8 ∷ [])) ending.Open) 5 ≡ Err fault.WouldBlock)
+    × (mailbox_after_receive (holding (queue [] (token 8 ∷ [])) ending.Open) 5 ≡ holding (queue [] (token 8 ∷ [])) ending.Open)
+tokens_alone_stay = (refl, refl)
+
+-- a receive into no room answers 0 and leaves the mailbox
+mailbox_no_room : (mailbox_gives (holding chunk ending.Open) 0 ≡ Ok nothing)
+    × (mailbox_after_receive (holding chunk ending.Open) 0 ≡ holding chunk ending.Open)
+mailbox_no_room = (refl, refl)
+
+abbrev keeping : Queue → Option IoFault → MailboxState
+keeping waiting send_fault = record { arrived = nothing; ending = ending.Open; waiting = waiting; room = 3; send_fault = send_fault }
+
+-- a send takes all if fewer bytes wait than there is room for, however many it is offered
+send_takes_all : (mailbox_answer (keeping (queue (7 ∷ 7 ∷ []) (token 6 ∷ [])) None) chunk ≡ Ok 3)
+    × (mailbox_after_send (keeping (queue (7 ∷ 7 ∷ []) (token 6 ∷ [])) None) chunk
+    ≡ keeping (queue (7 ∷ 7 ∷ 1 ∷ 2 ∷ 3 ∷ []) (token 6 ∷ token 8 ∷ token 9 ∷ [])) None)
+send_takes_all = (refl, refl)
+
+-- and else nothing
+no_room_left : (mailbox_answer (keeping (queue (7 ∷ 7 ∷ 7 ∷ []) []) None) chunk ≡ Err fault.WouldBlock)
+    × (mailbox_after_send (keeping (queue (7 ∷ 7 ∷ 7 ∷ []) []) None) chunk ≡ keeping (queue (7 ∷ 7 ∷ 7 ∷ []) []) None)
+no_room_left = (refl, refl)
+
+-- two tokens find room beside 26, and not beside 27
+tokens_find_room : (mailbox_answer (keeping (queue [] (replicate 26 (token 7))) None) chunk ≡ Ok 3)
+    × (mailbox_answer (keeping (queue [] (replicate 27 (token 7))) None) chunk ≡ Err fault.WouldBlock)
+tokens_find_room = (refl, refl)
+
+-- if sends fail they take nothing
+sends_fail : (mailbox_answer (keeping nothing (Some fault.Pipe)) chunk ≡ Err fault.Pipe)
+    × (mailbox_after_send (keeping nothing (Some fault.Pipe)) chunk ≡ keeping nothing (Some fault.Pipe))
+sends_fail = (refl, refl)
+
+-- a send of no bytes keeps its tokens
+tokens_are_kept : (mailbox_answer (keeping nothing None) (queue [] (token 8 ∷ [])) ≡ Ok 0)
+    × (mailbox_after_send (keeping nothing None) (queue [] (token 8 ∷ [])) ≡ keeping (queue [] (token 8 ∷ [])) None)
+tokens_are_kept = (refl, refl)
+
+-- the host sends a part with all tokens, nothing, or all
+part_is_sent : (front 2 chunk ≡ queue (1 ∷ 2 ∷ []) chunk.tokens) × (behind 2 chunk ≡ queue (3 ∷ []) [])
+part_is_sent = (refl, refl)
+
+nothing_is_sent : (front 0 chunk ≡ nothing) × (behind 0 chunk ≡ chunk)
+nothing_is_sent = (refl, refl)
+
+all_is_sent : (front 9 chunk ≡ chunk) × (behind 9 chunk ≡ nothing)
+all_is_sent = (refl, refl)
 
 -- ---- a write
 

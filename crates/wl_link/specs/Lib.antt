@@ -5,6 +5,9 @@ pub mod ObjectMap
 pub mod Exchange
 pub mod Script
 pub mod ScriptLaws
+pub mod Mailbox
+pub mod MailboxLaws
+pub mod MailboxCalls
 pub mod Link
 pub mod Lending
 pub mod Refusals

@@ -10,6 +10,7 @@
 //! | of a `BufferedSocket` | `buffered_socket` | `Link`, `NothingLost` |
 //! | of a `MessagePlace`, into which messages are read, and `clear_message` | `message_place` | none |
 //! | of a `Transport`, and of `Memory`, the transport by script | `transport`, `memory` | `Exchange`, `Script` |
+//! | of `Mailbox`, the transport into which the program puts what it received | `mailbox` | `Mailbox` |
 //! | of an `ObjectMap`, and of `AllObjects` and `IntoObjects`, the walks over it | `object_map`, `all_objects`, `into_objects` | `Store`, `ObjectMap` |
 //!
 //! The `requires` and `ensures` lines of a function are its *contract*: what the caller has to see to, and what is proved
@@ -31,6 +32,7 @@ mod free_tree;
 mod into_objects;
 pub mod laws;
 mod limit;
+mod mailbox;
 mod memory;
 mod message_place;
 mod object;
@@ -44,6 +46,7 @@ pub use all_objects::AllObjects;
 pub use buffered_socket::BufferedSocket;
 pub use into_objects::IntoObjects;
 pub use limit::{DEFAULT_MAX_BUFFER_SIZE, INCOMING_LIMIT};
+pub use mailbox::{Ending, Mailbox, MailboxError};
 pub use memory::{ArriveError, Memory};
 pub use message_place::{MessagePlace, clear_message};
 pub use object::Object;

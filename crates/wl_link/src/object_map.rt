@@ -1,6 +1,6 @@
 //! The objects of a session by their numbers.
 
-ghost use Rattle.std.specs.Prelude.{◌≡◌, ◌<◌, ◌≤◌, false, true, Err, OnOk, OnErr, IfSome, IsSome, option_copied};
+ghost use Rattle.std.specs.Prelude.{◌≡◌, ◌+◌, ◌<◌, ◌≤◌, false, true, Err, OnOk, OnErr, IfSome, IsSome, MatchOption, option_copied};
 ghost use Rattle.std.specs.Fn.{FnOnceReturnsAtMut};
 ghost use Rattle.std.specs.FinMap as map;
 ghost use Rattle.wl_link.specs.Store.{client_range, server_range, empty_store, first_unused, held, is_free, removed, IsWalk};
@@ -101,6 +101,18 @@ fn place_of(number: u32) -> Place
         Place::Client((number - 1) as usize)
     } else {
         Place::Nowhere
+    }
+}
+
+/// The number of the place `at`, if it is below `end`. `first` is the number of the first place.
+fn number_of(at: usize, first: u32, end: usize) -> Option<u32>
+    requires { end + first ≤ 4294967296 }
+    ensures { MatchOption result (end ≤ at) (λ n. (at < end) × (n ≡ at + first)) }
+{
+    if at < end {
+        Some(at as u32 + first)
+    } else {
+        None
     }
 }
 
@@ -205,11 +217,27 @@ impl<Data: Drop> ObjectMap<Data> {
         ensures few_words { self.new.words_read ≤ 6 }
     {
         let at = self.clients.first_free(&mut self.words_read);
-        if at < CLIENT_PLACES {
-            Some(at as u32 + 1)
-        } else {
-            None
-        }
+        number_of(at, 1, CLIENT_PLACES)
+    }
+
+    /// The number that `client_insert_new` would give, as `next_client` tells it. The map is only looked at, so
+    /// `words_read` does not count this search.
+    pub fn peek_client(&self) -> Option<u32>
+        ensures { NextNew client_range self.now.store result }
+    {
+        number_of(self.clients.first_free(&mut 0), 1, CLIENT_PLACES)
+    }
+
+    /// The number that `server_insert_new` would give; `None` if each number of the server's range holds an object. It
+    /// allocates nothing, and `words_read` does not count this search.
+    pub fn peek_server(&self) -> Option<u32>
+        ensures { NextNew server_range self.now.store result }
+    {
+        number_of(
+            self.servers.first_free(&mut 0),
+            SERVER_ID_LIMIT,
+            SERVER_PLACES,
+        )
     }
 
     /// How many words of the tree the last search for a number read; 0 before the first search.

@@ -1,8 +1,10 @@
-//! A chunk of bytes, with tokens, that will arrive at a transport by script.
+//! Bytes with tokens, as they wait in the transports of this crate.
 
-ghost use Rattle.std.specs.Prelude.{◌≡◌, ◌≢◌, ◌≤◌, ◌<◌, ◌+◌, ◌-◌, ◌++◌, ◌==◌, [], IsOk, IfOk, MatchResult, length, take, drop, min};
+ghost use Rattle.std.specs.Prelude.{◌≡◌, ◌≢◌, ◌≤◌, ◌<◌, ◌+◌, ◌-◌, ◌++◌, ◌==◌, [], IsOk, IfOk, OnOk, OnErr, MatchResult, length, take, drop, min};
 ghost use Rattle.std.specs.Vec.{vec_len};
 ghost use Rattle.std.specs.VecDeque.{deque_len, deque_capacity};
+ghost use Rattle.wl_link.specs.Exchange.{nothing, joined};
+ghost use Rattle.wl_link.specs.Mailbox.{behind};
 
 use std::alloc::AllocError;
 use std::collections::VecDeque;
@@ -10,7 +12,10 @@ use std::marker::Model;
 use wl_wire::Token;
 
 /// Bytes, and at most 28 tokens. The bytes are given out in pieces, and the tokens with the first piece.
-#[derive(Drop)]
+///
+/// To give bytes out moves none of the others. They are moved to the front only if bytes that are appended find no room, and
+/// only if they are no more than those that were given out. So no byte that was given out makes more than one other move.
+#[derive(Debug, Drop)]
 pub struct Parcel {
     bytes: Vec<u8>,
     /// How many of the bytes were given out.
@@ -41,6 +46,21 @@ impl Parcel {
             start: 0,
             tokens,
         }
+    }
+
+    /// The bytes that are left.
+    pub fn bytes(&self) -> &[u8]
+        ensures { result.now ≡ self.now.bytes }
+    {
+        &self.bytes[self.start..]
+    }
+
+    /// The tokens that are left.
+    pub fn tokens(&self) -> &[Token]
+        ensures tokens { result.now ≡ self.now.tokens }
+        ensures few { length result.now ≤ 28 }
+    {
+        &self.tokens
     }
 
     /// Whether no bytes are left.
@@ -74,8 +94,58 @@ impl Parcel {
         self.tokens.clear();
         let count = buffer.len().min(self.bytes.len() - self.start);
         buffer[..count].copy_from_slice(&self.bytes[self.start..self.start + count]);
-        self.start += count;
+        self.skip(count);
         Ok(count)
+    }
+
+    /// Takes `count` bytes off the front; all, if there are fewer. If the count is not 0, the tokens go with them.
+    pub fn take_off(&mut self, count: usize)
+        ensures { self.new ≡ behind count self.old }
+    {
+        if count == 0 {
+            return;
+        }
+        let count = count.min(self.bytes.len() - self.start);
+        self.tokens.clear();
+        self.skip(count);
+    }
+
+    /// Appends the bytes and the tokens. If there is no memory for them, nothing is changed.
+    pub fn append(&mut self, bytes: &[u8], tokens: &[Token]) -> Result<(), AllocError>
+        requires { length self.old.tokens + length tokens.now ≤ 28 }
+        ensures ok { OnOk result (self.new ≡ joined self.old (record { bytes = bytes.now; tokens = tokens.now })) }
+        ensures err { OnErr result ((self.new ≡ self.old) × (record { bytes = bytes.now; tokens = tokens.now } ≢ nothing)) }
+    {
+        self.move_up(bytes.len());
+        self.bytes.reserve(bytes.len())?;
+        self.tokens.extend_from_slice(tokens)?;
+        self.bytes.extend_from_slice(bytes)?;
+        Ok(())
+    }
+
+    /// Passes over so many bytes. The memory is used from its front again once none are left.
+    fn skip(&mut self, count: usize)
+        requires { count ≤ length self.old.bytes }
+        ensures { self.new ≡ record self.old { bytes = drop count self.old.bytes } }
+    {
+        self.start += count;
+        if self.start == self.bytes.len() {
+            self.bytes.clear();
+            self.start = 0;
+        }
+    }
+
+    /// Moves the bytes that are left to the front, if there is no room for `more` behind them and they are no more than
+    /// those that were given out.
+    fn move_up(&mut self, more: usize)
+        ensures { self.new ≡ self.old }
+    {
+        let waiting = self.bytes.len() - self.start;
+        if self.start < waiting || more <= self.bytes.capacity() - self.bytes.len() {
+            return;
+        }
+        self.bytes.drain(..self.start);
+        self.start = 0;
     }
 }
 

@@ -7,6 +7,7 @@ pub mod Creation
 pub mod Destruction
 pub mod Finishing
 pub mod Requests
+pub mod Returning
 pub mod Ends
 pub mod Sending
 pub mod Cleanup

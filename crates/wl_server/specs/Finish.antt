@@ -41,6 +41,16 @@ module _ {U : Type 0} where
   store_with_data store (Some id) (Some u) = data_given store id.number (named store id) u
   store_with_data store _ _ = store
 
+  -- an object that is kept has the data; else they come back
+  abbrev pub HoldsData : Option (Object (Kept U)) → U → Option U → Type 0
+  HoldsData None u back = back ≡ Some u
+  HoldsData (Some x) u back = (x.value.user_data ≡ Some u) × (back ≡ None)
+
+  -- the same of the object that an action made and of the data that were given, if there are both; else nothing comes back
+  abbrev pub DataHeld : Store (Kept U) → Option IdParts → Option U → Option U → Type 0
+  DataHeld store (Some id) (Some u) back = HoldsData (named store id) u back
+  DataHeld store _ _ back = back ≡ None
+
   -- the object that a request ends: its own sender, while that is kept
   abbrev pub ended_by : Store (Kept U) → IdParts → Bool → Option (Object (Kept U))
   ended_by store sender is_destructor = if is_destructor then named store sender else None

@@ -44,6 +44,9 @@ module _ {G : Type 0} where
   abbrev pub with_globals : Offer G → Globals G → Offer G
   with_globals offer globals = record offer { globals = globals }
 
+  abbrev pub with_table : Offer G → List InterfaceRow → Offer G
+  with_table offer table = record offer { table = table }
+
   abbrev pub global_serial : KeptGlobal G → ℕ
   global_serial k = k.serial
 

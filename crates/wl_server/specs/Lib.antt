@@ -19,6 +19,7 @@ pub mod Runs
 pub mod Backend
 pub mod Lending
 pub mod Lookups
+pub mod Next
 pub mod Posted
 -- ---- laws of runs
 pub mod Outcome

@@ -4,7 +4,7 @@
 -- that all clients feel, have one outcome. The law is about one client, since a server's value may differ in what no
 -- client sees, such as the order in which the notes of two clients stand.
 use Rattle.std.specs.Prelude.{◌≡◌, Bool, true, false, List, [], ◌∷◌, ◌++◌, Ok}
-use Rattle.wl_wire.specs.Table.{InterfaceRow}
+use Rattle.wl_wire.specs.Table.{InterfaceRow, interface_rows}
 use Rattle.wl_link.specs.Exchange.{Queue}
 use Rattle.wl_server.specs.declared.runs.step.Reply.{Reply}
 use Rattle.wl_server.specs.declared.runs.step.Reply.TheVariants as reply
@@ -43,11 +43,12 @@ pub record SameOutcome {T U C : Type 0} (id : ClientParts) (is_own : Bool) (answ
   pub held : after ≡ after'
 
 module _ {T U G C : Type 0} where
-  -- The answers are the same if they tell what all clients share: the id of a new client or of a new global. What is shared
-  -- before the call determines them.
+  -- The answers are the same if they tell what all clients share: the id of a new client or of a new global, or what became of
+  -- interfaces that were to be added. What is shared before the call determines them.
   abbrev pub SharedSame : Step T U G C → Reply T U → Reply T U → Type 0
   SharedSame (step.InsertClient _ _) answer answer' = answer ≡ answer'
   SharedSame (step.CreateGlobal _ _ _) answer answer' = answer ≡ answer'
+  SharedSame (step.AddInterfaces _) answer answer' = answer ≡ answer'
   SharedSame _ answer answer' = Unit {0}
 
   -- ---- calls
@@ -60,10 +61,16 @@ module _ {T U G C : Type 0} where
   ArrivesSame target chunk (step.Arrive target' bytes tokens) = (target ≡ target') × (chunk ≡ record { bytes = bytes.items; tokens = tokens.items })
   ArrivesSame target chunk _ = ⊥
 
+  -- the step adds interfaces with these rows
+  abbrev pub AddsSame : List InterfaceRow → Step T U G C → Type 0
+  AddsSame rows (step.AddInterfaces interfaces) = rows ≡ interface_rows interfaces.items
+  AddsSame rows _ = ⊥
+
   -- two steps are the same: their lists have the same items
   abbrev pub SameStep : Step T U G C → Step T U G C → Type 0
   SameStep (step.SendEvent m) s' = SendsSame (session_content m) s'
   SameStep (step.Arrive target bytes tokens) s' = ArrivesSame target (record { bytes = bytes.items; tokens = tokens.items }) s'
+  SameStep (step.AddInterfaces interfaces) s' = AddsSame (interface_rows interfaces.items) s'
   SameStep s s' = s ≡ s'
 
   -- the same step, or the same change of a transport

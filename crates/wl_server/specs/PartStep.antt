@@ -220,6 +220,8 @@ module _ {T U G C : Type 0} (w : World T G C) (id : ClientParts) (offer : Offer 
       (r : _) × (answer ≡ reply.Flush r) × FlushedFor target r before lacked did after
   PartStep (step.SetDefaultMaxBufferSize limit) answer before lacked did after =
       (answer ≡ reply.SetDefaultMaxBufferSize) × Unfelt before lacked did after
+  PartStep (step.AddInterfaces interfaces) answer before lacked did after =
+      (r : _) × (answer ≡ reply.AddInterfaces r) × Unfelt before lacked did after
   PartStep (step.SetClientMaxBufferSize target limit) answer before lacked did after =
       (answer ≡ reply.SetClientMaxBufferSize)
       × OfClient (same_client target id) before

@@ -27,6 +27,7 @@ use Rattle.wl_server.specs.declared.objects.Kept.{Kept}
 use Rattle.wl_server.specs.declared.reading.action.OpenAction.{OpenAction}
 use Rattle.wl_server.specs.declared.reading.action.OpenAction.TheVariants as opened
 use Rattle.wl_server.specs.Backend.{BackendState}
+use Rattle.wl_server.specs.Finish.{HoldsData}
 use Rattle.wl_server.specs.Identified.{waiting_of}
 use Rattle.wl_server.specs.Ids.{ClientParts, IdParts, same_client}
 use Rattle.wl_server.specs.Lookups.{and_then, client_of, object_of}
@@ -249,6 +250,26 @@ module _ {T U G C : Type 0} where
     pub request : RequestEndedAs before client u answer after
     pub clients : OtherClientsStay before client after
     pub stored : (other : ClientParts) → is_some (client_in after other) ≡ is_some (client_in before other)
+
+  -- ---- the data of an action
+
+  -- If the object that a bind made is kept, it has the data. Else they come back. A finish gives no id to another object, so
+  -- it is the same whether one asks before the data are given or after the call.
+  abbrev pub ReturnsBindData : BackendState T U G C → ClientParts → U → Result (Option U) (FinishRefused U) → BackendState T U G C → Type 0
+  ReturnsBindData before client u (Ok back) after =
+      (object : IdParts) × (action_in before client ≡ Some (opened.Bind object)) × HoldsData (object_of_client after client object) u back
+  ReturnsBindData before client u (Err refused) after = refused.user_data ≡ u
+
+  -- the same of the object that a request made, if it made one and data were given; else nothing comes back
+  abbrev pub RequestDataHeld : BackendState T U G C → ClientParts → Option IdParts → Option U → Option U → Type 0
+  RequestDataHeld after client (Some made) (Some u) back = HoldsData (object_of_client after client made) u back
+  RequestDataHeld after client _ _ back = back ≡ None
+
+  abbrev pub ReturnsRequestData : BackendState T U G C → ClientParts → Option U → Result (Option U) (FinishRefused (Option U)) → BackendState T U G C → Type 0
+  ReturnsRequestData before client u (Ok back) after =
+      (sender : IdParts) × (is_destructor : Bool) × (created : Option IdParts) × (action_in before client ≡ Some (opened.Request sender is_destructor created))
+      × RequestDataHeld after client created u back
+  ReturnsRequestData before client u (Err refused) after = refused.user_data ≡ u
 
   -- ---- the calls on clients
 

@@ -58,6 +58,7 @@ is_about id (step.RemoveGlobal _) = true
 is_about id (step.Flush None) = true
 is_about id (step.Flush (Some target)) = same_client target id
 is_about id (step.SetDefaultMaxBufferSize _) = true
+is_about id (step.AddInterfaces _) = true
 is_about id (step.SetClientMaxBufferSize target _) = same_client target id
 is_about id (step.NextAction target) = same_client target id
 is_about id (step.NextActionWithin target _) = same_client target id
@@ -144,8 +145,8 @@ module _ {T U G C : Type 0} where
   abbrev pub HasNextSerial : ℕ → Call T U G C → Type 0
   HasNextSerial last call = (new : ClientParts) → Inserts new call → (last < last_possible_serial) × (new.serial ≡ last + 1)
 
-  -- The id of each new global, and the serial of each new client, follows from the offer and the last serial alone. The run
-  -- leads from the offer and the last serial before it to those after it.
+  -- The id of each new global, the answer to interfaces that are added, and the serial of each new client follow from the offer
+  -- and the last serial alone. The run leads from the offer and the last serial before it to those after it.
   abbrev pub SharedAlone : Offer G → ℕ → List (Entry T U G C) → Offer G → ℕ → Type 0
   SharedAlone offer last [] offer' last' = (offer' ≡ offer) × (last' ≡ last)
   SharedAlone offer last (e ∷ run) offer' last' =

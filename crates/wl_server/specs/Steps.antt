@@ -1,6 +1,8 @@
 -- What a call does to a server: to what all clients share, and to what is held of every client id.
 use Rattle.std.specs.Prelude.{◌≡◌, ◌≢◌, ℕ, ◌+◌, ◌<◌, ◌⊎◌, ◌++◌, List, [], Bool, true, false, Option, None, Some, IsSome, Result, Ok, Err, AllPairs, ◌↔◌}
 use Rattle.wl_wire.specs.declared.interface.InterfaceId.{InterfaceId}
+use Rattle.wl_wire.specs.declared.protocol.TableError.TheVariants as table
+use Rattle.wl_wire.specs.Table.{AnswersGrowth, InterfaceRow, grown, interface_rows}
 use Rattle.wl_server.specs.declared.error.GlobalError.TheVariants as global
 use Rattle.wl_server.specs.declared.error.InsertClientError.{InsertClientError}
 use Rattle.wl_server.specs.declared.error.InsertClientError.TheVariants as insert
@@ -9,7 +11,7 @@ use Rattle.wl_server.specs.declared.runs.step.Reply.TheVariants as reply
 use Rattle.wl_server.specs.declared.runs.step.Step.{Step}
 use Rattle.wl_server.specs.declared.runs.step.Step.TheVariants as step
 use Rattle.wl_server.specs.Deeds.{Deed}
-use Rattle.wl_server.specs.Globals.{Globals, Offer, CreatesGlobal, disabled, freed, with_created, with_globals}
+use Rattle.wl_server.specs.Globals.{Globals, Offer, CreatesGlobal, disabled, freed, with_created, with_globals, with_table}
 use Rattle.wl_server.specs.Ids.{ClientParts}
 use Rattle.wl_server.specs.Part.{last_possible_serial}
 use Rattle.wl_server.specs.PartStep.{Asked, Call, PartCall, World}
@@ -71,6 +73,11 @@ abbrev pub created_by : {T U G : Type 0} → Globals G → InterfaceId → ℕ �
 created_by globals i version handler (reply.CreateGlobal r) = with_created globals i version handler r
 created_by globals i version handler _ = globals
 
+-- the table, after a call to add these rows was answered so
+abbrev pub table_by : {T U : Type 0} → List InterfaceRow → List InterfaceRow → Reply T U → List InterfaceRow
+table_by table rows (reply.AddInterfaces r) = grown table rows r
+table_by table rows _ = table
+
 module _ {T U G C : Type 0} where
   -- the offer after a call, by its reply
   abbrev pub offer_after : Offer G → Call T U G C → Offer G
@@ -79,11 +86,14 @@ module _ {T U G C : Type 0} where
   offer_after offer (Asked (step.DisableGlobal g) answer) = with_globals offer (disabled offer.globals g)
   offer_after offer (Asked (step.RemoveGlobal g) answer) = with_globals offer (freed offer.globals g)
   offer_after offer (Asked (step.SetDefaultMaxBufferSize limit) answer) = record offer { default_limit = limit }
+  offer_after offer (Asked (step.AddInterfaces interfaces) answer) = with_table offer (table_by offer.table (interface_rows interfaces.items) answer)
   offer_after offer _ = offer
 
-  -- a new global has the least free name and the next serial, and each error has its reason
+  -- A new global has the least free name and the next serial, and each error has its reason. Interfaces that are added are
+  -- refused for their first fault, and for want of memory if they have none.
   abbrev pub NumbersGlobal : Offer G → Call T U G C → Type 0
   NumbersGlobal offer (Asked (step.CreateGlobal i version handler) (reply.CreateGlobal r)) = CreatesGlobal offer.table offer.globals i version r
+  NumbersGlobal offer (Asked (step.AddInterfaces interfaces) (reply.AddInterfaces r)) = AnswersGrowth offer.table (interface_rows interfaces.items) r
   NumbersGlobal offer _ = Unit {0}
 
   -- the clients that a cleanup takes out are in the order of their slots
@@ -105,6 +115,7 @@ module _ {T U G C : Type 0} where
   abbrev pub lacks_growth : Call T U G C → Bool
   lacks_growth (Asked _ (reply.InsertClient (Err insert.OutOfMemory))) = true
   lacks_growth (Asked _ (reply.CreateGlobal (Err global.OutOfMemory))) = true
+  lacks_growth (Asked _ (reply.AddInterfaces (Err table.OutOfMemory))) = true
   lacks_growth (Asked _ (reply.Cleanup (Err _))) = true
   lacks_growth (Asked _ (reply.TakeNotes (Err _))) = true
   lacks_growth _ = false

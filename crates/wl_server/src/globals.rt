@@ -2,10 +2,11 @@
 
 ghost use Rattle.std.specs.Prelude.{◌≡◌, ℕ, MatchOption, IfOk, Some, option_copied};
 ghost use Rattle.wl_link.specs.Identity.{names};
-ghost use Rattle.wl_link.specs.ObjectMap.{InsertsNew};
+ghost use Rattle.wl_link.specs.ObjectMap.{InsertsNew, NextNew};
 ghost use Rattle.wl_link.specs.Store.{held, rewritten};
 ghost use Rattle.wl_server.specs.Globals.{CreatesGlobal, as_disabled, disabled, freed, global_serial, name_range, new_global, with_created};
 
+pub mod add_interfaces;
 pub mod announce;
 pub mod create_global;
 pub mod handler;
@@ -42,6 +43,16 @@ pub fn global_in<'a, G: Drop>(
     match globals.find(id.name()) {
         Some(global) if global.value.serial == id.serial() => Some(global),
         _ => None,
+    }
+}
+
+/// The least name that no global has; `None` if none is left.
+pub fn next_name<G: Drop>(globals: &ObjectMap<KeptGlobal<G>>) -> Option<u32>
+    ensures { NextNew name_range globals.now.store result }
+{
+    match globals.peek_client() {
+        Some(name) => Some(name),
+        None => globals.peek_server(),
     }
 }
 

@@ -17,7 +17,9 @@
 //! them what the other clauses of its function say of calls over every transport.
 
 ghost use Rattle.std.specs.Prelude.{◌≡◌, ◌≢◌, ◌<◌, ◌≤◌, ◌∷◌, ◌++◌, [], ℕ, Bool, false, List, Option, Some, Result, Err};
-ghost use Rattle.wl_wire.specs.Table.{InterfaceRow};
+ghost use Rattle.wl_wire.specs.Table.{AnswersGrowth, InterfaceRow};
+ghost use Rattle.wl_wire.specs.declared.protocol.TableError.{TableError};
+ghost use Rattle.wl_wire.specs.declared.protocol.TableError.TheVariants as table_error;
 ghost use Rattle.wl_wire.specs.declared.error.IoFault.{IoFault};
 ghost use Rattle.wl_wire.specs.declared.interface.InterfaceId.{InterfaceId};
 ghost use Rattle.wl_link.specs.Exchange.{Queue, Sending, nothing, IsFunction, IsReceiveFunction};
@@ -100,8 +102,8 @@ pub fn each_client_has_one_outcome<T: Transport, U, G: GlobalHandler<C>, C>()
 ///
 /// Servers that look the same return the same in look-ups (clause `answers`): which clients are live, what is known of a
 /// client, an object and a global, and which handler a global has. What calls return about all clients together has one
-/// outcome, too: the id of a new client, the id of a new global or the reason for which there is none, and the list that
-/// a cleanup returns, which follows from each client's share of it.
+/// outcome, too: the id of a new client, the id of a new global or the reason for which there is none, what became of
+/// interfaces that were to be added, and the list that a cleanup returns, which follows from each client's share of it.
 pub fn each_run_of_a_server_has_one_outcome<T: Transport, U, G: GlobalHandler<C>, C>()
     ensures run { IsFunction T.sends → IsReceiveFunction T.receives → RunsHaveOneOutcome U (over T.sends T.receives G.views) }
     ensures steps { IsFunction T.sends → IsReceiveFunction T.receives → PerformancesHaveOneOutcome U (over T.sends T.receives G.views) }
@@ -114,6 +116,9 @@ pub fn each_run_of_a_server_has_one_outcome<T: Transport, U, G: GlobalHandler<C>
     ensures global { (table : List InterfaceRow) (globals : Globals G) (i : InterfaceId) (version : ℕ)
         (a b : Result GlobalParts GlobalError) → a ≢ Err global.OutOfMemory → b ≢ Err global.OutOfMemory →
         CreatesGlobal table globals i version a → CreatesGlobal table globals i version b → a ≡ b }
+    ensures interfaces { (table rows : List InterfaceRow) (a b : Result (Unit {0}) TableError) →
+        a ≢ Err table_error.OutOfMemory → b ≢ Err table_error.OutOfMemory →
+        AnswersGrowth table rows a → AnswersGrowth table rows b → a ≡ b }
     ensures cleanup { (out out' : List (ClientParts × T)) → RiseBySlot out → RiseBySlot out' →
         ((id : ClientParts) → share_of id out ≡ share_of id out') → out ≡ out' }
 {}

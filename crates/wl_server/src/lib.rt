@@ -14,16 +14,17 @@
 //!
 //! | Calls | Code | Relations, in `specs/` |
 //! |---|---|---|
-//! | `insert_client`, `kill_client`, `flush`, the limits | `client::insert`, `client::kill`, `client::flush`, `client::limits` | `PartStep`, `Felt`, `Telling` |
+//! | `insert_client`, `next_client_id`, `kill_client`, `flush`, the limits | `client::insert`, `client::kill`, `client::flush`, `client::limits` | `PartStep`, `Felt`, `Telling`, `Next` |
 //! | `transport_mut` | `client::transport` | `Backend`, `Lending` |
 //! | `create_object`, `destroy_object`, `set_object_data` | `objects` | `Objects` |
-//! | `send_event`, `post_error` | `events` | `Events`, `Errors`, `Posted` |
-//! | `next_action`, `next_action_within` | `reading::next_action` | `Reading`, `Requests`, `Cutting`, `Room` |
-//! | `finish_request`, `finish_bind` | `reading::finish` | `Finish`, `Cutting` |
+//! | `send_event`, `send_event_lent`, `post_error` | `events` | `Events`, `Errors`, `Posted` |
+//! | `next_action`, `next_action_within`, and both `_into` | `reading::next_action` | `Reading`, `Requests`, `Cutting`, `Room` |
+//! | `finish_request`, `finish_bind`, and both `_returning` | `reading::finish` | `Finish`, `Cutting`, `Plain` |
 //! | `dispatch_single_client`, `dispatch_all_clients`, [`Handler`] | `dispatch` | `Dispatch`, `Reached` |
 //! | `create_global`, `disable_global`, `remove_global` | `globals::create_global`, `globals::remove_global` | `PartStep`, `Globals`, `Felt` |
+//! | `add_interfaces` | `globals::add_interfaces` | `Steps`, and `Table` of `wl_wire` |
 //! | `cleanup`, `take_notes` | `notes` | `PartStep`, `Felt` |
-//! | look-ups, `with_all_clients`, `with_all_objects_for` | `lookups`, `globals::lookups` | `Lookups` |
+//! | look-ups, `next_global_id`, `with_all_clients`, `with_all_objects_for` | `lookups`, `globals::lookups` | `Lookups`, `Next` |
 //! | `replay` | `runs::replay` | `Runs`, `Histories`, `WholeOutcome` |
 //!
 //! The calls that programs use most have a second clause, `plain`. It says what the program finds of the object, the

@@ -260,7 +260,7 @@ fn tell<T: Record>(log: &mut String, link: &BufferedSocket<T>, fact: Fact) -> Re
 
 /// Takes the record of the sends, and tells it.
 fn take_sent<T: Record>(log: &mut String, link: &mut BufferedSocket<T>) -> Result<(), Fail> {
-    let sends = link.transport_mut().take_sends(*log.allocator());
+    let sends = link.transport_mut().take_sends(*log.allocator())?;
     tell_sends(log, &sends)
 }
 

@@ -94,7 +94,7 @@ fn tell_count(log: &mut String, count: usize, buffer: &[u8], tokens: &[Token]) -
 }
 
 /// Tells how many bytes came, all bytes of the buffer, and the tokens that came.
-fn tell_received(
+pub fn tell_received(
     log: &mut String,
     received: Result<usize, IoFault>,
     buffer: &[u8],

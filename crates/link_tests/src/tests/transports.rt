@@ -4,7 +4,8 @@ ghost use Rattle.std.specs.Prelude.{◌≡◌, length, min, Ok, Err};
 
 use std::alloc::Global;
 use std::collections::VecDeque;
-use wl_link::{Memory, Transport};
+use std::test::Fail;
+use wl_link::{Mailbox, Memory, Transport};
 use wl_wire::{IoFault, Token};
 
 /// A transport that may record what is sent over it. Here it records nothing.
@@ -15,8 +16,8 @@ pub trait Record {
     }
 
     /// The record, which is empty from then on.
-    fn take_sends(&mut self, alloc: Global) -> Vec<(Vec<u8>, Vec<Token>)> {
-        Vec::new(alloc)
+    fn take_sends(&mut self, alloc: Global) -> Result<Vec<(Vec<u8>, Vec<Token>)>, Fail> {
+        Ok(Vec::new(alloc))
     }
 }
 
@@ -25,8 +26,20 @@ impl Record for Memory {
         self.sent()
     }
 
-    fn take_sends(&mut self, _alloc: Global) -> Vec<(Vec<u8>, Vec<Token>)> {
-        self.take_sent()
+    fn take_sends(&mut self, _alloc: Global) -> Result<Vec<(Vec<u8>, Vec<Token>)>, Fail> {
+        Ok(self.take_sent())
+    }
+}
+
+impl Record for Mailbox {
+    /// What waits to be sent, which is sent by that: as one send.
+    fn take_sends(&mut self, alloc: Global) -> Result<Vec<(Vec<u8>, Vec<Token>)>, Fail> {
+        let bytes = Vec::from_slice(alloc, self.bytes())?;
+        let tokens = Vec::from_slice(alloc, self.tokens())?;
+        self.sent(bytes.len());
+        let mut sends = Vec::new(alloc);
+        sends.push((bytes, tokens))?;
+        Ok(sends)
     }
 }
 

@@ -2,7 +2,7 @@
 
 use server_test_kit::steps::{Call, Made, arrive, arrive_with, step};
 use server_test_kit::told::{action, object, reply};
-use server_test_kit::values::{FIRST, Named, Shown, Thing, Who};
+use server_test_kit::values::{Event, FIRST, Named, Shown, Thing, Who, message};
 use std::alloc::Global;
 use std::fmt::Write;
 use std::test::Fail;
@@ -11,7 +11,7 @@ use test_kit::log::row_tells;
 use test_kit::message::padded;
 use test_kit::quad::{QUAD, quad_table};
 use wl_link::Memory;
-use wl_server::{Action, ActionError, Backend, ClientId, Reply};
+use wl_server::{Action, ActionError, Backend, ClientId, ObjectId, Reading, Reply};
 use wl_wire::{InterfaceId, IoFault};
 
 /// A server of the runs.
@@ -43,8 +43,25 @@ pub enum Act {
     Globals(u32),
     /// Makes the calls, and tells nothing of them.
     Quietly(&'static [Call]),
+    /// Makes a call beside one of those of `Do`.
+    Beside(Beside),
     /// Looks at something.
     Look(Look),
+}
+
+/// A call that stands beside another one: it takes or answers in another way what that one does.
+#[derive(Clone, Copy)]
+pub enum Beside {
+    /// `send_event_lent`.
+    SendLent(Event),
+    /// `next_action_into`.
+    NextInto(Who),
+    /// `next_action_within_into`, with so many receives left.
+    NextWithinInto(Who, u32),
+    /// `finish_request_returning`.
+    FinishReturning(Who, Option<u32>),
+    /// `finish_bind_returning`.
+    FinishBindReturning(Who, u32),
 }
 
 /// What is looked at.
@@ -66,6 +83,10 @@ pub enum Look {
     Arrivals(Who),
     /// How many bytes each send took of a client.
     Lengths(Who),
+    /// The id that the next global gets.
+    NextGlobal,
+    /// The id that the next client gets.
+    NextClient,
     /// The slots of the live clients, counted from 1: a digit for each call of the closure.
     Clients,
     /// The serials of a client's objects, counted from 1: a digit for each call of the closure.
@@ -457,6 +478,139 @@ fn objects(server: &Server, log: &mut String, who: Who) -> Result<(), Fail> {
     Ok(())
 }
 
+/// Tells the id that the next global gets.
+fn next_global(server: &Server, log: &mut String) -> Result<(), Fail> {
+    match server.next_global_id() {
+        Some(id) => writeln!(log, "next global {}, {}", id.name(), id.serial())?,
+        None => writeln!(log, "no global is left")?,
+    }
+    Ok(())
+}
+
+/// Tells the id that the next client gets.
+fn next_client(server: &Server, log: &mut String) -> Result<(), Fail> {
+    match server.next_client_id() {
+        Some(id) => writeln!(log, "next client {}, {}", id.slot(), id.serial())?,
+        None => writeln!(log, "no client is left")?,
+    }
+    Ok(())
+}
+
+/// An action of no client: of a global that no run has.
+fn unread() -> Action {
+    Action::Bind {
+        global: Named(99, 99).id(),
+        object: ObjectId::null(),
+    }
+}
+
+/// Whether it is still that action.
+fn is_unread(given: &Action) -> bool {
+    matches!(given, Action::Bind { global, .. } if global.name() == 99)
+}
+
+/// The answer of a call by value of which this is the answer, if the action is as it was after an error.
+fn answer_with(
+    answer: Result<(), ActionError>,
+    given: Action,
+) -> Result<Result<Action, ActionError>, Fail> {
+    match answer {
+        Ok(()) => Ok(Ok(given)),
+        Err(error) if is_unread(&given) => Ok(Err(error)),
+        Err(_) => Err(Fail::new("a refused reading changed the action")),
+    }
+}
+
+/// Reads into an action, and tells it as a reading does.
+fn next_into(server: &mut Server, log: &mut String, who: Who) -> Result<(), Fail> {
+    let mut given = unread();
+    let answer = server.next_action_into(&who.id(), &mut given);
+    reply(log, &Reply::NextAction(answer_with(answer, given)?))
+}
+
+/// The same with so many receives left.
+fn next_within_into(
+    server: &mut Server,
+    log: &mut String,
+    who: Who,
+    receives_left: u32,
+) -> Result<(), Fail> {
+    let mut given = unread();
+    let mut reading = Reading {
+        receives_left,
+        read: 0,
+    };
+    let answer = server.next_action_within_into(&who.id(), &mut reading, &mut given);
+    reply(
+        log,
+        &Reply::NextActionWithin(answer_with(answer, given)?, reading),
+    )
+}
+
+/// Sends an event that is lent, and tells it as one that is given.
+fn send_lent(
+    alloc: Global,
+    server: &mut Server,
+    log: &mut String,
+    event: Event,
+) -> Result<(), Fail> {
+    let lent = message(alloc, event)?;
+    let answer = server.send_event_lent(&lent);
+    reply(log, &Reply::SendEvent(answer))
+}
+
+/// Tells the data that came back of a finish, and its answer as that of the call that drops them.
+fn finish_returning(
+    server: &mut Server,
+    log: &mut String,
+    who: Who,
+    given: Option<u32>,
+) -> Result<(), Fail> {
+    let answer = server.finish_request_returning(&who.id(), given);
+    if let Ok(Some(data)) = &answer {
+        writeln!(log, "{data} came back")?;
+    }
+    reply(log, &Reply::FinishRequest(answer.map(|_| ())))
+}
+
+/// The same of a bind.
+fn finish_bind_returning(
+    server: &mut Server,
+    log: &mut String,
+    who: Who,
+    given: u32,
+) -> Result<(), Fail> {
+    let answer = server.finish_bind_returning(&who.id(), given);
+    if let Ok(Some(data)) = &answer {
+        writeln!(log, "{data} came back")?;
+    }
+    reply(log, &Reply::FinishBind(answer.map(|_| ())))
+}
+
+/// Makes the call, for which there is to be memory, and tells its answer as that of the call that it stands beside.
+fn make_beside(
+    alloc: Global,
+    server: &mut Server,
+    log: &mut String,
+    call: Beside,
+) -> Result<(), Fail> {
+    match call {
+        Beside::SendLent(event) => send_lent(alloc, server, log, event)?,
+        Beside::NextInto(who) => next_into(server, log, who)?,
+        Beside::NextWithinInto(who, receives_left) => {
+            next_within_into(server, log, who, receives_left)?
+        }
+        Beside::FinishReturning(who, given) => finish_returning(server, log, who, given)?,
+        Beside::FinishBindReturning(who, given) => {
+            finish_bind_returning(server, log, who, given)?
+        }
+    }
+    if server.memory_refused() {
+        return Err(Fail::new("memory was refused"));
+    }
+    Ok(())
+}
+
 /// Looks at it.
 fn look_at(alloc: Global, server: &Server, log: &mut String, at_what: Look) -> Result<(), Fail> {
     match at_what {
@@ -468,6 +622,8 @@ fn look_at(alloc: Global, server: &Server, log: &mut String, at_what: Look) -> R
         Look::Name(of, who) => name(server, log, of, who),
         Look::Arrivals(who) => arrivals(server, log, who),
         Look::Lengths(who) => lengths(server, log, who),
+        Look::NextGlobal => next_global(server, log),
+        Look::NextClient => next_client(server, log),
         Look::Clients => clients(server, log),
         Look::Objects(who) => objects(server, log, who),
     }
@@ -502,6 +658,7 @@ pub fn perform_all(
             Act::Serve(who) => serve(server, log, who)?,
             Act::GlobalInWant => global_in_want(server, log)?,
             Act::TakeOut => take_out(server, log)?,
+            Act::Beside(call) => make_beside(alloc, server, log, call)?,
             Act::Look(what) => look_at(alloc, server, log, what)?,
             _ => prepare(alloc, server, *act)?,
         }

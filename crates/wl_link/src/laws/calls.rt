@@ -9,6 +9,8 @@ ghost use Rattle.wl_wire.specs.declared.error.MessageParseError.TheVariants as e
 ghost use Rattle.wl_wire.specs.Message.{WireMessage};
 ghost use Rattle.wl_link.specs.Exchange.{Queue, Sending, IsFunction, IsReceiveFunction};
 ghost use Rattle.wl_link.specs.Script.{ScriptSends, ScriptReceives};
+ghost use Rattle.wl_link.specs.Mailbox.{MailboxState, MailboxSends, MailboxReceives};
+ghost use Rattle.wl_link.specs.MailboxCalls.{DoesAll, MailboxCall, MailboxKeeps, StaysWithinRoom};
 ghost use Rattle.wl_link.specs.Link.{LinkState, Flushed, FlushedBy, Wrote, WroteBy, FilledBy, ReadOne};
 ghost use Rattle.wl_link.specs.NothingLost.{FlushKeeps, FlushDrains, WriteKeeps};
 ghost use Rattle.wl_link.specs.Outcome.{SameCall, SameFill, SameRead};
@@ -66,6 +68,24 @@ pub fn one_outcome<T: Transport>()
 pub fn script_has_one_outcome()
     ensures sends { IsFunction ScriptSends }
     ensures receives { IsReceiveFunction ScriptReceives }
+{}
+
+/// The transport by mailbox is deterministic: its answers follow from its value.
+pub fn mailbox_has_one_outcome()
+    ensures sends { IsFunction MailboxSends }
+    ensures receives { IsReceiveFunction MailboxReceives }
+{}
+
+/// A mailbox loses nothing, whatever calls are made and in which order. What was received, followed by what is left of the
+/// arrivals, is what was left before, followed by what the host put in. What the host took out, followed by what waits, is
+/// what waited before, followed by what the sends took (`kept`).
+///
+/// A send leaves fewer bytes than the room and what it was offered have together, or it takes nothing (`room`).
+pub fn mailbox_loses_nothing()
+    ensures kept { (before after : MailboxState) (calls : List MailboxCall) →
+        DoesAll before calls after → MailboxKeeps calls before after }
+    ensures room { (before after : MailboxState) (offer : Queue) (answer : _) →
+        MailboxSends before offer answer after → StaysWithinRoom before offer after }
 {}
 
 /// The messages that were written are read back: the same messages in the same order. The bytes and tokens must be carried

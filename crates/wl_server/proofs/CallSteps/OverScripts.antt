@@ -64,6 +64,7 @@ module _ {U G C : Type 0} (views : G → ClientParts → C → GlobalParts → B
     part_step (step.Flush None) answer before lacked did after h = h
     part_step (step.Flush (Some target)) answer before lacked did after h = h
     part_step (step.SetDefaultMaxBufferSize limit) answer before lacked did after h = h
+    part_step (step.AddInterfaces interfaces) answer before lacked did after h = h
     part_step (step.SetClientMaxBufferSize target limit) answer before lacked did after h = h
     part_step (step.NextAction target) answer before lacked did after h = h
     part_step (step.NextActionWithin target reading) answer before lacked did after h = h

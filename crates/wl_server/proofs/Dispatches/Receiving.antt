@@ -124,6 +124,7 @@ module _ {T U G C : Type 0} (w : World T G C) (id : ClientParts) (offer : Offer 
   call_quiet (Asked (step.RemoveGlobal g) answer) other h = felt (Asked (step.RemoveGlobal g) answer) refl h h
   call_quiet (Asked (step.Flush target) answer) other h = felt (Asked (step.Flush target) answer) refl h h
   call_quiet (Asked (step.SetDefaultMaxBufferSize limit) answer) other h = felt (Asked (step.SetDefaultMaxBufferSize limit) answer) refl h h
+  call_quiet (Asked (step.AddInterfaces interfaces) answer) other h = felt (Asked (step.AddInterfaces interfaces) answer) refl h h
   call_quiet (Asked (step.SetClientMaxBufferSize target limit) answer) other h = felt (Asked (step.SetClientMaxBufferSize target limit) answer) refl h h
   call_quiet (Asked (step.NextAction target) answer) other (r, left, is, h) = unfelt_quiet (at_other _ _ (same_client target id) other h)
   call_quiet (Asked (step.NextActionWithin target reading) answer) other (r, left, is, h) = unfelt_quiet (at_other _ _ (same_client target id) other h)
@@ -230,6 +231,7 @@ module _ {T U G C : Type 0} (w : World T G C) (id : ClientParts) (offer : Offer 
   keeps_to (Asked (step.RemoveGlobal g) answer) h = nothing (Asked (step.RemoveGlobal g) answer) refl h
   keeps_to (Asked (step.Flush target) answer) h = nothing (Asked (step.Flush target) answer) refl h
   keeps_to (Asked (step.SetDefaultMaxBufferSize limit) answer) h = nothing (Asked (step.SetDefaultMaxBufferSize limit) answer) refl h
+  keeps_to (Asked (step.AddInterfaces interfaces) answer) h = nothing (Asked (step.AddInterfaces interfaces) answer) refl h
   keeps_to (Asked (step.SetClientMaxBufferSize target limit) answer) h = nothing (Asked (step.SetClientMaxBufferSize target limit) answer) refl h
   keeps_to (Asked (step.FinishRequest target u) answer) h = nothing (Asked (step.FinishRequest target u) answer) refl h
   keeps_to (Asked (step.FinishBind target u) answer) h = nothing (Asked (step.FinishBind target u) answer) refl h

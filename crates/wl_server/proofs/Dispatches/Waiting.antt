@@ -344,6 +344,7 @@ module _ {T U G C : Type 0} (w : World T G C) (id : ClientParts) (offer : Offer 
   adds_nothing (Asked (step.RemoveGlobal g) answer) other (is, h) = feels_loss g h
   adds_nothing (Asked (step.Flush target) answer) other (r, is, h) = flushed target r h
   adds_nothing (Asked (step.SetDefaultMaxBufferSize limit) answer) other (is, h) = unfelt_no_more before after lacked did h
+  adds_nothing (Asked (step.AddInterfaces interfaces) answer) other (r, is, h) = unfelt_no_more before after lacked did h
   adds_nothing (Asked (step.SetClientMaxBufferSize target limit) answer) other (is, h) =
       of_client before after lacked did _ _ _
       (λ p q (unlacked, none, (link, (most, limits, set), same)). ap (λ (x : Part T U C). x.link.incoming) same ∙ ap (λ (l : LinkState T). l.incoming) set) h

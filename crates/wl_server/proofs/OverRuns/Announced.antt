@@ -2,6 +2,7 @@
 pub mod RequestCases
 pub mod AnnouncementLaws
 pub mod ShownLaws
+pub mod InterfaceLaws
 pub mod Watching
 pub mod WatchedVerdicts
 pub mod WatchedReadings

@@ -177,6 +177,12 @@ module _ {U C : Type 0} where
     closing_store (Ok v) = refl
     closing_store (Err f) = refl
 
+-- a write that failed kills the client, and changes none of its objects
+pub store_unless_written : {T U C : Type 0} (s after : Stored T U C) (wrote : Result (Unit {0}) IoFault)
+    → MatchResult wrote (λ _. after ≡ s) (λ _. Does s (λ p did q. Kills p ConnectionClosed did q) after) → after.part.store ≡ s.part.store
+store_unless_written {T} {U} {C} s after (Ok v) same = ap (λ (x : Stored T U C). x.part.store) same
+store_unless_written {T} {U} {C} s after (Err f) kills = ap (λ (x : Stored T U C). x.part.store) (kills_is s after ConnectionClosed kills)
+
 -- ---- the end of a request
 
 pub where_none : {X : Type 0} (o : Option X) → None ≡ o → (A : Type 0) (B : X → Type 0) → A → MatchOption o A B

@@ -1,6 +1,10 @@
 -- Worked steps of a server, computed from the definitions: they say what was meant.
 use Rattle.std.proofs.Common.{◌≡◌, ℕ, Bool, List, [], ◌∷◌, ◌++◌, Option, Some, None, Ok, Err, true, false, refl, arith}
-use Rattle.std.specs.Prelude.{ℕ}
+use Rattle.std.specs.Prelude.{ℕ, Vec}
+use Rattle.std.specs.Global.{Global}
+use Rattle.wl_wire.specs.declared.interface.Interface.{Interface}
+use Rattle.wl_wire.specs.declared.protocol.TableError.TheVariants as table_error
+use Rattle.wl_wire.specs.Table.{interface_rows}
 use Rattle.wl_wire.specs.declared.error.IoFault.TheVariants as fault
 use Rattle.wl_wire.specs.declared.argument.Token.{Token}
 use Rattle.wl_wire.specs.declared.message.Message.{Message}
@@ -120,6 +124,18 @@ an_offer_that_stays = refl
 
 a_new_limit : offer_after offer (asked (step.SetDefaultMaxBufferSize 8192) reply.SetDefaultMaxBufferSize) ≡ record offer { default_limit = 8192 }
 a_new_limit = refl
+
+-- more interfaces follow those of the table; if they are refused, the offer stays
+module _ (interfaces : Vec Interface Global) where
+  more_interfaces : offer_after offer (asked (step.AddInterfaces interfaces) (reply.AddInterfaces (Ok tt))) ≡ record offer { table = table ++ interface_rows interfaces.items }
+  more_interfaces = refl
+
+  no_more_interfaces : offer_after offer (asked (step.AddInterfaces interfaces) (reply.AddInterfaces (Err (table_error.UnknownInterface 0)))) ≡ offer
+  no_more_interfaces = refl
+
+  refused_interfaces : (lacks_growth (asked (step.AddInterfaces interfaces) (reply.AddInterfaces (Err table_error.OutOfMemory))) ≡ true)
+      × (lacks_growth (asked (step.AddInterfaces interfaces) (reply.AddInterfaces (Err (table_error.UnknownInterface 0)))) ≡ false)
+  refused_interfaces = (refl, refl)
 
 -- ---- memory
 

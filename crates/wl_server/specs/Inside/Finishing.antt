@@ -1,5 +1,5 @@
 -- What the functions that end an action say to their callers.
-use Rattle.std.specs.Prelude.{◌≡◌, ◌⊎◌, ℕ, ◌++◌, Bool, true, false, Option, None, is_some, Result, Ok, Err, MatchOption}
+use Rattle.std.specs.Prelude.{◌≡◌, ◌⊎◌, ℕ, ◌++◌, Bool, true, false, Option, None, Some, is_some, Result, Ok, Err, MatchOption}
 use Rattle.wl_wire.specs.declared.error.IoFault.{IoFault}
 use Rattle.wl_wire.specs.declared.error.OutOfMemory.{OutOfMemory}
 use Rattle.wl_link.specs.declared.object.Object.{Object}
@@ -11,9 +11,10 @@ use Rattle.wl_server.specs.declared.error.FinishError.{FinishError}
 use Rattle.wl_server.specs.declared.error.FinishError.TheVariants as finish
 use Rattle.wl_server.specs.declared.error.FinishRefused.{FinishRefused}
 use Rattle.wl_server.specs.declared.objects.Kept.{Kept}
-use Rattle.wl_server.specs.Finish.{ended_by, store_with_data}
+use Rattle.wl_server.specs.declared.reading.action.OpenAction.TheVariants as opened
+use Rattle.wl_server.specs.Finish.{DataHeld, HoldsData, ended_by, store_with_data}
 use Rattle.wl_server.specs.Ids.{ClientParts, IdParts}
-use Rattle.wl_server.specs.Part.{Part, note_of_end, registries_without, with_link}
+use Rattle.wl_server.specs.Part.{Part, named, note_of_end, registries_without, with_link}
 use Rattle.wl_server.specs.Inside.Puts.{Puts}
 use Rattle.wl_server.specs.Server.{Stored}
 use Rattle.wl_server.specs.Telling.{deletions}
@@ -31,6 +32,18 @@ module _ {T U C : Type 0} where
   -- no action is open any longer, and the object that it made has its data
   abbrev pub part_finished : Part T U C → Option IdParts → Option U → Part T U C
   part_finished p created u = record p { action = None; store = store_with_data p.store created u }
+
+  -- what becomes of the data of the open request or bind
+  abbrev pub RequestLeaves : Part T U C → Option U → Result (Option U) (FinishRefused (Option U)) → Part T U C → Type 0
+  RequestLeaves before u (Ok back) after =
+      (sender : IdParts) × (is_destructor : Bool) × (created : Option IdParts) × (before.action ≡ Some (opened.Request sender is_destructor created))
+      × DataHeld after.store created u back
+  RequestLeaves before u (Err _) after = Unit {0}
+
+  abbrev pub BindLeaves : Part T U C → U → Result (Option U) (FinishRefused U) → Part T U C → Type 0
+  BindLeaves before u (Ok back) after =
+      (object : IdParts) × (before.action ≡ Some (opened.Bind object)) × HoldsData (named after.store object) u back
+  BindLeaves before u (Err _) after = Unit {0}
 
   -- the part without an object, with this link
   abbrev pub part_without : Part T U C → LinkState T → ℕ → Object (Kept U) → Part T U C

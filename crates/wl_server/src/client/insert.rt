@@ -10,6 +10,7 @@ ghost use Rattle.wl_link.specs.Store.{empty_store, stored};
 ghost use Rattle.wl_server.specs.Backend.{Calls};
 ghost use Rattle.wl_server.specs.Inside.Client.{IsInserted};
 ghost use Rattle.wl_server.specs.Inside.Inserting.{AreTaken, IsPut};
+ghost use Rattle.wl_server.specs.Next.{NextClient, NextClientIsGiven};
 ghost use Rattle.wl_server.specs.Part.{display_object};
 ghost use Rattle.wl_server.specs.PartStep.{over};
 ghost use Rattle.wl_server.specs.Server.{Stored, stored_at};
@@ -190,6 +191,24 @@ fn put_new<T: Drop, U: Drop, C: Drop>(
     Ok(())
 }
 
+impl<T: Drop, U: Drop, G: Drop, C: Drop> Backend<T, U, G, C> {
+    /// The id that the next `insert_client` gives, if it is not refused for want of memory. `None` if each slot has a
+    /// client, or no serial is left. So a program can decide what a client may see before there is one.
+    ///
+    /// It looks for a free slot as `insert_client` does, and allocates no memory. A cleanup may free a lower slot, and another
+    /// client takes the id; so it holds until then.
+    pub fn next_client_id(&self) -> Option<ClientId>
+        ensures next { NextClient self.now.server.last_client self.now.server.clients result }
+        ensures given { NextClientIsGiven self.now.server.last_client self.now.server.clients result }
+    {
+        let slot = free_slot(&self.clients, self.free_from)?;
+        if self.last_client == u64::MAX {
+            return None;
+        }
+        Some(ClientId::from_parts(slot, self.last_client + 1))
+    }
+}
+
 impl<T: Transport + Drop, U: Drop, G: GlobalHandler<C> + Drop, C: Drop> Backend<T, U, G, C> {
     /// Inserts a new client with this transport and this data of the program, and returns its id.
     ///
@@ -212,13 +231,9 @@ impl<T: Transport + Drop, U: Drop, G: GlobalHandler<C> + Drop, C: Drop> Backend<
     {
         let alloc = self.alloc();
         self.refused = false;
-        let Some(slot) = free_slot(&self.clients, self.free_from) else {
+        let Some(id) = self.next_client_id() else {
             return Err(InsertClientError::Full);
         };
-        if self.last_client == u64::MAX {
-            return Err(InsertClientError::Full);
-        }
-        let id = ClientId::from_parts(slot, self.last_client + 1);
         match put_new(
             alloc,
             &mut self.clients,
@@ -229,7 +244,7 @@ impl<T: Transport + Drop, U: Drop, G: GlobalHandler<C> + Drop, C: Drop> Backend<
             client_data,
         ) {
             Ok(()) => {
-                self.free_from = slot as usize + 1;
+                self.free_from = id.slot() as usize + 1;
                 self.last_client += 1;
                 Ok(id)
             }

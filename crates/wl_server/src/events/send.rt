@@ -138,8 +138,9 @@ impl<T: Transport + Drop, U: Drop, C: Drop> Client<T, U, C> {
 }
 
 impl<T: Transport + Drop, U: Drop, G: GlobalHandler<C> + Drop, C: Drop> Backend<T, U, G, C> {
-    /// Sends an event that is borrowed.
-    fn send_lent(&mut self, message: &Message<ObjectId, Token>) -> Result<(), EventError>
+    /// Puts an event that is only lent, as `send_event` does: a program that sends one message again and again keeps it and
+    /// its memory.
+    pub fn send_event_lent(&mut self, message: &Message<ObjectId, Token>) -> Result<(), EventError>
         ensures { Calls (over T.sends T.receives G.views) self.old (step.SendEvent message.now) (reply.SendEvent result) self.new }
     {
         self.refused = false;
@@ -173,6 +174,6 @@ impl<T: Transport + Drop, U: Drop, G: GlobalHandler<C> + Drop, C: Drop> Backend<
     pub fn send_event(&mut self, message: Message<ObjectId, Token>) -> Result<(), EventError>
         ensures { Calls (over T.sends T.receives G.views) self.old (step.SendEvent message) (reply.SendEvent result) self.new }
     {
-        self.send_lent(&message)
+        self.send_event_lent(&message)
     }
 }

@@ -5,15 +5,32 @@
 ghost use Rattle.std.specs.Prelude.{◌≡◌, MatchResult, Some};
 ghost use Rattle.wl_server.specs.Globals.{disabled};
 ghost use Rattle.wl_server.specs.Lookups.{global_info_by, handler_of, name_for};
+ghost use Rattle.wl_server.specs.Next.{NextGlobal, NextGlobalIsGiven};
 
 use crate::backend::Backend;
 use crate::error::InvalidId;
-use crate::globals::global_in;
 use crate::globals::handler::GlobalHandler;
+use crate::globals::{global_in, next_name};
 use crate::ids::client_id::ClientId;
 use crate::ids::global_id::{GlobalId, GlobalInfo};
 
 impl<T: Drop, U: Drop, G: Drop, C: Drop> Backend<T, U, G, C> {
+    /// The id that the next `create_global` gives, if it is not refused for its interface, its version or want of memory.
+    /// `None` if no name or no serial is left. So a program can decide who may see a global before there is one.
+    ///
+    /// It looks for the least free name as `create_global` does, and allocates no memory. The answer holds until a global is
+    /// created or removed.
+    pub fn next_global_id(&self) -> Option<GlobalId>
+        ensures next { NextGlobal self.now.server.offer.globals result }
+        ensures given { NextGlobalIsGiven self.now.server.offer.table self.now.server.offer.globals result }
+    {
+        if self.last_global == u64::MAX {
+            return None;
+        }
+        let name = next_name(&self.globals)?;
+        Some(GlobalId::from_parts(name, self.last_global + 1))
+    }
+
     /// What the global offers. A disabled global is found, too.
     ///
     /// It stands for `wayland_backend::server::Handle::global_info`. The error is `InvalidId` if the server does not have

@@ -2,7 +2,7 @@
 //!
 //! A client is *stored* from its insertion until `Backend::cleanup` takes it out.
 
-ghost use Rattle.std.specs.Prelude.{◌≡◌, ◌<◌, false, Err, Ok, MatchOption};
+ghost use Rattle.std.specs.Prelude.{◌≡◌, ◌<◌, false, Err, None, Ok, Some, MatchOption};
 ghost use Rattle.wl_server.specs.Backend.{Calls};
 ghost use Rattle.wl_server.specs.Finish.{data_given};
 ghost use Rattle.wl_server.specs.Part.{named};
@@ -19,8 +19,27 @@ use crate::ids::object_id::ObjectId;
 use crate::objects::{Kept, named_in};
 use wl_link::{ObjectMap, Transport};
 
+/// Sets the user data of the object that the id names. What it had before is dropped. Returns the data if the id names no
+/// object.
+pub fn give_if_kept<U: Drop>(
+    objects: &mut ObjectMap<Kept<U>>,
+    id: &ObjectId,
+    user_data: U,
+) -> Option<U>
+    ensures back { MatchOption (named objects.old.store id.now) (result ≡ Some user_data) (λ _. result ≡ None) }
+    ensures given { objects.new.store ≡ data_given objects.old.store id.now.number (named objects.old.store id.now) user_data }
+{
+    if named_in(objects, id).is_none() {
+        return Some(user_data);
+    }
+    objects.with(id.protocol_id(), |object| {
+        object.value.user_data = Some(user_data);
+    });
+    None
+}
+
 /// Sets the user data of the object that the id names. What it had before is dropped.
-pub fn give_data<U: Drop>(
+fn give_data<U: Drop>(
     objects: &mut ObjectMap<Kept<U>>,
     id: &ObjectId,
     user_data: U,
@@ -28,13 +47,10 @@ pub fn give_data<U: Drop>(
     ensures answer { MatchOption (named objects.old.store id.now) (result ≡ Err _) (λ _. result ≡ Ok tt) }
     ensures given { objects.new.store ≡ data_given objects.old.store id.now.number (named objects.old.store id.now) user_data }
 {
-    if named_in(objects, id).is_none() {
-        return Err(InvalidId);
+    match give_if_kept(objects, id, user_data) {
+        None => Ok(()),
+        Some(_) => Err(InvalidId),
     }
-    objects.with(id.protocol_id(), |object| {
-        object.value.user_data = Some(user_data);
-    });
-    Ok(())
 }
 
 impl<T: Transport + Drop, U: Drop, G: GlobalHandler<C> + Drop, C: Drop> Backend<T, U, G, C> {

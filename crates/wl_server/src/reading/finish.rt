@@ -3,7 +3,8 @@
 //! A client is *stored* from its insertion until `Backend::cleanup` takes it out. A *note* tells the program what
 //! happened to a client or an object (`Note`).
 
-ghost use Rattle.std.specs.Prelude.{◌≡◌, ◌+◌, ◌<◌, ◌≤◌, ◌++◌, IsSome, Some, OnErr, OnOk, false, is_some, true, map, option_copied};
+ghost use Rattle.std.specs.Prelude.{◌≡◌, ◌+◌, ◌<◌, ◌≤◌, ◌++◌, IsSome, IfOk, Ok, Some, OnErr, OnOk, false, is_some, true, map, option_copied};
+ghost use Rattle.std.specs.Result.{result_and};
 ghost use Rattle.std.specs.VecDeque.{deque_capacity, deque_len};
 ghost use Rattle.wl_link.specs.Store.{held, removed};
 ghost use Rattle.wl_link.specs.declared.object.Object.{Object};
@@ -11,11 +12,11 @@ ghost use Rattle.wl_server.specs.declared.objects.Kept.{Kept};
 ghost use Rattle.wl_server.specs.Backend.{Calls};
 ghost use Rattle.wl_server.specs.Inside.Client.{Does};
 ghost use Rattle.wl_server.specs.Cutting.{CallIsCut};
-ghost use Rattle.wl_server.specs.Finish.{ended_by, FinishesBind, FinishesOpen, FinishesRequest, refusal};
-ghost use Rattle.wl_server.specs.Inside.Finishing.{EndsSender, lacks_finish, part_finished};
+ghost use Rattle.wl_server.specs.Finish.{DataHeld, ended_by, FinishesBind, FinishesOpen, FinishesRequest, refusal};
+ghost use Rattle.wl_server.specs.Inside.Finishing.{BindLeaves, EndsSender, RequestLeaves, lacks_finish, part_finished};
 ghost use Rattle.wl_server.specs.Part.{note_of_end, registries_without};
 ghost use Rattle.wl_server.specs.PartStep.{Asked, over};
-ghost use Rattle.wl_server.specs.Plain.{EndsBind, EndsOpenRequest};
+ghost use Rattle.wl_server.specs.Plain.{EndsBind, EndsOpenRequest, ReturnsBindData, ReturnsRequestData};
 ghost use Rattle.wl_server.specs.declared.reading.action.OpenAction.TheVariants as opened;
 ghost use Rattle.wl_server.specs.declared.runs.step.Reply.TheVariants as reply;
 ghost use Rattle.wl_server.specs.declared.runs.step.Step.TheVariants as step;
@@ -30,7 +31,7 @@ use crate::ids::client_id::ClientId;
 use crate::ids::object_id::ObjectId;
 use crate::notes::Happening;
 use crate::notes::queues::{MadeNotes, NoteNumbers};
-use crate::objects::data::give_data;
+use crate::objects::data::give_if_kept;
 use crate::objects::{ClientObjects, Kept, id_at, named_in, take_out};
 use crate::reading::action::OpenAction;
 use std::alloc::Global;
@@ -136,17 +137,19 @@ impl<T: Transport + Drop, U: Drop, C: Drop> Client<T, U, C> {
         Ok(wrote)
     }
 
-    /// Ends the open action, and gives the object that it made this user data, if that is still there.
-    fn finish_action(&mut self, created: Option<ObjectId>, user_data: Option<U>)
-        ensures { self.new ≡ record self.old { part = part_finished self.old.part created user_data } }
+    /// Ends the open action, and gives the object that it made this user data. Returns the data if that is gone.
+    fn finish_action(&mut self, created: Option<ObjectId>, user_data: Option<U>) -> Option<U>
+        ensures finished { self.new ≡ record self.old { part = part_finished self.old.part created user_data } }
+        ensures back { DataHeld self.new.part.store created user_data result }
     {
         self.action = None;
-        if let (Some(id), Some(user_data)) = (created, user_data) {
-            let _ = give_data(&mut self.objects.map, &id, user_data);
+        match (created, user_data) {
+            (Some(id), Some(user_data)) => { give_if_kept(&mut self.objects.map, &id, user_data) }
+            _ => None,
         }
     }
 
-    /// Finishes the open request with this user data.
+    /// Finishes the open request with this user data. Returns the data if the object that it made is gone.
     fn end_request(
         &mut self,
         id: &ClientId,
@@ -155,8 +158,9 @@ impl<T: Transport + Drop, U: Drop, C: Drop> Client<T, U, C> {
         is_destructor: bool,
         created: Option<ObjectId>,
         user_data: Option<U>,
-    ) -> Result<(), FinishRefused<Option<U>>>
-        ensures { Does self.old (λ p did q. FinishesOpen T.sends id.now p (opened.Request sender.now is_destructor created) user_data result (lacks_finish result) did q) self.new }
+    ) -> Result<Option<U>, FinishRefused<Option<U>>>
+        ensures done { Does self.old (λ p did q. FinishesOpen T.sends id.now p (opened.Request sender.now is_destructor created) user_data (result_and result (Ok tt)) (lacks_finish (result_and result (Ok tt))) did q) self.new }
+        ensures back { IfOk result (λ back. DataHeld self.new.part.store created user_data back) }
     {
         if let Some(error) = refusal_of(self.is_killed, &created, &user_data) {
             return Err(FinishRefused { error, user_data });
@@ -166,19 +170,20 @@ impl<T: Transport + Drop, U: Drop, C: Drop> Client<T, U, C> {
             let error = FinishError::OutOfMemory;
             return Err(FinishRefused { error, user_data });
         };
-        self.finish_action(created, user_data);
+        let back = self.finish_action(created, user_data);
         let _ = self.kill_unless_written(numbers, wrote);
-        Ok(())
+        Ok(back)
     }
 
-    /// Finishes the open request.
+    /// Finishes the open request. Returns the user data if the object that it made is gone.
     pub fn finish_request(
         &mut self,
         id: &ClientId,
         numbers: &mut NoteNumbers,
         user_data: Option<U>,
-    ) -> Result<(), FinishRefused<Option<U>>>
-        ensures { Does self.old (λ p did q. FinishesRequest T.sends id.now p user_data result (lacks_finish result) did q) self.new }
+    ) -> Result<Option<U>, FinishRefused<Option<U>>>
+        ensures done { Does self.old (λ p did q. FinishesRequest T.sends id.now p user_data (result_and result (Ok tt)) (lacks_finish (result_and result (Ok tt))) did q) self.new }
+        ensures back { RequestLeaves self.old.part user_data result self.new.part }
     {
         let Some(action) = &self.action else {
             let error = FinishError::NoOpenAction;
@@ -200,9 +205,10 @@ impl<T: Transport + Drop, U: Drop, C: Drop> Client<T, U, C> {
         }
     }
 
-    /// Finishes the open bind: its object gets this user data.
-    pub fn finish_bind(&mut self, user_data: U) -> Result<(), FinishRefused<U>>
-        ensures { Does self.old (λ p did q. FinishesBind p user_data result false did q) self.new }
+    /// Finishes the open bind: its object gets this user data. Returns them if it is gone.
+    pub fn finish_bind(&mut self, user_data: U) -> Result<Option<U>, FinishRefused<U>>
+        ensures done { Does self.old (λ p did q. FinishesBind p user_data (result_and result (Ok tt)) false did q) self.new }
+        ensures back { BindLeaves self.old.part user_data result self.new.part }
     {
         let Some(action) = &self.action else {
             let error = FinishError::NoOpenAction;
@@ -211,8 +217,7 @@ impl<T: Transport + Drop, U: Drop, C: Drop> Client<T, U, C> {
         match action {
             OpenAction::Bind { object } => {
                 let object = *object;
-                self.finish_action(Some(object), Some(user_data));
-                Ok(())
+                Ok(self.finish_action(Some(object), Some(user_data)))
             }
             OpenAction::Request { .. } => {
                 let error = FinishError::WrongKind;
@@ -223,11 +228,11 @@ impl<T: Transport + Drop, U: Drop, C: Drop> Client<T, U, C> {
 }
 
 /// Whether memory was refused to a call that was answered so.
-fn lacks_memory<D>(answer: &Result<(), FinishRefused<D>>) -> bool
-    ensures { result ≡ lacks_finish answer.now }
+fn lacks_memory<R, D>(answer: &Result<R, FinishRefused<D>>) -> bool
+    ensures { result ≡ lacks_finish (result_and answer.now (Ok tt)) }
 {
     match answer {
-        Ok(()) => false,
+        Ok(_) => false,
         Err(refused) => matches!(refused.error, FinishError::OutOfMemory),
     }
 }
@@ -263,6 +268,26 @@ impl<T: Transport + Drop, U: Drop, G: GlobalHandler<C> + Drop, C: Drop> Backend<
         ensures finished { Calls (over T.sends T.receives G.views) self.old (step.FinishRequest client.now user_data) (reply.FinishRequest result) self.new }
         ensures plain { EndsOpenRequest self.old client.now user_data result self.new }
     {
+        match self.finish_request_returning(client, user_data) {
+            Ok(_) => Ok(()),
+            Err(refused) => Err(refused),
+        }
+    }
+
+    /// Finishes the request that `next_action` handed out, as `finish_request` does, and tells what became of the user data.
+    ///
+    /// It returns the data if the request made an object that is no longer there. Else they are the object's, and it returns
+    /// `None`. The errors are those of `finish_request`.
+    pub fn finish_request_returning(
+        &mut self,
+        client: &ClientId,
+        user_data: Option<U>,
+    ) -> Result<Option<U>, FinishRefused<Option<U>>>
+        ensures cutting { CallIsCut (over T.sends T.receives G.views) self.old.server (Asked (step.FinishRequest client.now user_data) (reply.FinishRequest (result_and result (Ok tt)))) self.new.refused self.new.server }
+        ensures finished { Calls (over T.sends T.receives G.views) self.old (step.FinishRequest client.now user_data) (reply.FinishRequest (result_and result (Ok tt))) self.new }
+        ensures plain { EndsOpenRequest self.old client.now user_data (result_and result (Ok tt)) self.new }
+        ensures data { ReturnsRequestData self.old client.now user_data result self.new }
+    {
         self.refused = false;
         let Some(stored) = stored_mut(&mut self.clients, client) else {
             let error = FinishError::InvalidId;
@@ -289,6 +314,26 @@ impl<T: Transport + Drop, U: Drop, G: GlobalHandler<C> + Drop, C: Drop> Backend<
         ensures cutting { CallIsCut (over T.sends T.receives G.views) self.old.server (Asked (step.FinishBind client.now user_data) (reply.FinishBind result)) self.new.refused self.new.server }
         ensures finished { Calls (over T.sends T.receives G.views) self.old (step.FinishBind client.now user_data) (reply.FinishBind result) self.new }
         ensures plain { EndsBind self.old client.now user_data result self.new }
+    {
+        match self.finish_bind_returning(client, user_data) {
+            Ok(_) => Ok(()),
+            Err(refused) => Err(refused),
+        }
+    }
+
+    /// Finishes the bind that `next_action` handed out, as `finish_bind` does, and tells what became of the user data.
+    ///
+    /// It returns the data if the object that was bound is no longer there. Else they are the object's, and it returns
+    /// `None`. The errors are those of `finish_bind`. It allocates no memory.
+    pub fn finish_bind_returning(
+        &mut self,
+        client: &ClientId,
+        user_data: U,
+    ) -> Result<Option<U>, FinishRefused<U>>
+        ensures cutting { CallIsCut (over T.sends T.receives G.views) self.old.server (Asked (step.FinishBind client.now user_data) (reply.FinishBind (result_and result (Ok tt)))) self.new.refused self.new.server }
+        ensures finished { Calls (over T.sends T.receives G.views) self.old (step.FinishBind client.now user_data) (reply.FinishBind (result_and result (Ok tt))) self.new }
+        ensures plain { EndsBind self.old client.now user_data (result_and result (Ok tt)) self.new }
+        ensures data { ReturnsBindData self.old client.now user_data result self.new }
     {
         self.refused = false;
         let Some(stored) = stored_mut(&mut self.clients, client) else {

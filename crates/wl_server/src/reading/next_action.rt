@@ -2,7 +2,8 @@
 //!
 //! A client is *stored* from its insertion until `Backend::cleanup` takes it out.
 
-ghost use Rattle.std.specs.Prelude.{◌≡◌, ◌≤◌, Result, option_map};
+ghost use Rattle.std.specs.Prelude.{◌≡◌, ◌≤◌, Ok, OnErr, Result, option_map};
+ghost use Rattle.std.specs.Result.{result_and};
 ghost use Rattle.wl_server.specs.declared.error.ActionError.{ActionError as ActionErrorOf};
 ghost use Rattle.wl_server.specs.declared.reading.action.Action.{Action as ActionOf};
 ghost use Rattle.wl_server.specs.declared.runs.step.Reply.TheVariants as reply;
@@ -229,6 +230,52 @@ impl<T: Transport + Drop, U: Drop, G: GlobalHandler<C> + Drop, C: Drop> Backend<
         let mut args = SmallVec::new(self.alloc());
         self.read_client(id, reading, &mut found, &mut args)?;
         Ok(found.with_args(args))
+    }
+
+    /// Reads the next action of the client into `action`, as `next_action` answers it. What was there is dropped. A program
+    /// that keeps one action hands it in again and again.
+    ///
+    /// The errors are those of `next_action`. After an error `action` is as it was.
+    pub fn next_action_into(
+        &mut self,
+        id: &ClientId,
+        action: &mut Action,
+    ) -> Result<(), ActionError>
+        ensures read { Calls (over T.sends T.receives G.views) self.old (step.NextAction id.now) (reply.NextAction (result_and result (Ok action.new))) self.new }
+        ensures room { HasRoom (over T.sends T.receives G.views) self.old.server (Asked (step.NextAction id.now) (reply.NextAction (result_and result (Ok action.new)))) self.new.server }
+        ensures cutting { CallIsCut (over T.sends T.receives G.views) self.old.server (Asked (step.NextAction id.now) (reply.NextAction (result_and result (Ok action.new)))) self.new.refused self.new.server }
+        ensures kept { OnErr result (action.new ≡ action.old) }
+    {
+        match self.next_action(id) {
+            Ok(next) => {
+                *action = next;
+                Ok(())
+            }
+            Err(error) => Err(error),
+        }
+    }
+
+    /// Reads the next action of the client into `action`, as `next_action_within` answers it. What was there is dropped.
+    ///
+    /// The errors are those of `next_action`. After an error `action` is as it was.
+    pub fn next_action_within_into(
+        &mut self,
+        id: &ClientId,
+        reading: &mut Reading,
+        action: &mut Action,
+    ) -> Result<(), ActionError>
+        ensures read { Calls (over T.sends T.receives G.views) self.old (step.NextActionWithin id.now reading.old) (reply.NextActionWithin (result_and result (Ok action.new)) reading.new) self.new }
+        ensures room { HasRoom (over T.sends T.receives G.views) self.old.server (Asked (step.NextActionWithin id.now reading.old) (reply.NextActionWithin (result_and result (Ok action.new)) reading.new)) self.new.server }
+        ensures cutting { CallIsCut (over T.sends T.receives G.views) self.old.server (Asked (step.NextActionWithin id.now reading.old) (reply.NextActionWithin (result_and result (Ok action.new)) reading.new)) self.new.refused self.new.server }
+        ensures kept { OnErr result (action.new ≡ action.old) }
+    {
+        match self.next_action_within(id, reading) {
+            Ok(next) => {
+                *action = next;
+                Ok(())
+            }
+            Err(error) => Err(error),
+        }
     }
 
     /// Reads the client. An action that is handed out is in `found` then, and its arguments are in `args`.

@@ -109,6 +109,9 @@ impl<U: Drop, G: GlobalHandler<C> + Drop, C: Drop> Backend<Memory, U, G, C> {
                 self.set_default_max_buffer_size(max_buffer_size);
                 Reply::SetDefaultMaxBufferSize
             }
+            Step::AddInterfaces(interfaces) => {
+                Reply::AddInterfaces(self.add_interfaces(interfaces))
+            }
             Step::Cleanup => Reply::Cleanup(self.cleanup()),
             Step::TakeNotes => Reply::TakeNotes(self.take_notes()),
             _ => unreachable!(),

@@ -9,7 +9,7 @@ use crate::ids::global_id::GlobalId;
 use crate::ids::object_id::ObjectId;
 use crate::notes::{DisconnectReason, Note};
 use crate::reading::action::{Action, Reading};
-use wl_wire::{CString, InterfaceId, IoFault, Message, OutOfMemory, Token};
+use wl_wire::{CString, Interface, InterfaceId, IoFault, Message, OutOfMemory, TableError, Token};
 
 /// A call that changes a server, as a value: a call of the server, or one of a client's transport by script.
 ///
@@ -41,6 +41,8 @@ pub enum Step<T, U, G, C> {
     Flush(Option<ClientId>),
     /// `Backend::set_default_max_buffer_size`.
     SetDefaultMaxBufferSize(usize),
+    /// `Backend::add_interfaces`.
+    AddInterfaces(Vec<Interface>),
     /// `Backend::set_client_max_buffer_size`.
     SetClientMaxBufferSize(ClientId, usize),
     /// `Backend::next_action`.
@@ -94,6 +96,8 @@ pub enum Reply<T, U> {
     Flush(Result<(), IoFault>),
     /// The reply to `Step::SetDefaultMaxBufferSize`.
     SetDefaultMaxBufferSize,
+    /// The reply to `Step::AddInterfaces`.
+    AddInterfaces(Result<(), TableError>),
     /// The reply to `Step::SetClientMaxBufferSize`.
     SetClientMaxBufferSize,
     /// The reply to `Step::NextAction`.

@@ -96,6 +96,7 @@ module _ {T U G C : Type 0} (w : World T G C) (id : ClientParts) (offer : Offer 
   nothing_step (step.Flush None) answer lacked did after other (r, is, h) = h.1.1
   nothing_step (step.Flush (Some target)) answer lacked did after other (r, is, h) = own_nothing _ _ lacked did after h
   nothing_step (step.SetDefaultMaxBufferSize limit) answer lacked did after other (is, h) = h
+  nothing_step (step.AddInterfaces interfaces) answer lacked did after other (r, is, h) = h
   nothing_step (step.SetClientMaxBufferSize target limit) answer lacked did after other (is, h) = own_nothing _ _ lacked did after h
   nothing_step (step.NextAction target) answer lacked did after other (r, left, is, h) = own_nothing _ _ lacked did after h
   nothing_step (step.NextActionWithin target reading) answer lacked did after other (r, left, is, h) = own_nothing _ _ lacked did after h
@@ -133,6 +134,7 @@ module _ {T U G C : Type 0} (w : World T G C) (id : ClientParts) (offer : Offer 
   other_step (step.Flush None) answer before lacked did after other far h = absurd (true≢false far)
   other_step (step.Flush (Some target)) answer before lacked did after other far (r, is, h) = own_other _ before _ _ lacked did after far h
   other_step (step.SetDefaultMaxBufferSize limit) answer before lacked did after other far h = absurd (true≢false far)
+  other_step (step.AddInterfaces interfaces) answer before lacked did after other far h = absurd (true≢false far)
   other_step (step.SetClientMaxBufferSize target limit) answer before lacked did after other far (is, h) = own_other _ before _ _ lacked did after far h
   other_step (step.NextAction target) answer before lacked did after other far (r, left, is, h) = own_other _ before _ _ lacked did after far h
   other_step (step.NextActionWithin target reading) answer before lacked did after other far (r, left, is, h) = own_other _ before _ _ lacked did after far h
@@ -164,6 +166,7 @@ module _ {T U G C : Type 0} where
   other_offer id offer (step.DisableGlobal g) answer far = absurd (true≢false far)
   other_offer id offer (step.RemoveGlobal g) answer far = absurd (true≢false far)
   other_offer id offer (step.SetDefaultMaxBufferSize limit) answer far = absurd (true≢false far)
+  other_offer id offer (step.AddInterfaces interfaces) answer far = absurd (true≢false far)
   other_offer id offer (step.InsertClient transport client_data) answer far = refl
   other_offer id offer (step.SetObjectData o u) answer far = refl
   other_offer id offer (step.CreateObject target i version u) answer far = refl

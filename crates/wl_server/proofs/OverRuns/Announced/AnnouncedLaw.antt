@@ -8,7 +8,8 @@ use Rattle.std.proofs.lemmas.Option.{same_Some}
 use Rattle.wl_wire.specs.declared.error.IoFault.{IoFault}
 use Rattle.wl_wire.specs.declared.error.OutOfMemory.{OutOfMemory}
 use Rattle.wl_wire.specs.declared.interface.InterfaceId.{InterfaceId}
-use Rattle.wl_wire.specs.Table.{InterfaceRow}
+use Rattle.wl_wire.specs.declared.protocol.TableError.{TableError}
+use Rattle.wl_wire.specs.Table.{InterfaceRow, grown, interface_rows}
 use Rattle.wl_link.specs.declared.object.Object.{Object}
 use Rattle.wl_link.proofs.Calls.Branches.{either_bool, either_option}
 use Rattle.wl_link.specs.Identity.{Id}
@@ -29,7 +30,7 @@ use Rattle.wl_server.proofs.OverRuns.Ids.AmongLaws.{among_contains, contains_amo
 use Rattle.wl_server.specs.Announced.{AreSameGlobals, EachAnnouncesShown, HaveAnnouncements, IsAlwaysLeftAlone, IsLeftAlone, announced, shown_of}
 use Rattle.wl_server.specs.Deeds.{Deed, NoteTaken, Noted, log_of, registries_in}
 use Rattle.wl_server.specs.Felt.{Cleaned, Hears, news, removals}
-use Rattle.wl_server.specs.Globals.{CreatesGlobal, Globals, Offer, disabled, freed, global_of, is_enabled, new_offer, with_created, with_globals}
+use Rattle.wl_server.specs.Globals.{CreatesGlobal, Globals, Offer, disabled, freed, global_of, is_enabled, new_offer, with_created, with_globals, with_table}
 use Rattle.wl_server.specs.Ids.{ClientParts, GlobalParts, same_client}
 use Rattle.wl_server.proofs.OverRuns.Alone.IsolationLaw.{are_isolated, is_isolated, offer_of_other, offer_run, shared_run, split_run}
 use Rattle.wl_server.specs.Moves.{Move, Moved}
@@ -38,10 +39,11 @@ use Rattle.wl_server.specs.Part.{Part, display_object, id_of}
 use Rattle.wl_server.specs.PartStep.{Asked, Call, Changed, CleanedAs, FeelsGlobal, FeelsLoss, FlushedFor, MovedFor, NotesTaken, OfClient, OnPart, PartCall, PartStep, ReadsFor, Unfelt, World}
 use Rattle.wl_server.specs.Runs.{Alone, Leads, Own, Performs, SharedAlone, just_inserted, concerns, history, is_about, mine, offer_over, own_of}
 use Rattle.wl_server.specs.Server.{Seen, ServerState, new_server, seen}
+use Rattle.wl_server.proofs.OverRuns.Announced.InterfaceLaws.{HasInterfaces, after_call, after_run, at_first}
 use Rattle.wl_server.proofs.OverRuns.Announced.ShownLaws.{among_shown, disabled_one, disabled_stays, freed_one, freed_stays, shown_among, Hides, StaysShown}
 use Rattle.wl_server.specs.Steps.{Entry, NumbersGlobal, inserted_by, offer_after}
 use Rattle.wl_server.proofs.OverRuns.Announced.WatchedCalls.{creates_lives, data_set_lives, destroys_lives, finishes_bind_lives, finishes_lives, flushed_lives, flushes_lives, kills_lives, posts_lives, relinked_lives, sends_lives}
-use Rattle.wl_server.proofs.OverRuns.Announced.WatchedGlobals.{global_watch, hears_all, limit_watch, loss_watch, stay_watch}
+use Rattle.wl_server.proofs.OverRuns.Announced.WatchedGlobals.{global_watch, growth_watch, hears_all, limit_watch, loss_watch, stay_watch}
 use Rattle.wl_server.proofs.OverRuns.Announced.WatchedReadings.{next_action_lives}
 use Rattle.wl_server.proofs.OverRuns.Announced.WatchedVerdicts.{PartLives, log_both, registries_both}
 use Rattle.wl_server.proofs.OverRuns.Announced.Watching.{Scene, Watch, part_scene}
@@ -280,36 +282,36 @@ module _ {T U G C : Type 0} (w : World T G C) (id : ClientParts) (r : Id) where
   -- ---- a call
 
   -- a call that is about this client, or about none
-  step_follows : (offer : Offer G) (call : Step T U G C) (answer : Reply T U) (s : Seen T U C) (lacked : Bool) (did : List (Deed U)) (t : Seen T U C)
+  step_follows : (offer : Offer G) → HasInterfaces offer → (call : Step T U G C) (answer : Reply T U) (s : Seen T U C) (lacked : Bool) (did : List (Deed U)) (t : Seen T U C)
       → is_about id call ≡ true → NumbersGlobal {T = T} {U = U} {C = C} offer (Asked call answer) → IsLeftAlone {T = T} {U = U} {G = G} {C = C} r (Asked call answer)
       → PartStep w id offer call answer s lacked did t → Follows offer (offer_after {T = T} {U = U} {C = C} offer (Asked call answer)) s did t
-  step_follows offer (step.InsertClient transport client_data) answer s lacked did t about numbered alone h = absurd (true≢false (sym about))
-  step_follows offer (step.SetObjectData o u) answer s lacked did t about numbered alone (a, is, h) =
+  step_follows offer known (step.InsertClient transport client_data) answer s lacked did t about numbered alone h = absurd (true≢false (sym about))
+  step_follows offer known (step.SetObjectData o u) answer s lacked did t about numbered alone (a, is, h) =
       of_client offer (same_client o.client id) s _ _ lacked did t (λ p q (no_memory, none, set). data_set_lives w.views id r offer p o u a did q none set) h
-  step_follows offer (step.CreateObject target i version u) answer s lacked did t about numbered alone (a, is, h) =
+  step_follows offer known (step.CreateObject target i version u) answer s lacked did t about numbered alone (a, is, h) =
       of_client offer (same_client target id) s _ _ lacked did t (λ p q (no_memory, none, created). creates_lives w.views id r offer p i version u a did q none created) h
-  step_follows offer (step.DestroyObject o) answer s lacked did t about numbered alone (a, is, h) =
+  step_follows offer known (step.DestroyObject o) answer s lacked did t about numbered alone (a, is, h) =
       let left : id_of o ≡ r → a ≢ Ok tt = subst (λ (x : Reply T U). IsLeftAlone {T = T} {U = U} {G = G} {C = C} r (Asked (step.DestroyObject o) x)) is alone in
       of_client offer (same_client o.client id) s _ _ lacked did t (λ p q d. destroys_lives w.views id r offer w.sends p o a lacked did q left d) h
-  step_follows offer (step.SendEvent m) answer s lacked did t about numbered alone (a, is, h) =
+  step_follows offer known (step.SendEvent m) answer s lacked did t about numbered alone (a, is, h) =
       let left : id_of m.sender_id ≡ r → a ≢ Ok tt = subst (λ (x : Reply T U). IsLeftAlone {T = T} {U = U} {G = G} {C = C} r (Asked (step.SendEvent m) x)) is alone in
       of_client offer (same_client m.sender_id.client id) s _ _ lacked did t (λ p q d. sends_lives w.views id r offer w.sends p _ a lacked did q left d) h
-  step_follows offer (step.PostError o code text) answer s lacked did t about numbered alone (is, h) =
+  step_follows offer known (step.PostError o code text) answer s lacked did t about numbered alone (is, h) =
       of_client offer (same_client o.client id) s _ _ lacked did t (λ p q d. posts_lives w.views id r offer w.sends p o _ _ lacked did q d) h
-  step_follows offer (step.KillClient target reason) answer s lacked did t about numbered alone (is, h) =
+  step_follows offer known (step.KillClient target reason) answer s lacked did t about numbered alone (is, h) =
       of_client offer (same_client target id) s _ _ lacked did t (λ p q (no_memory, k). kills_lives w.views id r offer p reason did q k) h
-  step_follows offer (step.CreateGlobal i version handler) answer s lacked did t about numbered alone (a, is, h) =
+  step_follows offer known (step.CreateGlobal i version handler) answer s lacked did t about numbered alone (a, is, h) =
       subst (λ (x : Reply T U). NumbersGlobal {T = T} {U = U} {C = C} offer (Asked (step.CreateGlobal i version handler) x)
       → Follows offer (offer_after {T = T} {U = U} {C = C} offer (Asked (step.CreateGlobal i version handler) x)) s did t) (sym is)
       (λ creates. global_follows offer i version handler a s lacked did t creates h) numbered
-  step_follows offer (step.DisableGlobal g) answer s lacked did t about numbered alone (is, h) =
+  step_follows offer known (step.DisableGlobal g) answer s lacked did t about numbered alone (is, h) =
       loss_follows offer g (disabled offer.globals g) s lacked did t (λ client_data x kept. disabled_one w.views id client_data offer g x kept)
       (λ client_data hidden. disabled_stays w.views id client_data offer g hidden) h
-  step_follows offer (step.RemoveGlobal g) answer s lacked did t about numbered alone (is, h) =
+  step_follows offer known (step.RemoveGlobal g) answer s lacked did t about numbered alone (is, h) =
       loss_follows offer g (freed offer.globals g) s lacked did t (λ client_data x kept. freed_one w.views id client_data offer g x kept)
       (λ client_data hidden. freed_stays w.views id client_data offer g hidden) h
-  step_follows offer (step.Flush target) answer s lacked did t about numbered alone (a, is, h) = flushed_follows offer target a s lacked did t h
-  step_follows offer (step.SetDefaultMaxBufferSize limit) answer s lacked did t about numbered alone (is, h) = other_limit (unfelt_follows offer s lacked did t h)
+  step_follows offer known (step.Flush target) answer s lacked did t about numbered alone (a, is, h) = flushed_follows offer target a s lacked did t h
+  step_follows offer known (step.SetDefaultMaxBufferSize limit) answer s lacked did t about numbered alone (is, h) = other_limit (unfelt_follows offer s lacked did t h)
     where
       -- the limit is nothing to what is shown
       other_limit : Follows offer offer s did t → Follows offer (record offer { default_limit = limit }) s did t
@@ -319,43 +321,59 @@ module _ {T U G C : Type 0} (w : World T G C) (id : ClientParts) (r : Id) where
               → MatchOption o (Unit {0}) (λ p. p.is_killed ≡ false → Watched (record offer { default_limit = limit }) p log made)
           go log made None is = tt
           go log made (Some p) is = λ on. limit_watch w.views id r offer limit (part_scene p) log made (is on)
-  step_follows offer (step.SetClientMaxBufferSize target limit) answer s lacked did t about numbered alone (is, h) =
+  step_follows offer known (step.AddInterfaces interfaces) answer s lacked did t about numbered alone (a, is, h) =
+      subst (λ (x : Reply T U). Follows offer (offer_after {T = T} {U = U} {C = C} offer (Asked (step.AddInterfaces interfaces) x)) s did t) (sym is)
+      (longer a (unfelt_follows offer s lacked did t h))
+    where
+      new : List InterfaceRow
+      new = interface_rows interfaces.items
+
+      -- more interfaces are nothing to what is shown
+      longer : (a : Result (Unit {0}) TableError) → Follows offer offer s did t → Follows offer (with_table offer (grown offer.table new a)) s did t
+      longer (Err e) f = record { watch = f.watch }
+      longer (Ok u) f = record { watch = λ log made is. go (log ++ log_of did) (made ++ registries_in did) t.part (f.watch log made is) }
+        where
+          go : (log : List Said) (made : List Id) (o : Option (Part T U C)) → MatchOption o (Unit {0}) (λ p. p.is_killed ≡ false → Watched offer p log made)
+              → MatchOption o (Unit {0}) (λ p. p.is_killed ≡ false → Watched (with_table offer (offer.table ++ new)) p log made)
+          go log made None is = tt
+          go log made (Some p) is = λ on. growth_watch w.views id r offer known new (part_scene p) log made (is on)
+  step_follows offer known (step.SetClientMaxBufferSize target limit) answer s lacked did t about numbered alone (is, h) =
       of_client offer (same_client target id) s _ _ lacked did t
       (λ p q (no_memory, none, (link, set, same)). relinked_lives w.views id r offer p link did q none same) h
-  step_follows offer (step.NextAction target) answer s lacked did t about numbered alone (a, left, is, h) = reads_follows offer target _ _ left s lacked did t h
-  step_follows offer (step.NextActionWithin target reading) answer s lacked did t about numbered alone (a, left, is, h) = reads_follows offer target reading _ left s lacked did t h
-  step_follows offer (step.FinishRequest target u) answer s lacked did t about numbered alone (a, is, h) =
+  step_follows offer known (step.NextAction target) answer s lacked did t about numbered alone (a, left, is, h) = reads_follows offer target _ _ left s lacked did t h
+  step_follows offer known (step.NextActionWithin target reading) answer s lacked did t about numbered alone (a, left, is, h) = reads_follows offer target reading _ left s lacked did t h
+  step_follows offer known (step.FinishRequest target u) answer s lacked did t about numbered alone (a, is, h) =
       of_client offer (same_client target id) s _ _ lacked did t (λ p q f. finishes_lives w.views id r offer w.sends p u a lacked did q f) h
-  step_follows offer (step.FinishBind target u) answer s lacked did t about numbered alone (a, is, h) =
+  step_follows offer known (step.FinishBind target u) answer s lacked did t about numbered alone (a, is, h) =
       of_client offer (same_client target id) s _ _ lacked did t (λ p q f. finishes_bind_lives w.views id r offer p u a lacked did q f) h
-  step_follows offer step.Cleanup answer s lacked did t about numbered alone (a, is, h) = cleanup_follows offer a s lacked did t h
-  step_follows offer step.TakeNotes answer s lacked did t about numbered alone (a, is, h) = taken_follows offer a s lacked did t h
-  step_follows offer (step.Arrive target bytes tokens) answer s lacked did t about numbered alone (a, is, h) = moved_follows offer target _ _ s lacked did t h
-  step_follows offer (step.ArriveFault target f) answer s lacked did t about numbered alone (a, is, h) = moved_follows offer target _ _ s lacked did t h
-  step_follows offer (step.Accept target n) answer s lacked did t about numbered alone (a, is, h) = moved_follows offer target _ _ s lacked did t h
-  step_follows offer (step.AcceptFault target f) answer s lacked did t about numbered alone (a, is, h) = moved_follows offer target _ _ s lacked did t h
-  step_follows offer (step.TakeSent target) answer s lacked did t about numbered alone (a, is, h) = moved_follows offer target _ _ s lacked did t h
+  step_follows offer known step.Cleanup answer s lacked did t about numbered alone (a, is, h) = cleanup_follows offer a s lacked did t h
+  step_follows offer known step.TakeNotes answer s lacked did t about numbered alone (a, is, h) = taken_follows offer a s lacked did t h
+  step_follows offer known (step.Arrive target bytes tokens) answer s lacked did t about numbered alone (a, is, h) = moved_follows offer target _ _ s lacked did t h
+  step_follows offer known (step.ArriveFault target f) answer s lacked did t about numbered alone (a, is, h) = moved_follows offer target _ _ s lacked did t h
+  step_follows offer known (step.Accept target n) answer s lacked did t about numbered alone (a, is, h) = moved_follows offer target _ _ s lacked did t h
+  step_follows offer known (step.AcceptFault target f) answer s lacked did t about numbered alone (a, is, h) = moved_follows offer target _ _ s lacked did t h
+  step_follows offer known (step.TakeSent target) answer s lacked did t about numbered alone (a, is, h) = moved_follows offer target _ _ s lacked did t h
 
-  call_follows : (offer : Offer G) (call : Call T U G C) (s : Seen T U C) (lacked : Bool) (did : List (Deed U)) (t : Seen T U C) → concerns id call ≡ true
+  call_follows : (offer : Offer G) → HasInterfaces offer → (call : Call T U G C) (s : Seen T U C) (lacked : Bool) (did : List (Deed U)) (t : Seen T U C) → concerns id call ≡ true
       → NumbersGlobal offer call → IsLeftAlone r call → PartCall w id offer call s lacked did t → Follows offer (offer_after offer call) s did t
-  call_follows offer (Asked call answer) s lacked did t about numbered alone h = step_follows offer call answer s lacked did t about numbered alone h
-  call_follows offer (Changed target x) s lacked did t about numbered alone h =
+  call_follows offer known (Asked call answer) s lacked did t about numbered alone h = step_follows offer known call answer s lacked did t about numbered alone h
+  call_follows offer known (Changed target x) s lacked did t about numbered alone h =
       of_client offer (same_client target id) s _ _ lacked did t
       (λ p q (no_memory, none, (y, becomes, same)). relinked_lives w.views id r offer p (with_transport p.link y) did q none same) h
 
   -- ---- a run
 
-  run_follows : (offer : Offer G) (s : Seen T U C) (run : List (Own T U G C)) (t : Seen T U C) → AreMine id run → AreNumbered offer run → IsAlwaysLeftAlone r run
+  run_follows : (offer : Offer G) → HasInterfaces offer → (s : Seen T U C) (run : List (Own T U G C)) (t : Seen T U C) → AreMine id run → AreNumbered offer run → IsAlwaysLeftAlone r run
       → Alone w id offer s run t → Follows offer (own_offer offer run) s (history run) t
-  run_follows offer s [] t own numbered alone same = record {
+  run_follows offer known s [] t own numbered alone same = record {
     watch = λ log made is.
         subst (λ (x : Seen T U C). SeenWatched offer x (log ++ []) (made ++ [])) (sym same)
         (subst (λ (l : List Said). SeenWatched offer s l (made ++ [])) (sym (append-nil log))
         (subst (λ (l : List Id). SeenWatched offer s log l) (sym (append-nil made)) is));
   }
-  run_follows offer s (e ∷ run) t own numbered alone (mid, by, rest) =
-      let first = call_follows offer e.call s e.lacked e.did mid own.0 numbered.0 alone.0 by in
-      let more = run_follows (offer_after offer e.call) mid run t own.1 numbered.1 alone.1 rest in
+  run_follows offer known s (e ∷ run) t own numbered alone (mid, by, rest) =
+      let first = call_follows offer known e.call s e.lacked e.did mid own.0 numbered.0 alone.0 by in
+      let more = run_follows (offer_after offer e.call) (after_call offer e.call known numbered.0) mid run t own.1 numbered.1 alone.1 rest in
       let end : Offer G = own_offer (offer_after offer e.call) run in record {
         watch = λ log made is.
             subst (λ (l : List Said). SeenWatched end t l (made ++ registries_in (e.did ++ history run)))
@@ -387,12 +405,12 @@ module _ {T U G C : Type 0} (w : World T G C) (id : ClientParts) (r : Id) where
             | inr other ↦ absurd (none_some (sym (stored_other empty_store 1 display_object n other ∙ held_empty n) ∙ holds))
           ]
 
-  own_announced : (offer : Offer G) (link : LinkState T) (client_data : C) (run : List (Own T U G C)) (t : Seen T U C) → AreMine id run → AreNumbered offer run
+  own_announced : (offer : Offer G) → HasInterfaces offer → (link : LinkState T) (client_data : C) (run : List (Own T U G C)) (t : Seen T U C) → AreMine id run → AreNumbered offer run
       → IsAlwaysLeftAlone r run → Alone w id offer (just_inserted link client_data) run t → Contains (registries_in (history run)) r
       → MatchOption t.part (Unit {0})
       (λ p. p.is_killed ≡ false → AreSameGlobals (announced (log_of (history run)) r) (shown_of w.views (own_offer offer run) id p.client_data))
-  own_announced offer link client_data run t own numbered left alone there =
-      of_watched t.part ((run_follows offer (just_inserted link client_data) run t own numbered left alone).watch [] [] (begun_watched offer link client_data))
+  own_announced offer known link client_data run t own numbered left alone there =
+      of_watched t.part ((run_follows offer known (just_inserted link client_data) run t own numbered left alone).watch [] [] (begun_watched offer link client_data))
     where
       of_watched : (o : Option (Part T U C))
           → MatchOption o (Unit {0}) (λ p. p.is_killed ≡ false → Watched (own_offer offer run) p (log_of (history run)) (registries_in (history run)))
@@ -421,11 +439,14 @@ module _ {T U G C : Type 0} where
       let at : mid.offer ≡ offer_over (new_offer table) (earlier ++ e ∷ []) = offer_run w (new_server table) mid (earlier ++ e ∷ []) first in
       let shared = shared_run w mid after later rest in
       let offer : Offer G = offer_over (new_offer table) (earlier ++ e ∷ []) in
+      let known : HasInterfaces offer =
+          subst (λ (o : Offer G). HasInterfaces o) at (after_run (new_offer table) 0 (earlier ++ e ∷ []) mid.offer mid.last_client (at_first table)
+          (shared_run w (new_server table) mid (earlier ++ e ∷ []) first)) in
       let (numbered, ends) = mine_numbered id offer mid.last_client later after.offer after.last_client
       (subst (λ (o : Offer G). SharedAlone o mid.last_client later after.offer after.last_client) at shared) in
       subst (λ (o : Offer G). MatchOption (seen id after).part (Unit {0})
       (λ p. p.is_killed ≡ false → AreSameGlobals (announced (log_of (history (mine id later))) r) (shown_of w.views o id p.client_data))) ends
-      (own_announced w id r offer link client_data (mine id later) (seen id after) (are_mine id later) numbered left alone there)
+      (own_announced w id r offer known link client_data (mine id later) (seen id after) (are_mine id later) numbered left alone there)
 
   pub have_announcements : (w : World T G C) (table : List InterfaceRow) (steps : List (RunEntry (Step T U G C) (Reply T U))) (after : ServerState T U G C)
       → Performs w (new_server table) steps after → HaveAnnouncements w table steps after

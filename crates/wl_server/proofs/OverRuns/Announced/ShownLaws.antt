@@ -16,7 +16,7 @@ use Rattle.wl_server.specs.Deeds.{IsAmong}
 use Rattle.wl_server.specs.Globals.{Globals, Offer, as_disabled, disabled, disabled_at, freed, freed_at, global_of, global_serial, is_enabled, is_shown, shown, shown_as, with_globals}
 use Rattle.wl_server.specs.Ids.{ClientParts, GlobalParts}
 
-none_some : {A : Type 0} {x : A} → None ≡ Some x → ⊥
+pub none_some : {A : Type 0} {x : A} → None ≡ Some x → ⊥
 none_some e = true≢false (sym (ap is_some e))
 
 module _ {G : Type 0} where

@@ -1,9 +1,10 @@
 -- A registry that is watched over the calls that each client feels: globals that come and go.
-use Rattle.std.proofs.Common.{◌≡◌, ℕ, Bool, true, false, cond, List, [], ◌++◌, map, append-nil, None, Result, Ok, refl, sym, ap, subst, ◌∙◌, true≢false}
+use Rattle.std.proofs.Common.{◌≡◌, ℕ, Bool, true, false, cond, List, [], ◌++◌, map, append-nil, None, Some, Result, Ok, refl, sym, ap, subst, ◌∙◌, true≢false}
 use mathlib.Core.Logic.{inl, inr}
 use Rattle.std.specs.Prelude.{MatchBool, if◌then◌else◌}
 use Rattle.wl_wire.specs.declared.error.IoFault.{IoFault}
 use Rattle.wl_wire.specs.declared.interface.InterfaceId.{InterfaceId}
+use Rattle.wl_wire.specs.Table.{InterfaceRow}
 use Rattle.wl_link.specs.declared.object.Object.{Object}
 use Rattle.wl_link.specs.Exchange.{Queue}
 use Rattle.wl_link.specs.Identity.{Id}
@@ -11,14 +12,15 @@ use Rattle.wl_link.specs.Puts.{Said}
 use Rattle.wl_link.specs.Reader.{Given}
 use Rattle.wl_link.specs.Store.{held}
 use Rattle.wl_server.specs.declared.globals.KeptGlobal.{KeptGlobal}
-use Rattle.wl_server.specs.Announced.{Announced, announced, announced_over}
+use Rattle.wl_server.specs.Announced.{Announced, announced, announced_as, announced_over}
 use Rattle.wl_server.proofs.OverRuns.Announced.AnnouncementLaws.{adding_adds, adding_keeps, adding_only, announced-append, removing_keeps, removing_only, removing_removes}
 use Rattle.wl_server.specs.Deeds.{IsAmong}
 use Rattle.wl_server.specs.Deeds.{Deed, log_of, registries_in}
 use Rattle.wl_server.specs.Felt.{Hears}
-use Rattle.wl_server.specs.Globals.{Globals, Offer, Shown, global_of, is_enabled, new_global, with_created, with_globals}
+use Rattle.wl_server.specs.Globals.{Globals, Offer, Shown, global_of, is_enabled, new_global, shown_as, with_created, with_globals, with_table}
 use Rattle.wl_server.specs.Ids.{ClientParts, GlobalParts}
 use Rattle.wl_server.specs.Part.{Part}
+use Rattle.wl_server.proofs.OverRuns.Announced.InterfaceLaws.{HasInterfaces, keeps_name}
 use Rattle.wl_server.proofs.OverRuns.Announced.ShownLaws.{Hides, IsShown, StaysShown, created_new, created_old, created_only, hidden_old, hidden_only}
 use Rattle.wl_server.specs.Telling.{Core, Tells, Told, core_of, deeds_in, global_message, removal_message, speaker, tells}
 use Rattle.wl_server.proofs.OverRuns.Announced.WatchedVerdicts.{CameTo, carried_to, exchanged}
@@ -160,3 +162,21 @@ module _ {G C : Type 0} (views : G → ClientParts → C → GlobalParts → Boo
         tells = λ a h. tells'.tells a (record { global = h.global; at = h.at; passes = h.passes; is = h.is });
       })
       w
+
+  -- nor are more interfaces: each global has the same name of its interface
+  pub growth_watch : (offer : Offer G) → HasInterfaces offer → (new : List InterfaceRow) (s : Scene U C) (log : List Said) (made : List Id) → Watched offer s log made
+      → Watched (with_table offer (offer.table ++ new)) s log made
+  growth_watch offer known new s log made w = told_none views client r offer longer s log made (λ tells'. record { told = λ a there. to a (tells'.told a there); tells = λ a h. tells'.tells a (from a h) }) w
+    where
+      longer : Offer G
+      longer = with_table offer (offer.table ++ new)
+
+      renamed : (a : Announced) (x : Object (KeptGlobal G)) → held offer.globals.store a.name ≡ Some x
+          → announced_as (offer.table ++ new) (shown_as (a.name, x)) ≡ announced_as offer.table (shown_as (a.name, x))
+      renamed a x at = ap (λ (name : List ℕ). let g : Announced = record { name = a.name; interface = name; version = x.version } in g) (keeps_name offer known new a.name x at)
+
+      to : (a : Announced) → IsShown views client s.client_data offer a → IsShown views client s.client_data longer a
+      to a h = record { global = h.global; at = h.at; passes = h.passes; is = renamed a h.global h.at ∙ h.is }
+
+      from : (a : Announced) → IsShown views client s.client_data longer a → IsShown views client s.client_data offer a
+      from a h = record { global = h.global; at = h.at; passes = h.passes; is = sym (renamed a h.global h.at) ∙ h.is }

@@ -124,6 +124,7 @@ module _ {T U G C : Type 0} (w : World T G C) (id : ClientParts) (offer : Offer 
   covers_step (step.RemoveGlobal g) answer s lacked did t about h = λ x among. absurd among
   covers_step (step.Flush target) answer s lacked did t about h = λ x among. absurd among
   covers_step (step.SetDefaultMaxBufferSize limit) answer s lacked did t about h = λ x among. absurd among
+  covers_step (step.AddInterfaces interfaces) answer s lacked did t about h = λ x among. absurd among
   covers_step (step.SetClientMaxBufferSize target limit) answer s lacked did t about h = λ x among. absurd among
   covers_step (step.FinishRequest target u) answer s lacked did t about h = λ x among. absurd among
   covers_step (step.FinishBind target u) answer s lacked did t about h = λ x among. absurd among

@@ -312,6 +312,7 @@ module _ {T U G C : Type 0} (w : World T G C) (id : ClientParts) (offer : Offer 
   step_goes (step.RemoveGlobal g) answer s lacked did t about (is, h) = loss_goes g s lacked did t h
   step_goes (step.Flush target) answer s lacked did t about (r, is, h) = flushed_goes target r s lacked did t h
   step_goes (step.SetDefaultMaxBufferSize limit) answer s lacked did t about (is, h) = unfelt_goes w.sends w.receives id s lacked did t h
+  step_goes (step.AddInterfaces interfaces) answer s lacked did t about (r, is, h) = unfelt_goes w.sends w.receives id s lacked did t h
   step_goes (step.SetClientMaxBufferSize target limit) answer s lacked did t about (is, h) =
       of_client w.sends w.receives id (same_client target id) s _ _ lacked did t
       (λ p q (no_memory, none, (link, (l, limits, set), same)). relinked link (ap (λ (k : LinkState T). k.outgoing) set) (ap (λ (k : LinkState T). k.outgoing_capacity) set) (ap doings_in none) same) h

@@ -1,11 +1,11 @@
 -- That the numbers which are given out have one outcome: those of globals and of clients.
-use Rattle.std.proofs.Common.{◌≡◌, ◌≢◌, ℕ, ◌<◌, Option, None, is_some, Result, Ok, Err, refl, sym, ap, ◌∙◌, true≢false, arith}
+use Rattle.std.proofs.Common.{◌≡◌, ◌≢◌, ℕ, ◌<◌, Option, None, Some, is_some, Result, Ok, Err, refl, sym, ap, subst, ◌∙◌, true≢false, arith}
 use Rattle.std.specs.Prelude.{IsSome, List, nat_le, slice_get}
 use mathlib.Core.Logic.{inl, inr}
 use Rattle.std.proofs.lemmas.Bool.{cases_order}
 use Rattle.wl_wire.specs.declared.interface.InterfaceId.{InterfaceId}
 use Rattle.wl_wire.specs.Table.{InterfaceRow}
-use Rattle.wl_link.proofs.Calls.Branches.{both_bool, both_option}
+use Rattle.wl_link.proofs.Calls.Branches.{both_bool, both_option, either_bool, either_option}
 use Rattle.wl_link.proofs.Calls.NumberLaws.{full_not_absent, least_absent_one}
 use Rattle.wl_server.specs.declared.error.GlobalError.{GlobalError}
 use Rattle.wl_server.specs.declared.error.GlobalError.TheVariants as global
@@ -13,6 +13,7 @@ use Rattle.wl_server.specs.declared.error.InsertClientError.{InsertClientError}
 use Rattle.wl_server.specs.declared.error.InsertClientError.TheVariants as insert
 use Rattle.wl_server.specs.Globals.{Globals, CreatesGlobal, CreatesNext, IsNextGlobal, LacksName, name_range}
 use Rattle.wl_server.specs.Ids.{ClientParts, GlobalParts}
+use Rattle.wl_server.specs.Next.{ClientIsAsTold, GlobalIsAsTold, NextClient, NextClientIsGiven, NextGlobal, NextGlobalIsGiven}
 use Rattle.wl_server.specs.Server.{Stored, stored_at}
 use Rattle.wl_server.specs.Steps.{InsertsNext, IsLeastFree, IsNextClient, LacksSlot}
 
@@ -58,6 +59,28 @@ module _ {G : Type 0} (globals : Globals G) where
             ]
       ]
 
+  -- the id that was told is the one that is given
+  as_told : (told : Option GlobalParts) (answer : Result GlobalParts GlobalError) → NextGlobal globals told → CreatesNext globals answer → GlobalIsAsTold told answer
+  as_told (Some a) (Ok b) next given = ap Some (next_global_one a b next given)
+  as_told (Some a) (Err global.Full) next lacks = absurd (next_not_lacked a next lacks)
+  as_told (Some a) (Err global.OutOfMemory) next given = refl
+  as_told None (Ok b) lacks given = absurd (next_not_lacked b given lacks)
+  as_told None (Err global.Full) lacks full = refl
+  as_told None (Err global.OutOfMemory) lacks (b, given, unused) = absurd (next_not_lacked b given lacks)
+  as_told told (Err global.UnknownInterface) next given = absurd given
+  as_told told (Err global.VersionTooHigh) next given = absurd given
+
+  pub global_is_as_told : (table : List InterfaceRow) (told : Option GlobalParts) → NextGlobal globals told → NextGlobalIsGiven table globals told
+  global_is_as_told table told next i version answer created =
+      elim (either_option (slice_get table i.0) created) [
+        | inl (none, is) ↦ subst (GlobalIsAsTold told) (sym is) tt
+        | inr (row, some, rest) ↦
+            elim (either_bool (nat_le version row.version) rest) [
+              | inl given ↦ as_told told answer next given
+              | inr is ↦ subst (GlobalIsAsTold told) (sym is) tt
+            ]
+      ]
+
 -- ---- clients
 
 pub client_is : (a b : ClientParts) → a.slot ≡ b.slot → a.serial ≡ b.serial → a ≡ b
@@ -97,3 +120,12 @@ module _ {T U C : Type 0} (last : ℕ) (clients : List (Option (Stored T U C))) 
   inserts_next_one (Err insert.Full) (Err insert.Full) ok ok' h g = refl
   inserts_next_one (Err insert.OutOfMemory) b ok ok' h g = absurd (ok refl)
   inserts_next_one a (Err insert.OutOfMemory) ok ok' h g = absurd (ok' refl)
+
+  -- the id that was told is the one that is given
+  pub client_is_as_told : (told : Option ClientParts) → NextClient last clients told → NextClientIsGiven last clients told
+  client_is_as_told (Some a) next (Ok b) given = ap Some (next_client_one a b next given)
+  client_is_as_told (Some a) next (Err insert.Full) lacks = absurd (next_not_full a next lacks)
+  client_is_as_told (Some a) next (Err insert.OutOfMemory) given = refl
+  client_is_as_told None lacks (Ok b) given = absurd (next_not_full b given lacks)
+  client_is_as_told None lacks (Err insert.Full) full = refl
+  client_is_as_told None lacks (Err insert.OutOfMemory) (b, given) = absurd (next_not_full b given lacks)

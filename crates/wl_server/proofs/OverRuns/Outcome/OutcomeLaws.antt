@@ -3,6 +3,7 @@
 use Rattle.std.proofs.Common.{◌≡◌, ℕ, Bool, true, false, List, [], ◌∷◌, ◌++◌, Option, None, Some, Result, Ok, Err, refl, sym, ap, subst, ◌∙◌, true≢false}
 use mathlib.Core.Logic.{inl, inr}
 use Rattle.wl_wire.specs.declared.error.IoFault.{IoFault}
+use Rattle.wl_wire.specs.Table.{interface_rows}
 use Rattle.wl_link.proofs.Calls.Branches.{both_bool, both_option}
 use Rattle.wl_link.specs.Exchange.{Queue}
 use Rattle.wl_link.specs.Link.{LinkState}
@@ -24,7 +25,7 @@ use Rattle.wl_server.specs.Ids.{ClientParts, GlobalParts, same_client}
 use Rattle.wl_server.specs.Moves.{Accept, AcceptFault, Arrive, ArriveFault, Moved, TakeSent, nothing_taken, taken}
 use Rattle.wl_link.proofs.Calls.NumberLaws.{fresh_one}
 use Rattle.wl_server.proofs.OverRuns.Outcome.Determined.{IsDetermined}
-use Rattle.wl_server.specs.Outcome.{ArrivesSame, SameAnswer, SameCall, SameOutcome, SameReply, SameStep, SendsSame, SharedAnswer, SharedSame}
+use Rattle.wl_server.specs.Outcome.{AddsSame, ArrivesSame, SameAnswer, SameCall, SameOutcome, SameReply, SameStep, SendsSame, SharedAnswer, SharedSame}
 use Rattle.wl_server.specs.Part.{Part, fresh_part}
 use Rattle.wl_server.proofs.OverRuns.Outcome.PartOutcome.{SameEnd, SameFelt, changes_one, cleaned_one, creates_one, destroys_one, finishes_bind_one, finishes_request_one, flushed_one, flushes_live_one, hears_one, kills_one, limits_one, moves_one, next_action_one, posts_error_one, same_felt, sends_event_one, sets_one}
 use Rattle.wl_server.specs.PartStep.{Asked, Call, Changed, CleanedAs, FeelsGlobal, FeelsLoss, FlushedFor, InsertedAs, MovedFor, NotesTaken, OfClient, OnPart, PartCall, PartStep, Unfelt, World, around, share_of}
@@ -216,6 +217,9 @@ module _ {T U G C : Type 0} (w : World T G C) (known : IsDetermined w) (id : Cli
       outcome (is_about {T = T} {U = U} {G = G} {C = C} id (step.Flush target)) p q one.0 (λ own. same_reply id p q _ _ is is' (ap reply.Flush (one.1 own)))
   step_one (step.SetDefaultMaxBufferSize limit) p q ample ample' shared (is, h) (is', g) =
       outcome true p q (unfelt_one before d e x y h g) (λ own. same_reply id p q reply.SetDefaultMaxBufferSize reply.SetDefaultMaxBufferSize is is' refl)
+  step_one (step.AddInterfaces interfaces) p q ample ample' shared (r, is, h) (r', is', g) =
+      let same = sym is ∙ shared ∙ is' in
+      outcome true p q (unfelt_one before d e x y h g) (λ own. same_reply id p q (reply.AddInterfaces r) (reply.AddInterfaces r') is is' same)
   step_one (step.SetClientMaxBufferSize target limit) p q ample ample' shared (is, h) (is', g) =
       let one = of_one before d e x y (same_client target id) _ _ _ _ (λ _ _. tt)
       (λ s q q' f f'. with_none (limits_one s limit d e q q' f.1 f'.1 f.2 f'.2)) h g in
@@ -277,6 +281,12 @@ module _ {T U G C : Type 0} (w : World T G C) (known : IsDetermined w) (id : Cli
           let chunk = subst (λ (c : Queue). (r : _) × (q ≡ reply.Arrive r) × MovedFor w id offer target' (Arrive c) (nothing_taken r) before false e y) (sym chunks) h in
           subst (λ (t : ClientParts). (r : _) × (q ≡ reply.Arrive r)
           × MovedFor w id offer t (Arrive (record { bytes = bytes.items; tokens = tokens.items })) (nothing_taken r) before false e y) (sym same) chunk
+      at s' same h = absurd same
+  part_as (step.AddInterfaces interfaces) s' q same h = at s' same h
+    where
+      at : (s' : Step T U G C) → AddsSame (interface_rows interfaces.items) s' → PartStep w id offer s' q before false e y
+          → PartStep w id offer (step.AddInterfaces interfaces) q before false e y
+      at (step.AddInterfaces others) same h = h
       at s' same h = absurd same
   part_as s s' q same h = subst (λ (z : Step T U G C). PartStep w id offer z q before false e y) (sym same) h
 

@@ -1,6 +1,7 @@
 -- That each call of a server has one outcome, where memory is not refused, and so each run of calls: up to what no program
 -- finds.
 use Rattle.std.proofs.Common.{◌≡◌, ◌≢◌, ℕ, ◌+◌, Bool, false, List, [], ◌∷◌, Result, Err, refl, sym, ap, subst, ◌∙◌, true≢false, arith}
+use Rattle.wl_wire.specs.Table.{interface_rows}
 use Rattle.wl_server.specs.declared.error.InsertClientError.{InsertClientError}
 use Rattle.wl_server.specs.declared.error.InsertClientError.TheVariants as insert
 use Rattle.wl_server.specs.declared.runs.step.Reply.{Reply}
@@ -13,7 +14,7 @@ use Rattle.wl_server.specs.Globals.{Offer}
 use Rattle.wl_server.specs.Ids.{ClientParts}
 use Rattle.wl_server.proofs.OverRuns.Outcome.NumberLaws.{inserts_next_one}
 use Rattle.wl_server.proofs.OverRuns.Outcome.Determined.{IsDetermined}
-use Rattle.wl_server.specs.Outcome.{ArrivesSame, SameCall, SameStep, SendsSame, SharedAnswer, SharedSame}
+use Rattle.wl_server.specs.Outcome.{AddsSame, ArrivesSame, SameCall, SameStep, SendsSame, SharedAnswer, SharedSame}
 use Rattle.wl_server.proofs.OverRuns.Outcome.OutcomeLaws.{call_one, part_as}
 use Rattle.wl_server.proofs.OverRuns.Outcome.PartOutcome.{SameFelt}
 use Rattle.wl_server.specs.PartStep.{Asked, Call, Changed, PartCall, PartStep, World}
@@ -42,16 +43,23 @@ module _ {T U G C : Type 0} where
       at : (s' : Step T U G C) → ArrivesSame target (record { bytes = bytes.items; tokens = tokens.items }) s' → 0 ≡ inserted_by (Asked s' q)
       at (step.Arrive target' bytes' tokens') same = refl
       at s' same = absurd same
+  inserted_as (step.AddInterfaces interfaces) s' q same = at s' same
+    where
+      at : (s' : Step T U G C) → AddsSame (interface_rows interfaces.items) s' → 0 ≡ inserted_by (Asked s' q)
+      at (step.AddInterfaces others) same = refl
+      at s' same = absurd same
   inserted_as s s' q same = ap (λ (z : Step T U G C). inserted_by (Asked z q)) same
 
   clients_as : (before : ServerState T U G C) (s s' : Step T U G C) (q : Reply T U) → SameStep s s' → NumbersClient before (Asked s' q) → NumbersClient before (Asked s q)
   clients_as before (step.SendEvent m) s' q same n = tt
   clients_as before (step.Arrive target bytes tokens) s' q same n = tt
+  clients_as before (step.AddInterfaces interfaces) s' q same n = tt
   clients_as before s s' q same n = subst (λ (z : Step T U G C). NumbersClient before (Asked z q)) (sym same) n
 
   rises_as : (s s' : Step T U G C) (q : Reply T U) → SameStep s s' → RisesBySlot (Asked s' q) → RisesBySlot (Asked s q)
   rises_as (step.SendEvent m) s' q same n = tt
   rises_as (step.Arrive target bytes tokens) s' q same n = tt
+  rises_as (step.AddInterfaces interfaces) s' q same n = tt
   rises_as s s' q same n = subst (λ (z : Step T U G C). RisesBySlot (Asked z q)) (sym same) n
 
   call_offer : (offer : Offer G) (call call' : Call T U G C) → SameCall call call' → SharedAnswer call call' → offer_after offer call ≡ offer_after offer call'
@@ -91,6 +99,9 @@ module _ {T U G C : Type 0} where
         is ∙ ap (λ (z : Result ClientParts InsertClientError). let a : Reply T U = reply.InsertClient z in a) one ∙ sym is'
     whole_shared any (step.CreateGlobal i version handler) p q ample ample' c c' n n' h g =
         let k : Step T U G C = step.CreateGlobal i version handler in
+        shared_same any s.offer k p q refl ample ample' n n' (answered_step w any s.offer k p _ _ _ _ h) (answered_step w any s.offer k q _ _ _ _ g)
+    whole_shared any (step.AddInterfaces interfaces) p q ample ample' c c' n n' h g =
+        let k : Step T U G C = step.AddInterfaces interfaces in
         shared_same any s.offer k p q refl ample ample' n n' (answered_step w any s.offer k p _ _ _ _ h) (answered_step w any s.offer k q _ _ _ _ g)
     whole_shared any k p q ample ample' c c' n n' h g = tt
 

@@ -1,3 +1,4 @@
+use Rattle.wl_wire.proofs.Growth.{AnswersGrowth-unique}
 use Rattle.wl_server.proofs.OverRuns.Outcome.LookupLaws.{answers_alike}
 use Rattle.wl_server.proofs.OverRuns.Outcome.MoveLaws.{scripts_determined, transport_determined}
 use Rattle.wl_server.proofs.OverRuns.Outcome.NumberLaws.{creates_global_one, inserts_next_one}
@@ -25,6 +26,9 @@ returns-clause-client g c = inserts_next_one
 
 pub returns-clause-global : goal.returns-clause-global
 returns-clause-global g c = λ table globals i version a b. creates_global_one globals table i version a b
+
+pub returns-clause-interfaces : goal.returns-clause-interfaces
+returns-clause-interfaces g c = λ table rows a b. AnswersGrowth-unique table rows a b
 
 pub returns-clause-cleanup : goal.returns-clause-cleanup
 returns-clause-cleanup g c = shares_one

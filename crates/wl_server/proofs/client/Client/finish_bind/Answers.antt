@@ -2,15 +2,15 @@ use Rattle.std.proofs.Common.{◌∙◌, Some, ap}
 use Rattle.wl_server.proofs.Readings.Opened.{a_bind, no_bind, not_a_bind}
 use Rattle.wl_server.proofs.client.Client.finish_bind.Goals as goal
 
-pub returns-in_default : goal.returns-in_default
-returns-in_default g c = no_bind c.args.self.now c.args.user_data (rw (← c.self.view_is) c.in_default.is)
+pub returns-in_default-clause-done : goal.returns-in_default-clause-done
+returns-in_default-clause-done g c = no_bind c.args.self.now c.args.user_data (rw (← c.self.view_is) c.in_default.is)
 
-pub returns-in-Bind : goal.returns-in-Bind
-returns-in-Bind g c =
+pub returns-in-Bind-clause-done : goal.returns-in-Bind-clause-done
+returns-in-Bind-clause-done g c =
     a_bind c.args.self.now c.args.user_data c.in-Bind.object c.finish_action.new.self (rw (← c.self.view_is) (c.in-Some.is ∙ ap (λ a. Some a) c.in-Bind.is))
-    c.finish_action.ensures
+    c.finish_action.ensures.finished
 
-pub returns-in-Request : goal.returns-in-Request
-returns-in-Request g c =
+pub returns-in-Request-clause-done : goal.returns-in-Request-clause-done
+returns-in-Request-clause-done g c =
     not_a_bind c.args.self.now c.args.user_data c.in-Request.sender c.in-Request.is_destructor c.in-Request.created
     (rw (← c.self.view_is) (c.in-Some.is ∙ ap (λ a. Some a) c.in-Request.is))

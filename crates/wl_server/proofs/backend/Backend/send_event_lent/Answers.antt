@@ -14,7 +14,7 @@ use Rattle.wl_server.specs.PartStep.{Asked}
 use Rattle.wl_server.proofs.CallSteps.OneClient.{IsOwn, done_to, none_stored}
 use Rattle.wl_server.proofs.CallSteps.Slots.{Kind}
 use Rattle.wl_server.proofs.CleanupSteps.Taken.{slots_set}
-use Rattle.wl_server.proofs.backend.Backend.send_lent.Goals as goal
+use Rattle.wl_server.proofs.backend.Backend.send_event_lent.Goals as goal
 
 abbrev sends_event : {T U C : Type 0} → (T → Queue → Result ℕ IoFault → T → Type 0) → List InterfaceRow → Message IdParts Token → Result (Unit {0}) EventError → Kind T U C
 sends_event sends table m answer id p lacked did q = SendsEvent sends id table p (session_content m) answer lacked did q

@@ -1,4 +1,6 @@
-use Rattle.std.proofs.Common.{◌≡◌, ℕ, Option, Result, Err, refl}
+use Rattle.std.proofs.Common.{◌≡◌, ℕ, Option, Result, Ok, Err, ap, refl, sym}
+use Rattle.std.specs.Prelude.{option_map}
+use Rattle.std.specs.Result.{result_and}
 use Rattle.wl_wire.specs.declared.error.IoFault.{IoFault}
 use Rattle.wl_link.specs.Exchange.{Queue}
 use Rattle.wl_server.proofs.OverRuns.Cut.CuttingLaws.{histories_cut}
@@ -14,7 +16,9 @@ use Rattle.wl_server.proofs.CallSteps.OneClient.{IsOwn, done_to, none_stored}
 use Rattle.wl_server.proofs.CallSteps.Slots.{Kind}
 use Rattle.wl_server.proofs.CleanupSteps.Taken.{slots_set}
 use Rattle.wl_server.proofs.Plain.Requests.{ends_open_request}
-use Rattle.wl_server.proofs.backend.Backend.finish_request.Goals as goal
+use Rattle.wl_server.proofs.Plain.Returning.{request_returns, found_after}
+use Rattle.wl_server.specs.Server.{Stored}
+use Rattle.wl_server.proofs.backend.Backend.finish_request_returning.Goals as goal
 
 abbrev finishes : {T U C : Type 0} → (T → Queue → Result ℕ IoFault → T → Type 0) → Option U → Result (Unit {0}) (FinishRefused (Option U)) → Kind T U C
 finishes sends u answer id p lacked did q = FinishesRequest sends id p u answer lacked did q
@@ -34,9 +38,9 @@ returns-in_default-clause-finished g c = rw (← c.self.view_is)
 
 pub returns-clause-finished : goal.returns-clause-finished
 returns-clause-finished g c = rw (← c.self.view_is, c.lacks_memory-self-inside.ensures)
-    (done_to _ _ _ _ (own _ _ _) c.args.client.now (finishes g.T.Transport.sends c.args.user_data c.finish_request-answer.result)
-    (Unknown c.args.user_data c.finish_request-answer.result) (λ i l d b a h. (_, refl, h)) _ c.in-Some.stored.now
-    c.finish_request-answer.new.self (lacks_finish c.finish_request-answer.result) refl c.in-Some.ensures.value c.finish_request-answer.ensures)
+    (done_to _ _ _ _ (own _ _ _) c.args.client.now (finishes g.T.Transport.sends c.args.user_data (result_and c.finish_request-answer.result (Ok tt)))
+    (Unknown c.args.user_data (result_and c.finish_request-answer.result (Ok tt))) (λ i l d b a h. (_, refl, h)) _ c.in-Some.stored.now
+    c.finish_request-answer.new.self (lacks_finish (result_and c.finish_request-answer.result (Ok tt))) refl c.in-Some.ensures.value c.finish_request-answer.ensures.done)
 
 pub returns-in_default-clause-cutting : goal.returns-in_default-clause-cutting
 returns-in_default-clause-cutting g c = ((returns-in_default-clause-finished g c).step, histories_cut _ _ _ _)
@@ -52,3 +56,12 @@ returns-in_default-clause-plain g c = ends_open_request _ _ _ _ _ _ (returns-in_
 
 pub returns-clause-plain : goal.returns-clause-plain
 returns-clause-plain g c = ends_open_request _ _ _ _ _ _ (returns-clause-finished g c)
+
+pub returns-clause-data : goal.returns-clause-data
+returns-clause-data g c =
+    let (did, q, does, same) = c.finish_request-answer.ensures.done in
+    let was = ap (λ (o : Option (Stored _ _ _)). option_map (λ s. s.part) o) (sym c.in-Some.ensures.value) in
+    let is = ap (λ (o : Option (Stored _ _ _)). option_map (λ s. s.part) o)
+    (found_after c.self.inside.clients.items c.args.client.now c.in-Some.stored.now c.finish_request-answer.new.self c.in-Some.ensures.value (ap (λ (s : Stored _ _ _). s.serial) same)) in
+    request_returns _ _ c.args.client.now c.in-Some.stored.now.part c.finish_request-answer.new.self.part c.args.user_data c.finish_request-answer.result (rw (← c.self.view_is) was) is
+    (returns-clause-plain g c) c.finish_request-answer.ensures.back

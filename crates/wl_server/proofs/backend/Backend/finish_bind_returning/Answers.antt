@@ -1,4 +1,6 @@
-use Rattle.std.proofs.Common.{◌≡◌, false, Result, Err, refl}
+use Rattle.std.proofs.Common.{◌≡◌, false, Option, Result, Ok, Err, ap, refl, sym}
+use Rattle.std.specs.Prelude.{option_map}
+use Rattle.std.specs.Result.{result_and}
 use Rattle.wl_server.proofs.OverRuns.Cut.CuttingLaws.{histories_cut}
 use Rattle.wl_server.specs.declared.error.FinishError.TheVariants as finish
 use Rattle.wl_server.specs.declared.error.FinishRefused.{FinishRefused}
@@ -11,7 +13,9 @@ use Rattle.wl_server.proofs.CallSteps.OneClient.{IsOwn, done_to, none_stored}
 use Rattle.wl_server.proofs.CallSteps.Slots.{Kind}
 use Rattle.wl_server.proofs.CleanupSteps.Taken.{slots_set}
 use Rattle.wl_server.proofs.Plain.Finishing.{ends_bind}
-use Rattle.wl_server.proofs.backend.Backend.finish_bind.Goals as goal
+use Rattle.wl_server.proofs.Plain.Returning.{bind_returns, found_after}
+use Rattle.wl_server.specs.Server.{Stored}
+use Rattle.wl_server.proofs.backend.Backend.finish_bind_returning.Goals as goal
 
 abbrev finishes : {T U C : Type 0} → U → Result (Unit {0}) (FinishRefused U) → Kind T U C
 finishes u answer id p lacked did q = FinishesBind p u answer lacked did q
@@ -31,8 +35,8 @@ returns-in_default-clause-finished g c = rw (← c.self.view_is)
 
 pub returns-clause-finished : goal.returns-clause-finished
 returns-clause-finished g c = rw (← c.self.view_is)
-    (done_to _ _ _ _ (own _ _ _) c.args.client.now (finishes c.args.user_data c.finish_bind.result) (Unknown c.args.user_data c.finish_bind.result) (λ i l d b a h. (_, refl, h))
-    _ c.in-Some.stored.now c.finish_bind.new.self false refl c.in-Some.ensures.value c.finish_bind.ensures)
+    (done_to _ _ _ _ (own _ _ _) c.args.client.now (finishes c.args.user_data (result_and c.finish_bind.result (Ok tt))) (Unknown c.args.user_data (result_and c.finish_bind.result (Ok tt))) (λ i l d b a h. (_, refl, h))
+    _ c.in-Some.stored.now c.finish_bind.new.self false refl c.in-Some.ensures.value c.finish_bind.ensures.done)
 
 pub returns-in_default-clause-cutting : goal.returns-in_default-clause-cutting
 returns-in_default-clause-cutting g c = ((returns-in_default-clause-finished g c).step, histories_cut _ _ _ _)
@@ -48,3 +52,12 @@ returns-in_default-clause-plain g c = ends_bind _ _ _ (returns-in_default-clause
 
 pub returns-clause-plain : goal.returns-clause-plain
 returns-clause-plain g c = ends_bind _ _ _ (returns-clause-finished g c)
+
+pub returns-clause-data : goal.returns-clause-data
+returns-clause-data g c =
+    let (did, q, does, same) = c.finish_bind.ensures.done in
+    let was = ap (λ (o : Option (Stored _ _ _)). option_map (λ s. s.part) o) (sym c.in-Some.ensures.value) in
+    let is = ap (λ (o : Option (Stored _ _ _)). option_map (λ s. s.part) o)
+    (found_after c.self.inside.clients.items c.args.client.now c.in-Some.stored.now c.finish_bind.new.self c.in-Some.ensures.value (ap (λ (s : Stored _ _ _). s.serial) same)) in
+    bind_returns _ _ c.args.client.now c.in-Some.stored.now.part c.finish_bind.new.self.part c.args.user_data c.finish_bind.result (rw (← c.self.view_is) was) is
+    (returns-clause-plain g c) c.finish_bind.ensures.back

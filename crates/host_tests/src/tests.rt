@@ -1,0 +1,8 @@
+//! The sessions as a host drives them: each test hands a list of acts to the one function that owns the session, and
+//! compares what the acts told.
+
+mod acts;
+mod client;
+mod client_acts;
+mod rows;
+mod server;

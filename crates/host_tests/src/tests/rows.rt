@@ -1,0 +1,68 @@
+//! The table of the tests, as flat rows: one interface, `pad`, with the number 4.
+//!
+//! Requests: `push(int, fd)`, `label(string)`, the destructor `close`, `make(new_id<pad>)`. Events: `moved(int)`, `given(fd)`.
+
+use wl_host::{ArgumentRow, InterfaceRow, MessageRow, Rows, kind};
+
+/// The names.
+const TEXT: &[u8] = b"padpushlabelclosemakemovedgiven";
+
+/// The interface.
+const INTERFACES: &[InterfaceRow] = &[InterfaceRow {
+    name_at: 0,
+    name_length: 3,
+    version: 2,
+    requests: 4,
+    events: 2,
+}];
+
+/// A message that is no destructor.
+const fn message(name_at: u32, name_length: u32, arguments: u32) -> MessageRow {
+    MessageRow {
+        name_at,
+        name_length,
+        since: 1,
+        is_destructor: 0,
+        arguments,
+    }
+}
+
+/// An argument that may not be null.
+const fn argument(kind: u32, interface: u32) -> ArgumentRow {
+    ArgumentRow {
+        kind,
+        is_nullable: 0,
+        interface,
+    }
+}
+
+/// Calls the closure with the table.
+pub fn with_rows<T, F: FnOnce(&Rows) -> T>(f: F) -> T
+    requires { F.IsAlwaysCallable f }
+{
+    let mut close = message(12, 5, 0);
+    close.is_destructor = 1;
+    let messages = [
+        message(3, 4, 2),
+        message(7, 5, 1),
+        close,
+        message(17, 4, 1),
+        message(21, 5, 1),
+        message(26, 5, 1),
+    ];
+    let arguments = [
+        argument(kind::INT, 0),
+        argument(kind::DESCRIPTOR, 0),
+        argument(kind::STRING, 0),
+        argument(kind::NEW_ID, 4),
+        argument(kind::INT, 0),
+        argument(kind::DESCRIPTOR, 0),
+    ];
+    let rows = Rows {
+        text: TEXT,
+        interfaces: INTERFACES,
+        messages: &messages,
+        arguments: &arguments,
+    };
+    f(&rows)
+}

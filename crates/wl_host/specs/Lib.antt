@@ -1,0 +1,5 @@
+pub mod Client
+pub mod Calls
+pub mod Descriptors
+pub mod Flat
+pub mod Status

@@ -1,0 +1,154 @@
+//! A client's session as a host drives it.
+//!
+//! | Calls | Code |
+//! |---|---|
+//! | `connect`, the table, the limits, `last_error` | this file, `client::faults` |
+//! | `received`, `received_end`, `receive_failed` | `client::receiving` |
+//! | `next_event`, `finish_event` | `client::events`, `client::flattening` |
+//! | `send_request` | `client::requests` |
+//! | the calls about one object, `next_note` | `client::objects` |
+//! | `flush`, `to_send`, `sent`, `send_failed`, `next_dropped` | `client::sending` |
+
+ghost use Rattle.std.specs.Prelude.{◌≡◌, Ok};
+ghost use Rattle.wl_wire.specs.Table.{display_id};
+ghost use Rattle.wl_host.specs.Flat.{flat_proxy};
+
+mod events;
+mod faults;
+mod flattening;
+mod objects;
+mod receiving;
+mod requests;
+mod sending;
+
+use crate::descriptors::DescriptorQueue;
+use crate::flat::FlatObjectId;
+use crate::rows::{Rows, TableFault, interfaces_of};
+use crate::status::Status;
+use smallvec::SmallVec;
+use std::alloc::Global;
+use wl_client::{Backend, Note, ObjectId};
+use wl_link::Mailbox;
+use wl_wire::{Message, Protocol, TableError, Token};
+
+/// The core of a client's session: the session over a mailbox. The program's data of an object are a number.
+pub type Core = Backend<Mailbox, u64>;
+
+/// A client's session, for a host that owns the socket. It stands for `wayland_backend::client::Backend`.
+///
+/// The host puts in what it received (`received`), and asks for the events (`next_event`). It sends requests
+/// (`send_request`), has them put together (`flush`), sends what there is (`to_send`), and says how much it sent (`sent`).
+///
+/// A descriptor that is put in comes out once: with an event, by `sent`, or by `next_dropped`. It is put in by a call of
+/// `received` or `send_request` that succeeds. After any other answer it is still the host's.
+#[derive(Drop)]
+pub struct Client {
+    /// The session.
+    core: Core,
+    /// The descriptors that arrived, and no event has handed out.
+    arrivals: DescriptorQueue,
+    /// The descriptors of requests that were not sent yet.
+    departures: DescriptorQueue,
+    /// The event that was read last. It is kept here, so that no new one is made for each event.
+    event: Message<ObjectId, Token>,
+    /// Whether that event is still to be handed out: the memory that was lent for it was too small.
+    is_kept: bool,
+    /// The request that is being sent, kept for the same reason.
+    request: Message<ObjectId, Token>,
+    /// The notes that were taken from the core.
+    notes: Vec<Note>,
+    /// How many of them were handed out.
+    noted: usize,
+}
+
+/// A message without arguments.
+fn empty_message(alloc: Global) -> Message<ObjectId, Token> {
+    Message {
+        sender_id: ObjectId::null(),
+        opcode: 0,
+        args: SmallVec::new(alloc),
+    }
+}
+
+/// A limit in bytes. A number that is no `usize` is no limit.
+fn size_of(size: u64) -> usize {
+    usize::try_from(size).unwrap_or(usize::MAX)
+}
+
+impl Client {
+    /// A new session with the table of these rows. It has one object, the display. Nothing is sent yet.
+    ///
+    /// The fault says what is wrong with the rows, or that there was no memory.
+    pub fn connect(alloc: Global, rows: &Rows) -> Result<Client, TableFault> {
+        let interfaces = interfaces_of(alloc, rows)?;
+        match Protocol::new(alloc, interfaces) {
+            Ok(protocol) => Client::over(alloc, protocol),
+            Err(error) => Err(TableFault::from(error)),
+        }
+    }
+
+    /// A new session with this table.
+    fn over(alloc: Global, protocol: Protocol) -> Result<Client, TableFault> {
+        let Ok(core) = Backend::connect(alloc, protocol, Mailbox::new(alloc)) else {
+            return Err(TableFault::from(TableError::OutOfMemory));
+        };
+        Ok(Client {
+            core,
+            arrivals: DescriptorQueue::new(alloc),
+            departures: DescriptorQueue::new(alloc),
+            event: empty_message(alloc),
+            is_kept: false,
+            request: empty_message(alloc),
+            notes: Vec::new(alloc),
+            noted: 0,
+        })
+    }
+
+    /// Appends the interfaces of these rows to the table, all of them or none. The interfaces that are there keep their
+    /// numbers.
+    ///
+    /// The fault says what is wrong with the rows, or that there was no memory. Then the table is as it was.
+    pub fn add_interfaces(&mut self, rows: &Rows) -> Result<(), TableFault> {
+        let alloc = *self.notes.allocator();
+        let interfaces = interfaces_of(alloc, rows)?;
+        match self.core.add_interfaces(interfaces) {
+            Ok(()) => Ok(()),
+            Err(error) => Err(TableFault::from(error)),
+        }
+    }
+
+    /// Whether memory was refused in the last call of the core that changes it.
+    pub fn memory_refused(&self) -> Result<bool, Status>
+        ensures { result ≡ Ok self.now.core.refused }
+    {
+        Ok(self.core.memory_refused())
+    }
+
+    /// Sets how far the buffers of the connection may grow, in bytes. If `has_limit` is 0, there is no limit, as in a new
+    /// session.
+    ///
+    /// The limit is rounded up to a power of two, and is at least 4096. The buffer of what was received never grows beyond
+    /// 65536 bytes.
+    pub fn set_max_buffer_size(&mut self, has_limit: u32, size: u64) -> Status {
+        let limit = if has_limit == 0 {
+            None
+        } else {
+            Some(size_of(size))
+        };
+        self.core.set_max_buffer_size(limit);
+        Status::Ok
+    }
+
+    /// Sets how many bytes may wait for the host to send them. Once so many wait, `flush` answers `WouldBlock`.
+    pub fn set_room(&mut self, room: u64) -> Status {
+        self.core.transport_mut().set_room(size_of(room));
+        Status::Ok
+    }
+
+    /// The id of the display, `wl_display`, which is object 1.
+    pub fn display(&self) -> Result<FlatObjectId, Status>
+        ensures { result ≡ Ok (flat_proxy (record { number = 1; serial = 0; interface = display_id })) }
+    {
+        Ok(FlatObjectId::of_proxy(self.core.display_id()))
+    }
+}

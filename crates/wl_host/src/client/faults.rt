@@ -1,0 +1,93 @@
+//! The error that ended a session.
+
+use super::Client;
+use crate::flat::{FlatError, IO, PROTOCOL, count_number};
+use crate::status::Status;
+use wl_client::WaylandError;
+use wl_wire::{IoFault, ProtocolError};
+
+/// No error.
+fn no_error() -> FlatError {
+    FlatError {
+        kind: 0,
+        status: Status::Ok.code(),
+        number: 0,
+        code: 0,
+        object_number: 0,
+        message_length: 0,
+        interface_length: 0,
+    }
+}
+
+/// The number of the system in a fault; 0 if it has none.
+fn number_of(fault: IoFault) -> i32 {
+    match fault {
+        IoFault::Other(number) => number,
+        _ => 0,
+    }
+}
+
+/// A fault of the transport.
+fn io_error(fault: IoFault) -> FlatError {
+    FlatError {
+        kind: IO,
+        status: Status::from(fault).code(),
+        number: number_of(fault),
+        ..no_error()
+    }
+}
+
+/// A protocol error, without its text.
+fn protocol_error(error: &ProtocolError) -> FlatError {
+    FlatError {
+        kind: PROTOCOL,
+        status: Status::ProtocolError.code(),
+        code: error.code,
+        object_number: error.object_id,
+        message_length: count_number(error.message.as_str().len()),
+        interface_length: count_number(error.object_interface.as_str().len()),
+        ..no_error()
+    }
+}
+
+/// Copies the two texts behind each other. The status is `TooSmall` if there is no room for them.
+fn put_texts(to: &mut [u8], first: &str, second: &str) -> Status {
+    let Some((place, rest)) = to.split_at_mut_checked(first.len()) else {
+        return Status::TooSmall;
+    };
+    let Some((next, _)) = rest.split_at_mut_checked(second.len()) else {
+        return Status::TooSmall;
+    };
+    place.copy_from_slice(first.as_bytes());
+    next.copy_from_slice(second.as_bytes());
+    Status::Ok
+}
+
+impl Client {
+    /// The session's error: what it is in `out`, and its text in `text`, the message and then the name of the interface of
+    /// the object.
+    ///
+    /// The kind is 0 if the session has no error, 1 for a fault of the transport, 2 for a protocol error: one that the
+    /// server sent, or what was wrong with what it sent. The status is `TooSmall` if there is no room for the text. Then the
+    /// lengths in `out` say how much is needed.
+    pub fn last_error(&self, out: &mut FlatError, text: &mut [u8]) -> Status {
+        match self.core.last_error() {
+            None => {
+                *out = no_error();
+                Status::Ok
+            }
+            Some(WaylandError::Io(fault)) => {
+                *out = io_error(*fault);
+                Status::Ok
+            }
+            Some(WaylandError::Protocol(error)) => {
+                *out = protocol_error(error);
+                put_texts(
+                    text,
+                    error.message.as_str(),
+                    error.object_interface.as_str(),
+                )
+            }
+        }
+    }
+}

@@ -1,0 +1,92 @@
+//! The objects of a client.
+
+ghost use Rattle.std.specs.Prelude.{◌≡◌};
+ghost use Rattle.wl_client.specs.Objects.{info_of, user_data_of};
+ghost use Rattle.wl_host.specs.Client.{Destroys, flat_info, found, status_of};
+ghost use Rattle.wl_host.specs.declared.status.Status.TheVariants as status;
+ghost use Rattle.wl_host.specs.Flat.{proxy_of};
+
+use super::Client;
+use crate::flat::{FlatObjectId, FlatObjectInfo, interface_number};
+use crate::status::Status;
+use wl_client::{InvalidId, Note};
+
+/// The status of an answer to `set_data`.
+fn given_status(answer: Result<(), InvalidId>) -> Status
+    ensures { result ≡ status_of (λ _. status.InvalidId) answer }
+{
+    match answer {
+        Ok(()) => Status::Ok,
+        Err(error) => Status::from(error),
+    }
+}
+
+impl Client {
+    /// The number, interface and version of the object that the id names.
+    ///
+    /// The status is `InvalidId` if the id names no object, or one that the client has destroyed.
+    pub fn object_info(&self, id: &FlatObjectId) -> Result<FlatObjectInfo, Status>
+        ensures { result ≡ found (flat_info (info_of self.now.core.session (proxy_of id.now))) }
+    {
+        match self.core.info(&id.proxy()) {
+            Ok(info) => Ok(FlatObjectInfo {
+                number: info.id,
+                interface: interface_number(info.interface),
+                version: info.version,
+            }),
+            Err(error) => Err(Status::from(error)),
+        }
+    }
+
+    /// The data of the object that the id names, also if it was destroyed, until its number is free.
+    ///
+    /// The status is `InvalidId` if the id names no object, or one without data.
+    pub fn object_data(&self, id: &FlatObjectId) -> Result<u64, Status>
+        ensures { result ≡ found (user_data_of self.now.core.session (proxy_of id.now)) }
+    {
+        match self.core.get_data(&id.proxy()) {
+            Ok(user_data) => Ok(*user_data),
+            Err(error) => Err(Status::from(error)),
+        }
+    }
+
+    /// Gives the object that the id names these data, in place of what it had.
+    ///
+    /// The status is `InvalidId` if the id names no object.
+    pub fn set_object_data(&mut self, id: &FlatObjectId, user_data: u64) -> Status
+        ensures beside { self.new ≡ record self.old { core = self.new.core } }
+    {
+        given_status(self.core.set_data(&id.proxy(), user_data))
+    }
+
+    /// Destroys the object that the id names, on the client's side. It is noted, if it has data.
+    ///
+    /// The status is `InvalidId` if the id names no object, or the display, or an object that the client has destroyed
+    /// before; else `OutOfMemory` if there is no memory for the note. Then nothing is changed.
+    pub fn destroy_object(&mut self, id: &FlatObjectId) -> Status
+        ensures call { Destroys self.old.core (proxy_of id.now) result self.new.core }
+        ensures beside { self.new ≡ record self.old { core = self.new.core } }
+    {
+        match self.core.destroy_object(&id.proxy()) {
+            Ok(()) => Status::Ok,
+            Err(error) => Status::from(error),
+        }
+    }
+
+    /// The id of the next object that had data and was destroyed, by the client or by an event, in the order in which they
+    /// ended. Each comes once.
+    ///
+    /// The status is `WouldBlock` if there is none.
+    pub fn next_note(&mut self) -> Result<FlatObjectId, Status> {
+        if self.noted >= self.notes.len() {
+            self.notes = self.core.take_notes();
+            self.noted = 0;
+        }
+        let Some(note) = self.notes.get(self.noted) else {
+            return Err(Status::WouldBlock);
+        };
+        let Note::Destroyed(id) = *note;
+        self.noted += 1;
+        Ok(FlatObjectId::of_proxy(id))
+    }
+}

@@ -1,0 +1,66 @@
+//! Requests.
+
+use super::Client;
+use crate::arguments::read_arguments;
+use crate::flat::{FlatArgument, FlatObjectId, FlatRequest};
+use crate::status::Status;
+use wl_wire::InterfaceId;
+
+/// The interface and version that the host asks for the object that the request makes.
+fn child_of(request: &FlatRequest) -> Option<(InterfaceId, u32)> {
+    if request.has_child == 0 {
+        return None;
+    }
+    let interface = InterfaceId(request.child_interface as usize);
+    Some((interface, request.child_version))
+}
+
+/// The data for the object that the request makes.
+fn data_of(request: &FlatRequest) -> Option<u64> {
+    if request.has_data == 0 {
+        return None;
+    }
+    Some(request.data)
+}
+
+impl Client {
+    /// Checks the request, and appends it to what waits to be sent. Returns the id of the object that it makes, or the null
+    /// id.
+    ///
+    /// Strings and arrays are ranges of `bytes`. A new id among the arguments is null: the session chooses the number. The
+    /// statuses are those of `wl_client::RequestError`, and before them
+    ///
+    /// - `InvalidInput` if the opcode is above 65535, the kind of an argument is unknown, a range is not within the bytes, or
+    ///   a string has a zero byte;
+    /// - `OutOfMemory` if there is no memory.
+    ///
+    /// Then the descriptors among the arguments are still the host's.
+    pub fn send_request(
+        &mut self,
+        request: &FlatRequest,
+        arguments: &[FlatArgument],
+        bytes: &[u8],
+    ) -> Result<FlatObjectId, Status> {
+        let Ok(opcode) = u16::try_from(request.opcode) else {
+            return Err(Status::InvalidInput);
+        };
+        self.request.sender_id = request.sender.proxy();
+        self.request.opcode = opcode;
+        let count = read_arguments(
+            &mut self.request.args,
+            arguments,
+            bytes,
+            &mut self.departures,
+        )?;
+        let answer = self
+            .core
+            .send_request_lent(&self.request, data_of(request), child_of(request));
+        match answer {
+            Ok(id) => Ok(FlatObjectId::of_proxy(id)),
+            Err(error) => {
+                self.departures.take_back(count);
+                Err(Status::from(error))
+            }
+        }
+    }
+}

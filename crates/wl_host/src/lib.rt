@@ -1,0 +1,27 @@
+//! The sessions of the Wayland protocol for a program in another language, the *host*: numbers, flat structs and lent memory in
+//! place of enums and vectors.
+//!
+//! [`Server`] is a server's session. It is `wl_server::Backend` over mailboxes (`wl_link::Mailbox`), with what a host has to
+//! know beside it: who has something to be sent, who is gone, and which file descriptor is whose.
+//!
+//! [`Client`] is a client's session, `wl_client::Backend` over a mailbox, in the same way. `specs/Client` has the relations that
+//! its calls keep.
+#![tactic(auto)]
+
+mod arguments;
+mod client;
+mod descriptors;
+mod flat;
+mod rows;
+mod server;
+mod status;
+
+pub use client::Client;
+pub use flat::{
+    BIND, Counts, DESTROYED, FlatAction, FlatArgument, FlatClientId, FlatError, FlatEvent,
+    FlatGlobalId, FlatGlobalInfo, FlatNote, FlatObjectId, FlatObjectInfo, FlatRequest, Gone,
+    INSERTED, IO, KILLED, PROTOCOL, REQUEST, kind,
+};
+pub use rows::{ArgumentRow, InterfaceRow, MessageRow, Rows, TableFault, fault};
+pub use server::{HostClient, HostGlobal, Server};
+pub use status::Status;

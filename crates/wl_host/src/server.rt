@@ -1,0 +1,204 @@
+//! A server's session as a host drives it.
+//!
+//! | Calls | Code |
+//! |---|---|
+//! | `new`, `add_interfaces`, `memory_refused`, `set_default_max_buffer_size` | `server` |
+//! | clients, and what arrives of them | `server::clients`, `server::arrivals` |
+//! | `next_action`, and those that finish an action | `server::actions` |
+//! | `send_event`, `post_error` | `server::events` |
+//! | objects, globals | `server::objects`, `server::globals` |
+//! | what is to be sent, and clients that are gone | `server::sending`, `server::departures` |
+//! | notes | `server::notes` |
+
+pub mod actions;
+pub mod arrivals;
+pub mod clients;
+pub mod departures;
+pub mod events;
+pub mod globals;
+pub mod ledger;
+pub mod notes;
+pub mod objects;
+pub mod seats;
+pub mod sending;
+
+ghost use Rattle.std.specs.Prelude.{◌≡◌, true};
+ghost use Rattle.wl_host.specs.Calls.{world};
+ghost use Rattle.wl_server.specs.Backend.{Calls};
+ghost use Rattle.wl_server.specs.declared.runs.step.Reply.TheVariants as reply;
+ghost use Rattle.wl_server.specs.declared.runs.step.Step.TheVariants as step;
+ghost use Rattle.wl_host.specs.declared.status.Status.TheVariants as status;
+
+use crate::arguments::{FromFlat, Objects};
+use crate::flat::FlatObjectId;
+use crate::rows::{Rows, TableFault, interfaces_of};
+use crate::server::seats::Seats;
+use crate::status::Status;
+use smallvec::SmallVec;
+use std::alloc::Global;
+use std::collections::VecDeque;
+use wl_link::Mailbox;
+use wl_server::{Action, Backend, ClientId, GlobalHandler, GlobalId, Note, ObjectId};
+use wl_wire::{Message, Protocol, Token};
+
+/// The program's data of a client, and which globals it may see.
+#[derive(Clone, Copy, Drop)]
+pub struct HostClient {
+    /// The data.
+    pub user_data: u64,
+    /// The groups that the client is in, one for each bit.
+    pub groups: u64,
+}
+
+/// The program's data of a global, and which clients may see it.
+#[derive(Clone, Copy, Drop)]
+pub struct HostGlobal {
+    /// The data.
+    pub user_data: u64,
+    /// The groups of clients that may see it, one for each bit.
+    pub groups: u64,
+}
+
+/// A client sees a global if they have a group in common.
+impl GlobalHandler<HostClient> for HostGlobal {
+    ghost use Rattle.wl_host.specs.Calls.{sees};
+
+    ghost views = { sees };
+
+    fn can_view(&self, _client: &ClientId, client_data: &HostClient, _global: &GlobalId) -> bool {
+        self.groups & client_data.groups != 0
+    }
+}
+
+/// The core of a server's session: a server over mailboxes. The program's data of an object are a number.
+pub type Core = Backend<Mailbox, u64, HostGlobal, HostClient>;
+
+/// A server's session, as a host drives it.
+///
+/// The host owns the sockets. It passes on what it received (`received`), takes the actions of each client
+/// (`next_action`), answers by events (`send_event`) and by finishing the actions, and sends what is to be sent (`next_writable`,
+/// `to_send`, `sent`). Clients that were killed are taken out by `cleanup`, and come out of `next_gone`.
+///
+/// Each descriptor that the session takes in comes out once: with an action, by `sent`, by `next_gone`, or by `next_dropped`.
+/// The session takes it in if the call answers `Ok`, and else it is still the host's.
+#[derive(Drop)]
+pub struct Server {
+    /// The core.
+    pub(crate) core: Core,
+    /// What is kept of the clients beside it.
+    pub(crate) seats: Seats,
+    /// The notes that were taken from the core and not handed out, the oldest first.
+    pub(crate) notes: VecDeque<Note<u64>>,
+    /// The action that was read last. It is kept, so that none is made for each reading.
+    pub(crate) action: Action,
+    /// The event that was sent last. It is kept for the same reason.
+    pub(crate) event: Message<ObjectId, Token>,
+    /// Whether a call since the last `cleanup` may have killed a client, or made a note that waits for it.
+    pub(crate) may_clean_up: bool,
+    /// Whether a call since the last look for notes may have made one.
+    pub(crate) may_have_notes: bool,
+}
+
+/// An action of no object.
+pub(crate) fn no_action(alloc: Global) -> Action {
+    Action::Request {
+        sender: ObjectId::null(),
+        opcode: 0,
+        args: SmallVec::new(alloc),
+        is_destructor: false,
+        created: None,
+    }
+}
+
+impl Server {
+    /// A session without clients and globals, for the table of these rows.
+    ///
+    /// The error is the first fault of the rows. It is `fault::OUT_OF_MEMORY` if there was no memory.
+    pub fn new(alloc: Global, rows: &Rows) -> Result<Self, TableFault> {
+        let interfaces = interfaces_of(alloc, rows)?;
+        match Protocol::new(alloc, interfaces) {
+            Ok(protocol) => Ok(Server::over(alloc, protocol)),
+            Err(error) => Err(TableFault::from(error)),
+        }
+    }
+
+    /// A session without clients and globals, for this table.
+    fn over(alloc: Global, protocol: Protocol) -> Self {
+        Server {
+            core: Backend::new(alloc, protocol),
+            seats: Seats::new(alloc),
+            notes: VecDeque::new(alloc),
+            action: no_action(alloc),
+            event: Message {
+                sender_id: ObjectId::null(),
+                opcode: 0,
+                args: SmallVec::new(alloc),
+            },
+            may_clean_up: false,
+            may_have_notes: false,
+        }
+    }
+
+    /// The allocator of all that the session keeps.
+    pub(crate) fn alloc(&self) -> Global {
+        *self.notes.allocator()
+    }
+
+    /// Appends the interfaces of these rows to the table. Their numbers go on behind the last one of the table.
+    ///
+    /// The error is as that of `new`. Then the table is as it was.
+    pub fn add_interfaces(&mut self, rows: &Rows) -> Result<(), TableFault> {
+        let interfaces = interfaces_of(self.alloc(), rows)?;
+        match self.core.add_interfaces(interfaces) {
+            Ok(()) => Ok(()),
+            Err(error) => Err(TableFault::from(error)),
+        }
+    }
+
+    /// Whether memory was refused in the last call of the core that changed it (`wl_server::Backend::memory_refused`).
+    pub fn memory_refused(&self) -> bool
+        ensures { result ≡ self.now.core.refused }
+    {
+        self.core.memory_refused()
+    }
+
+    /// Sets how far the buffers of each client that is inserted from now on may grow, in bytes
+    /// (`wl_server::Backend::set_default_max_buffer_size`).
+    pub fn set_default_max_buffer_size(&mut self, size: u64) -> Status
+        ensures call { Calls world self.old.core (step.SetDefaultMaxBufferSize size) reply.SetDefaultMaxBufferSize self.new.core }
+        ensures status { result ≡ status.Ok }
+    {
+        self.core.set_default_max_buffer_size(size as usize);
+        Status::Ok
+    }
+
+    /// A call may have killed clients and made notes.
+    pub(crate) fn mark(&mut self)
+        ensures { self.new ≡ record self.old { may_clean_up = true; may_have_notes = true } }
+    {
+        self.may_clean_up = true;
+        self.may_have_notes = true;
+    }
+}
+
+impl FromFlat for ObjectId {
+    fn from_flat(flat: &FlatObjectId) -> Self {
+        flat.resource()
+    }
+}
+
+impl Objects<ObjectId> for Core {
+    fn flat(&self, id: &ObjectId) -> FlatObjectId {
+        FlatObjectId::of_resource(*id)
+    }
+
+    fn data_or_zero(&self, id: &ObjectId) -> u64 {
+        if id.is_null() {
+            return 0;
+        }
+        match self.get_object_data(id) {
+            Ok(user_data) => *user_data,
+            Err(_) => 0,
+        }
+    }
+}

@@ -1,0 +1,119 @@
+//! Notes: what happened to clients and their objects.
+
+use crate::flat::{
+    DESTROYED, FlatClientId, FlatNote, FlatObjectId, INSERTED, KILLED, count_number,
+};
+use crate::server::Server;
+use crate::status::Status;
+use std::collections::VecDeque;
+use wl_server::{ClientId, DisconnectReason, Note, ObjectId};
+use wl_wire::ProtocolError;
+
+/// A note of a client, with nothing else in it.
+fn client_note(kind: u32, client: ClientId) -> FlatNote {
+    FlatNote {
+        kind,
+        is_protocol_error: 0,
+        code: 0,
+        object_number: 0,
+        client: FlatClientId::new(client),
+        object: FlatObjectId::null(),
+        data: 0,
+        message_length: 0,
+        interface_length: 0,
+    }
+}
+
+/// A note of a client that was killed for a protocol error.
+fn error_note(client: ClientId, error: &ProtocolError) -> FlatNote {
+    let mut note = client_note(KILLED, client);
+    note.is_protocol_error = 1;
+    note.code = error.code;
+    note.object_number = error.object_id;
+    note.message_length = count_number(error.message.as_str().len());
+    note.interface_length = count_number(error.object_interface.as_str().len());
+    note
+}
+
+/// A note of an object that is gone.
+fn end_note(client: ClientId, object: ObjectId, user_data: u64) -> FlatNote {
+    let mut note = client_note(DESTROYED, client);
+    note.object = FlatObjectId::of_resource(object);
+    note.data = user_data;
+    note
+}
+
+/// The note as a flat struct.
+fn flat_note(note: &Note<u64>) -> FlatNote {
+    match note {
+        Note::Initialized(client) => client_note(INSERTED, *client),
+        Note::Disconnected(client, DisconnectReason::ConnectionClosed) => {
+            client_note(KILLED, *client)
+        }
+        Note::Disconnected(client, DisconnectReason::ProtocolError(error)) => {
+            error_note(*client, error)
+        }
+        Note::Destroyed(client, object, user_data) => end_note(*client, *object, *user_data),
+    }
+}
+
+/// Copies the text of a protocol error: the message, and then the name of the interface. Returns whether there was room.
+pub(crate) fn copy_error_text(error: &ProtocolError, text: &mut [u8]) -> bool {
+    let message = error.message.as_str().as_bytes();
+    let interface = error.object_interface.as_str().as_bytes();
+    if message.len() > text.len() || interface.len() > text.len() - message.len() {
+        return false;
+    }
+    let (first, rest) = text.split_at_mut(message.len());
+    first.copy_from_slice(message);
+    rest[..interface.len()].copy_from_slice(interface);
+    true
+}
+
+/// Copies the text of the note, if it has one. Returns whether there was room.
+fn copy_text(note: &Note<u64>, text: &mut [u8]) -> bool {
+    match note {
+        Note::Disconnected(_, DisconnectReason::ProtocolError(error)) => {
+            copy_error_text(error, text)
+        }
+        _ => true,
+    }
+}
+
+impl Server {
+    /// Hands out the next note (`wl_server::Backend::take_notes`), the oldest first. The text of a protocol error goes to `text`:
+    /// its message, and then the name of the interface of the object that it is about.
+    ///
+    /// The status is `WouldBlock` if there is none, `TooSmall` if `text` has no room for the text, and `OutOfMemory`. After
+    /// `TooSmall` `out` says how long the text is, and the note is handed out by the next call with enough.
+    pub fn next_note(&mut self, out: &mut FlatNote, text: &mut [u8]) -> Status {
+        let status = self.fetch_notes();
+        if status != Status::Ok {
+            return status;
+        }
+        let Some(note) = self.notes.front() else {
+            return Status::WouldBlock;
+        };
+        *out = flat_note(note);
+        if !copy_text(note, text) {
+            return Status::TooSmall;
+        }
+        self.notes.pop_front();
+        Status::Ok
+    }
+
+    /// Takes the notes of the core, if none are left and there may be some.
+    fn fetch_notes(&mut self) -> Status {
+        if !self.notes.is_empty() || !self.may_have_notes {
+            return Status::Ok;
+        }
+        match self.core.take_notes() {
+            Ok(notes) => {
+                self.notes = VecDeque::from_vec(notes);
+                self.may_have_notes = false;
+                Status::Ok
+            }
+            Err(error) => Status::from(error),
+        }
+    }
+}

@@ -1,0 +1,75 @@
+-- What becomes of the data of an action, in the words of the look-ups.
+use Rattle.std.proofs.Common.{◌≡◌, ◌∙◌, ℕ, Bool, List, Option, None, Some, Result, Ok, Err, refl, sym, ap, subst}
+use Rattle.std.specs.Prelude.{IfOk, MatchOption, option_map, slice_set}
+use Rattle.std.specs.Result.{result_and}
+use Rattle.wl_link.specs.declared.object.Object.{Object}
+use Rattle.wl_link.specs.Store.{Store}
+use Rattle.wl_server.specs.declared.error.FinishRefused.{FinishRefused}
+use Rattle.wl_server.specs.declared.objects.Kept.{Kept}
+use Rattle.wl_server.specs.declared.reading.action.OpenAction.TheVariants as opened
+use Rattle.wl_server.specs.Backend.{BackendState}
+use Rattle.wl_server.specs.Finish.{DataHeld, HoldsData, data_given}
+use Rattle.wl_server.specs.Ids.{ClientParts, IdParts}
+use Rattle.wl_server.specs.Inside.Finishing.{BindLeaves, RequestLeaves}
+use Rattle.wl_server.specs.Lookups.{and_then}
+use Rattle.wl_server.specs.Part.{Part, named, with_user_data}
+use Rattle.wl_server.specs.Plain.{EndsBind, EndsOpenRequest, RequestDataHeld, ReturnsBindData, ReturnsRequestData, client_in, object_of_client}
+use Rattle.wl_server.specs.Server.{Stored, client_at}
+use Rattle.wl_server.proofs.Plain.Finishing.{given_named}
+use Rattle.wl_server.proofs.CallSteps.Slots.{client_present, get_set_same, slot_of_client}
+
+-- ---- data that are given
+
+module _ {U : Type 0} where
+  -- the object that is kept has them, or they come back
+  pub given_held : (store after : Store (Kept U)) (id : IdParts) (u : U) (back : Option U) → MatchOption (named store id) (back ≡ Some u) (λ _. back ≡ None)
+      → after ≡ data_given store id.number (named store id) u → HoldsData (named after id) u back
+  given_held store after id u back returned given =
+      subst (λ (s : Store (Kept U)). HoldsData (named s id) u back) (sym given)
+      (subst (λ (o : Option (Object (Kept U))). HoldsData o u back) (sym (given_named store id u)) (at (named store id) returned))
+    where
+      at : (o : Option (Object (Kept U))) → MatchOption o (back ≡ Some u) (λ _. back ≡ None) → HoldsData (option_map (with_user_data u) o) u back
+      at None is = is
+      at (Some x) is = (refl, is)
+
+-- ---- the open action
+
+module _ {T U C : Type 0} (p q : Part T U C) where
+  pub request_leaves : (u : Option U) (sender : IdParts) (is_destructor : Bool) (created : Option IdParts) (answer : Result (Option U) (FinishRefused (Option U)))
+      → p.action ≡ Some (opened.Request sender is_destructor created) → IfOk answer (λ back. DataHeld q.store created u back) → RequestLeaves p u answer q
+  request_leaves u sender is_destructor created (Ok back) is held = (sender, is_destructor, created, is, held)
+  request_leaves u sender is_destructor created (Err r) is held = tt
+
+-- ---- the client that was looked up
+
+module _ {T U C : Type 0} (clients : List (Option (Stored T U C))) (id : ClientParts) (s t : Stored T U C) where
+  pub found_after : Some s ≡ client_at id clients → t.serial ≡ s.serial → client_at id (slice_set clients id.slot (Some t)) ≡ Some t
+  found_after is same =
+      let (here, known) = slot_of_client clients id s is in
+      client_present id (slice_set clients id.slot (Some t)) t (get_set_same clients id.slot (Some s) (Some t) here) (same ∙ known)
+
+module _ {T U G C : Type 0} (before after : BackendState T U G C) (client : ClientParts) (p q : Part T U C) where
+  pub bind_returns : (u : U) (answer : Result (Option U) (FinishRefused U)) → client_in before client ≡ Some p → client_in after client ≡ Some q
+      → EndsBind before client u (result_and answer (Ok tt)) after → BindLeaves p u answer q → ReturnsBindData before client u answer after
+  bind_returns u (Ok back) was is ends (object, open_is, held) = (
+    object,
+    ap (λ (o : Option (Part T U C)). and_then o (λ p. p.action)) was ∙ open_is,
+    subst (λ (o : Option (Part T U C)). HoldsData (and_then o (λ p. named p.store object)) u back) (sym is) held,
+  )
+  bind_returns u (Err r) was is ends left = ends.bind.0
+
+  pub request_returns : (u : Option U) (answer : Result (Option U) (FinishRefused (Option U))) → client_in before client ≡ Some p → client_in after client ≡ Some q
+      → EndsOpenRequest before client u (result_and answer (Ok tt)) after → RequestLeaves p u answer q → ReturnsRequestData before client u answer after
+  request_returns u (Ok back) was is ends (sender, is_destructor, created, open_is, held) = (
+    sender,
+    is_destructor,
+    created,
+    ap (λ (o : Option (Part T U C)). and_then o (λ p. p.action)) was ∙ open_is,
+    at created u held,
+  )
+    where
+      at : (created : Option IdParts) (u : Option U) → DataHeld q.store created u back → RequestDataHeld after client created u back
+      at (Some made) (Some u) held = subst (λ (o : Option (Part T U C)). HoldsData (and_then o (λ p. named p.store made)) u back) (sym is) held
+      at (Some made) None held = held
+      at None u held = held
+  request_returns u (Err r) was is ends left = ends.request.0
