@@ -1,6 +1,7 @@
 //! How the answer of a session's call goes out to C.
 
 ghost use Rattle.std.specs.Prelude.{MatchResult, ◌≡◌, ◌≢◌};
+ghost use Rattle.wl_c.specs.Flags.{flag};
 ghost use Rattle.wl_host.specs.Status.{code_of};
 
 use wl_host::{Status, TableFault, fault};
@@ -21,9 +22,18 @@ pub fn write_answer<T: Drop>(answer: Result<T, Status>, out: &mut T) -> u32
 
 /// The same for a call that answers yes or no, which is 1 or 0 in C.
 pub fn write_flag(answer: Result<bool, Status>, out: &mut u32) -> u32
+    ensures answered {
+        MatchResult answer (λ yes. (result ≡ 0) × (out.new ≡ flag yes)) (λ status. (result ≡ code_of status) × (out.new ≡ out.old))
+    }
     ensures unwritten { result ≢ 0 → out.new ≡ out.old }
 {
-    write_answer(answer.map(u32::from), out)
+    match answer {
+        Ok(yes) => {
+            *out = if yes { 1 } else { 0 };
+            Status::Ok.code()
+        }
+        Err(status) => status.code(),
+    }
 }
 
 /// Writes why a table was refused, and answers the number of the status.

@@ -36,15 +36,16 @@ pub extern "C" fn nb_server_to_send(
     descriptors: &mut [i32],
     counts: &mut Counts,
 ) -> u32
-    ensures none { place.old.kept.held ≡ None → (result ≡ 1) × (place.new.kept.held ≡ None) × (bytes.new ≡ bytes.old) × (descriptors.new ≡ descriptors.old) × (counts.new ≡ counts.old) }
+    ensures none { place.old.kept.held ≡ None → (result ≡ 1) × (place.new.kept.held ≡ None) × (counts.new ≡ counts.old) }
     ensures kept { place.new.kept.held ≡ place.old.kept.held }
+    ensures unwritten { result ≢ 0 → counts.new ≡ counts.old }
 {
     let Some(session) = place.take(alloc) else {
         return Status::NoSession.code();
     };
-    let status = session.to_send(client, bytes, descriptors, counts);
+    let answer = session.to_send(client, bytes, descriptors);
     place.put(session);
-    status.code()
+    write_answer(answer, counts)
 }
 
 /// Says that so many bytes were sent to a client, and with the first of them all descriptors.

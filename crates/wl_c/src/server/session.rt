@@ -106,7 +106,7 @@ pub extern "C" fn nb_server_memory_refused(
     };
     let answer = session.memory_refused();
     place.put(session);
-    write_flag(answer, is_refused)
+    write_flag(Ok(answer), is_refused)
 }
 
 /// Sets how many bytes may wait for a client that is inserted from now on.
