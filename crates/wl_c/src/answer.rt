@@ -22,9 +22,7 @@ pub fn write_answer<T: Drop>(answer: Result<T, Status>, out: &mut T) -> u32
 
 /// The same for a call that answers yes or no, which is 1 or 0 in C.
 pub fn write_flag(answer: Result<bool, Status>, out: &mut u32) -> u32
-    ensures answered {
-        MatchResult answer (λ yes. (result ≡ 0) × (out.new ≡ flag yes)) (λ status. (result ≡ code_of status) × (out.new ≡ out.old))
-    }
+    ensures answered { MatchResult answer (λ yes. (result ≡ 0) × (out.new ≡ flag yes)) (λ status. (result ≡ code_of status) × (out.new ≡ out.old)) }
     ensures unwritten { result ≢ 0 → out.new ≡ out.old }
 {
     match answer {
