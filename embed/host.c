@@ -66,7 +66,7 @@ static uint32_t serial;
 static int queue, listener, client_count, is_logging;
 static volatile sig_atomic_t is_stopping;
 
-static uint8_t bytes[NB_MOST_BYTES];
+static uint8_t bytes[NB_MOST_WAITING];
 static int32_t descriptors[NB_MOST_DESCRIPTORS];
 
 /* ======== Ids and data */

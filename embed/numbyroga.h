@@ -175,9 +175,11 @@ static inline const char *nb_status_text(nb_status status)
 
 enum {
     NB_MOST_DESCRIPTORS =
-        28,               /* as many descriptors wait on each side of a connection, and are in one receive or send */
-    NB_MOST_BYTES = 65536 /* no message has more; what is lent for strings and arrays, and for what is to be sent, is
-                             never too small with so many */
+        28, /* as many descriptors wait on each side of a connection, and are in one receive or send */
+    NB_MOST_BYTES =
+        65536, /* no message has more: so many are enough for the strings and arrays of an action or event */
+    NB_MOST_WAITING = 69632 /* so many are enough for what waits for a client, if its room was not set: the room of
+                               65536, and one more send of at most 4096 */
 };
 
 /* ======== Ids */
