@@ -66,7 +66,7 @@ static uint32_t serial;
 static int queue, listener, client_count, is_logging;
 static volatile sig_atomic_t is_stopping;
 
-static uint8_t bytes[NB_MOST_BYTES];
+static uint8_t bytes[NB_MOST_WAITING];
 static int32_t descriptors[NB_MOST_DESCRIPTORS];
 
 /* ======== Ids and data */
@@ -534,7 +534,7 @@ static void send_to(struct client *client)
         if (taken == -EAGAIN) {
             is_full = 1;
         } else if (taken < 0) {
-            nb_server_send_failed(&server, &client->id, (int32_t)-taken);
+            nb_server_kill_client(&server, &client->id);
             break;
         } else if (nb_server_sent(&server, &client->id, (uint32_t)taken) == NB_OK) {
             close_all(descriptors, counts.descriptors); /* the client has its own now */

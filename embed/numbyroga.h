@@ -175,9 +175,11 @@ static inline const char *nb_status_text(nb_status status)
 
 enum {
     NB_MOST_DESCRIPTORS =
-        28,               /* as many descriptors wait on each side of a connection, and are in one receive or send */
-    NB_MOST_BYTES = 65536 /* no message has more; what is lent for strings and arrays, and for what is to be sent, is
-                             never too small with so many */
+        28, /* as many descriptors wait on each side of a connection, and are in one receive or send */
+    NB_MOST_BYTES =
+        65536, /* no message has more: so many are enough for the strings and arrays of an action or event */
+    NB_MOST_WAITING = 69632 /* so many are enough for what waits for a client, if its room was not set: the room of
+                               65536, and one more send of at most 4096 */
 };
 
 /* ======== Ids */
@@ -322,9 +324,9 @@ typedef struct {
 typedef struct {
     nb_object_id sender;
     uint32_t opcode;          /* its index among the requests of the sender's interface */
-    uint32_t has_data;        /* whether `data` are given for the object that it makes (0 or 1) */
+    uint32_t has_data;        /* not 0: `data` are given for the object that it makes */
     uint64_t data;            /* of that object */
-    uint32_t has_child;       /* whether the next two are given (0 or 1). They have to be for wl_registry.bind alone */
+    uint32_t has_child;       /* not 0: the next two are given. wl_registry.bind alone needs them */
     uint32_t child_interface; /* of the object that it makes */
     uint32_t child_version;
     uint32_t unused; /* 0 */
@@ -421,9 +423,9 @@ nb_status nb_server_set_default_max_buffer_size(nb_server *place, uint64_t size)
 /* Sets the same for a client that is there. An unknown client is no error: nothing is done. */
 nb_status nb_server_set_max_buffer_size(nb_server *place, const nb_client_id *client, uint64_t size);
 
-/* Sets how many bytes may wait in what nb_server_to_send answers (its *room*); what is beyond it waits in the client's
- * buffer, up to its limit. It is 65536 at first. With 0 nothing is handed over any more, until more room is set.
- * Statuses: NB_INVALID_ID. */
+/* Sets how many bytes wait in what nb_server_to_send answers until no more are put there (its *room*); what comes
+ * behind them waits in the client's buffer, up to its limit. It is 65536 at first. With 0 nothing is put there any
+ * more. Statuses: NB_INVALID_ID. */
 nb_status nb_server_set_room(nb_server *place, const nb_client_id *client, uint64_t room);
 
 /* Inserts a client, over a connection of the host. It has one object, the display. It sees each global with which it
@@ -435,7 +437,7 @@ nb_status nb_server_insert_client(nb_server *place, uint64_t data, uint64_t grou
 /* The data of a client. Statuses: NB_INVALID_ID. */
 nb_status nb_server_client_data(nb_server *place, const nb_client_id *client, uint64_t *data);
 
-/* The clients, by ascending slot, those that were killed and not cleaned up among them. `count` is how many there are.
+/* The live clients, by ascending slot. `count` is how many there are.
  * Statuses: NB_TOO_SMALL (`count` is written all the same). */
 nb_status nb_server_clients(nb_server *place, nb_client_id *clients, size_t room, uint32_t *count);
 
@@ -463,11 +465,11 @@ nb_status nb_server_received(nb_server *place, const nb_client_id *client, const
 nb_status nb_server_received_end(nb_server *place, const nb_client_id *client);
 
 /* recvmsg failed with this errno, which is not EAGAIN, EWOULDBLOCK or EINTR. The reading that gets to it answers
- * NB_IO_ERROR (EPIPE and ECONNRESET: NB_CLOSED), and the client is killed. Statuses: NB_INVALID_ID. */
+ * NB_IO_ERROR, and the client is killed. Statuses: NB_INVALID_ID. */
 nb_status nb_server_receive_failed(nb_server *place, const nb_client_id *client, int32_t number);
 
-/* sendmsg failed with this errno, which is not EAGAIN, EWOULDBLOCK or EINTR: nothing more can be sent to the client,
- * and it is killed. Statuses: NB_INVALID_ID. */
+/* sendmsg failed with this errno, which is not EAGAIN, EWOULDBLOCK or EINTR: nothing more can be sent to the client. It
+ * is killed when something for it finds no room in its buffer. To end it at once, kill it. Statuses: NB_INVALID_ID. */
 nb_status nb_server_send_failed(nb_server *place, const nb_client_id *client, int32_t number);
 
 /* ======== A server's session: actions */
@@ -516,10 +518,11 @@ nb_status nb_server_finish_bind(nb_server *place, const nb_client_id *client, ui
  *
  * After NB_OK the descriptors among the arguments are the session's, also if nothing is sent.
  *
- * Statuses: NB_INVALID_INPUT (an opcode above 65535; a kind that is none; a range outside of `bytes`; a zero byte in a
- * string); NB_INVALID_ID (of the sender); NB_UNKNOWN_OPCODE; NB_BAD_SIGNATURE; then of the arguments from left to
- * right, of each in this order: NB_NULL_OBJECT or NB_NULL_NEW_ID, NB_FOREIGN_OBJECT, NB_INVALID_ID, NB_WRONG_INTERFACE;
- * NB_OUT_OF_MEMORY. An event that is too long for the client's buffer kills the client, and the answer is NB_OK. */
+ * Statuses: NB_INVALID_ID (of the sender's client); NB_INVALID_INPUT (an opcode above 65535; a kind that is none; a
+ * range outside of `bytes`; a zero byte in a string); NB_OUT_OF_MEMORY (for copies of the arguments); NB_INVALID_ID (of
+ * the sender); NB_UNKNOWN_OPCODE; NB_BAD_SIGNATURE; then of the arguments from left to right, of each in this order:
+ * NB_NULL_OBJECT or NB_NULL_NEW_ID, NB_FOREIGN_OBJECT, NB_INVALID_ID, NB_WRONG_INTERFACE; NB_OUT_OF_MEMORY. An event
+ * that is too long for the client's buffer kills the client, and the answer is NB_OK. */
 nb_status nb_server_send_event(nb_server *place, const nb_object_id *sender, uint32_t opcode,
                                const nb_argument *arguments, size_t argument_count, const uint8_t *bytes,
                                size_t byte_count);
@@ -536,10 +539,10 @@ nb_status nb_server_post_error(nb_server *place, const nb_object_id *object, uin
 /* ======== A server's session: objects */
 
 /* Makes an object of the server for a client, with the least number from 0xFF000000 on that is free. The client hears
- * of it by an event that has it as a new id. It has data if `has_data` is 1. The version is not checked.
+ * of it by an event that has it as a new id. The version is not checked.
  *
- * Statuses: NB_INVALID_INPUT (`has_data` is neither 0 nor 1); NB_INVALID_ID; NB_UNKNOWN_INTERFACE; NB_IDS_EXHAUSTED;
- * NB_SERIALS_EXHAUSTED; NB_OUT_OF_MEMORY. */
+ * Statuses: NB_MISSING_DATA (`has_data` is 0: such an object always has data); NB_INVALID_ID; NB_UNKNOWN_INTERFACE;
+ * NB_IDS_EXHAUSTED; NB_SERIALS_EXHAUSTED; NB_OUT_OF_MEMORY. */
 nb_status nb_server_create_object(nb_server *place, const nb_client_id *client, uint32_t interface, uint32_t version,
                                   uint32_t has_data, uint64_t data, nb_object_id *object);
 
@@ -615,15 +618,14 @@ nb_status nb_server_next_writable(nb_server *place, nb_client_id *client);
 /* Copies what is to be sent to a client next. `counts` says how much was copied. Nothing is taken away until
  * nb_server_sent. Send the descriptors with the first byte, by one sendmsg.
  *
- * `descriptor_room` is at least 28, or as many as wait. If the bytes do not fit, as many are copied as do. After NB_OK
- * with 0 bytes nothing waits. Statuses: NB_INVALID_ID; NB_TOO_SMALL (the descriptors do not fit; `counts` has how many
- * bytes and descriptors wait). */
+ * If the bytes do not fit, as many are copied as do. After NB_OK with 0 bytes nothing waits. Statuses: NB_INVALID_ID;
+ * NB_TOO_SMALL (the descriptors do not fit; 28 always do). */
 nb_status nb_server_to_send(nb_server *place, const nb_client_id *client, uint8_t *bytes, size_t byte_room,
                             int32_t *descriptors, size_t descriptor_room, nb_counts *counts);
 
-/* sendmsg took this many bytes, and with the first of them all descriptors. Those are yours now: close them. If more
- * was to be sent, the client comes by nb_server_next_writable again. Statuses: NB_INVALID_ID; NB_INVALID_INPUT (more
- * than what waits). */
+/* sendmsg took this many bytes, and with the first of them all descriptors. Those are yours now: close them. A count
+ * above what waits is as much as waits. When nothing waits any more, the client comes by nb_server_next_writable again
+ * if its buffer has more. Statuses: NB_INVALID_ID. */
 nb_status nb_server_sent(nb_server *place, const nb_client_id *client, uint32_t count);
 
 /* Takes the clients out that were killed: each comes once by nb_server_next_gone, and each of their objects with data
@@ -671,11 +673,11 @@ nb_status nb_client_add_interfaces(nb_client *place, const uint8_t *text, size_t
 nb_status nb_client_memory_refused(nb_client *place, uint32_t *is_refused);
 
 /* Sets how far the buffers may grow, as nb_server_set_max_buffer_size. If `has_limit` is 0 there is no limit, as at
- * first. Statuses: NB_INVALID_INPUT (`has_limit` is neither 0 nor 1). */
+ * first. */
 nb_status nb_client_set_max_buffer_size(nb_client *place, uint32_t has_limit, uint64_t size);
 
-/* Sets how many bytes may wait in what nb_client_to_send answers, 65536 at first; what is beyond it waits in the
- * session's buffer. */
+/* Sets how many bytes wait in what nb_client_to_send answers until no more are put there, as nb_server_set_room. There
+ * is no such limit at first. */
 nb_status nb_client_set_room(nb_client *place, uint64_t room);
 
 /* The display, which is object 1. */
@@ -729,8 +731,8 @@ nb_status nb_client_finish_event_with(nb_client *place, uint64_t data);
  * After NB_OK the descriptors among the arguments are the session's. A session that has an error sends nothing more,
  * and the answer is NB_OK.
  *
- * Statuses: NB_INVALID_INPUT (an opcode above 65535; has_data or has_child neither 0 nor 1; a kind that is none; a
- * range outside of `bytes`; a zero byte in a string); NB_INVALID_ID (of the sender); NB_UNKNOWN_OPCODE;
+ * Statuses: NB_INVALID_INPUT (an opcode above 65535; a kind that is none; a range outside of `bytes`; a zero byte in a
+ * string); NB_OUT_OF_MEMORY (for copies of the arguments); NB_INVALID_ID (of the sender); NB_UNKNOWN_OPCODE;
  * NB_BAD_SIGNATURE; NB_UNKNOWN_INTERFACE; NB_WRONG_CHILD; NB_WRONG_CHILD_VERSION; NB_MISSING_CHILD; NB_MISSING_DATA;
  * NB_NOT_PLACEHOLDER; then of the object arguments from left to right the first of: NB_INVALID_ID, NB_WRONG_INTERFACE,
  * NB_NULL_OBJECT; NB_IDS_EXHAUSTED; NB_SERIALS_EXHAUSTED; NB_OUT_OF_MEMORY. */
@@ -764,8 +766,8 @@ nb_status nb_client_flush(nb_client *place);
 nb_status nb_client_to_send(nb_client *place, uint8_t *bytes, size_t byte_room, int32_t *descriptors,
                             size_t descriptor_room, nb_counts *counts);
 
-/* sendmsg took this many bytes, and with the first of them all descriptors: close them. Statuses: NB_INVALID_INPUT
- * (more than what waits). */
+/* sendmsg took this many bytes, and with the first of them all descriptors: close them. A count above what waits is as
+ * much as waits. */
 nb_status nb_client_sent(nb_client *place, uint32_t count);
 
 /* ======== A client's session: what has happened */

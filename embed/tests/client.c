@@ -182,10 +182,11 @@ static void ends(void)
     OK(nb_client_last_error(&session, &error, bytes, sizeof bytes));
     HOLDS(error.kind == NB_ERROR_OF_IO);
     OK(nb_client_end(&session));
-    /* Little room: the rest waits. */
+    /* As long as so many bytes wait, no more come. */
     connect_session();
     OK(nb_client_set_room(&session, 12));
     ask(&object, NB_QUAD_REQUEST_POKE, 0, &poke, 1, "");
+    OK(nb_client_flush(&session));
     ask(&object, NB_QUAD_REQUEST_POKE, 0, &poke, 1, "");
     IS(nb_client_flush(&session), NB_WOULD_BLOCK);
     for (int i = 0; i < 2; i++) {

@@ -192,7 +192,7 @@ static nb_object_id begin_sending(void)
     nb_object_id made;
     begin();
     OK(nb_server_add_interfaces(&server, (const uint8_t *)names, 9, &interface, 1, &message, 1, rows, 2, &fault));
-    OK(nb_server_create_object(&server, &client, NB_QUAD + 1, 1, 0, 0, &made));
+    OK(nb_server_create_object(&server, &client, NB_QUAD + 1, 1, 1, 0, &made));
     return made;
 }
 
@@ -309,7 +309,7 @@ static void of_a_client(void)
     OK(nb_client_send_request(&session, &request, give, 3, (const uint8_t *)"quad", 4, &none));
     give[2] = nb_descriptor(numbers[1]);
     OK(nb_client_send_request(&session, &request, give, 3, (const uint8_t *)"quad", 4, &none));
-    give[0] = nb_null_string();
+    give[0] = nb_int(1);
     give[2] = nb_descriptor(numbers[2]);
     IS(nb_client_send_request(&session, &request, give, 3, (const uint8_t *)"quad", 4, &none), NB_BAD_SIGNATURE);
     came_back(numbers + 2, 1);

@@ -93,7 +93,7 @@ static void unknown_client(const nb_client_id *id)
     IS(nb_server_finish_request(&server, id), NB_INVALID_ID);
     IS(nb_server_finish_request_with(&server, id, 1, &number), NB_INVALID_ID);
     IS(nb_server_finish_bind(&server, id, 1, &number), NB_INVALID_ID);
-    IS(nb_server_create_object(&server, id, NB_QUAD, 1, 0, 0, &object), NB_INVALID_ID);
+    IS(nb_server_create_object(&server, id, NB_QUAD, 1, 1, 0, &object), NB_INVALID_ID);
     IS(nb_server_object_for_protocol_id(&server, id, NB_QUAD, 3, &object), NB_INVALID_ID);
     IS(nb_server_objects(&server, id, &object, 1, &number), NB_INVALID_ID);
     IS(nb_server_global_name(&server, &global, id, &number), NB_INVALID_ID);
@@ -190,12 +190,12 @@ static void events(void)
     wrong.serial++;
     IS(event(&object, NB_QUAD_EVENT_MADE, nb_new_id(wrong)), NB_INVALID_ID);
     OK(nb_server_insert_client(&server, 9, 1, &second));
-    OK(nb_server_create_object(&server, &second, NB_QUAD, 3, 0, 0, &other));
+    OK(nb_server_create_object(&server, &second, NB_QUAD, 3, 1, 0, &other));
     IS(event(&object, NB_QUAD_EVENT_MADE, nb_new_id(other)), NB_FOREIGN_OBJECT);
-    OK(nb_server_create_object(&server, &first, NB_INTERFACE_CALLBACK, 1, 0, 0, &other));
+    OK(nb_server_create_object(&server, &first, NB_INTERFACE_CALLBACK, 1, 1, 0, &other));
     IS(event(&object, NB_QUAD_EVENT_MADE, nb_new_id(other)), NB_WRONG_INTERFACE);
-    IS(nb_server_create_object(&server, &first, 99, 1, 0, 0, &other), NB_UNKNOWN_INTERFACE);
-    IS(nb_server_create_object(&server, &first, NB_QUAD, 1, 2, 0, &other), NB_INVALID_INPUT);
+    IS(nb_server_create_object(&server, &first, 99, 1, 1, 0, &other), NB_UNKNOWN_INTERFACE);
+    IS(nb_server_create_object(&server, &first, NB_QUAD, 1, 0, 0, &other), NB_MISSING_DATA);
     IS(nb_server_post_error(&server, &object, 1, (const uint8_t *)"a\0b", 3), NB_INVALID_INPUT);
     nb_global_id global;
     IS(nb_server_create_global(&server, NB_QUAD, 4, 0, 1, &global), NB_VERSION_TOO_HIGH);
@@ -208,8 +208,9 @@ static void events(void)
     OK(nb_server_to_send(&server, &first, bytes, sizeof bytes, descriptors, NB_MOST_DESCRIPTORS, &counts));
     put(3, NB_QUAD_EVENT_MOVED, "u", (uint32_t)-5);
     HOLDS(is_wire(bytes, counts.bytes));
-    IS(nb_server_sent(&server, &first, counts.bytes + 1), NB_INVALID_INPUT);
-    OK(nb_server_sent(&server, &first, counts.bytes));
+    OK(nb_server_sent(&server, &first, counts.bytes + 1));
+    OK(nb_server_to_send(&server, &first, bytes, sizeof bytes, descriptors, NB_MOST_DESCRIPTORS, &counts));
+    HOLDS(counts.bytes == 0);
     OK(nb_server_end(&server));
 }
 
@@ -316,8 +317,6 @@ static void requests(void)
     request.opcode = NB_INTERFACE_DISPLAY; /* get_registry */
     IS(nb_client_send_request(&session, &request, given, 0, NULL, 0, &created), NB_BAD_SIGNATURE);
     IS(nb_client_send_request(&session, &request, given, 1, NULL, 0, &created), NB_MISSING_DATA);
-    request.has_data = 2;
-    IS(nb_client_send_request(&session, &request, given, 1, NULL, 0, &created), NB_INVALID_INPUT);
     request.has_data = 1;
     request.data = 11;
     given[0] = nb_new_id(display);
@@ -375,7 +374,7 @@ static void requests(void)
     IS(nb_client_destroy_object(&session, &wrong), NB_INVALID_ID);
     IS(nb_client_object_info(&session, &wrong, &(nb_object_info){ 0, 0, 0 }), NB_INVALID_ID);
     IS(nb_client_set_object_data(&session, &wrong, 1), NB_INVALID_ID);
-    IS(nb_client_set_max_buffer_size(&session, 2, 4096), NB_INVALID_INPUT);
+    OK(nb_client_set_max_buffer_size(&session, 1, 1 << 16));
     for (int i = 0; i < NB_MOST_DESCRIPTORS; i++)
         descriptors[i] = 100 + i;
     const int32_t one_more = 200;
@@ -383,7 +382,9 @@ static void requests(void)
     IS(nb_client_received(&session, NULL, 0, &one_more, 1), NB_TOO_MANY_DESCRIPTORS);
     OK(nb_client_flush(&session));
     OK(nb_client_to_send(&session, bytes, sizeof bytes, descriptors, NB_MOST_DESCRIPTORS, &counts));
-    IS(nb_client_sent(&session, counts.bytes + 1), NB_INVALID_INPUT);
+    OK(nb_client_sent(&session, counts.bytes + 1));
+    OK(nb_client_to_send(&session, bytes, sizeof bytes, descriptors, NB_MOST_DESCRIPTORS, &counts));
+    HOLDS(counts.bytes == 0);
     OK(nb_client_end(&session));
 }
 

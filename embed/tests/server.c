@@ -124,7 +124,7 @@ static void texts(void)
     };
     nb_object_id object = begin(), made;
     OK(nb_server_add_interfaces(&server, (const uint8_t *)names, 9, &interface, 1, &message, 1, rows, 4, &fault));
-    OK(nb_server_create_object(&server, &client, NB_QUAD + 1, 1, 0, 0, &made));
+    OK(nb_server_create_object(&server, &client, NB_QUAD + 1, 1, 1, 0, &made));
     const nb_argument given[] = { nb_string(2, 5), nb_array(1, 3), nb_fixed(384), nb_descriptor(60) };
     OK(nb_server_send_event(&server, &made, 0, given, 4, (const uint8_t *)"xxhello", 7));
     const nb_argument null[] = { nb_null_string(), nb_array(0, 0), nb_fixed(-1), nb_descriptor(61) };
@@ -254,8 +254,13 @@ static void ends(void)
     IS(next_action(), NB_IO_ERROR);
     IS(next_action(), NB_CLOSED);
     OK(nb_server_end(&server));
-    begin();
+    /* A client to which nothing can be sent is killed when its buffer is full. */
+    const nb_object_id object = begin();
+    const nb_argument argument = nb_int(7);
     OK(nb_server_send_failed(&server, &client, 71));
+    IS(next_action(), NB_WOULD_BLOCK);
+    for (int i = 0; i < 1000; i++)
+        OK(nb_server_send_event(&server, &object, NB_QUAD_EVENT_MOVED, &argument, 1, NULL, 0));
     IS(next_action(), NB_CLOSED);
     OK(nb_server_cleanup(&server));
     OK(nb_server_next_note(&server, &note, bytes, sizeof bytes));
