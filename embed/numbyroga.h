@@ -10,7 +10,7 @@
  *   1. Wait until a client connects, a socket can be read, or one can be written for which something was left over.
  *   2. Insert each new client (nb_server_insert_client).
  *   3. Receive from each socket that can be read, once: nb_server_received. Then take its actions
- * (nb_server_next_action) and finish each one, until the answer is not NB_OK.
+ *      (nb_server_next_action) and finish each one, until the answer is not NB_OK.
  *   4. Send to each client that nb_server_next_writable answers: nb_server_to_send, sendmsg, nb_server_sent.
  *   5. nb_server_cleanup. Send the last bytes of each client that nb_server_next_gone answers, and close its socket.
  *   6. Forget what nb_server_next_note says is gone. Close each descriptor that nb_server_next_dropped answers.
@@ -44,18 +44,19 @@
  * Descriptors. Each descriptor has one owner at a time.
  *
  *   - What you hand to nb_server_received, nb_server_send_event, nb_client_received or nb_client_send_request is the
- * session's if the status is NB_OK, and else stays yours.
+ *     session's if the status is NB_OK, and else stays yours.
  *   - The session hands each one back exactly once: as an argument of an action or event, by to_send and sent, by
  *     nb_server_next_gone, or by next_dropped. It is yours then: close it when you need it no more.
  *   - nb_server_end and nb_client_end forget those that are left. So before the end kill all clients, clean up, and
- * empty next_gone and next_dropped; for a client's session empty to_send and next_dropped.
+ *     empty next_gone and next_dropped. Of a client's session: nb_client_receive_failed, nb_client_next_event until
+ *     NB_FAILED, and nb_client_next_dropped until NB_WOULD_BLOCK.
  *   - Actions and events that you do not care for may have descriptors, too. Close them.
  *
  * What a C program must not do: copy a place that is in use; call one place from two threads at once; pass a pointer
  * that names no memory, or a count above what is there; let memory that is written overlap other memory of the call;
  * write into a place. The library cannot see these. All else that a program may do wrong is answered with a status.
  *
- * Link with -lnumbyroga, or with libnumbyroga.a. It needs the C library alone. / */
+ * Link with -lnumbyroga, or with libnumbyroga.a. It needs the C library alone. */
 #ifndef NUMBYROGA_H
 #define NUMBYROGA_H
 
