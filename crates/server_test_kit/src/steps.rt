@@ -124,9 +124,9 @@ fn of_objects(alloc: Global, call: Call) -> Result<Made, Fail> {
 fn of_reading(call: Call) -> Result<Made, Fail> {
     match call {
         Call::Next(who) => Ok(Step::NextAction(who.id())),
-        Call::NextWithin(who, receives_left) => {
+        Call::NextWithin(who, turns_left) => {
             let reading = Reading {
-                receives_left,
+                turns_left,
                 read: 0,
             };
             Ok(Step::NextActionWithin(who.id(), reading))

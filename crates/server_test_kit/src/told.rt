@@ -179,7 +179,7 @@ fn read_within(
     reading: Reading,
 ) -> Result<(), Fail> {
     read(log, answer)?;
-    Ok(writeln!(log, "{} left, {} read", reading.receives_left, reading.read)?)
+    Ok(writeln!(log, "{} left, {} read", reading.turns_left, reading.read)?)
 }
 
 /// Tells whether a request was finished, or why not, and the data that come back.

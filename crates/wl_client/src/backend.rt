@@ -14,7 +14,7 @@ use crate::object_id::ObjectId;
 use crate::objects::{Kept, Note, fresh_object};
 use std::alloc::Global;
 use std::marker::Model;
-use std::mem;
+use std::{fmt, mem};
 use wl_link::{BufferedSocket, MessagePlace, ObjectMap};
 use wl_wire::{Interface, OutOfMemory, Protocol, TableError, WL_DISPLAY_INTERFACE};
 
@@ -48,6 +48,12 @@ pub struct Backend<T, U> {
     pub(crate) refused: bool,
     /// The message that is being read. It is kept here, so that no new one is made for each message.
     pub(crate) place: MessagePlace,
+}
+
+impl<T, U> fmt::Debug for Backend<T, U> {
+    fn fmt<W: fmt::Write>(&self, f: &mut fmt::Formatter<W>) -> fmt::Result {
+        f.write_str("Backend { .. }")
+    }
 }
 
 impl<T, U> Model for Backend<T, U> {

@@ -5,6 +5,7 @@ use crate::error::{
 };
 use crate::object_id::ObjectId;
 use crate::objects::Note;
+use std::fmt;
 use wl_link::ArriveError;
 use wl_wire::{Interface, InterfaceId, IoFault, Message, OutOfMemory, TableError, Token};
 
@@ -43,6 +44,12 @@ pub enum Step<U> {
     TakeSent,
 }
 
+impl<U> fmt::Debug for Step<U> {
+    fn fmt<W: fmt::Write>(&self, f: &mut fmt::Formatter<W>) -> fmt::Result {
+        f.write_str("Step { .. }")
+    }
+}
+
 /// The answer to the call of a step.
 #[derive(Drop)]
 pub enum Reply<U> {
@@ -78,6 +85,12 @@ pub enum Reply<U> {
     TakeSent(Vec<(Vec<u8>, Vec<Token>)>),
 }
 
+impl<U> fmt::Debug for Reply<U> {
+    fn fmt<W: fmt::Write>(&self, f: &mut fmt::Formatter<W>) -> fmt::Result {
+        f.write_str("Reply { .. }")
+    }
+}
+
 /// The error of `Backend::replay`: memory was refused in a step.
 #[derive(Drop)]
 pub struct Stopped<U> {
@@ -85,4 +98,10 @@ pub struct Stopped<U> {
     pub step: usize,
     /// The replies to the steps before it.
     pub replies: Vec<Reply<U>>,
+}
+
+impl<U> fmt::Debug for Stopped<U> {
+    fn fmt<W: fmt::Write>(&self, f: &mut fmt::Formatter<W>) -> fmt::Result {
+        f.write_str("Stopped { .. }")
+    }
 }

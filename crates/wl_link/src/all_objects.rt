@@ -3,6 +3,7 @@
 ghost use Rattle.std.specs.Iterator.{YieldsFirstBy, item_count};
 
 use crate::object::Object;
+use std::fmt;
 use std::marker::Model;
 
 /// An iterator over the objects of a map, each with its number. The numbers ascend: first those of the client's range, then
@@ -13,6 +14,12 @@ pub struct AllObjects<'a, Data> {
     pub(crate) clients: RangeObjects<'a, Data>,
     /// The objects of the server's range that are still to come.
     pub(crate) servers: RangeObjects<'a, Data>,
+}
+
+impl<'a, Data> fmt::Debug for AllObjects<'a, Data> {
+    fn fmt<W: fmt::Write>(&self, f: &mut fmt::Formatter<W>) -> fmt::Result {
+        f.write_str("AllObjects { .. }")
+    }
 }
 
 impl<'a, Data> Model for AllObjects<'a, Data> {

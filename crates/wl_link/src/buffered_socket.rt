@@ -20,6 +20,7 @@ use crate::transport::{MAX_BYTES_OUT, MAX_FDS_OUT, Transport};
 use smallvec::SmallVec;
 use std::alloc::{AllocError, Global};
 use std::collections::VecDeque;
+use std::fmt;
 use std::marker::Model;
 use wl_wire::{
     ArgumentType, INLINE_ARGS, IoFault, Message, MessageParseError, MessageWriteError, Numbering,
@@ -38,6 +39,12 @@ pub struct BufferedSocket<T> {
     outgoing: Buffer,
     fds_out: TokenQueue,
     limit: Option<usize>,
+}
+
+impl<T> fmt::Debug for BufferedSocket<T> {
+    fn fmt<W: fmt::Write>(&self, f: &mut fmt::Formatter<W>) -> fmt::Result {
+        f.write_str("BufferedSocket { .. }")
+    }
 }
 
 impl<T> Model for BufferedSocket<T> {
@@ -117,7 +124,7 @@ impl<T> BufferedSocket<T> {
     }
 
     /// The capacity of the incoming and of the outgoing buffer, in bytes.
-    pub fn capacities(&self) -> [usize; 2]
+    pub fn storage(&self) -> [usize; 2]
         ensures { result ≡ self.now.incoming_capacity ∷ self.now.outgoing_capacity ∷ [] }
     {
         [self.incoming.size(), self.outgoing.size()]

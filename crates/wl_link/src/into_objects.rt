@@ -5,7 +5,7 @@ ghost use Rattle.std.specs.Iterator.{YieldsFirst, item_count};
 use crate::object::Object;
 use std::alloc::Global;
 use std::marker::Model;
-use std::vec;
+use std::{fmt, vec};
 
 /// The objects of a map that is given up, each with its number, by ascending number: those of the client's range first.
 /// An object that is not taken is dropped with this.
@@ -13,6 +13,12 @@ use std::vec;
 pub struct IntoObjects<Data> {
     pub(crate) clients: RangeIntoObjects<Data>,
     pub(crate) servers: RangeIntoObjects<Data>,
+}
+
+impl<Data> fmt::Debug for IntoObjects<Data> {
+    fn fmt<W: fmt::Write>(&self, f: &mut fmt::Formatter<W>) -> fmt::Result {
+        f.write_str("IntoObjects { .. }")
+    }
 }
 
 impl<Data> Model for IntoObjects<Data> {

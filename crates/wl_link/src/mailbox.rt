@@ -118,7 +118,7 @@ impl Mailbox {
     }
 
     /// How many of the bytes that arrived were not received yet.
-    pub fn arrivals_left(&self) -> usize
+    pub fn bytes_left(&self) -> usize
         ensures { result ≡ length self.now.arrived.bytes }
     {
         self.arrived.bytes().len()

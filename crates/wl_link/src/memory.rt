@@ -8,7 +8,7 @@ use crate::transport::{MAX_FDS_OUT, Transport};
 use std::alloc::Global;
 use std::collections::VecDeque;
 use std::marker::Model;
-use std::mem;
+use std::{fmt, mem};
 use thiserror::Error;
 use wl_wire::{IoFault, OutOfMemory, Token};
 
@@ -39,6 +39,12 @@ pub struct Memory {
     arrivals: VecDeque<Result<Parcel, IoFault>>,
     answers: VecDeque<Result<usize, IoFault>>,
     sent: Vec<(Vec<u8>, Vec<Token>)>,
+}
+
+impl fmt::Debug for Memory {
+    fn fmt<W: fmt::Write>(&self, f: &mut fmt::Formatter<W>) -> fmt::Result {
+        f.write_str("Memory { .. }")
+    }
 }
 
 impl Model for Memory {

@@ -5,6 +5,7 @@ ghost use Rattle.wl_wire.specs.declared.message.TheConstants.{INLINE_ARGS};
 
 use smallvec::SmallVec;
 use std::alloc::Global;
+use std::fmt;
 use std::marker::Model;
 use wl_wire::{INLINE_ARGS, Message, Token};
 
@@ -17,6 +18,12 @@ use wl_wire::{INLINE_ARGS, Message, Token};
 pub struct MessagePlace {
     /// The message.
     pub message: Message<u32, Token>,
+}
+
+impl fmt::Debug for MessagePlace {
+    fn fmt<W: fmt::Write>(&self, f: &mut fmt::Formatter<W>) -> fmt::Result {
+        f.write_str("MessagePlace { .. }")
+    }
 }
 
 impl Model for MessagePlace {

@@ -3,7 +3,7 @@
 use wl_wire::InterfaceId;
 
 /// An object, without its number.
-#[derive(Drop)]
+#[derive(Debug, Drop)]
 pub struct Object<Data> {
     /// The interface of the object.
     pub interface: InterfaceId,

@@ -14,6 +14,7 @@ use crate::into_objects::IntoObjects;
 use crate::object::Object;
 use crate::places::Places;
 use std::alloc::Global;
+use std::fmt;
 use std::marker::Model;
 use thiserror::Error;
 use wl_wire::OutOfMemory;
@@ -60,6 +61,12 @@ pub struct ObjectMap<Data> {
     clients: Places<Data>,
     servers: Places<Data>,
     words_read: u32,
+}
+
+impl<Data> fmt::Debug for ObjectMap<Data> {
+    fn fmt<W: fmt::Write>(&self, f: &mut fmt::Formatter<W>) -> fmt::Result {
+        f.write_str("ObjectMap { .. }")
+    }
 }
 
 impl<Data> Model for ObjectMap<Data> {
@@ -130,10 +137,11 @@ impl<Data: Drop> ObjectMap<Data> {
         }
     }
 
-    /// The object with this number; `None` if there is none. It allocates nothing.
+    /// The object with this number; `None` if there is none, as for 0, which stands for no object. It allocates nothing.
     pub fn find(&self, number: u32) -> Option<&Object<Data>>
         ensures found { option_copied result ≡ held self.now.store number }
         ensures used { IsSome result → number < first_unused self.now.store number }
+        ensures nonzero { IsSome result → 0 < number }
     {
         match place_of(number) {
             Place::Nowhere => None,
@@ -223,7 +231,9 @@ impl<Data: Drop> ObjectMap<Data> {
     /// The number that `client_insert_new` would give, as `next_client` tells it. The map is only looked at, so
     /// `words_read` does not count this search.
     pub fn peek_client(&self) -> Option<u32>
-        ensures { NextNew client_range self.now.store result }
+        ensures next { NextNew client_range self.now.store result }
+        ensures given { InsertionsGive client_range self.now.store result }
+        ensures free { IfSome result (λ number. is_free self.now.store number ≡ true) }
     {
         number_of(self.clients.first_free(&mut 0), 1, CLIENT_PLACES)
     }
@@ -231,7 +241,8 @@ impl<Data: Drop> ObjectMap<Data> {
     /// The number that `server_insert_new` would give; `None` if each number of the server's range holds an object. It
     /// allocates nothing, and `words_read` does not count this search.
     pub fn peek_server(&self) -> Option<u32>
-        ensures { NextNew server_range self.now.store result }
+        ensures next { NextNew server_range self.now.store result }
+        ensures given { InsertionsGive server_range self.now.store result }
     {
         number_of(
             self.servers.first_free(&mut 0),

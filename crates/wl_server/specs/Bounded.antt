@@ -20,7 +20,7 @@ module _ {T U G C : Type 0} where
   abbrev pub KeepsTo : ClientParts → Call T U G C → ℕ → Type 0
   KeepsTo id (Asked (step.NextAction target) answer) n = MatchBool (same_client target id) (n ≤ 64) (n ≡ 0)
   KeepsTo id (Asked (step.NextActionWithin target reading) (reply.NextActionWithin answer left)) n =
-      MatchBool (same_client target id) (n + left.receives_left ≤ reading.receives_left) (n ≡ 0)
+      MatchBool (same_client target id) (n + left.turns_left ≤ reading.turns_left) (n ≡ 0)
   KeepsTo id _ n = n ≡ 0
 
   -- so it is with each client

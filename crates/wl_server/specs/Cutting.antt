@@ -45,7 +45,7 @@ module _ {T U G C : Type 0} (a : Around G C) where
   CutsReading sends receives r before answer did after =
       (p : Part T U C) → before.part ≡ Some p → p.is_killed ≡ false → p.action ≡ None →
       (turns : List Turn) × (out : Gives (Told U)) × (end : ReaderState T (Core U C))
-      × Reads sends (server a) receives r.receives_left (reader_part p) turns out end
+      × Reads sends (server a) receives r.turns_left (reader_part p) turns out end
       × (answer ≡ answered out.stopped out.gave)
       × (did ≡ deeds_of (exchanges_in turns) out.gave end.core)
       × (after ≡ seen_after before end did)

@@ -46,11 +46,6 @@ module _ {U : Type 0} where
   HoldsData None u back = back ≡ Some u
   HoldsData (Some x) u back = (x.value.user_data ≡ Some u) × (back ≡ None)
 
-  -- the same of the object that an action made and of the data that were given, if there are both; else nothing comes back
-  abbrev pub DataHeld : Store (Kept U) → Option IdParts → Option U → Option U → Type 0
-  DataHeld store (Some id) (Some u) back = HoldsData (named store id) u back
-  DataHeld store _ _ back = back ≡ None
-
   -- the object that a request ends: its own sender, while that is kept
   abbrev pub ended_by : Store (Kept U) → IdParts → Bool → Option (Object (Kept U))
   ended_by store sender is_destructor = if is_destructor then named store sender else None

@@ -19,7 +19,7 @@ use Rattle.wl_server.specs.PartStep.{Asked, Call, Changed, PartStep, World, shar
 use Rattle.wl_server.specs.Reading.{action_content}
 use Rattle.wl_server.specs.Runs.{Alone, Leads, Own, concerns, is_about, mine, offer_over}
 use Rattle.wl_server.specs.Server.{Seen, ServerState, new_server, notes_of, seen}
-use Rattle.wl_server.specs.Steps.{Entry, NumbersGlobal, lacks_growth, offer_after}
+use Rattle.wl_server.specs.Steps.{Entry, AnswersShared, lacks_growth, offer_after}
 
 -- ---- replies
 
@@ -109,7 +109,7 @@ module _ {T U G C : Type 0} where
   -- the ids of new globals follow from the offer alone
   abbrev pub AreNumbered : Offer G → List (Own T U G C) → Type 0
   AreNumbered offer [] = Unit {0}
-  AreNumbered offer (e ∷ run) = NumbersGlobal offer e.call × AreNumbered (offer_after offer e.call) run
+  AreNumbered offer (e ∷ run) = AnswersShared offer e.call × AreNumbered (offer_after offer e.call) run
 
   -- the runs are of the same steps
   abbrev pub SameSteps : List (Own T U G C) → List (Own T U G C) → Type 0

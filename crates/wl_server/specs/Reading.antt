@@ -224,11 +224,11 @@ module _ {U : Type 0} where
 -- ---- how much is read
 
 abbrev pub new_reading : Reading
-new_reading = record { receives_left = 64; read = 0 }
+new_reading = record { turns_left = 64; read = 0 }
 
 -- the count of requests stops at the greatest number
 abbrev pub read_on : Reading → ℕ → ℕ → Reading
-read_on r left handled = record { receives_left = left; read = min (r.read + handled) 0xFFFFFFFFFFFFFFFF }
+read_on r left handled = record { turns_left = left; read = min (r.read + handled) 0xFFFFFFFFFFFFFFFF }
 
 module _ {T U C : Type 0} where
   -- nothing is read, for this reason
@@ -241,7 +241,7 @@ module _ {T U G C : Type 0} (sends : T → Queue → Result ℕ IoFault → T �
   abbrev pub ReadsTo : Around G C → Reading → Part T U C → Result Handed ActionError → Reading → Bool → List (Deed U) → Part T U C → Type 0
   ReadsTo a r before answer r' refused did after =
       (turns : List Turn) × (out : Gives (Told U)) × (end : ReaderState T (Core U C))
-      × Reads sends (server a) receives r.receives_left (reader_part before) turns out end
+      × Reads sends (server a) receives r.turns_left (reader_part before) turns out end
       × (answer ≡ answered out.stopped out.gave) × (r' ≡ read_on r out.left (handled_in turns)) × (refused ≡ out.refused)
       × (did ≡ deeds_of (exchanges_in turns) out.gave end.core) × (after ≡ part_of end)
 

@@ -14,7 +14,7 @@ use Rattle.wl_server.specs.Ids.{ClientParts, same_client}
 use Rattle.wl_server.specs.Part.{fresh_part, last_possible_serial}
 use Rattle.wl_server.specs.PartStep.{Asked, Call, Changed, PartCall, World}
 use Rattle.wl_server.specs.Server.{Seen, ServerState, new_server, nothing_seen, seen}
-use Rattle.wl_server.specs.Steps.{Entry, NumbersGlobal, OneStep, StepOf, inserted_by, offer_after}
+use Rattle.wl_server.specs.Steps.{Entry, AnswersShared, OneStep, StepOf, inserted_by, offer_after}
 
 -- ---- runs of a server
 
@@ -150,7 +150,7 @@ module _ {T U G C : Type 0} where
   abbrev pub SharedAlone : Offer G → ℕ → List (Entry T U G C) → Offer G → ℕ → Type 0
   SharedAlone offer last [] offer' last' = (offer' ≡ offer) × (last' ≡ last)
   SharedAlone offer last (e ∷ run) offer' last' =
-      NumbersGlobal offer e.call × HasNextSerial last e.call
+      AnswersShared offer e.call × HasNextSerial last e.call
       × SharedAlone (offer_after offer e.call) (last + inserted_by e.call) run offer' last'
 
 -- What holds of a run of a new server: of each client that was inserted, of each that was not, and of what all share.

@@ -91,10 +91,10 @@ module _ {T U G C : Type 0} where
 
   -- A new global has the least free name and the next serial, and each error has its reason. Interfaces that are added are
   -- refused for their first fault, and for want of memory if they have none.
-  abbrev pub NumbersGlobal : Offer G → Call T U G C → Type 0
-  NumbersGlobal offer (Asked (step.CreateGlobal i version handler) (reply.CreateGlobal r)) = CreatesGlobal offer.table offer.globals i version r
-  NumbersGlobal offer (Asked (step.AddInterfaces interfaces) (reply.AddInterfaces r)) = AnswersGrowth offer.table (interface_rows interfaces.items) r
-  NumbersGlobal offer _ = Unit {0}
+  abbrev pub AnswersShared : Offer G → Call T U G C → Type 0
+  AnswersShared offer (Asked (step.CreateGlobal i version handler) (reply.CreateGlobal r)) = CreatesGlobal offer.table offer.globals i version r
+  AnswersShared offer (Asked (step.AddInterfaces interfaces) (reply.AddInterfaces r)) = AnswersGrowth offer.table (interface_rows interfaces.items) r
+  AnswersShared offer _ = Unit {0}
 
   -- the clients that a cleanup takes out are in the order of their slots
   abbrev pub RisesBySlot : Call T U G C → Type 0
@@ -131,7 +131,7 @@ pub record OneStep {T U G C : Type 0} (w : World T G C) (before : ServerState T 
   pub offer : after.offer ≡ offer_after before.offer e.call
   pub last : after.last_client ≡ before.last_client + inserted_by e.call
   pub client : NumbersClient before e.call
-  pub global : NumbersGlobal before.offer e.call
+  pub global : AnswersShared before.offer e.call
   pub order : RisesBySlot e.call
   pub room : AsksForRoom before e.call
   pub refused : IsRefused e

@@ -11,6 +11,7 @@ use crate::globals::KeptGlobal;
 use crate::notes::Note;
 use crate::notes::queues::NoteNumbers;
 use std::alloc::Global;
+use std::fmt;
 use std::marker::Model;
 use wl_link::{DEFAULT_MAX_BUFFER_SIZE, MessagePlace, ObjectMap};
 use wl_wire::Protocol;
@@ -53,6 +54,12 @@ pub struct Backend<T, U, G, C> {
     /// The place of the message that is being read. A sync is answered from it, too. It is kept here, so that no message is
     /// made for either.
     pub(crate) place: MessagePlace,
+}
+
+impl<T, U, G, C> fmt::Debug for Backend<T, U, G, C> {
+    fn fmt<W: fmt::Write>(&self, f: &mut fmt::Formatter<W>) -> fmt::Result {
+        f.write_str("Backend { .. }")
+    }
 }
 
 impl<T, U, G, C> Model for Backend<T, U, G, C> {

@@ -59,6 +59,7 @@ ghost use Rattle.wl_server.specs.WholeOutcome.{AnswersAlike, PerformancesHaveOne
 
 use crate::dispatch::Handler;
 use crate::globals::handler::GlobalHandler;
+use crate::reading::next_action::READ_TURNS;
 use wl_link::Transport;
 
 /// The isolation law of a server, over every transport: no client's calls matter to another client.
@@ -294,6 +295,11 @@ pub fn cutting_does_not_matter_to_a_run<U, G: GlobalHandler<C>, C>()
 
 /// The law of receives, for every transport: a reading receives at most as often as it may.
 ///
+/// The value of a constant of this crate: a reading makes at most 64 receives, if the program sets no other number.
+pub fn a_reading_receives_64_times()
+    ensures { READ_TURNS ≡ 64 }
+{}
+
 /// A call that does not read a client receives nothing from it. `next_action` receives from its client at most 64 times.
 /// The receives of `next_action_within`, with those that its `Reading` has left afterwards, are at most those that it had
 /// left before (clause `call`).

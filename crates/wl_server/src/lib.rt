@@ -64,4 +64,5 @@ pub use ids::global_id::{GlobalId, GlobalInfo};
 pub use ids::object_id::ObjectId;
 pub use notes::{DisconnectReason, Note};
 pub use reading::action::{Action, Reading};
+pub use reading::next_action::READ_TURNS;
 pub use runs::step::{Reply, Step, Stopped};

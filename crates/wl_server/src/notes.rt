@@ -17,7 +17,7 @@ use wl_wire::ProtocolError;
 /// Why a client was killed.
 ///
 /// It stands for `wayland_backend::server::DisconnectReason`.
-#[derive(Drop)]
+#[derive(Debug, Drop)]
 pub enum DisconnectReason {
     /// The connection is closed.
     ConnectionClosed,
@@ -29,7 +29,7 @@ pub enum DisconnectReason {
 ///
 /// The notes stand for the calls `ClientData::initialized`, `ClientData::disconnected` and `ObjectData::destroyed` of
 /// `wayland_backend::server`.
-#[derive(Drop)]
+#[derive(Debug, Drop)]
 pub enum Note<U> {
     /// The client was inserted.
     Initialized(ClientId),

@@ -23,7 +23,7 @@ pub const WL_REGISTRY_INTERFACE: InterfaceId = InterfaceId(2);
 pub const WL_CALLBACK_INTERFACE: InterfaceId = InterfaceId(3);
 
 /// An interface: its requests and events. The place of each in its list is its opcode.
-#[derive(Drop)]
+#[derive(Debug, Drop)]
 pub struct Interface {
     /// The name of the interface.
     pub name: String,
@@ -36,7 +36,7 @@ pub struct Interface {
 }
 
 /// A request or an event of an interface.
-#[derive(Drop)]
+#[derive(Debug, Drop)]
 pub struct MessageDesc {
     /// The name of the request or event.
     pub name: String,

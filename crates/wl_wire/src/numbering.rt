@@ -21,7 +21,7 @@ pub trait Numbering<Id> {
 }
 
 /// The numbering for ids that are numbers already: the number of each id is the id itself.
-#[derive(Clone, Copy)]
+#[derive(Clone, Copy, Debug)]
 pub struct OwnNumbers;
 
 impl Numbering<u32> for OwnNumbers {

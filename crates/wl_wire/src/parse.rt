@@ -295,7 +295,7 @@ fn refusal(signature: &[ArgumentType], payload: &[u8], fds: &[Token]) -> Message
 }
 
 /// What the header says, which is the first eight bytes of a message.
-#[derive(Clone, Copy)]
+#[derive(Clone, Copy, Debug)]
 pub struct MessageHeader {
     /// The number of the object that the request is sent to, or that sends the event.
     pub sender_id: u32,

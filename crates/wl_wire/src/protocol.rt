@@ -78,6 +78,12 @@ pub struct Protocol {
     interfaces: Vec<Interface>,
 }
 
+impl fmt::Debug for Protocol {
+    fn fmt<W: fmt::Write>(&self, f: &mut fmt::Formatter<W>) -> fmt::Result {
+        f.write_str("Protocol { .. }")
+    }
+}
+
 impl Model for Protocol {
     ghost use Rattle.std.specs.Prelude.{List};
     ghost use Rattle.wl_wire.specs.Table.{InterfaceRow, IsAcceptedTable, interface_rows};

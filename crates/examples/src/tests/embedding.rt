@@ -1,4 +1,4 @@
-//! Sessions whose transports are mailboxes: the examples of `docs/EMBEDDING.md`.
+//! Sessions over `Memory`: the examples of `docs/EMBEDDING.md`.
 
 use smallvec::SmallVec;
 use std::alloc::Global;
@@ -160,7 +160,7 @@ static RECEIVES: [Receive; 2] = [(&FIRST_BYTES, &[]), (&SECOND_BYTES, &[40])];
 
 /// A client asks for its registry, binds `quad`, and gives a descriptor. The second receive begins in the middle of `bind`.
 #[test]
-fn server_behind_a_mailbox(rt: HostRuntime) -> Result<(), Fail> {
+fn server_over_memory(rt: HostRuntime) -> Result<(), Fail> {
     tells(
         &rt,
         server_log(rt.alloc(), &RECEIVES),
@@ -232,7 +232,7 @@ fn client_log(alloc: Global, answer: &[u8]) -> Result<String, Fail> {
 
 /// A client sends a sync, and its answer is one event: `delete_id` is handled by the session.
 #[test]
-fn client_behind_a_mailbox(rt: HostRuntime) -> Result<(), Fail> {
+fn client_over_memory(rt: HostRuntime) -> Result<(), Fail> {
     let answer = [
         2, 0, 0, 0, 0, 0, 12, 0, 0, 0, 0, 0, // `done`
         1, 0, 0, 0, 1, 0, 12, 0, 2, 0, 0, 0, // `delete_id`, of 2

@@ -6,7 +6,7 @@ use wl_link::Memory;
 use wl_server::{ActionError, Backend, ShownToAll};
 use wl_wire::{IoFault, Protocol, Token};
 
-/// A server. `Memory` is a mailbox: you put in what a socket received, and take out what it is to send.
+/// A server. `Memory` is its transport: you put in what a socket received, and take out what it is to send.
 type Server = Backend<Memory, (), ShownToAll, ()>;
 
 /// What goes to a socket: bytes, with the descriptors beside them.

@@ -21,10 +21,10 @@ static ROWS: [Row; 10] = [
         limit: None,
         acts: &[
             WRITE_4100,
-            Act::Tell(Fact::Capacities),
+            Act::Tell(Fact::Storage),
             Act::Tell(Fact::Waiting),
         ],
-        told: "write: done\ncapacities: 4096, 8192\nwaiting: 0, 0, 4100, 0\n0 sends recorded\n",
+        told: "write: done\nstorage: 4096, 8192\nwaiting: 0, 0, 4100, 0\n0 sends recorded\n",
     },
     Row {
         name: "buffer grows for a message with a descriptor",
@@ -32,10 +32,10 @@ static ROWS: [Row; 10] = [
         limit: None,
         acts: &[
             Act::Write((42, 0), &[Arg::Ones(4088), Arg::Fd(7)]),
-            Act::Tell(Fact::Capacities),
+            Act::Tell(Fact::Storage),
             Act::Tell(Fact::Waiting),
         ],
-        told: "write: done\ncapacities: 4096, 8192\nwaiting: 0, 0, 4100, 1\n0 sends recorded\n",
+        told: "write: done\nstorage: 4096, 8192\nwaiting: 0, 0, 4100, 1\n0 sends recorded\n",
     },
     // The buffer is full, and may not grow: what waits is sent first.
     Row {
@@ -56,9 +56,9 @@ static ROWS: [Row; 10] = [
         acts: &[
             WRITE_4096,
             Act::Tell(Fact::Waiting),
-            Act::Tell(Fact::Capacities),
+            Act::Tell(Fact::Storage),
         ],
-        told: "write: done\nwaiting: 0, 0, 4096, 0\ncapacities: 4096, 4096\n0 sends recorded\n",
+        told: "write: done\nwaiting: 0, 0, 4096, 0\nstorage: 4096, 4096\n0 sends recorded\n",
     },
     Row {
         name: "limit bounds a message",
@@ -67,9 +67,9 @@ static ROWS: [Row; 10] = [
         acts: &[
             WRITE_4100,
             Act::Tell(Fact::Waiting),
-            Act::Tell(Fact::Capacities),
+            Act::Tell(Fact::Storage),
         ],
-        told: "write: message too big\nwaiting: 0, 0, 0, 0\ncapacities: 4096, 4096\n0 sends recorded\n",
+        told: "write: message too big\nwaiting: 0, 0, 0, 0\nstorage: 4096, 4096\n0 sends recorded\n",
     },
     Row {
         name: "incoming buffer grows for a message",
@@ -77,17 +77,17 @@ static ROWS: [Row; 10] = [
         limit: None,
         acts: &[
             Act::FillAndRead(2),
-            Act::Tell(Fact::Capacities),
+            Act::Tell(Fact::Storage),
             Act::Tell(Fact::Waiting),
         ],
-        told: "2 read: 2, 0: uint 0\ncapacities: 8192, 4096\nwaiting: 0, 0, 0, 0\n0 sends recorded\n",
+        told: "2 read: 2, 0: uint 0\nstorage: 8192, 4096\nwaiting: 0, 0, 0, 0\n0 sends recorded\n",
     },
     Row {
         name: "incoming buffer grows up to 65536 bytes",
         cues: &[Cue::ArriveInChunks(&[2, 0, 0, 0, 0, 0, 0xfc, 0xff], 65532)],
         limit: None,
-        acts: &[Act::FillAndRead(16), Act::Tell(Fact::Capacities)],
-        told: "16 read: 2, 0: uint 0\ncapacities: 65536, 4096\n0 sends recorded\n",
+        acts: &[Act::FillAndRead(16), Act::Tell(Fact::Storage)],
+        told: "16 read: 2, 0: uint 0\nstorage: 65536, 4096\n0 sends recorded\n",
     },
     // A buffer of 65536 bytes of which none is read is full for good.
     Row {
@@ -96,12 +96,12 @@ static ROWS: [Row; 10] = [
         limit: None,
         acts: &[
             Act::FillEach(16),
-            Act::Tell(Fact::Capacities),
+            Act::Tell(Fact::Storage),
             Act::Fill,
-            Act::Tell(Fact::Capacities),
+            Act::Tell(Fact::Storage),
             Act::Tell(Fact::Waiting),
         ],
-        told: "capacities: 65536, 4096\nreceive: broken pipe\ncapacities: 65536, 4096\nwaiting: 65536, 0, 0, 0\n0 sends recorded\n",
+        told: "storage: 65536, 4096\nreceive: broken pipe\nstorage: 65536, 4096\nwaiting: 65536, 0, 0, 0\n0 sends recorded\n",
     },
     Row {
         name: "incoming buffer stops at the limit",
@@ -110,10 +110,10 @@ static ROWS: [Row; 10] = [
         acts: &[
             Act::FillAndRead(1),
             Act::Fill,
-            Act::Tell(Fact::Capacities),
+            Act::Tell(Fact::Storage),
             Act::Tell(Fact::Waiting),
         ],
-        told: "receive: broken pipe\ncapacities: 4096, 4096\nwaiting: 4096, 0, 0, 0\n0 sends recorded\n",
+        told: "receive: broken pipe\nstorage: 4096, 4096\nwaiting: 4096, 0, 0, 0\n0 sends recorded\n",
     },
     Row {
         name: "lowered limit makes no buffer smaller",
@@ -123,9 +123,9 @@ static ROWS: [Row; 10] = [
             Act::FillAndRead(2),
             Act::SetLimit(Some(4096)),
             Act::Fill,
-            Act::Tell(Fact::Capacities),
+            Act::Tell(Fact::Storage),
         ],
-        told: "2 read: 2, 0: uint 0\nreceive: would block\ncapacities: 8192, 4096\n0 sends recorded\n",
+        told: "2 read: 2, 0: uint 0\nreceive: would block\nstorage: 8192, 4096\n0 sends recorded\n",
     },
 ];
 

@@ -128,7 +128,7 @@ fn receive(log: &mut String, mailbox: &mut Mailbox, room: usize, again: bool) ->
 
 /// Tells how many bytes and tokens were not received yet.
 fn tell_left(log: &mut String, mailbox: &Mailbox) -> Result<(), Fail> {
-    let (bytes, tokens) = (mailbox.arrivals_left(), mailbox.tokens_left().len());
+    let (bytes, tokens) = (mailbox.bytes_left(), mailbox.tokens_left().len());
     Ok(writeln!(log, "left: {bytes} + {tokens}")?)
 }
 

@@ -42,7 +42,7 @@ pub enum Fact {
     /// What was received and not read, and what was written and not sent: bytes and tokens.
     Waiting,
     /// The sizes of the incoming and the outgoing buffer.
-    Capacities,
+    Storage,
     /// The bytes and tokens of each send that is recorded.
     Sent,
     /// How many bytes and tokens each of them took.
@@ -218,9 +218,9 @@ fn waiting<T>(log: &mut String, link: &BufferedSocket<T>) -> Result<(), Fail> {
 }
 
 /// Tells the sizes of both buffers.
-fn capacities<T>(log: &mut String, link: &BufferedSocket<T>) -> Result<(), Fail> {
-    let [incoming, outgoing] = link.capacities();
-    writeln!(log, "capacities: {incoming}, {outgoing}")?;
+fn storage<T>(log: &mut String, link: &BufferedSocket<T>) -> Result<(), Fail> {
+    let [incoming, outgoing] = link.storage();
+    writeln!(log, "storage: {incoming}, {outgoing}")?;
     Ok(())
 }
 
@@ -252,7 +252,7 @@ fn tell_sizes(log: &mut String, sends: &[(Vec<u8>, Vec<Token>)]) -> Result<(), F
 fn tell<T: Record>(log: &mut String, link: &BufferedSocket<T>, fact: Fact) -> Result<(), Fail> {
     match fact {
         Fact::Waiting => waiting(log, link),
-        Fact::Capacities => capacities(log, link),
+        Fact::Storage => storage(log, link),
         Fact::Sent => tell_sends(log, link.transport().sends()),
         Fact::SendSizes => tell_sizes(log, link.transport().sends()),
     }

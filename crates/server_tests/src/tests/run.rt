@@ -533,11 +533,11 @@ fn next_within_into(
     server: &mut Server,
     log: &mut String,
     who: Who,
-    receives_left: u32,
+    turns_left: u32,
 ) -> Result<(), Fail> {
     let mut given = unread();
     let mut reading = Reading {
-        receives_left,
+        turns_left,
         read: 0,
     };
     let answer = server.next_action_within_into(&who.id(), &mut reading, &mut given);
@@ -597,8 +597,8 @@ fn make_beside(
     match call {
         Beside::SendLent(event) => send_lent(alloc, server, log, event)?,
         Beside::NextInto(who) => next_into(server, log, who)?,
-        Beside::NextWithinInto(who, receives_left) => {
-            next_within_into(server, log, who, receives_left)?
+        Beside::NextWithinInto(who, turns_left) => {
+            next_within_into(server, log, who, turns_left)?
         }
         Beside::FinishReturning(who, given) => finish_returning(server, log, who, given)?,
         Beside::FinishBindReturning(who, given) => {

@@ -7,19 +7,20 @@ ghost use Rattle.wl_wire.specs.declared.error.IoFault.{IoFault};
 ghost use Rattle.wl_wire.specs.declared.error.IoFault.TheVariants as fault;
 ghost use Rattle.wl_wire.specs.declared.error.MessageParseError.TheVariants as errors;
 ghost use Rattle.wl_wire.specs.Message.{WireMessage};
-ghost use Rattle.wl_link.specs.Exchange.{Queue, Sending, IsFunction, IsReceiveFunction};
+ghost use Rattle.wl_link.specs.Exchange.{Queue, Sending, IsFunction, IsReceiveFunction, nothing};
 ghost use Rattle.wl_link.specs.Script.{ScriptSends, ScriptReceives};
 ghost use Rattle.wl_link.specs.Mailbox.{MailboxState, MailboxSends, MailboxReceives};
 ghost use Rattle.wl_link.specs.MailboxCalls.{DoesAll, MailboxCall, MailboxKeeps, StaysWithinRoom};
 ghost use Rattle.wl_link.specs.Link.{LinkState, Flushed, FlushedBy, Wrote, WroteBy, FilledBy, ReadOne};
-ghost use Rattle.wl_link.specs.NothingLost.{FlushKeeps, FlushDrains, WriteKeeps};
+ghost use Rattle.wl_link.specs.NothingLost.{FlushKeeps, FlushDrains, LosesNothing, WriteKeeps, queued_by};
 ghost use Rattle.wl_link.specs.Outcome.{SameCall, SameFill, SameRead};
 ghost use Rattle.wl_link.specs.Sides.{StreamLaw, AllReadLaw, CuttingLaw, ReadTakes, RoomLaw};
 
 use crate::limit::{DEFAULT_MAX_BUFFER_SIZE, INCOMING_LIMIT};
 use crate::transport::{MAX_BYTES_OUT, MAX_FDS_OUT, Transport};
 
-/// A flush loses nothing, except the tokens that were offered to a send which took no bytes.
+/// A flush loses nothing, except the tokens that were offered to a send which took no bytes. `each` says so of any list of sends
+/// that the flush may have made.
 ///
 /// If a flush returns `Ok`, and each of its sends took bytes, then no bytes wait after it. Tokens wait only if there were
 /// more than 28 for each byte; then the first 28 for each byte are gone.
@@ -28,13 +29,18 @@ pub fn flush_loses_nothing<T: Transport>()
         Flushed T.sends before answer after → FlushKeeps T.sends before answer after }
     ensures drained { (before after : LinkState T) (answer : _) →
         Flushed T.sends before answer after → FlushDrains T.sends before answer after }
+    ensures each { (before after : LinkState T) (es : List Sending) (answer : _) →
+        FlushedBy T.sends before es answer after → LosesNothing es before.outgoing nothing after.outgoing }
 {}
 
 /// A write that returns `Ok` adds the message's bytes, once, to what was sent and what waits, and its tokens to these and
-/// to those that a send which answered 0 dropped. A write that fails adds nothing.
+/// to those that a send which answered 0 dropped. A write that fails adds nothing. `each` says so of any list of sends that the
+/// write may have made.
 pub fn write_loses_nothing<T: Transport>()
-    ensures { (before after : LinkState T) (m : WireMessage) (answer : _) →
+    ensures kept { (before after : LinkState T) (m : WireMessage) (answer : _) →
         Wrote T.sends before m answer after → WriteKeeps T.sends before m answer after }
+    ensures each { (before after : LinkState T) (m : WireMessage) (es : List Sending) (answer : _) →
+        WroteBy T.sends before m es answer after → LosesNothing es before.outgoing (queued_by answer m) after.outgoing }
 {}
 
 /// A read that returns `Ok` takes the first message off the stream of what was received.

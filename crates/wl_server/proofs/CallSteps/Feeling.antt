@@ -18,7 +18,7 @@ use Rattle.wl_server.specs.Ids.{ClientParts}
 use Rattle.wl_server.specs.PartStep.{Asked, Call, Feels, PartStep, World}
 use Rattle.wl_server.specs.Inside.Places.{AllFeel, FeltAt, PlaceFeels}
 use Rattle.wl_server.specs.Server.{Seen, ServerState, Stored, client_at, if_serial, seen_as, notes_of}
-use Rattle.wl_server.specs.Steps.{AsksForRoom, NumbersClient, NumbersGlobal, RisesBySlot, inserted_by, lacks_growth, offer_after}
+use Rattle.wl_server.specs.Steps.{AsksForRoom, NumbersClient, AnswersShared, RisesBySlot, inserted_by, lacks_growth, offer_after}
 use Rattle.wl_server.proofs.CallSteps.Slots.{Kind, client_present, get_set_other, get_set_same, on_part, other_of, same_parts, slot_within}
 
 module _ {T U C : Type 0} (R : Kind T U C) where
@@ -191,7 +191,7 @@ module _ {T U G C : Type 0} (w : World T G C) (before : ServerState T U G C) (s 
 
   -- all clients felt it
   pub felt_call : {was : Bool} (R : Kind T U C) (refused : Bool) (offer : Offer G) (clients : List (Option (Stored T U C)))
-      → offer ≡ offer_after before.offer (Asked s answer) → NumbersGlobal before.offer (Asked s answer) → lacks_growth (Asked s answer) ≡ false
+      → offer ≡ offer_after before.offer (Asked s answer) → AnswersShared before.offer (Asked s answer) → lacks_growth (Asked s answer) ≡ false
       → ((id : ClientParts) (lacked : Bool) (did : List (Deed U)) (b a : Seen T U C) → Feels b (λ p q. R id p lacked did q) lacked did a
       → PartStep w id before.offer s answer b lacked did a)
       → AllFeel R refused (length before.clients) before.clients clients
@@ -220,7 +220,7 @@ module _ {T U G C : Type 0} (w : World T G C) (before : ServerState T U G C) (s 
       was_refused (inr (id, lacks)) = one_lacks R refused before.clients clients all id lacks
 
   -- no client made anything of it
-  pub unfelt_call : {was : Bool} (refused : Bool) (offer : Offer G) → offer ≡ offer_after before.offer (Asked s answer) → NumbersGlobal before.offer (Asked s answer)
+  pub unfelt_call : {was : Bool} (refused : Bool) (offer : Offer G) → offer ≡ offer_after before.offer (Asked s answer) → AnswersShared before.offer (Asked s answer)
       → lacks_growth (Asked s answer) ≡ refused → ((id : ClientParts) (b : Seen T U C) → PartStep w id before.offer s answer b false [] b)
       → Calls w (record { server = before; refused = was }) s answer (record { server = record before { offer = offer }; refused = refused })
   unfelt_call refused offer becomes numbers growth to = calls _ _ _ _ _ (

@@ -17,7 +17,7 @@ use Rattle.wl_server.specs.Globals.{Offer}
 use Rattle.wl_server.specs.Ids.{ClientParts, same_client}
 use Rattle.wl_server.specs.PartStep.{Asked, Call, OfClient, PartStep, World}
 use Rattle.wl_server.specs.Server.{Seen, ServerState, Stored, client_at}
-use Rattle.wl_server.specs.Steps.{AsksForRoom, NumbersClient, NumbersGlobal, RisesBySlot, StepOf, inserted_by, lacks_growth, offer_after}
+use Rattle.wl_server.specs.Steps.{AsksForRoom, NumbersClient, AnswersShared, RisesBySlot, StepOf, inserted_by, lacks_growth, offer_after}
 use Rattle.wl_server.proofs.CallSteps.Slots.{Kind, did_at, each_missing, each_set, lacks_at, same_self, slot_of_client}
 
 -- a call that is about one client: nothing changes that all share, and no memory is wanted but for that client
@@ -25,7 +25,7 @@ pub record IsOwn {T U G C : Type 0} (call : Call T U G C) : Type 0 where
   pub offer : (offer : Offer G) → offer_after offer call ≡ offer
   pub last : inserted_by call ≡ 0
   pub client : (before : ServerState T U G C) → NumbersClient before call
-  pub global : (offer : Offer G) → NumbersGlobal offer call
+  pub global : (offer : Offer G) → AnswersShared offer call
   pub order : RisesBySlot call
   pub room : (before : ServerState T U G C) → AsksForRoom before call
   pub growth : lacks_growth call ≡ false

@@ -163,13 +163,13 @@ module _ {T U G C : Type 0} (sends : T → Queue → Result ℕ IoFault → T �
       let heard : length (received U (Unread es ∷ turns)) ≡ length (received U turns) = ap length (none_sent {U = U} es _) in
       let left_is : out.left ≡ rest.left = ap (λ (o : Gives (Told U)). o.left) split in omega (arith, few, heard, left_is)
 
-  none_left : (did : List (Deed U)) (r r' : Reading) → did ≡ [] → r' ≡ r → receives_in did + r'.receives_left ≤ r.receives_left
+  none_left : (did : List (Deed U)) (r r' : Reading) → did ≡ [] → r' ≡ r → receives_in did + r'.turns_left ≤ r.turns_left
   none_left did r r' none' same =
       let heard : receives_in did ≡ 0 = ap receives_in none' in
-      let left_is : r'.receives_left ≡ r.receives_left = ap (λ (x : Reading). x.receives_left) same in omega (arith, heard, left_is)
+      let left_is : r'.turns_left ≡ r.turns_left = ap (λ (x : Reading). x.turns_left) same in omega (arith, heard, left_is)
 
   part_bounded : (r : Reading) (p : Part T U C) (answer : Result Handed ActionError) (r' : Reading) (lacked : Bool) (did : List (Deed U)) (q : Part T U C)
-      → NextAction sends receives a r p answer r' lacked did q → receives_in did + r'.receives_left ≤ r.receives_left
+      → NextAction sends receives a r p answer r' lacked did q → receives_in did + r'.turns_left ≤ r.turns_left
   part_bounded r p answer r' lacked did q h =
       elim (either_option p.action h) [
         | inr (open', is_open, (is, same, calm, none', stays)) ↦ none_left did r r' none' same
@@ -177,10 +177,10 @@ module _ {T U G C : Type 0} (sends : T → Queue → Result ℕ IoFault → T �
             elim (either_bool p.is_killed g) [
               | inl (is, same, calm, none', stays) ↦ none_left did r r' none' same
               | inr (turns, out, end, reads, is, left, calm, did_so, ends) ↦
-                  let few = turns_bounded r.receives_left (reader_part p) end turns out reads in
+                  let few = turns_bounded r.turns_left (reader_part p) end turns out reads in
                   let heard : receives_in did ≡ length (received U turns) =
-                  ap receives_in did_so ∙ ap length (received_deeds sends receives a r.receives_left p end turns out reads) in
-                  let left_is : r'.receives_left ≡ out.left = ap (λ (x : Reading). x.receives_left) left in omega (arith, few, heard, left_is)
+                  ap receives_in did_so ∙ ap length (received_deeds sends receives a r.turns_left p end turns out reads) in
+                  let left_is : r'.turns_left ≡ out.left = ap (λ (x : Reading). x.turns_left) left in omega (arith, few, heard, left_is)
             ]
       ]
 
@@ -189,12 +189,12 @@ module _ {T U G C : Type 0} (sends : T → Queue → Result ℕ IoFault → T �
 module _ {T U G C : Type 0} (w : World T G C) (id : ClientParts) (offer : Offer G) (before after : Seen T U C) (lacked : Bool) (did : List (Deed U)) where
   -- one that may read this client
   reads_bounded : (target : ClientParts) (r : Reading) (answer : Result Handed ActionError) (r' : Reading) → ReadsFor w id offer target r answer r' before lacked did after
-      → MatchBool (same_client target id) (receives_in did + r'.receives_left ≤ r.receives_left) (receives_in did ≡ 0)
+      → MatchBool (same_client target id) (receives_in did + r'.turns_left ≤ r.turns_left) (receives_in did ≡ 0)
   reads_bounded target r answer r' h = go (same_client target id) h
     where
       go : (b : Bool) → OfClient b before (λ p q. NextAction w.sends w.receives (around w id offer) r p answer r' lacked did q)
           ((answer ≡ Err (Io fault.InvalidInput)) × (r' ≡ r)) lacked did after
-          → MatchBool b (receives_in did + r'.receives_left ≤ r.receives_left) (receives_in did ≡ 0)
+          → MatchBool b (receives_in did + r'.turns_left ≤ r.turns_left) (receives_in did ≡ 0)
       go false (unlacked, none', same) = ap receives_in none'
       go true h =
           elim (either_option before.part h) [
@@ -203,7 +203,7 @@ module _ {T U G C : Type 0} (w : World T G C) (id : ClientParts) (offer : Offer 
           ]
 
   of_reply : (target : ClientParts) (reading r' : Reading) (r : Result Action ActionError) (answer : Reply T U) → answer ≡ reply.NextActionWithin r r'
-      → MatchBool (same_client target id) (receives_in did + r'.receives_left ≤ reading.receives_left) (receives_in did ≡ 0)
+      → MatchBool (same_client target id) (receives_in did + r'.turns_left ≤ reading.turns_left) (receives_in did ≡ 0)
       → KeepsTo {T = T} {U = U} {G = G} {C = C} id (Asked (step.NextActionWithin target reading) answer) (receives_in did)
   of_reply target reading r' r answer is h =
       subst (λ (x : Reply T U). KeepsTo {T = T} {U = U} {G = G} {C = C} id (Asked (step.NextActionWithin target reading) x) (receives_in did)) (sym is) h
@@ -217,7 +217,7 @@ module _ {T U G C : Type 0} (w : World T G C) (id : ClientParts) (offer : Offer 
 
   keeps_to : (call : Call T U G C) → PartCall w id offer call before lacked did after → KeepsTo id call (receives_in did)
   keeps_to (Asked (step.NextAction target) answer) (r, left, is, h) =
-      at_most_new (same_client target id) (receives_in did) left.receives_left (reads_bounded target new_reading (action_content r) left h)
+      at_most_new (same_client target id) (receives_in did) left.turns_left (reads_bounded target new_reading (action_content r) left h)
   keeps_to (Asked (step.NextActionWithin target reading) answer) (r, left, is, h) = of_reply target reading left r answer is (reads_bounded target reading (action_content r) left h)
   keeps_to (Asked (step.InsertClient transport client_data) answer) h = nothing (Asked (step.InsertClient transport client_data) answer) refl h
   keeps_to (Asked (step.SetObjectData o u) answer) h = nothing (Asked (step.SetObjectData o u) answer) refl h
@@ -271,12 +271,12 @@ module _ {T U G C : Type 0} (w : World T G C) (id : ClientParts) where
   -- a reading of this client with so many receives left
   reading_bounded : (before after : ServerState T U G C) (e : Entry T U G C) (r r' : Reading) (answer : Result Action ActionError)
       → e.call ≡ Asked (step.NextActionWithin id r) (reply.NextActionWithin answer r') → OneStep w before e after
-      → receives_in (e.did id) + r'.receives_left ≤ r.receives_left
+      → receives_in (e.did id) + r'.turns_left ≤ r.turns_left
   reading_bounded before after e r r' answer is one =
       own (same_client id id) (same_self id) (subst (λ (c : Call T U G C). KeepsTo id c (receives_in (e.did id))) is (each_bounded w before after e one id))
     where
-      own : (b : Bool) → b ≡ true → MatchBool b (receives_in (e.did id) + r'.receives_left ≤ r.receives_left) (receives_in (e.did id) ≡ 0)
-          → receives_in (e.did id) + r'.receives_left ≤ r.receives_left
+      own : (b : Bool) → b ≡ true → MatchBool b (receives_in (e.did id) + r'.turns_left ≤ r.turns_left) (receives_in (e.did id) ≡ 0)
+          → receives_in (e.did id) + r'.turns_left ≤ r.turns_left
       own true is few = few
       own false is h = absurd (true≢false (sym is))
 
@@ -299,7 +299,7 @@ module _ {H T U G C : Type 0} (w : World T G C) (answers : Answering H T U G C) 
 
   -- so many receives were made, and so many are left
   abbrev Spends : Reading → List (Entry T U G C) → Reading → Type 0
-  Spends r run r' = receives_over id run + r'.receives_left ≤ r.receives_left
+  Spends r run r' = receives_over id run + r'.turns_left ≤ r.turns_left
 
   round_spends : (h h' : H) (r r' : Reading) (before after : ServerState T U G C) (run : List (Entry T U G C)) (lacked : Bool) (why : Option FinishError)
       → Round w answers id h r before run lacked why h' r' after → Spends r run r'

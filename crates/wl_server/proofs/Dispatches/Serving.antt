@@ -185,7 +185,7 @@ module _ {H T U G C : Type 0} (w : World T G C) (answers : Answering H T U G C) 
   }
 
   -- a receive was used up
-  pub some_rounds : {h h' : H} {r r' : Reading} {before after : BackendState T U G C} → RoundsSoFar w answers id h r before h' r' after → r'.receives_left < r.receives_left
+  pub some_rounds : {h h' : H} {r r' : Reading} {before after : BackendState T U G C} → RoundsSoFar w answers id h r before h' r' after → r'.turns_left < r.turns_left
       → MakesRounds w answers id h r before None h' r' after
   some_rounds so_far fewer = record { run = so_far.run; lacked = so_far.lacked; rounds = so_far.rounds; refused = so_far.refused; fewer = λ is. fewer }
 
@@ -242,7 +242,7 @@ module _ {H T U G C : Type 0} (w : World T G C) (answers : Answering H T U G C) 
 
 -- no receive was used up, so fewer bytes wait
 pub fewer_wait : {T U G C : Type 0} (id : ClientParts) (r : Reading) (s : ServerState T U G C) (r' : Reading) (s' : ServerState T U G C) (left : ℕ) → Fewer id r s r' s'
-    → r.receives_left ≡ left → left ≤ r'.receives_left → (r'.receives_left ≡ left) × (waiting_of id s' < waiting_of id s)
+    → r.turns_left ≡ left → left ≤ r'.turns_left → (r'.turns_left ≡ left) × (waiting_of id s' < waiting_of id s)
 fewer_wait id r s r' s' left (inl fewer) was many = absurd (omega (arith, fewer, was, many))
 fewer_wait id r s r' s' left (inr (same, less)) was many = (same ∙ was, less)
 

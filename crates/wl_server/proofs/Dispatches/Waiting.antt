@@ -501,7 +501,7 @@ module _ {T U G C : Type 0} (sends : T → Queue → Result ℕ IoFault → T �
 module _ {T U G C : Type 0} (w : World T G C) (id : ClientParts) where
   part_less : (offer : Offer G) (r r' : Reading) (p q : Part T U C) (h : Handed) (lacked : Bool) (did : List (Deed U))
       → NextAction w.sends w.receives (around w id offer) r p (Ok h) r' lacked did q
-      → (r'.receives_left < r.receives_left) ⊎ ((r'.receives_left ≡ r.receives_left) × (length q.link.incoming.bytes < length p.link.incoming.bytes))
+      → (r'.turns_left < r.turns_left) ⊎ ((r'.turns_left ≡ r.turns_left) × (length q.link.incoming.bytes < length p.link.incoming.bytes))
   part_less offer r r' p q h lacked did next =
       elim (either_option p.action next) [
         | inr (action, there, (is, same, unlacked, none, stays)) ↦ absurd cc
@@ -509,16 +509,16 @@ module _ {T U G C : Type 0} (w : World T G C) (id : ClientParts) where
             elim (either_bool p.is_killed next') [
               | inl (is, same, unlacked, none', stays) ↦ absurd cc
               | inr (turns, out, end, reads, is, left, lacks, did_so, ends) ↦
-                  of_less out end left ends (reads_less w.sends w.receives (around w id offer) r.receives_left (reader_part p) end turns out h reads (sym is))
+                  of_less out end left ends (reads_less w.sends w.receives (around w id offer) r.turns_left (reader_part p) end turns out h reads (sym is))
             ]
       ]
     where
-      of_less : (out : Gives (Told U)) (end : ReaderState T (Core U C)) → {n : ℕ} → r' ≡ record { receives_left = out.left; read = n } → q ≡ part_of end
-          → Less w.sends w.receives (server (around w id offer)) r.receives_left (reader_part p) out end
-          → (r'.receives_left < r.receives_left) ⊎ ((r'.receives_left ≡ r.receives_left) × (length q.link.incoming.bytes < length p.link.incoming.bytes))
-      of_less out end left ends (inl fewer) = let e = ap (λ (x : Reading). x.receives_left) left in inl (omega (arith, e, fewer))
+      of_less : (out : Gives (Told U)) (end : ReaderState T (Core U C)) → {n : ℕ} → r' ≡ record { turns_left = out.left; read = n } → q ≡ part_of end
+          → Less w.sends w.receives (server (around w id offer)) r.turns_left (reader_part p) out end
+          → (r'.turns_left < r.turns_left) ⊎ ((r'.turns_left ≡ r.turns_left) × (length q.link.incoming.bytes < length p.link.incoming.bytes))
+      of_less out end left ends (inl fewer) = let e = ap (λ (x : Reading). x.turns_left) left in inl (omega (arith, e, fewer))
       of_less out end left ends (inr (same, less)) =
-          let e = ap (λ (x : Reading). x.receives_left) left in
+          let e = ap (λ (x : Reading). x.turns_left) left in
           let b = ap (λ (x : Part T U C). length x.link.incoming.bytes) ends in inr (e ∙ same, omega (arith, b, less))
 
   -- what the call is to this client
@@ -553,7 +553,7 @@ module _ {T U G C : Type 0} (w : World T G C) (id : ClientParts) where
               ]
             where
               of_part : (p q : Part T U C) → (seen id before.server).part ≡ Some p → waiting_of id found.server ≡ length q.link.incoming.bytes
-                  → (r'.receives_left < r.receives_left) ⊎ ((r'.receives_left ≡ r.receives_left) × (length q.link.incoming.bytes < length p.link.incoming.bytes))
+                  → (r'.turns_left < r.turns_left) ⊎ ((r'.turns_left ≡ r.turns_left) × (length q.link.incoming.bytes < length p.link.incoming.bytes))
                   → Fewer id r before.server r' found.server
               of_part p q there now (inl fewer) = inl fewer
               of_part p q there now (inr (same, less)) =

@@ -8,9 +8,9 @@ use Rattle.wl_server.specs.declared.error.FinishRefused.{FinishRefused}
 use Rattle.wl_server.specs.declared.objects.Kept.{Kept}
 use Rattle.wl_server.specs.declared.reading.action.OpenAction.TheVariants as opened
 use Rattle.wl_server.specs.Backend.{BackendState}
-use Rattle.wl_server.specs.Finish.{DataHeld, HoldsData, data_given}
+use Rattle.wl_server.specs.Finish.{HoldsData, data_given}
 use Rattle.wl_server.specs.Ids.{ClientParts, IdParts}
-use Rattle.wl_server.specs.Inside.Finishing.{BindLeaves, RequestLeaves}
+use Rattle.wl_server.specs.Inside.Finishing.{BindLeaves, DataHeld, RequestLeaves}
 use Rattle.wl_server.specs.Lookups.{and_then}
 use Rattle.wl_server.specs.Part.{Part, named, with_user_data}
 use Rattle.wl_server.specs.Plain.{EndsBind, EndsOpenRequest, RequestDataHeld, ReturnsBindData, ReturnsRequestData, client_in, object_of_client}

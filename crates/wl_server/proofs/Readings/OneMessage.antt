@@ -153,17 +153,17 @@ module _ {T U G C : Type 0} (sends : T → Queue → Result ℕ IoFault → T �
         (found : (m : ℕ) (es : List Sending) (first : List (Given (Told U))) (lacked : Bool) (mid : ReaderState T (Core U C)) (turns : List Turn) (rest : Gives (Told U)) (end : ReaderState T (Core U C))
         → CarriesOut sends (server a) v link es first lacked mid → Reads sends (server a) receives m mid turns rest end
         → Reads sends (server a) receives m (reader_part s.part) (t es ∷ turns) (given_first first lacked rest) end)
-        (left : r'.receives_left ≡ r.receives_left) (read : (es : List Sending) → r'.read ≡ counted r.read (handled_in (t es ∷ []))) where
+        (left : r'.turns_left ≡ r.turns_left) (read : (es : List Sending) → r'.read ≡ counted r.read (handled_in (t es ∷ []))) where
       ends_so : (answer : Result Handed NoAction) (gave : List (Given (Told U))) (refused : Bool) (end : ReaderState T (Core U C)) (es : List Sending) (after : Stored T U C)
           → CarriesOut sends (server a) v link es gave refused end → reads_on end.core ≡ false → answer_of answer ≡ action_in gave → refused_of answer ≡ refused
           → HasNoNote gave → after ≡ stored_as s end → EndsAs sends receives a s r answer after r'
       ends_so answer gave refused end es after carried off says refuses none is =
-          let rest : Gives (Told U) = stops None false r.receives_left in
+          let rest : Gives (Told U) = stops None false r.turns_left in
           record {
             turns = t es ∷ [];
             out = given_first gave refused rest;
             end = end;
-            reads = found r.receives_left es gave refused end [] rest end carried (refl, at_false (Halts sends (server a) r.receives_left end rest) (reads_on end.core) off refl);
+            reads = found r.turns_left es gave refused end [] rest end carried (refl, at_false (Halts sends (server a) r.turns_left end rest) (reads_on end.core) off refl);
             answer_is = says ∙ ap action_in (sym (append-nil gave));
             refused_is = refuses ∙ or_false refused;
             left = left;
@@ -179,8 +179,8 @@ module _ {T U G C : Type 0} (sends : T → Queue → Result ℕ IoFault → T �
           record {
             first = t es ∷ [];
             gave = gave;
-            leads = λ turns rest last reads. subst (λ (b : Bool). Reads sends (server a) receives r.receives_left (reader_part s.part) (t es ∷ turns) (given_first gave b rest) last) calm
-                (found r.receives_left es gave refused end turns rest last carried (again turns rest last reads));
+            leads = λ turns rest last reads. subst (λ (b : Bool). Reads sends (server a) receives r.turns_left (reader_part s.part) (t es ∷ turns) (given_first gave b rest) last) calm
+                (found r.turns_left es gave refused end turns rest last carried (again turns rest last reads));
             silent = silent;
             no_note = none;
             read = read es;
@@ -189,12 +189,12 @@ module _ {T U G C : Type 0} (sends : T → Queue → Result ℕ IoFault → T �
             made = ap (λ (x : Stored T U C). x.made) is ∙ made_none s.made end.core.ended unended;
           }
         where
-          again : (turns : List Turn) (rest : Gives (Told U)) (last : ReaderState T (Core U C)) → Reads sends (server a) receives r'.receives_left (reader_part after.part) turns rest last
-              → Reads sends (server a) receives r.receives_left end turns rest last
+          again : (turns : List Turn) (rest : Gives (Told U)) (last : ReaderState T (Core U C)) → Reads sends (server a) receives r'.turns_left (reader_part after.part) turns rest last
+              → Reads sends (server a) receives r.turns_left end turns rest last
           again turns rest last reads =
               let same : reader_part after.part ≡ end = ap (λ (x : Stored T U C). reader_part x.part) is ∙ core_again end unended in
               subst (λ (n : ℕ). Reads sends (server a) receives n end turns rest last) left
-              (subst (λ (p : ReaderState T (Core U C)). Reads sends (server a) receives r'.receives_left p turns rest last) same reads)
+              (subst (λ (p : ReaderState T (Core U C)). Reads sends (server a) receives r'.turns_left p turns rest last) same reads)
 
       shorter : (gave : List (Given (Told U))) (refused : Bool) (end : ReaderState T (Core U C)) (es : List Sending) (after : Stored T U C)
           → CarriesOut sends (server a) v link es gave refused end → after ≡ stored_as s end → length link.incoming.bytes < length s.part.link.incoming.bytes
@@ -220,7 +220,7 @@ module _ {T U G C : Type 0} (sends : T → Queue → Result ℕ IoFault → T �
 
     -- the message at the front was taken and handled
     pub message_handled : (v : Verdict (Core U C) (Told U)) (link : LinkState T) (to : MessageResult) (after : Stored T U C) → Takes sends (server a) (reader_part s.part) v link
-        → IsHandled sends v (linked s link) to after → length link.incoming.bytes < length s.part.link.incoming.bytes → r'.receives_left ≡ r.receives_left
+        → IsHandled sends v (linked s link) to after → length link.incoming.bytes < length s.part.link.incoming.bytes → r'.turns_left ≡ r.turns_left
         → r'.read ≡ counted r.read 1 → HandlesMessage sends receives a s r to after r'
     message_handled v link to after taken handled fewer left read =
         handles_so v link (λ es. Handled es)
@@ -238,15 +238,15 @@ module _ {T U G C : Type 0} (sends : T → Queue → Result ℕ IoFault → T �
   -- ---- where it halts
 
   pub halts_so : (s : Stored T U C) (r : Reading) (f : IoFault) (refused : Bool) → Live s.part → r.read ≤ most
-      → Halts sends (server a) r.receives_left (reader_part s.part) (stops (Some f) refused r.receives_left)
+      → Halts sends (server a) r.turns_left (reader_part s.part) (stops (Some f) refused r.turns_left)
       → EndsAs sends receives a s r (Err (record { fault = f; refused = refused })) s r
   halts_so s r f refused live within halts =
-      let out : Gives (Told U) = stops (Some f) refused r.receives_left in
+      let out : Gives (Told U) = stops (Some f) refused r.turns_left in
       record {
         turns = [];
         out = out;
         end = reader_part s.part;
-        reads = (refl, at_true (out ≡ stops None false r.receives_left) (reads_on (core_of s.part)) (live_reads s.part live) halts);
+        reads = (refl, at_true (out ≡ stops None false r.turns_left) (reads_on (core_of s.part)) (live_reads s.part live) halts);
         answer_is = refl;
         refused_is = refl;
         left = refl;
@@ -261,7 +261,7 @@ module _ {T U G C : Type 0} (sends : T → Queue → Result ℕ IoFault → T �
   front_asks s r live within asks = halts_so s r fault.OutOfMemory true live within (inr (inl (asks, refl)))
 
   -- no receive is left
-  pub none_left : (s : Stored T U C) (r : Reading) → Live s.part → r.read ≤ most → LacksIn sends receives a s.part → r.receives_left ≡ 0
+  pub none_left : (s : Stored T U C) (r : Reading) → Live s.part → r.read ≤ most → LacksIn sends receives a s.part → r.turns_left ≡ 0
       → EndsAs sends receives a s r (Err (record { fault = fault.WouldBlock; refused = false })) s r
   none_left s r live within lacks none = halts_so s r fault.WouldBlock false live within (inl (lacks, none, refl))
 
@@ -298,7 +298,7 @@ module _ {T U G C : Type 0} (sends : T → Queue → Result ℕ IoFault → T �
       → Live s.part → core_with (core_of s.part) s.part.client_data objects ≡ core_of s.part
       → TookRequest a s.part.client_data objects s.part.link (Ok response) f args objects' link
       → IsHandled sends (response_to a (core_of (gone_through s link objects').part) response f args) (gone_through s link objects') to after
-      → length link.incoming.bytes < length s.part.link.incoming.bytes → r'.receives_left ≡ r.receives_left → r'.read ≡ counted r.read 1
+      → length link.incoming.bytes < length s.part.link.incoming.bytes → r'.turns_left ≡ r.turns_left → r'.read ≡ counted r.read 1
       → HandlesMessage sends receives a s r to after r'
   message_taken s r r' link objects objects' response f args to after live same (m, row, read, is, responds) handled fewer left count =
       let store : objects.map.store ≡ s.part.store = ap (λ (core : Core U C). core.store) same in
@@ -317,7 +317,7 @@ module _ {T U G C : Type 0} (sends : T → Queue → Result ℕ IoFault → T �
   pub goes_within : (s m : Stored T U C) (r q : Reading) → ReadsOn sends receives a s r m q → q.read ≤ most
   goes_within s m r q g = let e = g.read in omega (arith, e)
 
-  module _ (s : Stored T U C) (r q : Reading) (live : Live s.part) (within : r.read ≤ most) (lacks : LacksIn sends receives a s.part) (left : r.receives_left ≡ suc q.receives_left)
+  module _ (s : Stored T U C) (r q : Reading) (live : Live s.part) (within : r.read ≤ most) (lacks : LacksIn sends receives a s.part) (left : r.turns_left ≡ suc q.turns_left)
       (read : q.read ≡ r.read) where
     abbrev reads_none : List Turn
     reads_none = []
@@ -338,16 +338,16 @@ module _ {T U G C : Type 0} (sends : T → Queue → Result ℕ IoFault → T �
         live_reads s.part live,
         lacks,
         (
-          q.receives_left,
+          q.turns_left,
           left,
           (
             after.part.link,
             (made.0, refl, made.2),
             room_found receives s.part.link after.part.link rc (Ok tt) made finds,
-            subst (λ (c : Result (Unit {0}) IoFault). MatchResult c (λ _. Reads sends (server a) receives q.receives_left (record { core = core_of s.part; link = after.part.link }) turns rest end)
-                (λ f. (turns ≡ []) × (given_first [] false rest ≡ stops (Some f) (lacks_memory (Err f)) q.receives_left)
+            subst (λ (c : Result (Unit {0}) IoFault). MatchResult c (λ _. Reads sends (server a) receives q.turns_left (record { core = core_of s.part; link = after.part.link }) turns rest end)
+                (λ f. (turns ≡ []) × (given_first [] false rest ≡ stops (Some f) (lacks_memory (Err f)) q.turns_left)
                 × (end ≡ record { core = faulted (core_of s.part) f; link = after.part.link }))) made.1
-                (subst (λ (x : Stored T U C). Reads sends (server a) receives q.receives_left (record { core = core_of x.part; link = x.part.link }) turns rest end) is reads),
+                (subst (λ (x : Stored T U C). Reads sends (server a) receives q.turns_left (record { core = core_of x.part; link = x.part.link }) turns rest end) is reads),
           ),
         ),
       );
@@ -362,7 +362,7 @@ module _ {T U G C : Type 0} (sends : T → Queue → Result ℕ IoFault → T �
     -- a receive that ends it
     pub fills_ends : (end : NoAction) (after : Stored T U C) → Fills receives s (Some end) after → EndsAs sends receives a s r (Err end) after q
     fills_ends end after (link, inl (rc, made), finds, refused, is) =
-        let out : Gives (Told U) = stops (Some end.fault) (lacks_memory (Err end.fault)) q.receives_left in
+        let out : Gives (Told U) = stops (Some end.fault) (lacks_memory (Err end.fault)) q.turns_left in
         let last : ReaderState T (Core U C) = record { core = faulted (core_of s.part) end.fault; link = link } in
         record {
           turns = Received rc ∷ [];
@@ -372,14 +372,14 @@ module _ {T U G C : Type 0} (sends : T → Queue → Result ℕ IoFault → T �
             live_reads s.part live,
             lacks,
             (
-              q.receives_left,
+              q.turns_left,
               left,
               (
                 link,
                 (made.0, refl, made.2),
                 room_found receives s.part.link link rc (Err end.fault) made finds,
-                subst (λ (c : Result (Unit {0}) IoFault). MatchResult c (λ _. Reads sends (server a) receives q.receives_left (record { core = core_of s.part; link = link }) [] out last)
-                    (λ f. (reads_none ≡ []) × (out ≡ stops (Some f) (lacks_memory (Err f)) q.receives_left)
+                subst (λ (c : Result (Unit {0}) IoFault). MatchResult c (λ _. Reads sends (server a) receives q.turns_left (record { core = core_of s.part; link = link }) [] out last)
+                    (λ f. (reads_none ≡ []) × (out ≡ stops (Some f) (lacks_memory (Err f)) q.turns_left)
                     × (last ≡ record { core = faulted (core_of s.part) f; link = link }))) made.1 (refl, refl, refl),
               ),
             ),
@@ -393,12 +393,12 @@ module _ {T U G C : Type 0} (sends : T → Queue → Result ℕ IoFault → T �
         }
     fills_ends end after (link, inr (failed, same), finds, refused, is) =
         let memory : end.fault ≡ fault.OutOfMemory = memory_is end.fault failed in
-        let out : Gives (Told U) = stops (Some fault.OutOfMemory) true q.receives_left in
+        let out : Gives (Told U) = stops (Some fault.OutOfMemory) true q.turns_left in
         record {
           turns = [];
           out = out;
           end = reader_part s.part;
-          reads = (refl, at_true (out ≡ stops None false r.receives_left) (reads_on (core_of s.part)) (live_reads s.part live) (inr (inr (lacks, (q.receives_left, left, refl)))));
+          reads = (refl, at_true (out ≡ stops None false r.turns_left) (reads_on (core_of s.part)) (live_reads s.part live) (inr (inr (lacks, (q.turns_left, left, refl)))));
           answer_is = ap (λ (f : IoFault). let r : Result Handed ActionError = Err (Io f) in r) memory;
           refused_is = refused ∙ ap (λ (f : IoFault). lacks_memory (Err f)) memory;
           left = refl;
@@ -471,7 +471,7 @@ module _ {T U G C : Type 0} (sends : T → Queue → Result ℕ IoFault → T �
       ∙ notes_append (deeds_in e.out.gave) (end_deeds e.end.core.ended)
       ∙ ap (λ (l : List (Happening U)). l ++ notes_in (end_deeds {U = U} e.end.core.ended)) e.no_note in
       let reading : r' ≡ read_on r e.out.left (handled_in e.turns)
-      = ap₂ (λ (n m : ℕ). let x : Reading = record { receives_left = n; read = m } in x) e.left e.read in
+      = ap₂ (λ (n m : ℕ). let x : Reading = record { turns_left = n; read = m } in x) e.left e.read in
       let reads : ReadsTo sends receives a r s.part (answer_of answer) r' (refused_of answer) did (part_of e.end)
       = (e.turns, e.out, e.end, e.reads, e.answer_is, reading, e.refused_is, refl, refl) in (
         did,

@@ -206,6 +206,6 @@ a_registry_leaves : (registries_without (at 2 1 ∷ at 4 3 ∷ []) 2 (fresh_obje
 a_registry_leaves = (refl, refl, refl)
 
 -- the count of requests stops at the greatest number
-counts : (read_on new_reading 36 0 ≡ record { receives_left = 36; read = 0 })
-    × (read_on (record { receives_left = 36; read = 0xFFFFFFFFFFFFFFFE }) 35 3 ≡ record { receives_left = 35; read = 0xFFFFFFFFFFFFFFFF })
+counts : (read_on new_reading 36 0 ≡ record { turns_left = 36; read = 0 })
+    × (read_on (record { turns_left = 36; read = 0xFFFFFFFFFFFFFFFE }) 35 3 ≡ record { turns_left = 35; read = 0xFFFFFFFFFFFFFFFF })
 counts = (refl, refl)

@@ -76,7 +76,7 @@ module _ (offer : Offer ℕ) (p : Part Script ℕ Bool) where
   its_deeds = refl
 
   -- a piece is received, and then nothing can be
-  a_read : ReadsFor w client offer client new_reading (Err (Io fault.WouldBlock)) (record { receives_left = 62; read = 0 }) (held before) false reading.did (held after)
+  a_read : ReadsFor w client offer client new_reading (Err (Io fault.WouldBlock)) (record { turns_left = 62; read = 0 }) (held before) false reading.did (held after)
   a_read = (
     after,
     (
@@ -111,7 +111,7 @@ module _ (offer : Offer ℕ) (p : Part Script ℕ Bool) where
   )
 
   a_reading : Alone w client offer (held before) (reading ∷ []) (held after)
-  a_reading = (held after, (Err (Io fault.WouldBlock), record { receives_left = 62; read = 0 }, refl, a_read), refl)
+  a_reading = (held after, (Err (Io fault.WouldBlock), record { turns_left = 62; read = 0 }, refl, a_read), refl)
 
   -- it is a stretch, and so what is served of the piece
   a_stretch : IsStretch (around w client offer) before (reading ∷ []) after
@@ -131,7 +131,7 @@ module _ (offer : Offer ℕ) (p : Part Script ℕ Bool) where
   -- the reading is cut by its own deeds
   it_is_cut : CutsReading (around w client offer) w.sends w.receives new_reading (held before) (Err (Io fault.WouldBlock)) reading.did (held after)
   it_is_cut =
-      seen_reads w client offer (held before) (held after) new_reading (Err (Io fault.WouldBlock)) (record { receives_left = 62; read = 0 }) false reading.did refl a_read
+      seen_reads w client offer (held before) (held after) new_reading (Err (Io fault.WouldBlock)) (record { turns_left = 62; read = 0 }) false reading.did refl a_read
 
   -- five bytes that wait are served as nothing, and still wait
   of_half : IsServed (around w client offer) (reader_part before) half [] [] [] (state_as (reader_part before) half [])

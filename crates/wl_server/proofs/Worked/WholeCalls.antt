@@ -73,7 +73,7 @@ module _ (sends : ℕ → Queue → Result ℕ IoFault → ℕ → Type 0) (rece
   abbrev after : Part ℕ ℕ Bool
   after = record p { link = link_with 1 [] []; is_killed = true; action = None }
 
-  sync_with_taken_new_id : NextAction sends receives a new_reading before (Err (Io fault.Pipe)) (record { receives_left = 64; read = 1 }) false
+  sync_with_taken_new_id : NextAction sends receives a new_reading before (Err (Io fault.Pipe)) (record { turns_left = 64; read = 1 }) false
       (Sent the_send ∷ Put the_error ∷ Noted (happened.Disconnected (BrokeProtocol (record { code = 0; object_id = 1; object_interface = codes "wl_display"; message = codes "Invalid new_id: 5." }))) ∷ []) after
   unfolding word piece digits utf8_lossy utf8_valid_len is_utf8 chars encode sender_of second_word word_at counted_at text_of argument_at arguments_at
   sync_with_taken_new_id = (

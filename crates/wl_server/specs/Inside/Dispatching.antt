@@ -22,7 +22,7 @@ module _ {T U G C : Type 0} where
 
   -- fewer receives are left, or as many and fewer bytes wait
   abbrev pub Fewer : ClientParts → Reading → ServerState T U G C → Reading → ServerState T U G C → Type 0
-  Fewer id r s r' s' = (r'.receives_left < r.receives_left) ⊎ ((r'.receives_left ≡ r.receives_left) × (waiting_of id s' < waiting_of id s))
+  Fewer id r s r' s' = (r'.turns_left < r.turns_left) ⊎ ((r'.turns_left ≡ r.turns_left) × (waiting_of id s' < waiting_of id s))
 
 -- In each of these, `refused` says whether memory was refused in its own calls or in those of the dispatch before it.
 module _ {H T U G C : Type 0} (w : World T G C) (answers : Answering H T U G C) (id : ClientParts) where
@@ -42,7 +42,7 @@ module _ {H T U G C : Type 0} (w : World T G C) (answers : Answering H T U G C) 
     pub rounds : MatchOption end (Rounds w answers id h r before.server run lacked h' r' after.server)
         (λ f. RoundsEnd w answers id h r before.server run lacked f h' r' after.server)
     pub refused : after.refused ≡ before.refused || lacked
-    pub fewer : end ≡ None → r'.receives_left < r.receives_left
+    pub fewer : end ≡ None → r'.turns_left < r.turns_left
 
   -- rounds so far
   pub record RoundsSoFar (h : H) (r : Reading) (before : BackendState T U G C) (h' : H) (r' : Reading) (after : BackendState T U G C) : Type 0 where

@@ -6,13 +6,13 @@ use Rattle.wl_link.specs.declared.object.Object.{Object}
 use Rattle.wl_link.specs.Exchange.{Queue}
 use Rattle.wl_link.specs.Link.{LinkState}
 use Rattle.wl_link.specs.Puts.{lacks_memory}
-use Rattle.wl_link.specs.Store.{removed}
+use Rattle.wl_link.specs.Store.{Store, removed}
 use Rattle.wl_server.specs.declared.error.FinishError.{FinishError}
 use Rattle.wl_server.specs.declared.error.FinishError.TheVariants as finish
 use Rattle.wl_server.specs.declared.error.FinishRefused.{FinishRefused}
 use Rattle.wl_server.specs.declared.objects.Kept.{Kept}
 use Rattle.wl_server.specs.declared.reading.action.OpenAction.TheVariants as opened
-use Rattle.wl_server.specs.Finish.{DataHeld, HoldsData, ended_by, store_with_data}
+use Rattle.wl_server.specs.Finish.{HoldsData, ended_by, store_with_data}
 use Rattle.wl_server.specs.Ids.{ClientParts, IdParts}
 use Rattle.wl_server.specs.Part.{Part, named, note_of_end, registries_without, with_link}
 use Rattle.wl_server.specs.Inside.Puts.{Puts}
@@ -27,6 +27,11 @@ is_out_of_memory _ = false
 abbrev pub lacks_finish : {D : Type 0} → Result (Unit {0}) (FinishRefused D) → Bool
 lacks_finish (Ok _) = false
 lacks_finish (Err r) = is_out_of_memory r.error
+
+-- the object that an action made has the data that were given, if there are both and it is kept; else nothing comes back
+abbrev pub DataHeld : {U : Type 0} → Store (Kept U) → Option IdParts → Option U → Option U → Type 0
+DataHeld store (Some id) (Some u) back = HoldsData (named store id) u back
+DataHeld store _ _ back = back ≡ None
 
 module _ {T U C : Type 0} where
   -- no action is open any longer, and the object that it made has its data

@@ -168,7 +168,7 @@ module _ {T U G C : Type 0} (sends : T → Queue → Result ℕ IoFault → T �
   pub record ReadsOn (before : Stored T U C) (r : Reading) (now : Stored T U C) (r' : Reading) : Type 0 where
     pub first : List Turn
     pub gave : List (Given (Told U))
-    pub leads : ReadSoFar r.receives_left before.part first gave r'.receives_left now.part
+    pub leads : ReadSoFar r.turns_left before.part first gave r'.turns_left now.part
     pub silent : IsSilent gave
     pub no_note : HasNoNote gave
     pub read : r'.read ≡ counted r.read (handled_in first)
@@ -181,10 +181,10 @@ module _ {T U G C : Type 0} (sends : T → Queue → Result ℕ IoFault → T �
     pub turns : List Turn
     pub out : Gives (Told U)
     pub end : ReaderState T (Core U C)
-    pub reads : Reads sends (server a) receives r.receives_left (reader_part before.part) turns out end
+    pub reads : Reads sends (server a) receives r.turns_left (reader_part before.part) turns out end
     pub answer_is : answer_of answer ≡ answered out.stopped out.gave
     pub refused_is : refused_of answer ≡ out.refused
-    pub left : r'.receives_left ≡ out.left
+    pub left : r'.turns_left ≡ out.left
     pub read : r'.read ≡ counted r.read (handled_in turns)
     pub no_note : HasNoNote out.gave
     pub after_is : after ≡ stored_as before end
@@ -193,13 +193,13 @@ module _ {T U G C : Type 0} (sends : T → Queue → Result ℕ IoFault → T �
   abbrev pub HandlesMessage : Stored T U C → Reading → MessageResult → Stored T U C → Reading → Type 0
   HandlesMessage before r (Acts h) after r' = EndsAs before r (Ok h) after r'
   HandlesMessage before r WentOn after r' =
-      ReadsOn before r after r' × (r'.receives_left ≡ r.receives_left) × (length after.part.link.incoming.bytes < length before.part.link.incoming.bytes)
+      ReadsOn before r after r' × (r'.turns_left ≡ r.turns_left) × (length after.part.link.incoming.bytes < length before.part.link.incoming.bytes)
   HandlesMessage before r LacksMore after r' = LacksIn before.part × (after ≡ before) × (r' ≡ r)
   HandlesMessage before r (Ended end) after r' = EndsAs before r (Err end) after r'
 
   -- each message that was there whole was handled, and it came to this
   abbrev pub Waited : Stored T U C → Reading → Option (Result Handed NoAction) → Stored T U C → Reading → Type 0
-  Waited before r None after r' = ReadsOn before r after r' × (r'.receives_left ≡ r.receives_left) × LacksIn after.part
+  Waited before r None after r' = ReadsOn before r after r' × (r'.turns_left ≡ r.turns_left) × LacksIn after.part
   Waited before r (Some answer) after r' = EndsAs before r answer after r'
 
 module _ {T U C : Type 0} (receives : T → ℕ → Result Queue IoFault → T → Type 0) where

@@ -125,12 +125,12 @@ impl<T: Transport + Drop, U: Drop, G: GlobalHandler<C> + Drop, C: Drop> Backend<
     ) -> Option<IoFault>
         ensures { MakesRounds (over T.sends T.receives G.views) (answering H.requests H.binds) id.now handler.old reading.old self.old result handler.new reading.new self.new }
     {
-        let left = reading.receives_left;
+        let left = reading.turns_left;
         loop {
             if let Some(fault) = self.serve_action(handler, id, reading) {
                 return Some(fault);
             }
-            if reading.receives_left < left {
+            if reading.turns_left < left {
                 return None;
             }
         }

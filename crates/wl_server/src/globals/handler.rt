@@ -23,7 +23,7 @@ pub trait GlobalHandler<C> {
 }
 
 /// A handler that shows its global to each client.
-#[derive(Clone, Copy, Drop)]
+#[derive(Clone, Copy, Debug, Drop)]
 pub struct ShownToAll;
 
 impl<C> GlobalHandler<C> for ShownToAll {

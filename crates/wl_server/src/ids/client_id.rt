@@ -8,7 +8,7 @@ use std::marker::Model;
 /// slot.
 ///
 /// It stands for `wayland_backend::server::ClientId`.
-#[derive(Clone, Copy, PartialEq, Eq, Hash)]
+#[derive(Clone, Copy, Debug, PartialEq, Eq, Hash)]
 pub struct ClientId {
     serial: u64,
     slot: u32,

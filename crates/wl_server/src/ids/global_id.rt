@@ -9,7 +9,7 @@ use wl_wire::InterfaceId;
 /// name.
 ///
 /// It stands for `wayland_backend::server::GlobalId`.
-#[derive(Clone, Copy, PartialEq, Eq, Hash)]
+#[derive(Clone, Copy, Debug, PartialEq, Eq, Hash)]
 pub struct GlobalId {
     serial: u64,
     name: u32,
@@ -51,7 +51,7 @@ impl GlobalId {
 /// What a global offers.
 ///
 /// It stands for `wayland_backend::server::GlobalInfo`.
-#[derive(Clone, Copy)]
+#[derive(Clone, Copy, Debug)]
 pub struct GlobalInfo {
     /// The interface of the objects that are bound to it.
     pub interface: InterfaceId,

@@ -16,7 +16,7 @@ use wl_wire::{ANONYMOUS_INTERFACE, InterfaceId, OutOfMemory, Protocol};
 /// It stands for `wayland_backend::server::ObjectId`. The serial tells the object from others of the same client that
 /// have the number at another time. Two ids are equal if all parts are equal. The hash leaves the interface out. An id
 /// with number 0 is null, whatever its other parts are.
-#[derive(Clone, Copy, PartialEq, Eq)]
+#[derive(Clone, Copy, Debug, PartialEq, Eq)]
 pub struct ObjectId {
     serial: u64,
     client: ClientId,

@@ -12,7 +12,7 @@ use smallvec::SmallVec;
 use wl_wire::{Argument, INLINE_ARGS, IoFault, Token};
 
 /// What a client asks of the program. `finish_request` or `finish_bind` ends it.
-#[derive(Drop)]
+#[derive(Debug, Drop)]
 pub enum Action {
     /// A request.
     Request {
@@ -56,10 +56,10 @@ pub enum OpenAction {
 }
 
 /// How much a reading may still receive from one client, and how many requests it read.
-#[derive(Clone, Copy)]
+#[derive(Clone, Copy, Debug)]
 pub struct Reading {
     /// How many more times the transport may be asked to receive.
-    pub receives_left: u32,
+    pub turns_left: u32,
     /// How many requests were read. It saturates at `usize::MAX`.
     pub read: usize,
 }

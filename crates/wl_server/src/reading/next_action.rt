@@ -40,7 +40,7 @@ impl Reading {
         ensures { result ≡ new_reading }
     {
         Reading {
-            receives_left: READ_TURNS,
+            turns_left: READ_TURNS,
             read: 0,
         }
     }
@@ -127,13 +127,13 @@ impl<T: Transport + Drop, U: Drop, C: Drop> Client<T, U, C> {
             if let Some(end) = self.handle_waiting(numbers, around, reading, message, found, args) {
                 return end;
             }
-            if reading.receives_left == 0 {
+            if reading.turns_left == 0 {
                 return Err(NoAction {
                     fault: IoFault::WouldBlock,
                     refused: false,
                 });
             }
-            reading.receives_left -= 1;
+            reading.turns_left -= 1;
             if let Some(end) = self.receive(numbers) {
                 return Err(end);
             }

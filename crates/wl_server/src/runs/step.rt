@@ -9,6 +9,7 @@ use crate::ids::global_id::GlobalId;
 use crate::ids::object_id::ObjectId;
 use crate::notes::{DisconnectReason, Note};
 use crate::reading::action::{Action, Reading};
+use std::fmt;
 use wl_wire::{CString, Interface, InterfaceId, IoFault, Message, OutOfMemory, TableError, Token};
 
 /// A call that changes a server, as a value: a call of the server, or one of a client's transport by script.
@@ -69,6 +70,12 @@ pub enum Step<T, U, G, C> {
     TakeSent(ClientId),
 }
 
+impl<T, U, G, C> fmt::Debug for Step<T, U, G, C> {
+    fn fmt<W: fmt::Write>(&self, f: &mut fmt::Formatter<W>) -> fmt::Result {
+        f.write_str("Step { .. }")
+    }
+}
+
 /// What the call of a step returned.
 #[derive(Drop)]
 pub enum Reply<T, U> {
@@ -124,6 +131,12 @@ pub enum Reply<T, U> {
     TakeSent(Result<Vec<(Vec<u8>, Vec<Token>)>, InvalidId>),
 }
 
+impl<T, U> fmt::Debug for Reply<T, U> {
+    fn fmt<W: fmt::Write>(&self, f: &mut fmt::Formatter<W>) -> fmt::Result {
+        f.write_str("Reply { .. }")
+    }
+}
+
 /// A run that stopped because memory was refused.
 #[derive(Drop)]
 pub struct Stopped<T, U> {
@@ -132,4 +145,10 @@ pub struct Stopped<T, U> {
     pub step: usize,
     /// The replies to the steps before it.
     pub replies: Vec<Reply<T, U>>,
+}
+
+impl<T, U> fmt::Debug for Stopped<T, U> {
+    fn fmt<W: fmt::Write>(&self, f: &mut fmt::Formatter<W>) -> fmt::Result {
+        f.write_str("Stopped { .. }")
+    }
 }

@@ -41,7 +41,7 @@ use Rattle.wl_server.specs.Runs.{Alone, Leads, Own, Performs, SharedAlone, just_
 use Rattle.wl_server.specs.Server.{Seen, ServerState, new_server, seen}
 use Rattle.wl_server.proofs.OverRuns.Announced.InterfaceLaws.{HasInterfaces, after_call, after_run, at_first}
 use Rattle.wl_server.proofs.OverRuns.Announced.ShownLaws.{among_shown, disabled_one, disabled_stays, freed_one, freed_stays, shown_among, Hides, StaysShown}
-use Rattle.wl_server.specs.Steps.{Entry, NumbersGlobal, inserted_by, offer_after}
+use Rattle.wl_server.specs.Steps.{Entry, AnswersShared, inserted_by, offer_after}
 use Rattle.wl_server.proofs.OverRuns.Announced.WatchedCalls.{creates_lives, data_set_lives, destroys_lives, finishes_bind_lives, finishes_lives, flushed_lives, flushes_lives, kills_lives, posts_lives, relinked_lives, sends_lives}
 use Rattle.wl_server.proofs.OverRuns.Announced.WatchedGlobals.{global_watch, growth_watch, hears_all, limit_watch, loss_watch, stay_watch}
 use Rattle.wl_server.proofs.OverRuns.Announced.WatchedReadings.{next_action_lives}
@@ -67,7 +67,7 @@ module _ {U : Type 0} where
 module _ {T U G C : Type 0} where
   abbrev AreNumbered : Offer G → List (Own T U G C) → Type 0
   AreNumbered offer [] = Unit {0}
-  AreNumbered offer (e ∷ run) = NumbersGlobal offer e.call × AreNumbered (offer_after offer e.call) run
+  AreNumbered offer (e ∷ run) = AnswersShared offer e.call × AreNumbered (offer_after offer e.call) run
 
   -- the offer after a client's run
   abbrev own_offer : Offer G → List (Own T U G C) → Offer G
@@ -283,7 +283,7 @@ module _ {T U G C : Type 0} (w : World T G C) (id : ClientParts) (r : Id) where
 
   -- a call that is about this client, or about none
   step_follows : (offer : Offer G) → HasInterfaces offer → (call : Step T U G C) (answer : Reply T U) (s : Seen T U C) (lacked : Bool) (did : List (Deed U)) (t : Seen T U C)
-      → is_about id call ≡ true → NumbersGlobal {T = T} {U = U} {C = C} offer (Asked call answer) → IsLeftAlone {T = T} {U = U} {G = G} {C = C} r (Asked call answer)
+      → is_about id call ≡ true → AnswersShared {T = T} {U = U} {C = C} offer (Asked call answer) → IsLeftAlone {T = T} {U = U} {G = G} {C = C} r (Asked call answer)
       → PartStep w id offer call answer s lacked did t → Follows offer (offer_after {T = T} {U = U} {C = C} offer (Asked call answer)) s did t
   step_follows offer known (step.InsertClient transport client_data) answer s lacked did t about numbered alone h = absurd (true≢false (sym about))
   step_follows offer known (step.SetObjectData o u) answer s lacked did t about numbered alone (a, is, h) =
@@ -301,7 +301,7 @@ module _ {T U G C : Type 0} (w : World T G C) (id : ClientParts) (r : Id) where
   step_follows offer known (step.KillClient target reason) answer s lacked did t about numbered alone (is, h) =
       of_client offer (same_client target id) s _ _ lacked did t (λ p q (no_memory, k). kills_lives w.views id r offer p reason did q k) h
   step_follows offer known (step.CreateGlobal i version handler) answer s lacked did t about numbered alone (a, is, h) =
-      subst (λ (x : Reply T U). NumbersGlobal {T = T} {U = U} {C = C} offer (Asked (step.CreateGlobal i version handler) x)
+      subst (λ (x : Reply T U). AnswersShared {T = T} {U = U} {C = C} offer (Asked (step.CreateGlobal i version handler) x)
       → Follows offer (offer_after {T = T} {U = U} {C = C} offer (Asked (step.CreateGlobal i version handler) x)) s did t) (sym is)
       (λ creates. global_follows offer i version handler a s lacked did t creates h) numbered
   step_follows offer known (step.DisableGlobal g) answer s lacked did t about numbered alone (is, h) =
@@ -355,7 +355,7 @@ module _ {T U G C : Type 0} (w : World T G C) (id : ClientParts) (r : Id) where
   step_follows offer known (step.TakeSent target) answer s lacked did t about numbered alone (a, is, h) = moved_follows offer target _ _ s lacked did t h
 
   call_follows : (offer : Offer G) → HasInterfaces offer → (call : Call T U G C) (s : Seen T U C) (lacked : Bool) (did : List (Deed U)) (t : Seen T U C) → concerns id call ≡ true
-      → NumbersGlobal offer call → IsLeftAlone r call → PartCall w id offer call s lacked did t → Follows offer (offer_after offer call) s did t
+      → AnswersShared offer call → IsLeftAlone r call → PartCall w id offer call s lacked did t → Follows offer (offer_after offer call) s did t
   call_follows offer known (Asked call answer) s lacked did t about numbered alone h = step_follows offer known call answer s lacked did t about numbered alone h
   call_follows offer known (Changed target x) s lacked did t about numbered alone h =
       of_client offer (same_client target id) s _ _ lacked did t

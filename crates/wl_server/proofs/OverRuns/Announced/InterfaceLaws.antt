@@ -23,7 +23,7 @@ use Rattle.wl_server.specs.Globals.{CreatesGlobal, CreatesNext, Globals, Offer, 
 use Rattle.wl_server.specs.Ids.{GlobalParts}
 use Rattle.wl_server.specs.PartStep.{Asked, Call, Changed}
 use Rattle.wl_server.specs.Runs.{SharedAlone}
-use Rattle.wl_server.specs.Steps.{Entry, NumbersGlobal, created_by, inserted_by, offer_after, table_by}
+use Rattle.wl_server.specs.Steps.{Entry, AnswersShared, created_by, inserted_by, offer_after, table_by}
 use Rattle.wl_server.proofs.OverRuns.Announced.ShownLaws.{global_held, none_some}
 
 -- a row is there for the interface of each global that is kept
@@ -105,7 +105,7 @@ module _ {G : Type 0} where
     }
 
 module _ {T U G C : Type 0} where
-  after_step : (offer : Offer G) (s : Step T U G C) (answer : Reply T U) → HasInterfaces offer → NumbersGlobal offer (Asked s answer)
+  after_step : (offer : Offer G) (s : Step T U G C) (answer : Reply T U) → HasInterfaces offer → AnswersShared offer (Asked s answer)
       → HasInterfaces (offer_after offer (Asked s answer))
   after_step offer (step.CreateGlobal i version handler) (reply.CreateGlobal r) known n = after_created offer known i version handler r n
   after_step offer (step.CreateGlobal i version handler) answer known n = record { row = known.row }
@@ -116,7 +116,7 @@ module _ {T U G C : Type 0} where
   after_step offer (step.AddInterfaces interfaces) answer known n = record { row = known.row }
   after_step offer s answer known n = known
 
-  pub after_call : (offer : Offer G) (call : Call T U G C) → HasInterfaces offer → NumbersGlobal offer call → HasInterfaces (offer_after offer call)
+  pub after_call : (offer : Offer G) (call : Call T U G C) → HasInterfaces offer → AnswersShared offer call → HasInterfaces (offer_after offer call)
   after_call offer (Asked s answer) known n = after_step offer s answer known n
   after_call offer (Changed target t) known n = known
 

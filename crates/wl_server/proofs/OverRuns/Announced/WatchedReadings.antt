@@ -334,7 +334,7 @@ module _ {G C : Type 0} (views : G → ClientParts → C → GlobalParts → Boo
                     subst (λ (e : Part T U C). PartLives views client r offer p did e) (sym after)
                     (lives_so views client r offer p.is_killed end.core.is_killed (part_scene p) (scene_of end.core) (log_of (deeds_in out.gave)) (log_of did)
                     (registries_in (deeds_in out.gave)) (registries_in did) (ap log_of did_so ∙ so.put) (ap registries_in did_so ∙ so.made)
-                    (reads_lives t.receives_left (reader_part p) turns out end reads))
+                    (reads_lives t.turns_left (reader_part p) turns out end reads))
               ]
         ]
       where

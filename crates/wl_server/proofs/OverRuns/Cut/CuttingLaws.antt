@@ -142,7 +142,7 @@ module _ {T U G C : Type 0} (w : World T G C) (id : ClientParts) (offer : Offer 
         is,
         did_so,
         held_so q end did same ends,
-        λ fed finishes. reading_cuts w.sends w.receives here r.receives_left (reader_part p) end turns out reads fed (sym lacks ∙ unlacked) finishes,
+        λ fed finishes. reading_cuts w.sends w.receives here r.turns_left (reader_part p) end turns out reads fed (sym lacks ∙ unlacked) finishes,
       )
 
   -- a finish that is what the reader makes of these data

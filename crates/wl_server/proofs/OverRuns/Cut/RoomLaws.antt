@@ -159,9 +159,9 @@ module _ {T U G C : Type 0} (sends : T → Queue → Result ℕ IoFault → T �
               | inl (is, same, calm, none, stays) ↦ nothing_came did q.link none
               | inr (turns, out, end, reads, is, same, calm, did_so, after) ↦
                   λ r among none.
-                  let came : came_in did ≡ received U turns = ap came_in did_so ∙ received_deeds reading.receives_left p end turns out reads in
+                  let came : came_in did ≡ received U turns = ap came_in did_so ∙ received_deeds reading.turns_left p end turns out reads in
                   subst (λ (x : Part T U C). Leaves x.link) (sym after)
-                  (leaves_room reading.receives_left (reader_part p) end turns out reads r (subst (λ (rs : List (Result Queue IoFault)). IsAmong rs r) came among) none)
+                  (leaves_room reading.turns_left (reader_part p) end turns out reads r (subst (λ (rs : List (Result Queue IoFault)). IsAmong rs r) came among) none)
             ]
       ]
 

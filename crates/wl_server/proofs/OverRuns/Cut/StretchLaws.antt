@@ -308,8 +308,8 @@ module _ {G C : Type 0} (views : G → ClientParts → C → GlobalParts → Boo
               (λ w. pipe_not (sym is ∙ same_Some answer (Err (Io fault.WouldBlock)) (sym told ∙ w)))
           by_standing (inl (live, unended)) unopened g =
               let (turns, out, end, reads, is, left, lacks, did_so, same) = live_reads s.core.is_killed live g in
-              acts_read s call did q r.receives_left turns out end answer (on_of s.core live unopened)
-              (subst (λ (p : ReaderState Script (Core U C)). Reads ScriptSends (server a) ScriptReceives r.receives_left p turns out end) (begun_so s unended) reads)
+              acts_read s call did q r.turns_left turns out end answer (on_of s.core live unopened)
+              (subst (λ (p : ReaderState Script (Core U C)). Reads ScriptSends (server a) ScriptReceives r.turns_left p turns out end) (begun_so s unended) reads)
               (sym lacks) is told did_so same unended sound came ended
 
       end_acts : (u : Finish U) → finished_by call ≡ u ∷ [] → reading_by call ≡ None → s.core.ended ≡ None → EndsAlike ScriptSends a (part_of s) u false did q → Acts s call did q

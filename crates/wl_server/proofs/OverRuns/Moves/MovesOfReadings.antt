@@ -201,6 +201,6 @@ module _ {T U G C : Type 0} (sends : T → Queue → Result ℕ IoFault → T �
               | inr (turns, out, end, reads, is, same, no_memory, did_so, after) ↦
                   subst (λ (e : Part T U C). Step p (doings_in did) e) (sym after)
                   (subst (λ (ds : List (Deed U)). Step p (doings_in ds) (part_of end)) (sym did_so)
-                  (reads_moves r.receives_left (reader_part p) turns out end refl (λ live. refl) reads))
+                  (reads_moves r.turns_left (reader_part p) turns out end refl (λ live. refl) reads))
             ]
       ]

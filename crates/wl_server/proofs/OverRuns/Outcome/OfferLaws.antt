@@ -21,7 +21,7 @@ use Rattle.wl_server.specs.Outcome.{AddsSame, AreAmple, AreNumbered, AreOwn, Arr
 use Rattle.wl_server.specs.PartStep.{Asked, Call, Changed, PartCall, PartStep, World}
 use Rattle.wl_server.specs.Runs.{Leads, Own, concerns, is_about, mine, offer_over, own_of}
 use Rattle.wl_server.specs.Server.{Seen, ServerState, new_server}
-use Rattle.wl_server.specs.Steps.{Entry, NumbersGlobal, lacks_growth, offer_after, table_by}
+use Rattle.wl_server.specs.Steps.{Entry, AnswersShared, lacks_growth, offer_after, table_by}
 
 module _ {T U G C : Type 0} where
   -- ---- a call
@@ -55,17 +55,17 @@ module _ {T U G C : Type 0} where
   offer_as offer s s' q same = ap (λ (z : Step T U G C). offer_after offer (Asked z q)) same
 
   -- and so it is of the ids of globals and of the answers to interfaces
-  pub numbers_as : (offer : Offer G) (s s' : Step T U G C) (q : Reply T U) → SameStep s s' → NumbersGlobal offer (Asked s' q) → NumbersGlobal offer (Asked s q)
+  pub numbers_as : (offer : Offer G) (s s' : Step T U G C) (q : Reply T U) → SameStep s s' → AnswersShared offer (Asked s' q) → AnswersShared offer (Asked s q)
   numbers_as offer (step.SendEvent m) s' q same n = tt
   numbers_as offer (step.Arrive target bytes tokens) s' q same n = tt
   numbers_as offer (step.AddInterfaces interfaces) s' q same n = at s' q same n
     where
-      at : (s' : Step T U G C) (q : Reply T U) → AddsSame (interface_rows interfaces.items) s' → NumbersGlobal {T = T} {U = U} {C = C} offer (Asked s' q)
-          → NumbersGlobal {T = T} {U = U} {C = C} offer (Asked (step.AddInterfaces interfaces) q)
+      at : (s' : Step T U G C) (q : Reply T U) → AddsSame (interface_rows interfaces.items) s' → AnswersShared {T = T} {U = U} {C = C} offer (Asked s' q)
+          → AnswersShared {T = T} {U = U} {C = C} offer (Asked (step.AddInterfaces interfaces) q)
       at (step.AddInterfaces others) (reply.AddInterfaces r) same n = subst (λ these. AnswersGrowth offer.table these r) (sym same) n
       at (step.AddInterfaces others) q same n = tt
       at s' q same n = absurd same
-  numbers_as offer s s' q same n = subst (λ (z : Step T U G C). NumbersGlobal offer (Asked z q)) (sym same) n
+  numbers_as offer s s' q same n = subst (λ (z : Step T U G C). AnswersShared offer (Asked z q)) (sym same) n
 
   -- the creation of a global is answered as one, and so is the adding of interfaces
   abbrev pub Answered : Call T U G C → Type 0
@@ -100,19 +100,19 @@ module _ {T U G C : Type 0} where
         true≢false (subst (λ z. Ample s (reply.AddInterfaces z)) lacks (subst (λ z. Ample s z) is ample))
 
     -- a client's own calls and the shared ones are answered alike, where their answers tell what all clients share
-    pub shared_same : (s : Step T U G C) (p q : Reply T U) → is_about id s ≡ true → Ample s p → Ample s q → NumbersGlobal offer (Asked s p) → NumbersGlobal offer (Asked s q)
+    pub shared_same : (s : Step T U G C) (p q : Reply T U) → is_about id s ≡ true → Ample s p → Ample s q → AnswersShared offer (Asked s p) → AnswersShared offer (Asked s q)
         → Answered (Asked s p) → Answered (Asked s q) → SharedSame s p q
     shared_same (step.InsertClient transport client_data) p q own ample ample' n n' h g = absurd (true≢false (sym own))
     shared_same (step.CreateGlobal i version handler) p q own ample ample' n n' (r, is) (r', is') =
         let s : Step T U G C = step.CreateGlobal i version handler in
-        let numbers = subst (λ (z : Reply T U). NumbersGlobal offer (Asked s z)) is n in
-        let numbers' = subst (λ (z : Reply T U). NumbersGlobal offer (Asked s z)) is' n' in
+        let numbers = subst (λ (z : Reply T U). AnswersShared offer (Asked s z)) is n in
+        let numbers' = subst (λ (z : Reply T U). AnswersShared offer (Asked s z)) is' n' in
         let one = creates_global_one offer.globals offer.table i version r r' (created_allowed s r (subst (λ z. Ample s z) is ample)) (created_allowed s r' (subst (λ z. Ample s z) is' ample'))
         numbers numbers' in
         is ∙ ap (λ (z : Result GlobalParts GlobalError). let a : Reply T U = reply.CreateGlobal z in a) one ∙ sym is'
     shared_same (step.AddInterfaces interfaces) p q own ample ample' n n' (r, is) (r', is') =
         let s : Step T U G C = step.AddInterfaces interfaces in
-        let answers : Reply T U → Type 0 = λ z. NumbersGlobal {T = T} {U = U} {C = C} offer (Asked s z) in
+        let answers : Reply T U → Type 0 = λ z. AnswersShared {T = T} {U = U} {C = C} offer (Asked s z) in
         let one = AnswersGrowth-unique offer.table (interface_rows interfaces.items) r r' (added_allowed s p r is ample) (added_allowed s q r' is' ample')
         (subst answers is n) (subst answers is' n') in
         is ∙ ap (λ (z : Result (Unit {0}) TableError). let a : Reply T U = reply.AddInterfaces z in a) one ∙ sym is'
@@ -130,7 +130,7 @@ module _ {T U G C : Type 0} where
 
     -- so it is of calls: they are answered alike, and leave one offer
     pub shared_call : (call call' : Call T U G C) → SameCall call call' → concerns id call ≡ true → lacks_growth call ≡ false → lacks_growth call' ≡ false
-        → NumbersGlobal offer call → NumbersGlobal offer call' → Answered call → Answered call' → SharedAnswer call call' × (offer_after offer call ≡ offer_after offer call')
+        → AnswersShared offer call → AnswersShared offer call' → Answered call → Answered call' → SharedAnswer call call' × (offer_after offer call ≡ offer_after offer call')
     shared_call (Asked s p) (Asked s' q) same own ample ample' n n' h g =
         let shared = shared_same s p q own ample ample' n (numbers_as offer s s' q same n') h (answered_as s s' q same g) in
         (shared, offer_one offer s p q shared ∙ offer_as offer s s' q same)
@@ -170,7 +170,7 @@ module _ {T U G C : Type 0} where
   mine_own id (e ∷ run) = own_more id e run (concerns id e.call) refl (mine_own id run)
 
   -- the globals that it creates are numbered by the offer alone
-  numbered_more : (id : ClientParts) (offer : Offer G) (e : Entry T U G C) (run : List (Entry T U G C)) (b : Bool) → concerns id e.call ≡ b → NumbersGlobal offer e.call
+  numbered_more : (id : ClientParts) (offer : Offer G) (e : Entry T U G C) (run : List (Entry T U G C)) (b : Bool) → concerns id e.call ≡ b → AnswersShared offer e.call
       → AreNumbered (offer_after offer e.call) (mine id run) → AreNumbered offer (if b then (own_of id e ∷ mine id run) else mine id run)
   numbered_more id offer e run true is n more = (n, more)
   numbered_more id offer e run false is n more = subst (λ (o : Offer G). AreNumbered o (mine id run)) (offer_of_other id offer e.call is) more

@@ -307,8 +307,8 @@ module _ {T U C : Type 0} where
         (a b : Result Handed ActionError) (left left' : Reading) (d e : List (Deed U)) (x y : Part T U C) where
       reads_to_one : ReadsTo sends receives around r s a left false d x → ReadsTo sends receives around r s b left' false e y → SameEnd a b d e x y × (left ≡ left')
       reads_to_one (turns, out, end, reads, is, rest, unlacked, did, same) (turns', out', end', reads', is', rest', unlacked', did', same') =
-          let one = reads_one sends function receives receives_function (server around) r.receives_left (reader_part s) end end' turns turns' out out' (sym unlacked) (sym unlacked') reads reads' in
-          let went = reads_turns sends function (server around) receives receives_function r.receives_left (reader_part s) end end' turns turns' out out' (sym unlacked) (sym unlacked') reads reads' in (
+          let one = reads_one sends function receives receives_function (server around) r.turns_left (reader_part s) end end' turns turns' out out' (sym unlacked) (sym unlacked') reads reads' in
+          let went = reads_turns sends function (server around) receives receives_function r.turns_left (reader_part s) end end' turns turns' out out' (sym unlacked) (sym unlacked') reads reads' in (
             record {
               answer = is ∙ ap (λ (o : Gives (Told U)). answered o.stopped o.gave) one.out ∙ sym is';
               did = did ∙ ap (λ (z : List Turn). deeds_of (exchanges_in z) out.gave end.core) went

@@ -20,7 +20,7 @@ use Rattle.wl_server.proofs.OverRuns.Outcome.PartOutcome.{SameFelt}
 use Rattle.wl_server.specs.PartStep.{Asked, Call, Changed, PartCall, PartStep, World}
 use Rattle.wl_server.proofs.OverRuns.Outcome.OfferLaws.{answered_step, numbers_as, offer_as, offer_one, shared_same}
 use Rattle.wl_server.specs.Server.{Seen, ServerState, seen}
-use Rattle.wl_server.specs.Steps.{Entry, InsertsNext, NumbersClient, NumbersGlobal, OneStep, RisesBySlot, inserted_by, lacks_growth, offer_after}
+use Rattle.wl_server.specs.Steps.{Entry, InsertsNext, NumbersClient, AnswersShared, OneStep, RisesBySlot, inserted_by, lacks_growth, offer_after}
 use Rattle.wl_server.proofs.OverRuns.Outcome.WholeLaws.{ample_by, inserts_there, slots_same, whole_one}
 use Rattle.wl_server.specs.WholeOutcome.{PerformancesHaveOneOutcome, RunsHaveOneOutcome, SameServer, WholeAnswer, WholeReply}
 
@@ -87,7 +87,7 @@ module _ {T U G C : Type 0} where
 
     -- what is shared determines the answers that tell it
     whole_shared : (any : ClientParts) (k : Step T U G C) (p q : Reply T U) → Ample k p → Ample k q → NumbersClient s (Asked k p) → NumbersClient t (Asked k q)
-        → NumbersGlobal s.offer (Asked k p) → NumbersGlobal s.offer (Asked k q) → PartStep w any s.offer k p (seen any s) false (d any) (x any)
+        → AnswersShared s.offer (Asked k p) → AnswersShared s.offer (Asked k q) → PartStep w any s.offer k p (seen any s) false (d any) (x any)
         → PartStep w any s.offer k q (seen any s) false (e any) (y any) → SharedSame k p q
     whole_shared any (step.InsertClient transport client_data) p q ample ample' c c' n n' (r, is, h) (r', is', g) =
         let k : Step T U G C = step.InsertClient transport client_data in
@@ -106,7 +106,7 @@ module _ {T U G C : Type 0} where
     whole_shared any k p q ample ample' c c' n n' h g = tt
 
     call_whole : (call call' : Call T U G C) → SameCall call call' → lacks_growth call ≡ false → lacks_growth call' ≡ false → NumbersClient s call → NumbersClient t call'
-        → NumbersGlobal s.offer call → NumbersGlobal s.offer call' → RisesBySlot call → RisesBySlot call'
+        → AnswersShared s.offer call → AnswersShared s.offer call' → RisesBySlot call → RisesBySlot call'
         → ((id : ClientParts) → PartCall w id s.offer call (seen id s) false (d id) (x id)) → ((id : ClientParts) → PartCall w id s.offer call' (seen id s) false (e id) (y id))
         → WholeAnswer call call' × SharedAnswer call call' × ((id : ClientParts) → SameFelt (d id) (e id) (x id) (y id))
     call_whole (Asked k p) (Asked k' q) same ample ample' c c' n n' rises rises' h g =
@@ -137,7 +137,7 @@ module _ {T U G C : Type 0} where
       = λ id. subst (λ (o : Offer G). PartCall w id o f.call (seen id s) false (f.did id) (seen id y)) (sym same.offer)
       (subst (λ (z : Seen T U C). PartCall w id t.offer f.call z false (f.did id) (seen id y)) (sym (same.each id))
       (subst (λ (b : Bool). PartCall w id t.offer f.call (seen id t) b (f.did id) (seen id y)) (ample'.1 id) (by'.each id))) in
-      let numbers = subst (λ (o : Offer G). NumbersGlobal o f.call) (sym same.offer) by'.global in
+      let numbers = subst (λ (o : Offer G). AnswersShared o f.call) (sym same.offer) by'.global in
       let one = call_whole w known s t same (λ id. e.did id) (λ id. f.did id) (λ id. seen id x) (λ id. seen id y) e.call f.call same_call ample.0 ample'.0 by.client by'.client
       by.global numbers by.order by'.order here there in (
         one.0,

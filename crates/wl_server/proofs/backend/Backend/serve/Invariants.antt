@@ -9,4 +9,4 @@ invariant-loop-fault g l =
     RoundsSoFar (over g.T.Transport.sends g.T.Transport.receives g.G.GlobalHandler.views) (answering g.H.Handler.requests g.H.Handler.binds) l.id l.fn.handler new_reading l.fn.self l.handler l.reading l.self
 
 abbrev pub decreases-loop-fault : goal.decreases-loop-fault
-decreases-loop-fault g l = l.reading.receives_left
+decreases-loop-fault g l = l.reading.turns_left

@@ -24,7 +24,7 @@ returns-then-reading-left g c =
 
 pub loop-fault-preserved : goal.loop-fault-preserved
 loop-fault-preserved g c =
-    let kept = fewer_wait c.args.id.now c.loop-fault.reading c.loop-fault.self.server c.serve_action.new.reading c.serve_action.new.self.server c.args.reading.now.receives_left
+    let kept = fewer_wait c.args.id.now c.loop-fault.reading c.loop-fault.self.server c.serve_action.new.reading c.serve_action.new.self.server c.args.reading.now.turns_left
     (c.serve_action.ensures.fewer c.in_default.is) c.loop-fault.invariant.left c.if-reading-left.false in
     record {
       so_far = so_far_more (over g.T.Transport.sends g.T.Transport.receives g.G.GlobalHandler.views) (answering g.H.Handler.requests g.H.Handler.binds) c.args.id.now
@@ -34,5 +34,5 @@ loop-fault-preserved g c =
 
 pub loop-fault-smaller : goal.loop-fault-smaller
 loop-fault-smaller g c =
-    (fewer_wait c.args.id.now c.loop-fault.reading c.loop-fault.self.server c.serve_action.new.reading c.serve_action.new.self.server c.args.reading.now.receives_left
+    (fewer_wait c.args.id.now c.loop-fault.reading c.loop-fault.self.server c.serve_action.new.reading c.serve_action.new.self.server c.args.reading.now.turns_left
     (c.serve_action.ensures.fewer c.in_default.is) c.loop-fault.invariant.left c.if-reading-left.false).1

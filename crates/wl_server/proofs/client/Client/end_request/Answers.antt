@@ -1,7 +1,7 @@
 use Rattle.std.proofs.Common.{◌≡◌, MatchResult, false, refl, subst, sym, true}
 use Rattle.wl_link.specs.Store.{Store}
 use Rattle.wl_server.specs.declared.objects.Kept.{Kept}
-use Rattle.wl_server.specs.Finish.{DataHeld}
+use Rattle.wl_server.specs.Inside.Finishing.{DataHeld}
 use Rattle.wl_server.specs.declared.notes.DisconnectReason.TheVariants.{ConnectionClosed}
 use Rattle.wl_server.specs.Inside.Client.{Does}
 use Rattle.wl_server.specs.Server.{Stored}

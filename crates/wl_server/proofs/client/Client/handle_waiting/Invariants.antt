@@ -7,7 +7,7 @@ abbrev pub invariant-loop-end : goal.invariant-loop-end
 invariant-loop-end g l = record {
   place : 4 ≤ l.message.args.capacity;
   inline : 4 ≤ l.args.capacity;
-  left : l.reading.receives_left ≡ l.fn.reading.receives_left;
+  left : l.reading.turns_left ≡ l.fn.reading.turns_left;
   goes : ReadsOn g.T.Transport.sends g.T.Transport.receives (around_of g.G.GlobalHandler.views l.fn.around) l.fn.self l.fn.reading l.self l.reading;
 }
 

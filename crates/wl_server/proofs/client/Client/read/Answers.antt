@@ -26,7 +26,7 @@ returns-then-reading-eq0-clause-ends g c =
 pub returns-in-Some-receive-clause-ends : goal.returns-in-Some-receive-clause-ends
 returns-in-Some-receive-clause-ends g c =
     let waited = c.in_default.ensures.waited in
-    let left : c.handle_waiting.new.reading.receives_left ≡ suc (c.handle_waiting.new.reading.receives_left - 1) = omega (arith, c.if-reading-eq0.false) in
+    let left : c.handle_waiting.new.reading.turns_left ≡ suc (c.handle_waiting.new.reading.turns_left - 1) = omega (arith, c.if-reading-eq0.false) in
     let so = goes_goes g.T.Transport.sends g.T.Transport.receives (around_of g.G.GlobalHandler.views c.args.around.now) c.args.self.now c.loop-end.self c.handle_waiting.new.self c.args.reading.now c.loop-end.reading c.handle_waiting.new.reading c.loop-end.invariant.goes waited.0 in
     goes_ends g.T.Transport.sends g.T.Transport.receives (around_of g.G.GlobalHandler.views c.args.around.now) c.args.self.now c.handle_waiting.new.self c.receive.new.self c.args.reading.now c.handle_waiting.new.reading _ _ so
     (fills_ends g.T.Transport.sends g.T.Transport.receives (around_of g.G.GlobalHandler.views c.args.around.now) c.handle_waiting.new.self c.handle_waiting.new.reading _ waited.0.live (goes_within g.T.Transport.sends g.T.Transport.receives (around_of g.G.GlobalHandler.views c.args.around.now) c.args.self.now c.handle_waiting.new.self c.args.reading.now c.handle_waiting.new.reading so) waited.2 left refl c.in-Some-receive.end c.receive.new.self c.in-Some-receive.ensures)
@@ -34,7 +34,7 @@ returns-in-Some-receive-clause-ends g c =
 pub loop-end-preserved : goal.loop-end-preserved
 loop-end-preserved g c =
     let waited = c.in_default.ensures.waited in
-    let left : c.handle_waiting.new.reading.receives_left ≡ suc (c.handle_waiting.new.reading.receives_left - 1) = omega (arith, c.if-reading-eq0.false) in
+    let left : c.handle_waiting.new.reading.turns_left ≡ suc (c.handle_waiting.new.reading.turns_left - 1) = omega (arith, c.if-reading-eq0.false) in
     let so = goes_goes g.T.Transport.sends g.T.Transport.receives (around_of g.G.GlobalHandler.views c.args.around.now) c.args.self.now c.loop-end.self c.handle_waiting.new.self c.args.reading.now c.loop-end.reading c.handle_waiting.new.reading c.loop-end.invariant.goes waited.0 in
     record {
       place = c.handle_waiting.ensures.place;

@@ -11,4 +11,4 @@ invariant-loop-end g l = record {
 }
 
 abbrev pub decreases-loop-end : goal.decreases-loop-end
-decreases-loop-end g l = l.reading.receives_left
+decreases-loop-end g l = l.reading.turns_left
