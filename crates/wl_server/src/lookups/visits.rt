@@ -44,7 +44,7 @@ fn visit_live<T, U, C, F: FnMut(ClientId)>(clients: &[Option<Client<T, U, C>>], 
 }
 
 /// Calls the closure once with the id of each object of a client, by ascending number.
-fn visit_objects<U: Drop, F: FnMut(ObjectId)>(
+fn visit_all<U: Drop, F: FnMut(ObjectId)>(
     client: &ClientId,
     objects: &ObjectMap<Kept<U>>,
     f: &mut F,
@@ -69,6 +69,14 @@ impl<T: Drop, U: Drop, G: Drop, C: Drop> Backend<T, U, G, C> {
         visit_live(&self.clients, &mut f);
     }
 
+    /// `with_all_clients`, for a caller that keeps the closure.
+    pub fn visit_clients<F: FnMut(ClientId)>(&self, f: &mut F)
+        requires { F.IsAlwaysCallable f.old }
+        ensures { FoldsTo (λ p x q. F.step p x tt q) f.old (live_clients self.now.server) f.new }
+    {
+        visit_live(&self.clients, f);
+    }
+
     /// Calls the closure once with the id of each object of the client, by ascending number.
     ///
     /// It stands for `wayland_backend::server::Handle::with_all_objects_for`. The error is `InvalidId` if the client is
@@ -85,7 +93,24 @@ impl<T: Drop, U: Drop, G: Drop, C: Drop> Backend<T, U, G, C> {
         let Some(stored) = self.client(client) else {
             return Err(InvalidId);
         };
-        visit_objects(client, &stored.objects.map, &mut f);
+        visit_all(client, &stored.objects.map, &mut f);
+        Ok(())
+    }
+
+    /// `with_all_objects_for`, for a caller that keeps the closure.
+    pub fn visit_objects<F: FnMut(ObjectId)>(
+        &self,
+        client: &ClientId,
+        f: &mut F,
+    ) -> Result<(), InvalidId>
+        requires { F.IsAlwaysCallable f.old }
+        ensures { MatchOption (objects_of_client self.now.server client.now) ((result ≡ Err _) × (f.new ≡ f.old))
+            (λ ids. (result ≡ Ok tt) × FoldsTo (λ p x q. F.step p x tt q) f.old ids f.new) }
+    {
+        let Some(stored) = self.client(client) else {
+            return Err(InvalidId);
+        };
+        visit_all(client, &stored.objects.map, f);
         Ok(())
     }
 }

@@ -1,6 +1,6 @@
 use Rattle.std.proofs.Common.{of_calls, subst}
 use Rattle.wl_server.specs.Ids.{IdParts}
-use Rattle.wl_server.proofs.lookups.visits.visit_objects.Goals as goal
+use Rattle.wl_server.proofs.lookups.visits.visit_all.Goals as goal
 
 pub loop-number-preserved : goal.loop-number-preserved
 loop-number-preserved g c = (
