@@ -1,7 +1,7 @@
 //! The client's session as a program uses it: its fields, how it is made, and the calls that are not about requests, events
 //! or objects.
 
-ghost use Rattle.std.specs.Prelude.{◌≡◌, [], false, Ok, IfOk, option_copied};
+ghost use Rattle.std.specs.Prelude.{◌≡◌, ◌∷◌, [], false, length, Ok, IfOk, option_copied};
 ghost use Rattle.std.specs.Borrow.{sem};
 ghost use Rattle.wl_wire.specs.Table.{AnswersGrowth, IsAcceptedTable, display_id, grown, interface_rows, refused_growth};
 ghost use Rattle.wl_link.specs.Link.{LinkState, LimitSet};
@@ -145,6 +145,15 @@ impl<T: Drop, U: Drop> Backend<T, U> {
         ensures value { result.now ≡ self.old.session.link.transport }
     {
         self.socket.transport_mut()
+    }
+
+    /// How much waits in the session: the bytes and the tokens that were received and not read yet, and the bytes and the tokens
+    /// that were written and not sent yet. What waits in the transport is not counted.
+    pub fn waiting(&self) -> [usize; 4]
+        ensures { result ≡ length self.now.session.link.incoming.bytes ∷ length self.now.session.link.incoming.tokens
+            ∷ length self.now.session.link.outgoing.bytes ∷ length self.now.session.link.outgoing.tokens ∷ [] }
+    {
+        self.socket.waiting()
     }
 
     /// Whether memory was refused in the last call that took `&mut self`, in the session or in its transport. A call of
