@@ -489,7 +489,7 @@ static void watch(struct client *client, int operation)
 static void add_client(int socket)
 {
     struct client *client = socket >= 0 && client_count < MOST_CLIENTS ? calloc(1, sizeof *client) : NULL;
-    if (!client || nb_server_insert_client(&server, (uint64_t)(uintptr_t)client, 1, &client->id) != NB_OK) {
+    if (!client || nb_server_insert_client(&server, (uint64_t)(uintptr_t)client, 1, NULL, 0, &client->id) != NB_OK) {
         if (socket >= 0)
             close(socket);
         free(client);
@@ -534,7 +534,7 @@ static void send_to(struct client *client)
         if (taken == -EAGAIN) {
             is_full = 1;
         } else if (taken < 0) {
-            nb_server_kill_client(&server, &client->id);
+            nb_server_send_failed(&server, &client->id);
             break;
         } else if (nb_server_sent(&server, &client->id, (uint32_t)taken) == NB_OK) {
             close_all(descriptors, counts.descriptors); /* the client has its own now */
@@ -614,7 +614,7 @@ static void stop(int signal)
 static void offer(uint32_t interface, uint32_t version)
 {
     nb_global_id global;
-    nb_status status = nb_server_create_global(&server, interface, version, 0, 1, &global);
+    nb_status status = nb_server_create_global(&server, interface, version, 0, 1, NULL, 0, &global);
     if (status != NB_OK) {
         fprintf(stderr, "interface %u: %s\n", interface, nb_status_text(status));
         exit(1);

@@ -429,11 +429,17 @@ nb_status nb_server_set_max_buffer_size(nb_server *place, const nb_client_id *cl
  * more. Statuses: NB_INVALID_ID. */
 nb_status nb_server_set_room(nb_server *place, const nb_client_id *client, uint64_t room);
 
-/* Inserts a client, over a connection of the host. It has one object, the display. It sees each global with which it
- * has a bit of `groups` in common; so a host that hides nothing passes 1 for all. A note says that it was inserted.
+/* Inserts a client, over a connection of the host. It has one object, the display. A note says that it was inserted.
  *
- * Statuses: NB_FULL (no slot or no serial is left), NB_OUT_OF_MEMORY. */
-nb_status nb_server_insert_client(nb_server *place, uint64_t data, uint64_t groups, nb_client_id *client);
+ * Which globals it sees is settled here for those that are there, and by nb_server_create_global for those to come. It
+ * sees each global with which it has a bit of `groups` in common, unless one of the two lists the other as hidden:
+ * `hidden` are the globals that this client does not see. So a host that hides nothing passes 1 for all groups, and
+ * empty lists. A client cannot bind a global that it does not see. The list is copied; it may have any order, and ids
+ * that name nothing. nb_server_next_client_id tells the client's id beforehand.
+ *
+ * Statuses: NB_OUT_OF_MEMORY (for a copy of the list); NB_FULL (no slot or no serial is left); NB_OUT_OF_MEMORY. */
+nb_status nb_server_insert_client(nb_server *place, uint64_t data, uint64_t groups, const nb_global_id *hidden,
+                                  size_t hidden_count, nb_client_id *client);
 
 /* The data of a client. Statuses: NB_INVALID_ID. */
 nb_status nb_server_client_data(nb_server *place, const nb_client_id *client, uint64_t *data);
@@ -469,9 +475,9 @@ nb_status nb_server_received_end(nb_server *place, const nb_client_id *client);
  * NB_IO_ERROR, and the client is killed. Statuses: NB_INVALID_ID. */
 nb_status nb_server_receive_failed(nb_server *place, const nb_client_id *client, int32_t number);
 
-/* sendmsg failed with this errno, which is not EAGAIN, EWOULDBLOCK or EINTR: nothing more can be sent to the client. It
- * is killed when something for it finds no room in its buffer. To end it at once, kill it. Statuses: NB_INVALID_ID. */
-nb_status nb_server_send_failed(nb_server *place, const nb_client_id *client, int32_t number);
+/* sendmsg failed with an errno that is not EAGAIN, EWOULDBLOCK or EINTR: nothing more can be sent to the client. It is
+ * killed at once, as by nb_server_kill_client. Statuses: NB_INVALID_ID. */
+nb_status nb_server_send_failed(nb_server *place, const nb_client_id *client);
 
 /* ======== A server's session: actions */
 
@@ -482,15 +488,18 @@ nb_status nb_server_send_failed(nb_server *place, const nb_client_id *client, in
  * The arguments are written into `arguments`, and their strings and arrays into `bytes`. Its descriptors are yours.
  *
  * Statuses:
- *   NB_INVALID_ID       the client is not there (any more)
- *   NB_OPEN             an action of the client is open
- *   NB_CLOSED           the client is killed: it was before, its connection has ended, or it broke the protocol by a
- * well-formed request, and is told so by wl_display.error NB_PROTOCOL_ERROR   what it sent is no message that it may
- * send; it is killed NB_WOULD_BLOCK      no whole message is there; receive first NB_OUT_OF_MEMORY    read again later;
- * what was handled stays handled NB_IO_ERROR, ..     what the host told by nb_server_receive_failed; it is killed
- *   NB_TOO_SMALL        `action` has in `arguments` and `bytes` how many are needed, and nothing else. The action is
- * kept: call again with more. With 65536 bytes and as many arguments as the largest message of the table has, this
- * never comes */
+ *
+ *   - NB_INVALID_ID: the client is not there (any more).
+ *   - NB_OPEN: an action of the client is open.
+ *   - NB_CLOSED: the client is killed. It was before, its connection has ended, or it broke the protocol by a
+ *     well-formed request, and is told so by wl_display.error.
+ *   - NB_PROTOCOL_ERROR: what it sent is no message that it may send. It is killed.
+ *   - NB_WOULD_BLOCK: no whole message is there. Receive first.
+ *   - NB_OUT_OF_MEMORY: read again later. What was handled stays handled.
+ *   - NB_IO_ERROR, ..: what the host told by nb_server_receive_failed. It is killed.
+ *   - NB_TOO_SMALL: `action` has in `arguments` and `bytes` how many are needed, and nothing else. The action is kept:
+ *     call again with more. With 65536 bytes and as many arguments as the largest message of the table has, this never
+ *     comes. */
 nb_status nb_server_next_action(nb_server *place, const nb_client_id *client, nb_action *action, nb_argument *arguments,
                                 size_t argument_room, uint8_t *bytes, size_t byte_room);
 
@@ -572,22 +581,28 @@ nb_status nb_server_objects(nb_server *place, const nb_client_id *client, nb_obj
 
 /* ======== A server's session: globals */
 
-/* The id that the next client will have that is inserted. Statuses: NB_FULL. */
+/* The id that the next client will have that is inserted: so the host can say beforehand which globals it sees.
+ * Statuses: NB_FULL. */
 nb_status nb_server_next_client_id(nb_server *place, nb_client_id *client);
 
-/* The id that the next global will have that is created: so its data can be made ready before clients hear of it.
- * Statuses: NB_FULL. */
+/* The id that the next global will have that is created: so the host can say beforehand which clients see it, and make
+ * its data ready before clients hear of it. Statuses: NB_FULL. */
 nb_status nb_server_next_global_id(nb_server *place, nb_global_id *global);
 
-/* Creates a global, and announces it to each client that has a bit of `groups` in common with it, now and later.
+/* Creates a global, and announces it to each client that sees it, now and later. Those are the clients that have a bit
+ * of `groups` in common with it, unless one of the two lists the other as hidden: `hidden` are the clients that do not
+ * see this global (nb_server_insert_client). The list is copied; it may have any order, and ids that name nothing.
  * `version` is the greatest that clients may bind. A client that cannot be told is killed.
  *
- * Statuses: NB_UNKNOWN_INTERFACE; NB_VERSION_TOO_HIGH; NB_FULL (no name or no serial is left); NB_OUT_OF_MEMORY. */
+ * Statuses: NB_OUT_OF_MEMORY (for a copy of the list); NB_UNKNOWN_INTERFACE; NB_VERSION_TOO_HIGH; NB_FULL (no name or
+ * no serial is left); NB_OUT_OF_MEMORY. */
 nb_status nb_server_create_global(nb_server *place, uint32_t interface, uint32_t version, uint64_t data,
-                                  uint64_t groups, nb_global_id *global);
+                                  uint64_t groups, const nb_client_id *hidden, size_t hidden_count,
+                                  nb_global_id *global);
 
-/* Announces a global no more, and tells all registries that it is gone. Clients may still bind it, since a bind may be
- * on its way. An unknown global is no error: nothing is done. */
+/* Announces a global no more, and tells all registries that it is gone, also those of clients that do not see it.
+ * Clients that see it may still bind it, since a bind may be on its way. An unknown global is no error: nothing is
+ * done. */
 nb_status nb_server_disable_global(nb_server *place, const nb_global_id *global);
 
 /* Removes a global: its name is free for another. If it was not disabled, registries are told first. Disable it, and
@@ -707,12 +722,13 @@ nb_status nb_client_send_failed(nb_client *place, int32_t number);
  * handles by itself, and those for an object that the client has destroyed it drops. Its descriptors are yours.
  *
  * Statuses:
- *   NB_FAILED          the session has an error, or gets one now: nb_client_last_error
- *   NB_OPEN            an event is open
- *   NB_WOULD_BLOCK     no whole message is there; receive first
- *   NB_OUT_OF_MEMORY   read again later; what was handled stays handled
- *   NB_TOO_SMALL       as for nb_server_next_action: `arguments` and `bytes` of `event` say what is needed, and the
- * event is kept */
+ *
+ *   - NB_FAILED: the session has an error, or gets one now (nb_client_last_error).
+ *   - NB_OPEN: an event is open.
+ *   - NB_WOULD_BLOCK: no whole message is there. Receive first.
+ *   - NB_OUT_OF_MEMORY: read again later. What was handled stays handled.
+ *   - NB_TOO_SMALL: as for nb_server_next_action. `arguments` and `bytes` of `event` say what is needed, and the event
+ *     is kept. */
 nb_status nb_client_next_event(nb_client *place, nb_event *event, nb_argument *arguments, size_t argument_room,
                                uint8_t *bytes, size_t byte_room);
 
@@ -777,9 +793,9 @@ nb_status nb_client_sent(nb_client *place, uint32_t count);
  * Statuses: NB_TOO_SMALL (`error` is written; call again with room for message_length + interface_length). */
 nb_status nb_client_last_error(nb_client *place, nb_error *error, uint8_t *text, size_t text_room);
 
-/* The next object with data that was destroyed, by the client or by an event, the oldest first. Its data can be asked
- * for until its number is free. Statuses: NB_WOULD_BLOCK (there is none). */
-nb_status nb_client_next_note(nb_client *place, nb_object_id *destroyed);
+/* The next object with data that was destroyed, by the program, by a request or by an event, the oldest first, with its
+ * data: those that it had when it was destroyed. Each object comes once. Statuses: NB_WOULD_BLOCK (there is none). */
+nb_status nb_client_next_note(nb_client *place, nb_object_id *destroyed, uint64_t *data);
 
 /* The next descriptor that the session had and no call will hand out. Close it. Statuses: NB_WOULD_BLOCK (there is
  * none). */

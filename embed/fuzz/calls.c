@@ -294,7 +294,7 @@ static void call_of_server(void)
     nb_counts counts = { 0, 0 };
     nb_table_fault fault;
     switch (take() % 24) {
-    case 0: see(nb_server_insert_client(&server, 5, take(), &clients[take() % 4])); break;
+    case 0: see(nb_server_insert_client(&server, 5, take(), globals, take() % 5, &clients[take() % 4])); break;
     case 1:
     case 2:
     case 3:
@@ -340,7 +340,8 @@ static void call_of_server(void)
         see(nb_server_post_error(&server, &object, take(), (const uint8_t *)"some\0error", take() % 11));
         break;
     case 14:
-        see(nb_server_create_global(&server, take_word(), take_word(), take(), take(), &globals[take() % 4]));
+        see(nb_server_create_global(&server, take_word(), take_word(), take(), take(), clients, take() % 5,
+                                    &globals[take() % 4]));
         break;
     case 15:
         global = any_global();
@@ -365,7 +366,7 @@ static void call_of_server(void)
         case 0: see(nb_server_kill_client(&server, &id)); break;
         case 1: see(nb_server_received_end(&server, &id)); break;
         case 2: see(nb_server_receive_failed(&server, &id, take())); break;
-        case 3: see(nb_server_send_failed(&server, &id, take())); break;
+        case 3: see(nb_server_send_failed(&server, &id)); break;
         case 4: see(nb_server_set_room(&server, &id, take())); break;
         case 5: see(nb_server_set_max_buffer_size(&server, &id, take_word())); break;
         }
@@ -474,7 +475,7 @@ static void call_of_client(void)
     case 10:
         object = any_object(own);
         see(nb_client_destroy_object(&session, &object));
-        while (see(nb_client_next_note(&session, &object)) == NB_OK)
+        while (see(nb_client_next_note(&session, &object, &number)) == NB_OK)
             ;
         see(nb_client_last_error(&session, &error, bytes, NB_MOST_BYTES));
         break;
@@ -496,8 +497,8 @@ static void begin(void)
     const nb_argument placeholder = nb_placeholder();
     must(nb_server_start(&server, &quad, &fault) == NB_OK && nb_client_start(&session, &quad, &fault) == NB_OK,
          "sessions begin");
-    must(nb_server_create_global(&server, NB_QUAD, 3, 8, 1, &globals[0]) == NB_OK, "a global is made");
-    must(nb_server_insert_client(&server, 5, 1, &clients[0]) == NB_OK, "a client is inserted");
+    must(nb_server_create_global(&server, NB_QUAD, 3, 8, 1, NULL, 0, &globals[0]) == NB_OK, "a global is made");
+    must(nb_server_insert_client(&server, 5, 1, NULL, 0, &clients[0]) == NB_OK, "a client is inserted");
     must(nb_client_display(&session, &own[0]) == NB_OK, "the display is there");
     memset(&request, 0, sizeof request);
     request.sender = own[0];

@@ -83,22 +83,42 @@ static void requests(void)
     HOLDS(counts.descriptors == 1 && descriptors[0] == 50);
     OK(nb_client_memory_refused(&session, &is_refused));
     HOLDS(is_refused == 0);
-    /* A destructor ends its sender, which is noted, and whose number is free when the server says so. */
+    /* A destructor ends its sender, which is noted with its data, and whose number is free when the server says so. */
     nb_object_id noted;
+    OK(nb_client_set_object_data(&session, &other, 74));
     nb_request destroy = { other, NB_QUAD_REQUEST_DESTROY, 0, 0, 0, 0, 0, 0 };
     OK(nb_client_send_request(&session, &destroy, NULL, 0, NULL, 0, &none));
     put(4, NB_QUAD_REQUEST_DESTROY, "");
     HOLDS(sends());
-    OK(nb_client_next_note(&session, &noted));
-    HOLDS(nb_same_object(&noted, &other));
-    IS(nb_client_next_note(&session, &noted), NB_WOULD_BLOCK);
+    OK(nb_client_next_note(&session, &noted, &data));
+    HOLDS(nb_same_object(&noted, &other) && data == 74);
+    IS(nb_client_next_note(&session, &noted, &data), NB_WOULD_BLOCK);
     IS(nb_client_object_info(&session, &other, &info), NB_INVALID_ID);
     OK(nb_client_object_data(&session, &other, &data));
-    HOLDS(data == 72);
+    HOLDS(data == 74);
     put(1, 1, "u", 4);
     OK(come(NULL, 0));
     IS(next_event(), NB_WOULD_BLOCK);
     IS(nb_client_object_data(&session, &other, &data), NB_INVALID_ID);
+    /* The note of an object tells its data also when its number is free, or another object has it. */
+    nb_object_id third = ask(&object, NB_QUAD_REQUEST_MAKE, 75, &placeholder, 1, "");
+    HOLDS(third.number == 4 && !nb_same_object(&third, &other));
+    OK(nb_client_destroy_object(&session, &third));
+    IS(nb_client_destroy_object(&session, &third), NB_INVALID_ID);
+    put(1, 1, "u", 4);
+    OK(come(NULL, 0));
+    IS(next_event(), NB_WOULD_BLOCK);
+    nb_object_id fourth = ask(&object, NB_QUAD_REQUEST_MAKE, 76, &placeholder, 1, "");
+    HOLDS(fourth.number == 4);
+    OK(nb_client_destroy_object(&session, &fourth));
+    OK(nb_client_destroy_object(&session, &object));
+    OK(nb_client_next_note(&session, &noted, &data));
+    HOLDS(nb_same_object(&noted, &third) && data == 75);
+    OK(nb_client_next_note(&session, &noted, &data));
+    HOLDS(nb_same_object(&noted, &fourth) && data == 76);
+    OK(nb_client_next_note(&session, &noted, &data));
+    HOLDS(nb_same_object(&noted, &object) && data == 71);
+    IS(nb_client_next_note(&session, &noted, &data), NB_WOULD_BLOCK);
     OK(nb_client_end(&session));
 }
 
@@ -106,6 +126,7 @@ static void events(void)
 {
     nb_object_id noted;
     nb_error error;
+    uint64_t data;
     connect_session();
     put(3, NB_QUAD_EVENT_MOVED, "u", (uint32_t)-9);
     put(3, NB_QUAD_EVENT_MADE, "u", 0xff000000);
@@ -140,8 +161,9 @@ static void events(void)
     OK(next_event());
     HOLDS(event.is_destructor == 1 && event.arguments == 0);
     OK(nb_client_finish_event(&session));
-    OK(nb_client_next_note(&session, &noted));
-    HOLDS(nb_same_object(&noted, &object));
+    OK(nb_client_next_note(&session, &noted, &data));
+    HOLDS(nb_same_object(&noted, &object) && data == 70);
+    IS(nb_client_next_note(&session, &noted, &data), NB_WOULD_BLOCK);
     /* The error that the server sends. */
     OK(nb_client_last_error(&session, &error, bytes, 0));
     HOLDS(error.kind == NB_NO_ERROR);
@@ -208,8 +230,8 @@ static void both(size_t piece)
     nb_global_id global;
     uint32_t kept;
     OK(nb_server_start(&server, &quad, &fault));
-    OK(nb_server_create_global(&server, NB_QUAD, 3, 0, 1, &global));
-    OK(nb_server_insert_client(&server, 0, 1, &client));
+    OK(nb_server_create_global(&server, NB_QUAD, 3, 0, 1, NULL, 0, &global));
+    OK(nb_server_insert_client(&server, 0, 1, NULL, 0, &client));
     OK(nb_client_start(&session, &quad, &fault));
     OK(nb_client_display(&session, &display));
     const nb_argument placeholder = nb_placeholder();

@@ -23,14 +23,14 @@ static void server_calls(void)
     NONE(nb_server_set_default_max_buffer_size(&server, 1));
     NONE(nb_server_set_max_buffer_size(&server, &id, 1));
     NONE(nb_server_set_room(&server, &id, 1));
-    NONE(nb_server_insert_client(&server, 1, 1, &id));
+    NONE(nb_server_insert_client(&server, 1, 1, &global, 1, &id));
     NONE(nb_server_client_data(&server, &id, &data));
     NONE(nb_server_clients(&server, &id, 1, &number));
     NONE(nb_server_kill_client(&server, &id));
     NONE(nb_server_received(&server, &id, bytes, 8, descriptors, 1));
     NONE(nb_server_received_end(&server, &id));
     NONE(nb_server_receive_failed(&server, &id, 5));
-    NONE(nb_server_send_failed(&server, &id, 5));
+    NONE(nb_server_send_failed(&server, &id));
     NONE(nb_server_next_action(&server, &id, &action, arguments, 16, bytes, sizeof bytes));
     NONE(nb_server_finish_request(&server, &id));
     NONE(nb_server_finish_request_with(&server, &id, 1, &number));
@@ -46,7 +46,7 @@ static void server_calls(void)
     NONE(nb_server_objects(&server, &id, &object, 1, &number));
     NONE(nb_server_next_client_id(&server, &id));
     NONE(nb_server_next_global_id(&server, &global));
-    NONE(nb_server_create_global(&server, 4, 1, 1, 1, &global));
+    NONE(nb_server_create_global(&server, 4, 1, 1, 1, &id, 1, &global));
     NONE(nb_server_disable_global(&server, &global));
     NONE(nb_server_remove_global(&server, &global));
     NONE(nb_server_global_info(&server, &global, &offered));
@@ -93,7 +93,7 @@ static void client_calls(void)
     NONE(nb_client_to_send(&session, bytes, 9, descriptors, NB_MOST_DESCRIPTORS, &counts));
     NONE(nb_client_sent(&session, 1));
     NONE(nb_client_last_error(&session, &error, bytes, 9));
-    NONE(nb_client_next_note(&session, &object));
+    NONE(nb_client_next_note(&session, &object, &data));
     NONE(nb_client_next_dropped(&session, descriptors));
     HOLDS(number == 7 && data == 7 && session.state == 0);
 }

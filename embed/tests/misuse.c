@@ -66,8 +66,8 @@ static void tables(void)
     FAULTY(nb_server_add_interfaces(&server, text, sizeof text, twice, 3, NULL, 0, NULL, 0, &fault),
            NB_FAULT_DUPLICATE_NAME, 2);
     nb_global_id global;
-    OK(nb_server_create_global(&server, NB_QUAD, 3, 0, 1, &global));
-    IS(nb_server_create_global(&server, NB_QUAD + 1, 1, 0, 1, &global), NB_UNKNOWN_INTERFACE);
+    OK(nb_server_create_global(&server, NB_QUAD, 3, 0, 1, NULL, 0, &global));
+    IS(nb_server_create_global(&server, NB_QUAD + 1, 1, 0, 1, NULL, 0, &global), NB_UNKNOWN_INTERFACE);
     OK(nb_server_end(&server));
 }
 
@@ -88,7 +88,7 @@ static void unknown_client(const nb_client_id *id)
     IS(nb_server_received(&server, id, bytes, 8, descriptors, 1), NB_INVALID_ID);
     IS(nb_server_received_end(&server, id), NB_INVALID_ID);
     IS(nb_server_receive_failed(&server, id, 5), NB_INVALID_ID);
-    IS(nb_server_send_failed(&server, id, 5), NB_INVALID_ID);
+    IS(nb_server_send_failed(&server, id), NB_INVALID_ID);
     IS(nb_server_next_action(&server, id, &action, arguments, 16, bytes, sizeof bytes), NB_INVALID_ID);
     IS(nb_server_finish_request(&server, id), NB_INVALID_ID);
     IS(nb_server_finish_request_with(&server, id, 1, &number), NB_INVALID_ID);
@@ -145,7 +145,7 @@ static void ids(void)
     unknown_object(&wrong);
     wrong = nb_null();
     unknown_object(&wrong);
-    OK(nb_server_create_global(&server, NB_QUAD, 1, 0, 1, &global));
+    OK(nb_server_create_global(&server, NB_QUAD, 1, 0, 1, NULL, 0, &global));
     OK(nb_server_remove_global(&server, &global));
     unknown_global(&global);
     global = (nb_global_id){ 7, 0xffffffff };
@@ -155,7 +155,7 @@ static void ids(void)
     OK(nb_server_kill_client(&server, &client));
     OK(nb_server_cleanup(&server));
     OK(nb_server_next_gone(&server, &gone, bytes, sizeof bytes, descriptors, NB_MOST_DESCRIPTORS));
-    OK(nb_server_insert_client(&server, 6, 1, &client));
+    OK(nb_server_insert_client(&server, 6, 1, NULL, 0, &client));
     HOLDS(client.slot == gone_client.slot && client.serial != gone_client.serial);
     unknown_client(&gone_client);
     unknown_object(&object);
@@ -189,7 +189,7 @@ static void events(void)
     nb_object_id wrong = object;
     wrong.serial++;
     IS(event(&object, NB_QUAD_EVENT_MADE, nb_new_id(wrong)), NB_INVALID_ID);
-    OK(nb_server_insert_client(&server, 9, 1, &second));
+    OK(nb_server_insert_client(&server, 9, 1, NULL, 0, &second));
     OK(nb_server_create_object(&server, &second, NB_QUAD, 3, 1, 0, &other));
     IS(event(&object, NB_QUAD_EVENT_MADE, nb_new_id(other)), NB_FOREIGN_OBJECT);
     OK(nb_server_create_object(&server, &first, NB_INTERFACE_CALLBACK, 1, 1, 0, &other));
@@ -198,8 +198,8 @@ static void events(void)
     IS(nb_server_create_object(&server, &first, NB_QUAD, 1, 0, 0, &other), NB_MISSING_DATA);
     IS(nb_server_post_error(&server, &object, 1, (const uint8_t *)"a\0b", 3), NB_INVALID_INPUT);
     nb_global_id global;
-    IS(nb_server_create_global(&server, NB_QUAD, 4, 0, 1, &global), NB_VERSION_TOO_HIGH);
-    IS(nb_server_create_global(&server, 99, 1, 0, 1, &global), NB_UNKNOWN_INTERFACE);
+    IS(nb_server_create_global(&server, NB_QUAD, 4, 0, 1, NULL, 0, &global), NB_VERSION_TOO_HIGH);
+    IS(nb_server_create_global(&server, 99, 1, 0, 1, NULL, 0, &global), NB_UNKNOWN_INTERFACE);
     /* Nothing of this was sent. */
     nb_client_id writable;
     client = first;

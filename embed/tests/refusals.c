@@ -89,6 +89,8 @@ static void serve(void)
     const nb_interface_row interface = { 0, 5, 1, 0, 1 };
     const nb_message_row message = { 5, 4, 1, 0, 2 };
     const nb_argument_row rows[] = { { NB_DESCRIPTOR, 0, 0 }, { NB_STRING, 0, 0 } };
+    const nb_global_id other_globals[] = { { 9, 90 }, { 8, 91 } };
+    const nb_client_id other_clients[] = { { 9, 90 }, { 8, 91 } };
     nb_global_id global;
     nb_client_id writable;
     nb_object_id made;
@@ -99,9 +101,9 @@ static void serve(void)
     if (see(nb_server_start(&server, &quad, &fault)) != NB_OK)
         return;
     see(nb_server_add_interfaces(&server, (const uint8_t *)names, 9, &interface, 1, &message, 1, rows, 2, &fault));
-    see(nb_server_create_global(&server, NB_QUAD, 3, 0, 1, &global));
+    see(nb_server_create_global(&server, NB_QUAD, 3, 0, 1, other_clients, 2, &global));
     for (int round = 0; round < 3; round++) {
-        if (see(nb_server_insert_client(&server, 5, 1, &client)) != NB_OK)
+        if (see(nb_server_insert_client(&server, 5, 1, other_globals, 2, &client)) != NB_OK)
             continue;
         put(1, 1, "u", 2);
         put(2, 0, "usuu", 1, "quad", 3, 3);
@@ -118,7 +120,7 @@ static void serve(void)
                 came_back(&number, 1);
             see(nb_server_destroy_object(&server, &made));
         }
-        see(nb_server_create_global(&server, NB_QUAD, 1, 0, 1, &global));
+        see(nb_server_create_global(&server, NB_QUAD, 1, 0, 1, NULL, 0, &global));
         while (nb_server_next_writable(&server, &writable) == NB_OK)
             if (see(nb_server_to_send(&server, &writable, bytes, sizeof bytes, descriptors, NB_MOST_DESCRIPTORS,
                                       &counts)) == NB_OK) {
@@ -147,8 +149,12 @@ static void serve(void)
 static void use(void)
 {
     nb_object_id display, registry, object = nb_null();
+    nb_object_id noted;
+    nb_object_info info;
     nb_event event;
     nb_error error;
+    uint64_t data;
+    int notes = 0;
     if (see(nb_client_start(&session, &quad, &fault)) != NB_OK)
         return;
     see(nb_client_display(&session, &display));
@@ -156,7 +162,7 @@ static void use(void)
     nb_request request = { display, 1, 1, 1, 0, 0, 0, 0 };
     if (see(nb_client_send_request(&session, &request, with, 1, NULL, 0, &registry)) == NB_OK) {
         with[0] = nb_uint(1);
-        request = (nb_request){ registry, 0, 1, 1, 1, NB_QUAD, 3, 0 };
+        request = (nb_request){ registry, 0, 1, 6, 1, NB_QUAD, 3, 0 };
         see(nb_client_send_request(&session, &request, with, 4, (const uint8_t *)"quad", 4, &object));
     }
     put(2, 0, "usu", 1, "quad", 3);
@@ -179,8 +185,12 @@ static void use(void)
     wire_length = 0;
     see(nb_client_next_event(&session, &event, arguments, 16, bytes, sizeof bytes));
     see(nb_client_last_error(&session, &error, bytes, sizeof bytes));
-    while (nb_client_next_note(&session, &object) == NB_OK)
-        ;
+    /* The object is there, or a note told its end, with its data. */
+    while (nb_client_next_note(&session, &noted, &data) == NB_OK) {
+        notes++;
+        HOLDS(nb_same_object(&noted, &object) && data == 6);
+    }
+    HOLDS(notes == (!nb_is_null(&object) && nb_client_object_info(&session, &object, &info) != NB_OK));
     see(nb_client_end(&session));
 }
 

@@ -270,7 +270,7 @@ static void run(uint64_t number, char **words, int count)
     nb_status status;
     const char *word = words[0];
     if (strcmp(word, "client") == 0) {
-        status = nb_server_insert_client(&server, 0, 1, &id);
+        status = nb_server_insert_client(&server, 0, 1, NULL, 0, &id);
         if (status != NB_OK || id.slot >= MOST_CLIENTS) {
             answer(status);
             return;
@@ -285,7 +285,7 @@ static void run(uint64_t number, char **words, int count)
         print_text("\n");
     } else if (strcmp(word, "global") == 0) {
         status = nb_server_create_global(&server, interface_of(words[1]), (uint32_t)strtoul(words[2], NULL, 10), 0, 1,
-                                         &global);
+                                         NULL, 0, &global);
         if (status != NB_OK) {
             answer(status);
             return;

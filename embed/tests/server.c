@@ -48,7 +48,7 @@ static void answers(void)
     put(1, 1, "u", 4);
     HOLDS(sends(&client));
     OK(nb_server_next_client_id(&server, &wanted));
-    OK(nb_server_insert_client(&server, 6, 1, &next));
+    OK(nb_server_insert_client(&server, 6, 1, NULL, 0, &next));
     HOLDS(nb_same_client(&next, &wanted) && !nb_same_client(&next, &client));
     uint64_t data;
     uint32_t count;
@@ -147,11 +147,11 @@ static void globals(void)
     uint32_t name;
     HOLDS(object.number == 3);
     OK(nb_server_next_global_id(&server, &wanted));
-    OK(nb_server_create_global(&server, NB_QUAD, 2, 30, 3, &global));
+    OK(nb_server_create_global(&server, NB_QUAD, 2, 30, 3, NULL, 0, &global));
     HOLDS(global.name == wanted.name && global.serial == wanted.serial);
     put(2, 0, "usu", global.name, "quad", 2);
     HOLDS(sends(&client));
-    OK(nb_server_create_global(&server, NB_QUAD, 1, 31, 4, &hidden));
+    OK(nb_server_create_global(&server, NB_QUAD, 1, 31, 4, NULL, 0, &hidden));
     HOLDS(sends_nothing());
     OK(nb_server_global_info(&server, &global, &info));
     HOLDS(info.interface == NB_QUAD && info.version == 2 && info.is_disabled == 0);
@@ -161,7 +161,7 @@ static void globals(void)
     HOLDS(name == global.name);
     IS(nb_server_global_name(&server, &hidden, &client, &name), NB_INVALID_ID);
     /* A client of another group is told of others; a bind of a hidden one is refused. */
-    OK(nb_server_insert_client(&server, 6, 6, &other));
+    OK(nb_server_insert_client(&server, 6, 6, NULL, 0, &other));
     put(1, 1, "u", 2);
     OK(nb_server_received(&server, &other, wire, wire_length, NULL, 0));
     wire_length = 0;
@@ -189,6 +189,76 @@ static void globals(void)
     OK(nb_server_remove_global(&server, &global));
     put(2, 1, "u", global.name);
     HOLDS(sends(&client));
+    OK(nb_server_end(&server));
+}
+
+/* A global that a client does not see, by the list of either of them, is not announced to it, has no name for it, and
+ * cannot be bound. */
+static void hidden(void)
+{
+    nb_object_id object = begin();
+    const nb_global_id first = { 1, 1 };
+    nb_global_id secret, shown;
+    nb_client_id other, third, to_come;
+    nb_gone gone;
+    uint32_t name, is_kept;
+    HOLDS(object.number == 3);
+    /* The list of a global, which comes later than the client. An id of the slot, but of another client, hides nothing.
+     */
+    const nb_client_id stale = { client.serial + 9, client.slot };
+    const nb_client_id clients[] = { { 77, 3 }, client, { 0, 0 }, client };
+    OK(nb_server_create_global(&server, NB_QUAD, 2, 30, 1, clients, 4, &secret));
+    HOLDS(sends_nothing());
+    IS(nb_server_global_name(&server, &secret, &client, &name), NB_INVALID_ID);
+    OK(nb_server_create_global(&server, NB_QUAD, 1, 31, 1, &stale, 1, &shown));
+    put(2, 0, "usu", shown.name, "quad", 1);
+    HOLDS(sends(&client));
+    /* The list of a client, which comes later than the globals. */
+    const nb_global_id globals[] = { shown, { 77, 2 }, first, shown };
+    OK(nb_server_insert_client(&server, 6, 1, globals, 4, &other));
+    IS(nb_server_global_name(&server, &first, &other, &name), NB_INVALID_ID);
+    IS(nb_server_global_name(&server, &shown, &other, &name), NB_INVALID_ID);
+    OK(nb_server_global_name(&server, &secret, &other, &name));
+    HOLDS(name == secret.name);
+    put(1, 1, "u", 2);
+    put(2, 0, "usuu", secret.name, "quad", 2, 3);
+    put(2, 0, "usuu", shown.name, "quad", 1, 4);
+    OK(nb_server_received(&server, &other, wire, wire_length, NULL, 0));
+    wire_length = 0;
+    OK(nb_server_next_action(&server, &other, &action, arguments, 16, bytes, sizeof bytes));
+    HOLDS(action.kind == NB_BIND && action.data == 30 && action.global.name == secret.name);
+    OK(nb_server_finish_bind(&server, &other, 1, &is_kept));
+    put(2, 0, "usu", secret.name, "quad", 2);
+    HOLDS(sends(&other));
+    IS(nb_server_next_action(&server, &other, &action, arguments, 16, bytes, sizeof bytes), NB_CLOSED);
+    OK(nb_server_cleanup(&server));
+    OK(nb_server_next_gone(&server, &gone, bytes, sizeof bytes, descriptors, NB_MOST_DESCRIPTORS));
+    put(1, 0, "uus", 1, 0, "Invalid binding of quad version 1 for global 3.");
+    HOLDS(gone.data == 6 && is_wire(bytes, gone.waiting.bytes));
+    /* The list of a global for a client that is still to come. A group in common does not help. */
+    OK(nb_server_next_client_id(&server, &to_come));
+    OK(nb_server_create_global(&server, NB_QUAD, 3, 32, 7, &to_come, 1, &secret));
+    put(2, 0, "usu", secret.name, "quad", 3);
+    HOLDS(sends(&client));
+    OK(nb_server_insert_client(&server, 7, 7, NULL, 0, &third));
+    HOLDS(nb_same_client(&third, &to_come));
+    IS(nb_server_global_name(&server, &secret, &third, &name), NB_INVALID_ID);
+    OK(nb_server_global_name(&server, &first, &third, &name));
+    /* A client that does not see the global is told that it is gone, too. */
+    put(1, 1, "u", 2);
+    OK(nb_server_received(&server, &third, wire, wire_length, NULL, 0));
+    wire_length = 0;
+    IS(nb_server_next_action(&server, &third, &action, arguments, 16, bytes, sizeof bytes), NB_WOULD_BLOCK);
+    put(2, 0, "usu", 1, "quad", 3);
+    put(2, 0, "usu", 2, "quad", 2);
+    put(2, 0, "usu", 3, "quad", 1);
+    HOLDS(sends(&third));
+    HOLDS(sends_nothing());
+    OK(nb_server_disable_global(&server, &secret));
+    put(2, 1, "u", secret.name);
+    HOLDS(sends(&client));
+    put(2, 1, "u", secret.name);
+    HOLDS(sends(&third));
     OK(nb_server_end(&server));
 }
 
@@ -254,18 +324,23 @@ static void ends(void)
     IS(next_action(), NB_IO_ERROR);
     IS(next_action(), NB_CLOSED);
     OK(nb_server_end(&server));
-    /* A client to which nothing can be sent is killed when its buffer is full. */
+    /* A client to which nothing can be sent is killed at once. What it sent before is read no more. */
     const nb_object_id object = begin();
     const nb_argument argument = nb_int(7);
-    OK(nb_server_send_failed(&server, &client, 71));
-    IS(next_action(), NB_WOULD_BLOCK);
-    for (int i = 0; i < 1000; i++)
-        OK(nb_server_send_event(&server, &object, NB_QUAD_EVENT_MOVED, &argument, 1, NULL, 0));
+    put(3, NB_QUAD_REQUEST_POKE, "u", 6);
+    OK(arrive(NULL, 0));
+    OK(nb_server_send_event(&server, &object, NB_QUAD_EVENT_MOVED, &argument, 1, NULL, 0));
+    OK(nb_server_send_failed(&server, &client));
     IS(next_action(), NB_CLOSED);
+    OK(nb_server_send_event(&server, &object, NB_QUAD_EVENT_MOVED, &argument, 1, NULL, 0));
     OK(nb_server_cleanup(&server));
+    IS(nb_server_send_failed(&server, &client), NB_INVALID_ID);
     OK(nb_server_next_note(&server, &note, bytes, sizeof bytes));
+    HOLDS(note.kind == NB_INSERTED);
     OK(nb_server_next_note(&server, &note, bytes, sizeof bytes));
     HOLDS(note.kind == NB_KILLED && note.is_protocol_error == 0 && note.message_length == 0);
+    OK(nb_server_next_note(&server, &note, bytes, sizeof bytes));
+    HOLDS(note.kind == NB_DESTROYED && note.data == 77);
     OK(nb_server_end(&server));
     begin();
     put_word(3);
@@ -292,6 +367,7 @@ int main(void)
     events();
     texts();
     globals();
+    hidden();
     back_pressure();
     ends();
     return tell();

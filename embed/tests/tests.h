@@ -136,8 +136,8 @@ static inline nb_object_id begin(void)
     uint32_t is_kept = 0;
     nb_client_id writable;
     OK(nb_server_start(&server, &quad, &fault));
-    OK(nb_server_create_global(&server, NB_QUAD, 3, 8, 1, &global));
-    OK(nb_server_insert_client(&server, 5, 1, &client));
+    OK(nb_server_create_global(&server, NB_QUAD, 3, 8, 1, NULL, 0, &global));
+    OK(nb_server_insert_client(&server, 5, 1, NULL, 0, &client));
     put(1, 1, "u", 2);
     put(2, 0, "usuu", global.name, "quad", 3, 3);
     OK(arrive(NULL, 0));

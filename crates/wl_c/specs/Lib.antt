@@ -1,2 +1,3 @@
+pub mod Calls
 pub mod Flags
 pub mod Held

@@ -1,14 +1,13 @@
 //! How the answer of a session's call goes out to C.
 
-ghost use Rattle.std.specs.Prelude.{MatchResult, ◌≡◌, ◌≢◌};
-ghost use Rattle.wl_c.specs.Flags.{flag};
-ghost use Rattle.wl_host.specs.Status.{code_of};
+ghost use Rattle.std.specs.Prelude.{◌≡◌, ◌≢◌};
+ghost use Rattle.wl_c.specs.Calls.{Written, fault_code, flagged};
 
 use wl_host::{Status, TableFault, fault};
 
 /// Writes what a call answers, unless it was refused, and answers the number of its status.
 pub fn write_answer<T: Drop>(answer: Result<T, Status>, out: &mut T) -> u32
-    ensures answered { MatchResult answer (λ value. (result ≡ 0) × (out.new ≡ value)) (λ status. (result ≡ code_of status) × (out.new ≡ out.old)) }
+    ensures answered { Written answer result out.old out.new }
     ensures unwritten { result ≢ 0 → out.new ≡ out.old }
 {
     match answer {
@@ -22,7 +21,7 @@ pub fn write_answer<T: Drop>(answer: Result<T, Status>, out: &mut T) -> u32
 
 /// The same for a call that answers yes or no, which is 1 or 0 in C.
 pub fn write_flag(answer: Result<bool, Status>, out: &mut u32) -> u32
-    ensures answered { MatchResult answer (λ yes. (result ≡ 0) × (out.new ≡ flag yes)) (λ status. (result ≡ code_of status) × (out.new ≡ out.old)) }
+    ensures answered { Written (flagged answer) result out.old out.new }
     ensures unwritten { result ≢ 0 → out.new ≡ out.old }
 {
     match answer {
@@ -37,7 +36,7 @@ pub fn write_flag(answer: Result<bool, Status>, out: &mut u32) -> u32
 /// Writes why a table was refused, and answers the number of the status.
 pub fn write_fault(refused: TableFault, out: &mut TableFault) -> u32
     ensures written { out.new ≡ refused }
-    ensures refused { result ≢ 0 }
+    ensures code { result ≡ fault_code refused }
 {
     *out = refused;
     if refused.fault == fault::OUT_OF_MEMORY {

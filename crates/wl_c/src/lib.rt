@@ -7,7 +7,7 @@
 //! call on the same place, answers `NB_NO_SESSION`.
 //!
 //! All that a call does is done by the method of the same name. The contract of an export says what becomes of the place,
-//! and what is written where the call is refused:
+//! what is written where the call is refused, and in the clauses of the method what the call does:
 //!
 //! | Clause | What it says |
 //! |---|---|
@@ -17,6 +17,7 @@
 //! | `unwritten` | What is answered is written only where the status is `NB_OK`. |
 //! | `in_use`, `begun` | A session begins only in an empty place, and exactly where the status is `NB_OK`. |
 //! | `ended` | The place is empty after the end. |
+//! | those of the method | What the method says, of the session that the place held and the one that it holds after. `specs/Calls` has the words. |
 #![tactic(auto)]
 
 mod answer;

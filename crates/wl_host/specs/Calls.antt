@@ -1,8 +1,8 @@
 -- What the calls of a server's session do, in the words of its core: the look-up or the step that each call is, and the status
 -- for what the core answered.
-use Rattle.std.specs.Prelude.{◌≡◌, ℕ, ◌⊎◌, Bool, true, false, not, nat_eq, List, length, Option, None, Some, Result, Ok, Err, Vec, option_map}
-use Rattle.std.specs.Global.{Global}
+use Rattle.std.specs.Prelude.{◌≡◌, ℕ, ◌⊎◌, ◌==◌, Bool, if◌then◌else◌, unwrap_or, true, false, not, nat_eq, List, Option, None, Some, Result, Ok, Err, option_map}
 use Rattle.std.specs.Int.Bits.{bit_and}
+use Rattle.std.specs.Option.{option_map_or}
 use Rattle.std.specs.Result.{result_and}
 use Rattle.wl_wire.specs.declared.interface.InterfaceId.{InterfaceId}
 use Rattle.wl_wire.specs.declared.interface.ObjectInfo.{ObjectInfo}
@@ -13,11 +13,10 @@ use Rattle.wl_server.specs.Next.{NextClient, NextGlobal}
 use Rattle.wl_server.specs.PartStep.{World, over}
 use Rattle.wl_wire.specs.declared.argument.Token.{Token}
 use Rattle.wl_wire.specs.declared.message.Message.{Message}
-use Rattle.wl_wire.specs.declared.error.OutOfMemory.{OutOfMemory}
-use Rattle.wl_link.specs.Exchange.{joined, nothing}
+use Rattle.wl_link.specs.Exchange.{nothing}
 use Rattle.wl_link.specs.declared.mailbox.Ending.TheVariants as ending
 use Rattle.wl_server.specs.Lending.{state_over}
-use Rattle.wl_server.specs.Lookups.{transport_of}
+use Rattle.wl_server.specs.Lookups.{handler_of, object_data_of, object_info_of, transport_of}
 use Rattle.wl_server.specs.declared.error.InsertClientError.{InsertClientError}
 use Rattle.wl_server.specs.declared.error.EventError.{EventError}
 use Rattle.wl_server.specs.declared.error.CreateError.{CreateError}
@@ -29,6 +28,7 @@ use Rattle.wl_server.specs.declared.ids.global_id.GlobalInfo.{GlobalInfo}
 use Rattle.wl_server.specs.declared.runs.step.Reply.TheVariants as reply
 use Rattle.wl_server.specs.declared.runs.step.Step.TheVariants as step
 use Rattle.wl_host.specs.Flat.{client_of, flat_client, flat_global, flat_resource, global_of, interface_number, resource_of}
+use Rattle.wl_host.specs.Visibility.{IsViewed, IsViewer, sees}
 use Rattle.wl_host.specs.Status.{of_create, of_destroy, of_event, of_finish, of_global, of_insert}
 use Rattle.wl_host.specs.declared.flat.FlatClientId.{FlatClientId}
 use Rattle.wl_host.specs.declared.flat.FlatGlobalId.{FlatGlobalId}
@@ -39,10 +39,6 @@ use Rattle.wl_host.specs.declared.server.HostClient.{HostClient}
 use Rattle.wl_host.specs.declared.server.HostGlobal.{HostGlobal}
 use Rattle.wl_host.specs.declared.status.Status.{Status}
 use Rattle.wl_host.specs.declared.status.Status.TheVariants as status
-
--- a client sees a global if they have a group in common
-abbrev pub sees : HostGlobal → ClientParts → HostClient → GlobalParts → Bool
-sees global client viewer id = not (nat_eq (bit_and global.groups viewer.groups) 0)
 
 -- the server over mailboxes
 abbrev pub world : World MailboxState HostGlobal HostClient
@@ -117,11 +113,27 @@ SetsObjectData before object u s after =
     (answer : Result (Unit {0}) InvalidId)
     × Calls world before (step.SetObjectData (resource_of object) u) (reply.SetObjectData answer) after × (s ≡ status_by of_invalid answer)
 
-abbrev pub CreatesGlobal : CoreState → ℕ → ℕ → HostGlobal → Result FlatGlobalId Status → CoreState → Type 0
-CreatesGlobal before interface version global result after =
-    (answer : Result GlobalParts GlobalError)
+-- a global with these data, groups and hidden clients; or there was no memory for the list of these, and the core is not called
+abbrev pub CreatesGlobal : CoreState → ℕ → ℕ → ℕ → ℕ → List FlatClientId → Result FlatGlobalId Status → CoreState → Type 0
+CreatesGlobal before interface version user_data groups hidden result after =
+    ((global : HostGlobal) × (answer : Result GlobalParts GlobalError) × IsViewed user_data groups hidden global
     × Calls world before (step.CreateGlobal (interface_of interface) version global) (reply.CreateGlobal answer) after
-    × (result ≡ flattened flat_global of_global answer)
+    × (result ≡ flattened flat_global of_global answer))
+    ⊎ ((result ≡ Err status.OutOfMemory) × (after ≡ before))
+
+-- ---- what is told beside an id
+
+-- the program's data of the object; 0 if it has none, or if the id names none
+abbrev pub data_or_zero : CoreState → IdParts → ℕ
+data_or_zero core id = if id.number == 0 then 0 else unwrap_or (object_data_of core.server id) 0
+
+-- the version of the object; 0 if the id names none
+abbrev pub version_or_zero : CoreState → IdParts → ℕ
+version_or_zero core id = option_map_or (λ info. info.version) (object_info_of core.server id) 0
+
+-- the program's data of the global; 0 if it was removed
+abbrev pub global_data_or_zero : CoreState → GlobalParts → ℕ
+global_data_or_zero core id = option_map_or (λ global. global.user_data) (handler_of core.server id) 0
 
 -- ---- the end of an action
 
@@ -131,24 +143,6 @@ kept_by (Ok None) = Ok true
 kept_by (Ok (Some u)) = Ok false
 kept_by (Err refused) = Err (of_finish refused.error)
 
--- the open action was not handed out, or the client is not stored: the core is not called
-abbrev pub IsNotOpen : CoreState → Result Bool Status → CoreState → Type 0
-IsNotOpen before result after = ((result ≡ Err status.NotOpen) ⊎ (result ≡ Err status.InvalidId)) × (after ≡ before)
-
-abbrev pub EndsRequest : CoreState → ClientParts → Option ℕ → Result Bool Status → CoreState → Type 0
-EndsRequest before client data_given result after =
-    ((answer : Result (Option ℕ) (FinishRefused (Option ℕ)))
-    × Calls world before (step.FinishRequest client data_given) (reply.FinishRequest (result_and answer (Ok tt))) after
-    × (result ≡ kept_by answer))
-    ⊎ IsNotOpen before result after
-
-abbrev pub EndsBind : CoreState → ClientParts → ℕ → Result Bool Status → CoreState → Type 0
-EndsBind before client data_given result after =
-    ((answer : Result (Option ℕ) (FinishRefused ℕ))
-    × Calls world before (step.FinishBind client data_given) (reply.FinishBind (result_and answer (Ok tt))) after
-    × (result ≡ kept_by answer))
-    ⊎ IsNotOpen before result after
-
 -- ---- the mailbox of a client
 
 -- the client's mailbox is changed so, and all else is as before
@@ -156,42 +150,16 @@ abbrev pub HasMailbox : CoreState → ClientParts → (MailboxState → MailboxS
 HasMailbox before id change after =
     (m : MailboxState) × (transport_of before.server id ≡ Some m) × (after ≡ state_over before id (change m))
 
--- the bytes arrived, with as many tokens as there were descriptors
-abbrev pub Receives : CoreState → ClientParts → List ℕ → ℕ → CoreState → Type 0
-Receives before id bytes count after =
-    (tokens : List Token) × (length tokens ≡ count)
-    × HasMailbox before id (λ m. record m { arrived = joined m.arrived (record { bytes = bytes; tokens = tokens }) }) after
-
--- ---- clients and events
+-- ---- clients
 
 -- the mailbox of a new client
 abbrev pub new_mailbox : MailboxState
 new_mailbox = record { arrived = nothing; ending = ending.Open; waiting = nothing; room = 65536; send_fault = None }
 
--- or no client can be inserted, or there was no memory for what is kept of it
-abbrev pub InsertsClient : CoreState → HostClient → Result FlatClientId Status → CoreState → Type 0
-InsertsClient before client result after =
-    ((answer : Result ClientParts InsertClientError)
+-- a client with these data, groups and hidden globals; or no client can be inserted, or there was no memory for what is kept of it
+abbrev pub InsertsClient : CoreState → ℕ → ℕ → List FlatGlobalId → Result FlatClientId Status → CoreState → Type 0
+InsertsClient before user_data groups hidden result after =
+    ((client : HostClient) × (answer : Result ClientParts InsertClientError) × IsViewer user_data groups hidden client
     × Calls world before (step.InsertClient new_mailbox client) (reply.InsertClient answer) after
     × (result ≡ flattened flat_client of_insert answer))
     ⊎ (((result ≡ Err status.Full) ⊎ (result ≡ Err status.OutOfMemory)) × (after ≡ before))
-
--- the event that was read; or the flat structs were refused, and the core was not called
-abbrev pub SendsEvent : CoreState → Status → CoreState → Type 0
-SendsEvent before s after =
-    ((event : Message IdParts Token) × (answer : Result (Unit {0}) EventError)
-    × Calls world before (step.SendEvent event) (reply.SendEvent answer) after × (s ≡ status_by of_event answer))
-    ⊎ (after ≡ before)
-
--- the message has a zero byte, or there was no memory for it: the core is not called
-abbrev pub PostsError : CoreState → FlatObjectId → ℕ → List ℕ → Status → CoreState → Type 0
-PostsError before object code message s after =
-    (Calls world before (step.PostError (resource_of object) code message) reply.PostError after × (s ≡ status.Ok))
-    ⊎ (((s ≡ status.InvalidInput) ⊎ (s ≡ status.OutOfMemory)) × (after ≡ before))
-
--- the cleanup of the core; or no call since the last one can have killed a client
-abbrev pub CleansUp : CoreState → Status → CoreState → Type 0
-CleansUp before s after =
-    ((answer : Result (Vec (ClientParts × MailboxState) Global) OutOfMemory)
-    × Calls world before step.Cleanup (reply.Cleanup answer) after)
-    ⊎ ((s ≡ status.Ok) × (after ≡ before))

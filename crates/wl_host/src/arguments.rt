@@ -1,7 +1,10 @@
 //! Arguments of messages, from flat structs and into memory that the host lends.
 
-ghost use Rattle.std.specs.Prelude.{◌≡◌, ◌⊎◌, IfErr, IfOk};
+ghost use Rattle.std.specs.Prelude.{◌≡◌, ◌+◌, ◌≤◌, ◌↔◌, ◌⊎◌, ◌∷◌, [], Some, IfErr, IfOk, IsTrue, OnErr, OnOk, false, length, min, true};
 ghost use Rattle.wl_host.specs.declared.status.Status.TheVariants as status;
+ghost use Rattle.wl_host.specs.Arguments.{IsUnread, all_bytes, argument_of, arguments_of, array_in, bytes_of, descriptor_given, descriptors_given, flat_argument, flat_arguments, has_zero, part_of, queue_after, queue_after_all, string_in, written_at};
+ghost use Rattle.wl_host.specs.Descriptors.{IsLonger, put_in, token_after};
+ghost use Rattle.wl_host.specs.Flat.{count_number, flat_bytes, flat_object, over_front};
 
 use crate::descriptors::DescriptorQueue;
 use crate::flat::{FlatArgument, FlatObjectId, count_number, kind};
@@ -15,17 +18,34 @@ pub type Arguments<Id> = SmallVec<Argument<Id, Token>, INLINE_ARGS>;
 
 /// The core of a session, as far as the flat form of its objects needs it.
 pub trait Objects<Id> {
+    ghost use Rattle.std.specs.Prelude.{ℕ};
+    ghost use Rattle.wl_host.specs.declared.flat.FlatObjectId.{FlatObjectId};
+
+    /// An id as a flat struct.
+    ghost flat_of: { Id → FlatObjectId };
+
+    /// The program's data of an object; 0 if it has none, or if the id names none.
+    ghost data_of: { Self → Id → ℕ };
+
     /// The id as a flat struct.
-    fn flat(&self, id: &Id) -> FlatObjectId;
+    fn flat(&self, id: &Id) -> FlatObjectId
+        ensures { result ≡ flat_of id.now };
 
     /// The program's data of the object; 0 if it has none, or if the id names none.
-    fn data_or_zero(&self, id: &Id) -> u64;
+    fn data_or_zero(&self, id: &Id) -> u64
+        ensures { result ≡ data_of self.now id.now };
 }
 
 /// An object id that has a flat form.
 pub trait FromFlat: Sized {
+    ghost use Rattle.wl_host.specs.declared.flat.FlatObjectId.{FlatObjectId};
+
+    /// The id that a flat struct stands for.
+    ghost stands_for: { FlatObjectId → Self };
+
     /// The id that the flat struct stands for.
-    fn from_flat(flat: &FlatObjectId) -> Self;
+    fn from_flat(flat: &FlatObjectId) -> Self
+        ensures { result ≡ stands_for flat.now };
 }
 
 /// What is needed of lent memory.
@@ -33,13 +53,16 @@ pub trait FromFlat: Sized {
 pub struct Needs {
     /// How many arguments there are.
     pub arguments: usize,
-    /// How many bytes the strings and arrays have together.
+    /// How many bytes the strings and arrays have together. It saturates at `usize::MAX`.
     pub bytes: usize,
 }
 
 impl Needs {
     /// What these arguments need.
-    pub fn of<Id>(args: &[Argument<Id, Token>]) -> Self {
+    pub fn of<Id>(args: &[Argument<Id, Token>]) -> Self
+        ensures arguments { result.arguments ≡ length args.now }
+        ensures bytes { result.bytes ≡ min (length (all_bytes args.now)) usize.MAX }
+    {
         let mut bytes = 0usize;
         for arg in args {
             bytes = bytes.saturating_add(length_of(arg));
@@ -51,13 +74,17 @@ impl Needs {
     }
 
     /// Whether the lent memory has room for it.
-    pub fn fit(&self, arguments: &[FlatArgument], bytes: &[u8]) -> bool {
+    pub fn fit(&self, arguments: &[FlatArgument], bytes: &[u8]) -> bool
+        ensures { IsTrue result ↔ ((self.now.arguments ≤ length arguments.now) × (self.now.bytes ≤ length bytes.now)) }
+    {
         self.arguments <= arguments.len() && self.bytes <= bytes.len()
     }
 }
 
 /// How many bytes of a string or an array the argument has.
-fn length_of<Id>(arg: &Argument<Id, Token>) -> usize {
+fn length_of<Id>(arg: &Argument<Id, Token>) -> usize
+    ensures { result ≡ length (bytes_of arg.now) }
+{
     match arg {
         Argument::Str(Some(text)) => text.as_bytes().len(),
         Argument::Array(array) => array.as_slice().len(),
@@ -65,30 +92,39 @@ fn length_of<Id>(arg: &Argument<Id, Token>) -> usize {
     }
 }
 
-/// Copies the bytes of a string or an array to the place `at` of the lent bytes, if there is room.
-fn write_bytes(number: u32, from: &[u8], bytes: &mut [u8], at: usize) -> FlatArgument {
-    if let Some(place) = bytes.get_mut(at..at.saturating_add(from.len())) {
-        if place.len() == from.len() {
-            place.copy_from_slice(from);
-        }
-    }
+/// Copies the bytes of a string or an array to the place `at` of the lent bytes, which have room for them.
+fn write_bytes(number: u32, from: &[u8], bytes: &mut [u8], at: usize) -> FlatArgument
+    requires { at + length from.now ≤ length bytes.old }
+    ensures flat { result ≡ flat_bytes number (count_number at) (count_number (length from.now)) }
+    ensures bytes { bytes.new ≡ written_at at from.now bytes.old }
+{
+    let end = at + from.len();
+    bytes[at..end].copy_from_slice(from);
     FlatArgument::of_bytes(number, count_number(at), count_number(from.len()))
 }
 
 /// The object as a flat struct, with its data.
-fn flat_object<Id, O: Objects<Id>>(objects: &O, number: u32, id: &Id) -> FlatArgument {
+fn flat_object<Id, O: Objects<Id>>(objects: &O, number: u32, id: &Id) -> FlatArgument
+    ensures { result ≡ flat_object number (O.flat_of id.now) (O.data_of objects.now id.now) }
+{
     FlatArgument::of_object(number, objects.flat(id), objects.data_or_zero(id))
 }
 
-/// The argument as a flat struct. The bytes of a string or an array go to the place `at` of the lent ones, and a descriptor
-/// is taken out.
+/// The argument as a flat struct. The bytes of a string or an array go to the place `at` of the lent ones, which have room for
+/// them. A descriptor is taken out.
+#[tactic(auto, using(crate::proofs::Flattening::written_nothing))]
 fn flat_argument<Id, O: Objects<Id>>(
     objects: &O,
     arg: &Argument<Id, Token>,
     descriptors: &mut DescriptorQueue,
     bytes: &mut [u8],
     at: usize,
-) -> FlatArgument {
+) -> FlatArgument
+    requires { at + length (bytes_of arg.now) ≤ length bytes.old }
+    ensures flat { result ≡ flat_argument O.flat_of (O.data_of objects.now) descriptors.old at arg.now }
+    ensures descriptors { descriptors.new ≡ queue_after descriptors.old arg.now }
+    ensures bytes { bytes.new ≡ written_at at (bytes_of arg.now) bytes.old }
+{
     match arg {
         Argument::Int(value) => FlatArgument::of_number(kind::INT, *value),
         Argument::Uint(value) => FlatArgument::of_number(kind::UINT, value.cast_signed()),
@@ -108,25 +144,36 @@ fn flat_argument<Id, O: Objects<Id>>(
 /// The number that is no descriptor. It stands for a token that names none, which the core never gives.
 const NO_DESCRIPTOR: i32 = -1;
 
-/// Writes the arguments to the lent memory, which has room for them. Their descriptors are taken out.
+/// Writes the arguments to the front of the lent memory, which has room for them. Their descriptors are taken out.
 pub fn write_arguments<Id, O: Objects<Id>>(
     objects: &O,
     args: &[Argument<Id, Token>],
     descriptors: &mut DescriptorQueue,
     arguments: &mut [FlatArgument],
     bytes: &mut [u8],
-) {
+)
+    requires room { length args.now ≤ length arguments.old }
+    requires room_for_bytes { length (all_bytes args.now) ≤ length bytes.old }
+    ensures arguments { arguments.new ≡ over_front (flat_arguments O.flat_of (O.data_of objects.now) descriptors.old 0 args.now) arguments.old }
+    ensures bytes { bytes.new ≡ over_front (all_bytes args.now) bytes.old }
+    ensures descriptors { descriptors.new ≡ queue_after_all descriptors.old args.now }
+{
+    let mut count = 0usize;
     let mut at = 0usize;
-    for (arg, place) in args.iter().zip(arguments) {
-        *place = flat_argument(objects, arg, descriptors, bytes, at);
-        at = at.saturating_add(length_of(arg));
+    for arg in args {
+        arguments[count] = flat_argument(objects, arg, descriptors, bytes, at);
+        count += 1;
+        at += length_of(arg);
     }
 }
 
 /// A copy of the bytes of a string or an array.
 ///
 /// The status is `InvalidInput` if they are not all in the bytes that were passed, and `OutOfMemory`.
-fn copy_bytes(alloc: Global, arg: &FlatArgument, bytes: &[u8]) -> Result<Vec<u8>, Status> {
+fn copy_bytes(alloc: Global, arg: &FlatArgument, bytes: &[u8]) -> Result<Vec<u8>, Status>
+    ensures ok { IfOk result (λ copy. part_of bytes.now arg.now ≡ Some copy.items) }
+    ensures err { IfErr result (λ s. IsUnread s (part_of bytes.now arg.now)) }
+{
     let from = arg.at as usize;
     let Some(part) = bytes.get(from..from + arg.length as usize) else {
         return Err(Status::InvalidInput);
@@ -139,10 +186,10 @@ fn copy_bytes(alloc: Global, arg: &FlatArgument, bytes: &[u8]) -> Result<Vec<u8>
 
 /// A string with a copy of these bytes.
 ///
-/// The status is `InvalidInput` if one of them is zero, and `OutOfMemory`.
+/// The status is `InvalidInput` if one of them is zero.
 fn string_of(bytes: Vec<u8>) -> Result<CString, Status>
-    ensures ok { IfOk result (λ text. text ≡ bytes.items) }
-    ensures err { IfErr result (λ s. s ≡ status.InvalidInput) }
+    ensures ok { IfOk result (λ text. (text ≡ bytes.items) × (has_zero bytes.items ≡ false)) }
+    ensures err { IfErr result (λ s. (s ≡ status.InvalidInput) × (has_zero bytes.items ≡ true)) }
 {
     match CString::new(bytes) {
         Ok(text) => Ok(text),
@@ -154,8 +201,8 @@ fn string_of(bytes: Vec<u8>) -> Result<CString, Status>
 ///
 /// The status is `OutOfMemory`, or `InvalidInput` if one of the bytes is zero.
 pub fn text_of(alloc: Global, bytes: &[u8]) -> Result<CString, Status>
-    ensures ok { IfOk result (λ text. text ≡ bytes.now) }
-    ensures err { IfErr result (λ s. (s ≡ status.InvalidInput) ⊎ (s ≡ status.OutOfMemory)) }
+    ensures ok { IfOk result (λ text. (text ≡ bytes.now) × (has_zero bytes.now ≡ false)) }
+    ensures err { IfErr result (λ s. ((s ≡ status.InvalidInput) × (has_zero bytes.now ≡ true)) ⊎ (s ≡ status.OutOfMemory)) }
 {
     match Vec::from_slice(alloc, bytes) {
         Ok(copy) => string_of(copy),
@@ -163,8 +210,42 @@ pub fn text_of(alloc: Global, bytes: &[u8]) -> Result<CString, Status>
     }
 }
 
+/// The string that the flat struct names.
+///
+/// The status is `InvalidInput` if its bytes were not all passed or one of them is zero, and `OutOfMemory`.
+fn read_string<Id>(
+    alloc: Global,
+    arg: &FlatArgument,
+    bytes: &[u8],
+) -> Result<Argument<Id, Token>, Status>
+    ensures ok { IfOk result (λ a. string_in (part_of bytes.now arg.now) ≡ Some a) }
+    ensures err { IfErr result (λ s. IsUnread s (string_in {Id = Id} (part_of bytes.now arg.now))) }
+{
+    let text = string_of(copy_bytes(alloc, arg, bytes)?)?;
+    Ok(Argument::Str(Some(text)))
+}
+
+/// The array that the flat struct names.
+///
+/// The status is `InvalidInput` if its bytes were not all passed, and `OutOfMemory`.
+fn read_array<Id>(
+    alloc: Global,
+    arg: &FlatArgument,
+    bytes: &[u8],
+) -> Result<Argument<Id, Token>, Status>
+    ensures ok { IfOk result (λ a. array_in (part_of bytes.now arg.now) ≡ Some a) }
+    ensures err { IfErr result (λ s. IsUnread s (array_in {Id = Id} (part_of bytes.now arg.now))) }
+{
+    let array = copy_bytes(alloc, arg, bytes)?;
+    Ok(Argument::Array(ByteArray::new(array)))
+}
+
 /// Puts the descriptor in, and returns its token.
-fn put_in(descriptors: &mut DescriptorQueue, descriptor: i32) -> Result<Token, OutOfMemory> {
+fn put_in(descriptors: &mut DescriptorQueue, descriptor: i32) -> Result<Token, OutOfMemory>
+    ensures token { IfOk result (λ t. t ≡ token_after descriptors.old (length descriptors.old.held)) }
+    ensures ok { OnOk result (descriptors.new ≡ put_in descriptors.old (descriptor ∷ [])) }
+    ensures err { OnErr result (descriptors.new ≡ descriptors.old) }
+{
     let token = descriptors.next_token();
     descriptors.put_in(&[descriptor])?;
     Ok(token)
@@ -172,56 +253,61 @@ fn put_in(descriptors: &mut DescriptorQueue, descriptor: i32) -> Result<Token, O
 
 /// The argument that the flat struct stands for. Its descriptor is put in.
 ///
-/// The status is `InvalidInput` if the flat struct cannot be read, and `OutOfMemory`.
+/// The status is `InvalidInput` if the flat struct cannot be read, and `OutOfMemory`. Then no descriptor was put in.
+#[tactic(auto, using(crate::proofs::Flattening::put_nothing))]
 fn read_argument<Id: FromFlat>(
     alloc: Global,
     arg: &FlatArgument,
     bytes: &[u8],
     descriptors: &mut DescriptorQueue,
-) -> Result<Argument<Id, Token>, Status> {
+) -> Result<Argument<Id, Token>, Status>
+    ensures ok { IfOk result (λ a. argument_of Id.stands_for bytes.now (token_after descriptors.old (length descriptors.old.held)) arg.now ≡ Some a) }
+    ensures put_in { OnOk result (descriptors.new ≡ put_in descriptors.old (descriptor_given arg.now)) }
+    ensures err { OnErr result (descriptors.new ≡ descriptors.old) }
+    ensures why { IfErr result (λ s. IsUnread s (argument_of Id.stands_for bytes.now (token_after descriptors.old (length descriptors.old.held)) arg.now)) }
+{
     match arg.kind {
         kind::INT => Ok(Argument::Int(arg.value)),
         kind::UINT => Ok(Argument::Uint(arg.value.cast_unsigned())),
         kind::FIXED => Ok(Argument::Fixed(arg.value)),
-        kind::STRING => {
-            let text = string_of(copy_bytes(alloc, arg, bytes)?)?;
-            Ok(Argument::Str(Some(text)))
-        }
+        kind::STRING => read_string(alloc, arg, bytes),
         kind::OBJECT => Ok(Argument::Object(Id::from_flat(&arg.object))),
         kind::NEW_ID => Ok(Argument::NewId(Id::from_flat(&arg.object))),
-        kind::ARRAY => {
-            let array = copy_bytes(alloc, arg, bytes)?;
-            Ok(Argument::Array(ByteArray::new(array)))
-        }
+        kind::ARRAY => read_array(alloc, arg, bytes),
         kind::DESCRIPTOR => Ok(Argument::Fd(put_in(descriptors, arg.value)?)),
         kind::NULL_STRING => Ok(Argument::Str(None)),
         _ => Err(Status::InvalidInput),
     }
 }
 
-/// Appends the arguments that the flat structs stand for. Their descriptors are put in; `count` is increased by how many they
-/// are, also after an error.
-fn append_arguments<Id: FromFlat + Drop>(
+/// Reads the arguments that the flat structs stand for in place of those that were there. Their descriptors are put in.
+///
+/// The status is `InvalidInput` if a flat struct cannot be read, and `OutOfMemory`. Then some of the descriptors were put in.
+fn fill_arguments<Id: FromFlat + Drop>(
     args: &mut Arguments<Id>,
     arguments: &[FlatArgument],
     bytes: &[u8],
     descriptors: &mut DescriptorQueue,
-    count: &mut usize,
-) -> Result<(), Status> {
+) -> Result<(), Status>
+    ensures ok { OnOk result (arguments_of Id.stands_for bytes.now descriptors.old arguments.now ≡ Some args.new.items) }
+    ensures put_in { OnOk result (descriptors.new ≡ put_in descriptors.old (descriptors_given arguments.now)) }
+    ensures longer { IsLonger descriptors.old descriptors.new }
+    ensures why { IfErr result (λ s. IsUnread s (arguments_of Id.stands_for bytes.now descriptors.old arguments.now)) }
+{
+    args.clear();
+    if args.reserve(arguments.len()).is_err() {
+        return Err(Status::OutOfMemory);
+    }
     let alloc = *args.allocator();
     for arg in arguments {
         let argument = read_argument(alloc, arg, bytes, descriptors)?;
-        if matches!(argument, Argument::Fd(_)) {
-            *count = count.saturating_add(1);
-        }
-        if args.push(argument).is_err() {
-            return Err(Status::OutOfMemory);
-        }
+        args.push_reserved(argument);
     }
     Ok(())
 }
 
-/// Reads the arguments in place of those that were there. Returns how many descriptors were put in.
+/// Reads the arguments that the flat structs stand for in place of those that were there, and puts their descriptors in.
+/// Returns how many these are.
 ///
 /// The status is `InvalidInput` if a flat struct cannot be read, and `OutOfMemory`. Then no descriptor was put in.
 pub fn read_arguments<Id: FromFlat + Drop>(
@@ -229,10 +315,17 @@ pub fn read_arguments<Id: FromFlat + Drop>(
     arguments: &[FlatArgument],
     bytes: &[u8],
     descriptors: &mut DescriptorQueue,
-) -> Result<usize, Status> {
-    args.clear();
-    let mut count = 0;
-    match append_arguments(args, arguments, bytes, descriptors, &mut count) {
+) -> Result<usize, Status>
+    ensures ok { OnOk result (arguments_of Id.stands_for bytes.now descriptors.old arguments.now ≡ Some args.new.items) }
+    ensures put_in { OnOk result (descriptors.new ≡ put_in descriptors.old (descriptors_given arguments.now)) }
+    ensures count { IfOk result (λ count. count ≡ length (descriptors_given arguments.now)) }
+    ensures err { OnErr result (descriptors.new ≡ descriptors.old) }
+    ensures why { IfErr result (λ s. IsUnread s (arguments_of Id.stands_for bytes.now descriptors.old arguments.now)) }
+{
+    let before = descriptors.held();
+    let answer = fill_arguments(args, arguments, bytes, descriptors);
+    let count = descriptors.held() - before;
+    match answer {
         Ok(()) => Ok(count),
         Err(status) => {
             descriptors.take_back(count);

@@ -6,28 +6,38 @@
 //! | `received`, `received_end`, `receive_failed` | `client::receiving` |
 //! | `next_event`, `finish_event` | `client::events`, `client::flattening` |
 //! | `send_request` | `client::requests` |
-//! | the calls about one object, `next_note` | `client::objects` |
+//! | the calls about one object | `client::objects` |
+//! | `next_note` | `client::notes` |
 //! | `flush`, `to_send`, `sent`, `send_failed`, `next_dropped` | `client::sending` |
 
-ghost use Rattle.std.specs.Prelude.{◌≡◌, Ok};
+ghost use Rattle.std.specs.Prelude.{◌≡◌, [], IfErr, IfOk, Ok};
+ghost use Rattle.wl_wire.specs.declared.protocol.TableError.TheVariants as table_error;
+ghost use Rattle.wl_host.specs.Rows.{fault_of};
+ghost use Rattle.wl_host.specs.Tables.{AddsToClient, IsConnectedOver, IsFaultOf, IsNewClient};
 ghost use Rattle.wl_wire.specs.Table.{display_id};
+ghost use Rattle.wl_host.specs.Client.{ConservesClient, SetsLimit, limit_of, mailbox_of, with_mailbox};
 ghost use Rattle.wl_host.specs.Flat.{flat_proxy};
+ghost use Rattle.wl_host.specs.declared.status.Status.TheVariants as status;
 
 mod events;
 mod faults;
 mod flattening;
+mod notes;
 mod objects;
 mod receiving;
 mod requests;
 mod sending;
 
+use self::notes::DestroyedObject;
 use crate::descriptors::DescriptorQueue;
 use crate::flat::FlatObjectId;
-use crate::rows::{Rows, TableFault, interfaces_of};
+use crate::rows::{Rows, TableFault, interfaces_of, table_answer};
 use crate::status::Status;
 use smallvec::SmallVec;
 use std::alloc::Global;
-use wl_client::{Backend, Note, ObjectId};
+use std::collections::VecDeque;
+use std::marker::Model;
+use wl_client::{Backend, ObjectId};
 use wl_link::Mailbox;
 use wl_wire::{Message, Protocol, TableError, Token};
 
@@ -55,10 +65,29 @@ pub struct Client {
     is_kept: bool,
     /// The request that is being sent, kept for the same reason.
     request: Message<ObjectId, Token>,
-    /// The notes that were taken from the core.
-    notes: Vec<Note>,
-    /// How many of them were handed out.
-    noted: usize,
+    /// The objects that ended and were not handed out yet, the oldest first. The core itself keeps no note between two calls.
+    notes: VecDeque<DestroyedObject>,
+}
+
+impl Model for Client {
+    ghost use Rattle.std.specs.Prelude.{◌≡◌, []};
+    ghost use Rattle.std.specs.Coded.{codes};
+    ghost use Rattle.wl_link.specs.ObjectMap.{store_code};
+    ghost use Rattle.wl_host.specs.Client.{HostedClient, kept_of};
+
+    ghost Value = { HostedClient };
+
+    ghost coded = { Prim.hlevel (codes, store_code) };
+
+    ghost view = { λ c. record {
+      core = c.core;
+      arrivals = c.arrivals;
+      departures = c.departures;
+      kept = kept_of c.is_kept c.event;
+      notes = c.notes.items;
+    } };
+
+    ghost invariant = { λ c. c.core.session.notes ≡ [] };
 }
 
 /// A message without arguments.
@@ -70,8 +99,10 @@ fn empty_message(alloc: Global) -> Message<ObjectId, Token> {
     }
 }
 
-/// A limit in bytes. A number that is no `usize` is no limit.
-fn size_of(size: u64) -> usize {
+/// A size in bytes. One that is no `usize` is the greatest.
+fn size_of(size: u64) -> usize
+    ensures { result ≡ size }
+{
     usize::try_from(size).unwrap_or(usize::MAX)
 }
 
@@ -79,7 +110,10 @@ impl Client {
     /// A new session with the table of these rows. It has one object, the display. Nothing is sent yet.
     ///
     /// The fault says what is wrong with the rows, or that there was no memory.
-    pub fn connect(alloc: Global, rows: &Rows) -> Result<Client, TableFault> {
+    pub fn connect(alloc: Global, rows: &Rows) -> Result<Client, TableFault>
+        ensures connected { IfOk result (IsNewClient rows.now) }
+        ensures fault { IfErr result (IsFaultOf rows.now) }
+    {
         let interfaces = interfaces_of(alloc, rows)?;
         match Protocol::new(alloc, interfaces) {
             Ok(protocol) => Client::over(alloc, protocol),
@@ -88,7 +122,10 @@ impl Client {
     }
 
     /// A new session with this table.
-    fn over(alloc: Global, protocol: Protocol) -> Result<Client, TableFault> {
+    fn over(alloc: Global, protocol: Protocol) -> Result<Client, TableFault>
+        ensures connected { IfOk result (IsConnectedOver protocol) }
+        ensures fault { IfErr result (λ fault. fault ≡ fault_of table_error.OutOfMemory) }
+    {
         let Ok(core) = Backend::connect(alloc, protocol, Mailbox::new(alloc)) else {
             return Err(TableFault::from(TableError::OutOfMemory));
         };
@@ -99,8 +136,7 @@ impl Client {
             event: empty_message(alloc),
             is_kept: false,
             request: empty_message(alloc),
-            notes: Vec::new(alloc),
-            noted: 0,
+            notes: VecDeque::new(alloc),
         })
     }
 
@@ -108,20 +144,20 @@ impl Client {
     /// numbers.
     ///
     /// The fault says what is wrong with the rows, or that there was no memory. Then the table is as it was.
-    pub fn add_interfaces(&mut self, rows: &Rows) -> Result<(), TableFault> {
+    pub fn add_interfaces(&mut self, rows: &Rows) -> Result<(), TableFault>
+        ensures call { AddsToClient rows.now self.old.core result self.new.core }
+        ensures beside { self.new ≡ record self.old { core = self.new.core } }
+    {
         let alloc = *self.notes.allocator();
         let interfaces = interfaces_of(alloc, rows)?;
-        match self.core.add_interfaces(interfaces) {
-            Ok(()) => Ok(()),
-            Err(error) => Err(TableFault::from(error)),
-        }
+        table_answer(self.core.add_interfaces(interfaces))
     }
 
     /// Whether memory was refused in the last call of the core that changes it.
-    pub fn memory_refused(&self) -> Result<bool, Status>
-        ensures { result ≡ Ok self.now.core.refused }
+    pub fn memory_refused(&self) -> bool
+        ensures { result ≡ self.now.core.refused }
     {
-        Ok(self.core.memory_refused())
+        self.core.memory_refused()
     }
 
     /// Sets how far the buffers of the connection may grow, in bytes. If `has_limit` is 0, there is no limit, as in a new
@@ -129,7 +165,12 @@ impl Client {
     ///
     /// The limit is rounded up to a power of two, and is at least 4096. The buffer of what was received never grows beyond
     /// 65536 bytes.
-    pub fn set_max_buffer_size(&mut self, has_limit: u32, size: u64) -> Status {
+    pub fn set_max_buffer_size(&mut self, has_limit: u32, size: u64) -> Status
+        ensures call { SetsLimit self.old.core (limit_of has_limit size) self.new.core }
+        ensures beside { self.new ≡ record self.old { core = self.new.core } }
+        ensures descriptors { ConservesClient self.old [] [] self.new }
+        ensures answer { result ≡ status.Ok }
+    {
         let limit = if has_limit == 0 {
             None
         } else {
@@ -140,7 +181,11 @@ impl Client {
     }
 
     /// Sets how many bytes may wait for the host to send them. Once so many wait, `flush` answers `WouldBlock`.
-    pub fn set_room(&mut self, room: u64) -> Status {
+    pub fn set_room(&mut self, room: u64) -> Status
+        ensures room { self.new ≡ with_mailbox self.old (record (mailbox_of self.old) { room = room }) }
+        ensures descriptors { ConservesClient self.old [] [] self.new }
+        ensures answer { result ≡ status.Ok }
+    {
         self.core.transport_mut().set_room(size_of(room));
         Status::Ok
     }

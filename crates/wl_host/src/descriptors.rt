@@ -4,8 +4,8 @@
 //! crate keeps them and numbers them: the token of a descriptor is how many came before it, in 32 bits, whatever the
 //! descriptor's own number is.
 
-ghost use Rattle.std.specs.Prelude.{◌≡◌, ◌-◌, ◌++◌, ◌==◌, [], OnOk, OnErr, length, not, option_to_list, slice_get, take};
-ghost use Rattle.wl_host.specs.Descriptors.{distance, given_up, taken_out, token_after};
+ghost use Rattle.std.specs.Prelude.{◌≡◌, ◌<◌, ◌-◌, ◌^◌, ◌++◌, ◌==◌, [], IfNone, OnOk, OnErr, length, not, option_to_list, slice_get, take};
+ghost use Rattle.wl_host.specs.Descriptors.{descriptor_of, distance, given_up, next_tokens, put_in, taken_out, token_after};
 
 use std::alloc::{AllocError, Global};
 use std::collections::VecDeque;
@@ -54,7 +54,7 @@ impl DescriptorQueue {
     }
 
     /// How many descriptors the core holds.
-    fn held(&self) -> usize
+    pub fn held(&self) -> usize
         ensures { result ≡ length self.now.held }
     {
         self.descriptors.len() - self.passed
@@ -64,7 +64,7 @@ impl DescriptorQueue {
     ///
     /// The error is `OutOfMemory` if there is no memory for them, or if 2³² or more would be kept. Then nothing is changed.
     pub fn put_in(&mut self, descriptors: &[i32]) -> Result<(), OutOfMemory>
-        ensures ok { OnOk result (self.new ≡ record self.old { held = self.old.held ++ descriptors.now }) }
+        ensures ok { OnOk result (self.new ≡ put_in self.old descriptors.now) }
         ensures err { OnErr result (self.new ≡ self.old) }
     {
         if descriptors.is_empty() {
@@ -94,12 +94,31 @@ impl DescriptorQueue {
     }
 
     /// Writes the tokens of the descriptors that are put in next, one for each place.
-    pub fn next_tokens(&self, tokens: &mut [Token]) {
-        let mut next = self.next_token().0.cast_unsigned();
-        for token in tokens {
-            *token = Token(next.cast_signed());
+    pub fn next_tokens(&self, tokens: &mut [Token])
+        ensures { tokens.new ≡ next_tokens self.now (length tokens.old) }
+    {
+        let mut next = self.front.wrapping_add(self.held() as u32);
+        for index in 0..tokens.len() {
+            tokens[index] = Token(next.cast_signed());
             next = next.wrapping_add(1);
         }
+    }
+
+    /// The token, without its sign, of the first descriptor that the core holds, or of the one that is put in next.
+    pub fn front(&self) -> u32
+        ensures front { result ≡ self.now.front }
+        ensures few { length self.now.held < 2 ^ 32 }
+    {
+        self.front
+    }
+
+    /// The held descriptor that has so many before it.
+    pub fn held_at(&self, index: usize) -> Option<i32>
+        ensures { result ≡ slice_get self.now.held index }
+    {
+        self.descriptors
+            .get(self.passed.saturating_add(index))
+            .copied()
     }
 
     /// How many held descriptors stand before the one of this token. It is as many as are held, or more, if none has the
@@ -112,7 +131,7 @@ impl DescriptorQueue {
 
     /// The descriptor of this token; `None` if the core holds none that has it.
     pub fn descriptor(&self, token: Token) -> Option<i32>
-        ensures { result ≡ slice_get self.now.held (distance self.now token) }
+        ensures { result ≡ descriptor_of self.now token }
     {
         let index = self.passed + self.distance(token) as usize;
         self.descriptors.get(index).copied()
@@ -122,7 +141,7 @@ impl DescriptorQueue {
     /// that has the token; then nothing is changed.
     #[tactic(auto, using(crate::proofs::Queues::passed_of_taken, crate::proofs::Queues::held_of_taken))]
     pub fn take_out(&mut self, token: Token) -> Option<i32>
-        ensures descriptor { result ≡ slice_get self.old.held (distance self.old token) }
+        ensures descriptor { result ≡ descriptor_of self.old token }
         ensures after { self.new ≡ taken_out self.old token result }
     {
         let distance = self.distance(token) as usize;
@@ -151,6 +170,7 @@ impl DescriptorQueue {
         ensures passed { self.old.passed ≡ option_to_list result ++ self.new.passed }
         ensures held { self.new.held ≡ self.old.held }
         ensures front { self.new.front ≡ self.old.front }
+        ensures none { IfNone result (self.old.passed ≡ []) }
     {
         if self.passed == 0 {
             return None;

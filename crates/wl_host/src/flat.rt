@@ -4,7 +4,7 @@
 //! them. Ids are values: one that is stale or made up names nothing, and the calls say so.
 
 ghost use Rattle.std.specs.Prelude.{◌≡◌, ◌<◌, ◌^◌};
-ghost use Rattle.wl_host.specs.Flat.{client_of, flat_client, flat_global, flat_proxy, flat_resource, global_of, interface_number, no_client, proxy_of, resource_of};
+ghost use Rattle.wl_host.specs.Flat.{client_of, count_number, flat_bytes, flat_client, flat_global, flat_number, flat_object, flat_proxy, flat_resource, global_of, interface_number, no_action, no_client, no_global, no_object, proxy_of, resource_of};
 
 use wl_client::ObjectId as ProxyId;
 use wl_server::{ClientId, GlobalId, ObjectId};
@@ -55,7 +55,7 @@ pub const PROTOCOL: u32 = 2;
 
 /// The id of a server's client (`wl_server::ClientId`).
 #[repr(C)]
-#[derive(Clone, Copy, Debug, PartialEq, Eq, Drop)]
+#[derive(Clone, Copy, Debug, PartialEq, Eq, PartialOrd, Ord, Drop)]
 pub struct FlatClientId {
     /// The serial, counted from 1.
     pub serial: u64,
@@ -79,7 +79,7 @@ pub struct FlatObjectId {
 
 /// The id of a global (`wl_server::GlobalId`).
 #[repr(C)]
-#[derive(Clone, Copy, Debug, PartialEq, Eq, Drop)]
+#[derive(Clone, Copy, Debug, PartialEq, Eq, PartialOrd, Ord, Drop)]
 pub struct FlatGlobalId {
     /// The serial, counted from 1.
     pub serial: u64,
@@ -278,7 +278,9 @@ pub fn interface_number(id: InterfaceId) -> u32
 }
 
 /// A count as a number of 32 bits; the greatest one if it does not fit.
-pub fn count_number(count: usize) -> u32 {
+pub fn count_number(count: usize) -> u32
+    ensures { result ≡ count_number count }
+{
     u32::try_from(count).unwrap_or(u32::MAX)
 }
 
@@ -323,7 +325,9 @@ impl FlatGlobalId {
     }
 
     /// All zeros, which names no global.
-    pub fn none() -> Self {
+    pub fn none() -> Self
+        ensures { result ≡ no_global }
+    {
         FlatGlobalId { serial: 0, name: 0 }
     }
 
@@ -338,7 +342,9 @@ impl FlatGlobalId {
 
 impl FlatObjectId {
     /// The null id: all zeros.
-    pub fn null() -> Self {
+    pub fn null() -> Self
+        ensures { result ≡ no_object }
+    {
         FlatObjectId {
             serial: 0,
             client: FlatClientId::none(),
@@ -375,7 +381,8 @@ impl FlatObjectId {
 
     /// The id of an object of a client's session, as a flat struct.
     pub fn of_proxy(id: ProxyId) -> Self
-        ensures { result ≡ flat_proxy id }
+        ensures flat { result ≡ flat_proxy id }
+        ensures back { id.interface.0 < 2 ^ 32 → proxy_of result ≡ id }
     {
         FlatObjectId {
             serial: id.serial(),
@@ -387,7 +394,8 @@ impl FlatObjectId {
 
     /// The id for the core of a client's session. The client in it is not read.
     pub fn proxy(&self) -> ProxyId
-        ensures { result ≡ proxy_of self.now }
+        ensures id { result ≡ proxy_of self.now }
+        ensures back { self.now.client ≡ no_client → flat_proxy result ≡ self.now }
     {
         ProxyId::from_parts(
             self.number,
@@ -399,7 +407,9 @@ impl FlatObjectId {
 
 impl FlatArgument {
     /// A number, or a descriptor.
-    pub fn of_number(kind: u32, value: i32) -> Self {
+    pub fn of_number(kind: u32, value: i32) -> Self
+        ensures { result ≡ flat_number kind value }
+    {
         FlatArgument {
             kind,
             value,
@@ -411,7 +421,9 @@ impl FlatArgument {
     }
 
     /// A string or an array.
-    pub fn of_bytes(kind: u32, at: u32, length: u32) -> Self {
+    pub fn of_bytes(kind: u32, at: u32, length: u32) -> Self
+        ensures { result ≡ flat_bytes kind at length }
+    {
         FlatArgument {
             kind,
             value: 0,
@@ -423,7 +435,9 @@ impl FlatArgument {
     }
 
     /// An object, with the program's data of it.
-    pub fn of_object(kind: u32, object: FlatObjectId, data: u64) -> Self {
+    pub fn of_object(kind: u32, object: FlatObjectId, data: u64) -> Self
+        ensures { result ≡ flat_object kind object «data» }
+    {
         FlatArgument {
             kind,
             value: 0,
@@ -437,7 +451,9 @@ impl FlatArgument {
 
 impl FlatAction {
     /// All zeros.
-    pub fn none() -> Self {
+    pub fn none() -> Self
+        ensures { result ≡ no_action }
+    {
         FlatAction {
             kind: 0,
             opcode: 0,
@@ -455,7 +471,9 @@ impl FlatAction {
 
 impl Counts {
     /// The two counts.
-    pub fn new(bytes: usize, descriptors: usize) -> Self {
+    pub fn new(bytes: usize, descriptors: usize) -> Self
+        ensures { result ≡ record { bytes = count_number bytes; descriptors = count_number descriptors } }
+    {
         Counts {
             bytes: count_number(bytes),
             descriptors: count_number(descriptors),

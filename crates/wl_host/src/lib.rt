@@ -8,12 +8,14 @@
 //!
 //! | Subject | Code | Definitions, in `specs/` |
 //! |---|---|---|
-//! | a server's session | `server` and its modules | `Calls` |
-//! | a client's session | `client` and its modules | `Client` |
+//! | a server's session | `server` and its modules | `Server`, `Calls` |
+//! | a client's session | `client` and its modules | `Client`, `Faults` |
 //! | flat structs and ids | `flat` | `Flat` |
 //! | what a call came to | `status` | `Status` |
-//! | the table of interfaces as rows | `rows` | none |
-//! | arguments of messages, from flat structs and into lent memory | `arguments` | none |
+//! | the table of interfaces as rows | `rows` | `Rows`, `Tables` |
+//! | which client sees which global | `server`, `server::hidden` | `Visibility` |
+//! | arguments of messages, from flat structs and into lent memory | `arguments` | `Arguments` |
+//! | a law of the flat structs | `laws` | `Arguments` |
 //! | which file descriptor a token stands for | `descriptors` | `Descriptors` |
 #![tactic(auto)]
 
@@ -21,6 +23,9 @@ mod arguments;
 mod client;
 mod descriptors;
 mod flat;
+mod incoming;
+mod laws;
+mod outgoing;
 mod rows;
 mod server;
 mod status;
@@ -31,6 +36,7 @@ pub use flat::{
     FlatGlobalId, FlatGlobalInfo, FlatNote, FlatObjectId, FlatObjectInfo, FlatRequest, Gone,
     INSERTED, IO, KILLED, PROTOCOL, REQUEST, kind,
 };
+pub use laws::flat_arguments_come_back;
 pub use rows::{ArgumentRow, InterfaceRow, MessageRow, Rows, TableFault, fault};
 pub use server::{HostClient, HostGlobal, Server};
 pub use status::Status;

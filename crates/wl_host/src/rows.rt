@@ -1,5 +1,12 @@
 //! A table of interfaces as flat rows, and the interfaces that the rows say.
 
+ghost use Rattle.std.specs.Prelude.{◌≡◌, ◌≤◌, ◌<◌, Some, Ok, IfOk, IfErr, map, length, take, drop, MatchResult, option_map};
+ghost use Rattle.std.specs.String.{string_bytes};
+ghost use Rattle.wl_wire.specs.Table.{interface_row, interface_rows, message_row};
+ghost use Rattle.wl_host.specs.Rows.{IsRead, RefusesRows, cut, interface_said, message_said, name_at, next_messages, row_fault, said_by, fault_of, table_answer, type_of, with_argument};
+ghost use Rattle.wl_host.specs.declared.rows.RowError.TheVariants as row_error;
+ghost use Rattle.wl_wire.specs.declared.protocol.TableError.TheVariants as table_error;
+
 use crate::flat::{count_number, kind};
 use std::alloc::{AllocError, AllocFailed, Global};
 use wl_wire::{
@@ -99,6 +106,10 @@ pub mod fault {
 }
 
 impl From<TableError> for TableFault {
+    ghost use Rattle.wl_host.specs.Rows.{fault_of};
+
+    ghost from_gives = { λ error fault. fault ≡ fault_of error };
+
     fn from(error: TableError) -> TableFault {
         let (at, fault) = match error {
             TableError::ZeroInName(at) => (at, fault::ZERO_IN_NAME),
@@ -116,6 +127,16 @@ impl From<TableError> for TableFault {
     }
 }
 
+/// The answer of a table that was asked to take more interfaces, with the fault in place of its error.
+pub fn table_answer(answer: Result<(), TableError>) -> Result<(), TableFault>
+    ensures { result ≡ table_answer answer }
+{
+    match answer {
+        Ok(()) => Ok(()),
+        Err(error) => Err(TableFault::from(error)),
+    }
+}
+
 /// Why a row was not read.
 enum RowError {
     /// It names what is not there.
@@ -125,12 +146,20 @@ enum RowError {
 }
 
 impl From<AllocError> for RowError {
+    ghost use Rattle.wl_host.specs.declared.rows.RowError.TheVariants as row_error;
+
+    ghost from_gives = { λ _ error. error ≡ row_error.OutOfMemory };
+
     fn from(_error: AllocError) -> RowError {
         RowError::OutOfMemory
     }
 }
 
 impl<T: Drop> From<AllocFailed<T>> for RowError {
+    ghost use Rattle.wl_host.specs.declared.rows.RowError.TheVariants as row_error;
+
+    ghost from_gives = { λ _ error. error ≡ row_error.OutOfMemory };
+
     fn from(_error: AllocFailed<T>) -> RowError {
         RowError::OutOfMemory
     }
@@ -138,7 +167,10 @@ impl<T: Drop> From<AllocFailed<T>> for RowError {
 
 impl RowError {
     /// The fault of the interface of this place.
-    fn at(self, interface: usize) -> TableFault {
+    fn at(self, interface: usize) -> TableFault
+        ensures row { self ≡ row_error.NotThere → result ≡ row_fault interface }
+        ensures memory { self ≡ row_error.OutOfMemory → result ≡ fault_of table_error.OutOfMemory }
+    {
         match self {
             RowError::NotThere => TableFault {
                 interface: count_number(interface),
@@ -157,7 +189,10 @@ struct Unread<'a> {
 }
 
 /// The next `count` rows, which are taken off.
-fn next_rows<'a, T>(rows: &mut &'a [T], count: u32) -> Result<&'a [T], RowError> {
+fn next_rows<'a, T>(rows: &mut &'a [T], count: u32) -> Result<&'a [T], RowError>
+    ensures rows { IsRead (cut rows.old.now count) (λ next. (next.now, rows.new.now)) result }
+    ensures there { IfErr result (λ error. error ≡ row_error.NotThere) }
+{
     let all = *rows;
     let count = count as usize;
     if count > all.len() {
@@ -169,7 +204,9 @@ fn next_rows<'a, T>(rows: &mut &'a [T], count: u32) -> Result<&'a [T], RowError>
 }
 
 /// The name at that place of the text.
-fn name_at(alloc: Global, text: &[u8], at: u32, length: u32) -> Result<String, RowError> {
+fn name_at(alloc: Global, text: &[u8], at: u32, length: u32) -> Result<String, RowError>
+    ensures { IsRead (name_at text.now at length) (λ name. string_bytes name) result }
+{
     let from = at as usize;
     let Some(bytes) = text.get(from..from + length as usize) else {
         return Err(RowError::NotThere);
@@ -181,7 +218,10 @@ fn name_at(alloc: Global, text: &[u8], at: u32, length: u32) -> Result<String, R
 }
 
 /// The type of an argument.
-fn type_of(row: &ArgumentRow) -> Result<ArgumentType, RowError> {
+fn type_of(row: &ArgumentRow) -> Result<ArgumentType, RowError>
+    ensures argument { IsRead (type_of row.now) (λ argument. argument) result }
+    ensures there { IfErr result (λ error. error ≡ row_error.NotThere) }
+{
     let null = if row.is_nullable == 0 {
         AllowNull::No
     } else {
@@ -201,7 +241,9 @@ fn type_of(row: &ArgumentRow) -> Result<ArgumentType, RowError> {
 }
 
 /// Appends an argument to the signature of the message, with its interface.
-fn push_argument(message: &mut MessageDesc, row: &ArgumentRow) -> Result<(), RowError> {
+fn push_argument(message: &mut MessageDesc, row: &ArgumentRow) -> Result<(), RowError>
+    ensures { IsRead (option_map (λ t. with_argument t row.now.interface (message_row message.old)) (type_of row.now)) (λ _. message_row message.new) result }
+{
     let argument = type_of(row)?;
     let interface = InterfaceId(row.interface as usize);
     match argument {
@@ -221,7 +263,9 @@ fn message_of(
     text: &[u8],
     row: &MessageRow,
     arguments: &[ArgumentRow],
-) -> Result<MessageDesc, RowError> {
+) -> Result<MessageDesc, RowError>
+    ensures { IsRead (message_said text.now row.now arguments.now) message_row result }
+{
     let mut message = MessageDesc {
         name: name_at(alloc, text, row.name_at, row.name_length)?,
         signature: Vec::with_capacity(alloc, arguments.len())?,
@@ -242,7 +286,10 @@ fn next_messages(
     text: &[u8],
     unread: &mut Unread,
     count: u32,
-) -> Result<Vec<MessageDesc>, RowError> {
+) -> Result<Vec<MessageDesc>, RowError>
+    ensures { IsRead (next_messages text.now count (unread.old.messages.now, unread.old.arguments.now))
+        (λ messages. (map message_row messages.items, (unread.new.messages.now, unread.new.arguments.now))) result }
+{
     let rows = next_rows(&mut unread.messages, count)?;
     let mut messages = Vec::with_capacity(alloc, rows.len())?;
     for row in rows {
@@ -258,7 +305,10 @@ fn interface_of(
     text: &[u8],
     unread: &mut Unread,
     row: &InterfaceRow,
-) -> Result<Interface, RowError> {
+) -> Result<Interface, RowError>
+    ensures { IsRead (interface_said text.now row.now (unread.old.messages.now, unread.old.arguments.now))
+        (λ interface. (interface_row interface, (unread.new.messages.now, unread.new.arguments.now))) result }
+{
     Ok(Interface {
         name: name_at(alloc, text, row.name_at, row.name_length)?,
         version: row.version,
@@ -268,7 +318,11 @@ fn interface_of(
 }
 
 /// The interfaces of the rows. Rows of messages and arguments that no interface has are not read.
-pub fn interfaces_of(alloc: Global, rows: &Rows) -> Result<Vec<Interface>, TableFault> {
+///
+/// The fault is the first row of an interface that names what is not there, or `fault::OUT_OF_MEMORY`.
+pub fn interfaces_of(alloc: Global, rows: &Rows) -> Result<Vec<Interface>, TableFault>
+    ensures { MatchResult result (λ interfaces. said_by rows.now ≡ Ok (interface_rows interfaces.items)) (RefusesRows rows.now) }
+{
     let mut interfaces = Vec::new(alloc);
     let mut unread = Unread {
         messages: rows.messages,

@@ -16,57 +16,70 @@ pub mod clients;
 pub mod departures;
 pub mod events;
 pub mod globals;
+pub mod hidden;
 pub mod ledger;
+pub mod listing;
 pub mod notes;
 pub mod objects;
 pub mod seats;
 pub mod sending;
+pub mod slots;
 
-ghost use Rattle.std.specs.Prelude.{◌≡◌, true};
+ghost use Rattle.std.specs.Prelude.{[], ◌≡◌, IfErr, IfOk, true};
+ghost use Rattle.wl_host.specs.Descriptors.{Conserves};
+ghost use Rattle.wl_host.specs.Server.{kept_by_server};
 ghost use Rattle.wl_host.specs.Calls.{world};
+ghost use Rattle.wl_host.specs.Tables.{AddsInterfaces, IsFaultOf, IsNewServer, new_state};
 ghost use Rattle.wl_server.specs.Backend.{Calls};
 ghost use Rattle.wl_server.specs.declared.runs.step.Reply.TheVariants as reply;
 ghost use Rattle.wl_server.specs.declared.runs.step.Step.TheVariants as step;
 ghost use Rattle.wl_host.specs.declared.status.Status.TheVariants as status;
 
 use crate::arguments::{FromFlat, Objects};
-use crate::flat::FlatObjectId;
-use crate::rows::{Rows, TableFault, interfaces_of};
+use crate::flat::{FlatClientId, FlatGlobalId, FlatObjectId};
+use crate::rows::{Rows, TableFault, interfaces_of, table_answer};
 use crate::server::seats::Seats;
 use crate::status::Status;
 use smallvec::SmallVec;
 use std::alloc::Global;
-use std::collections::VecDeque;
+use std::collections::{BTreeSet, VecDeque};
+use std::marker::Model;
 use wl_link::Mailbox;
 use wl_server::{Action, Backend, ClientId, GlobalHandler, GlobalId, Note, ObjectId};
 use wl_wire::{Message, Protocol, Token};
 
 /// The program's data of a client, and which globals it may see.
-#[derive(Clone, Copy, Drop)]
+#[derive(Drop)]
 pub struct HostClient {
     /// The data.
     pub user_data: u64,
     /// The groups that the client is in, one for each bit.
     pub groups: u64,
+    /// The globals that are hidden from it.
+    pub hidden: BTreeSet<FlatGlobalId>,
 }
 
 /// The program's data of a global, and which clients may see it.
-#[derive(Clone, Copy, Drop)]
+#[derive(Drop)]
 pub struct HostGlobal {
     /// The data.
     pub user_data: u64,
     /// The groups of clients that may see it, one for each bit.
     pub groups: u64,
+    /// The clients that it is hidden from.
+    pub hidden: BTreeSet<FlatClientId>,
 }
 
-/// A client sees a global if they have a group in common.
+/// A client sees a global if they have a group in common, and neither is hidden from the other.
 impl GlobalHandler<HostClient> for HostGlobal {
-    ghost use Rattle.wl_host.specs.Calls.{sees};
+    ghost use Rattle.wl_host.specs.Visibility.{sees};
 
     ghost views = { sees };
 
-    fn can_view(&self, _client: &ClientId, client_data: &HostClient, _global: &GlobalId) -> bool {
+    fn can_view(&self, client: &ClientId, client_data: &HostClient, global: &GlobalId) -> bool {
         self.groups & client_data.groups != 0
+            && !self.hidden.contains(&FlatClientId::new(*client))
+            && !client_data.hidden.contains(&FlatGlobalId::new(*global))
     }
 }
 
@@ -99,6 +112,24 @@ pub struct Server {
     pub(crate) may_have_notes: bool,
 }
 
+impl Model for Server {
+    ghost use Rattle.std.specs.Coded.{codes};
+    ghost use Rattle.wl_link.specs.ObjectMap.{store_code};
+    ghost use Rattle.wl_host.specs.Server.{ServerState};
+
+    ghost Value = { ServerState };
+
+    ghost coded = { Prim.hlevel (codes, store_code) };
+
+    ghost view = { λ s. record {
+      core = s.core;
+      seats = s.seats;
+      notes = s.notes.items;
+      may_clean_up = s.may_clean_up;
+      may_have_notes = s.may_have_notes;
+    } };
+}
+
 /// An action of no object.
 pub(crate) fn no_action(alloc: Global) -> Action {
     Action::Request {
@@ -113,8 +144,12 @@ pub(crate) fn no_action(alloc: Global) -> Action {
 impl Server {
     /// A session without clients and globals, for the table of these rows.
     ///
-    /// The error is the first fault of the rows. It is `fault::OUT_OF_MEMORY` if there was no memory.
-    pub fn new(alloc: Global, rows: &Rows) -> Result<Self, TableFault> {
+    /// The error is the first row that names what is not there (`fault::ROW`), or if there is none, the first fault of the table.
+    /// It is `fault::OUT_OF_MEMORY` if there was no memory.
+    pub fn new(alloc: Global, rows: &Rows) -> Result<Self, TableFault>
+        ensures made { IfOk result (IsNewServer rows.now) }
+        ensures fault { IfErr result (IsFaultOf rows.now) }
+    {
         let interfaces = interfaces_of(alloc, rows)?;
         match Protocol::new(alloc, interfaces) {
             Ok(protocol) => Ok(Server::over(alloc, protocol)),
@@ -123,7 +158,9 @@ impl Server {
     }
 
     /// A session without clients and globals, for this table.
-    fn over(alloc: Global, protocol: Protocol) -> Self {
+    fn over(alloc: Global, protocol: Protocol) -> Self
+        ensures { result ≡ new_state protocol }
+    {
         Server {
             core: Backend::new(alloc, protocol),
             seats: Seats::new(alloc),
@@ -147,12 +184,13 @@ impl Server {
     /// Appends the interfaces of these rows to the table. Their numbers go on behind the last one of the table.
     ///
     /// The error is as that of `new`. Then the table is as it was.
-    pub fn add_interfaces(&mut self, rows: &Rows) -> Result<(), TableFault> {
+    pub fn add_interfaces(&mut self, rows: &Rows) -> Result<(), TableFault>
+        ensures call { AddsInterfaces rows.now self.old.core result self.new.core }
+        ensures beside { self.new ≡ record self.old { core = self.new.core } }
+        ensures descriptors { Conserves kept_by_server self.old [] [] self.new }
+    {
         let interfaces = interfaces_of(self.alloc(), rows)?;
-        match self.core.add_interfaces(interfaces) {
-            Ok(()) => Ok(()),
-            Err(error) => Err(TableFault::from(error)),
-        }
+        table_answer(self.core.add_interfaces(interfaces))
     }
 
     /// Whether memory was refused in the last call of the core that changed it (`wl_server::Backend::memory_refused`).
@@ -166,6 +204,8 @@ impl Server {
     /// (`wl_server::Backend::set_default_max_buffer_size`).
     pub fn set_default_max_buffer_size(&mut self, size: u64) -> Status
         ensures call { Calls world self.old.core (step.SetDefaultMaxBufferSize size) reply.SetDefaultMaxBufferSize self.new.core }
+        ensures beside { self.new ≡ record self.old { core = self.new.core } }
+        ensures descriptors { Conserves kept_by_server self.old [] [] self.new }
         ensures status { result ≡ status.Ok }
     {
         self.core.set_default_max_buffer_size(size as usize);
@@ -182,12 +222,23 @@ impl Server {
 }
 
 impl FromFlat for ObjectId {
+    ghost use Rattle.wl_host.specs.Flat.{resource_of};
+
+    ghost stands_for = { resource_of };
+
     fn from_flat(flat: &FlatObjectId) -> Self {
         flat.resource()
     }
 }
 
 impl Objects<ObjectId> for Core {
+    ghost use Rattle.wl_host.specs.Calls.{data_or_zero};
+    ghost use Rattle.wl_host.specs.Flat.{flat_resource};
+
+    ghost flat_of = { flat_resource };
+
+    ghost data_of = { data_or_zero };
+
     fn flat(&self, id: &ObjectId) -> FlatObjectId {
         FlatObjectId::of_resource(*id)
     }

@@ -1,12 +1,12 @@
 //! What a test does with a session, and what it tells.
 
-use crate::tests::rows::with_rows;
+use crate::tests::rows::{with_more_rows, with_rows};
 use std::alloc::Global;
 use std::fmt::Write;
 use std::test::Fail;
 use wl_host::{
     Counts, FlatAction, FlatArgument, FlatClientId, FlatGlobalId, FlatNote, FlatObjectId, Gone,
-    Server, Status, kind,
+    Server, Status, fault, kind,
 };
 
 /// One call of the session.
@@ -14,12 +14,24 @@ use wl_host::{
 pub enum Act<'a> {
     /// A global of the interface `pad` of version 2, with data and groups.
     Global(u64, u64),
+    /// The same, which these clients do not see.
+    HiddenGlobal(u64, u64, &'a [FlatClientId]),
     /// A client, with data and groups.
     Insert(u64, u64),
+    /// The same, which does not see these globals.
+    InsertWithout(u64, u64, &'a [FlatGlobalId]),
+    /// The ids that the next client and the next global get.
+    NextIds,
+    /// The name of the global for the client.
+    Name(FlatGlobalId, FlatClientId),
+    /// The global is disabled.
+    Disable(FlatGlobalId),
     /// The client receives these words, and these descriptors.
     Received(FlatClientId, &'a [u32], &'a [i32]),
     /// The client closed the connection.
     End(FlatClientId),
+    /// A send to the client failed.
+    SendFailed(FlatClientId),
     /// The client is killed.
     Kill(FlatClientId),
     /// The next action of the client, with so much room for arguments and bytes.
@@ -34,6 +46,14 @@ pub enum Act<'a> {
     Moved(FlatObjectId, i32),
     /// An event of the object: `given` of this descriptor.
     Given(FlatObjectId, i32),
+    /// The interface `note` is added to the table.
+    AddNote,
+    /// An object of this interface is made for the client, with data.
+    Create(FlatClientId, u32, u64),
+    /// The first event of the object, with these arguments and bytes.
+    Send(FlatObjectId, &'a [FlatArgument], &'a [u8]),
+    /// The client of the object is told of an error with this code and message, and killed.
+    PostError(FlatObjectId, u32, &'a [u8]),
     /// The next client to which something is to be sent.
     Writable,
     /// What is to be sent to the client.
@@ -53,6 +73,11 @@ pub enum Act<'a> {
 /// The id of a client.
 pub fn client(slot: u32, serial: u64) -> FlatClientId {
     FlatClientId { serial, slot }
+}
+
+/// The id of a global.
+pub const fn global(name: u32, serial: u64) -> FlatGlobalId {
+    FlatGlobalId { serial, name }
 }
 
 /// The id of a `pad` of the client.
@@ -80,6 +105,14 @@ pub const fn number(kind: u32, value: i32) -> FlatArgument {
         },
         data: 0,
     }
+}
+
+/// An argument that is a string or an array.
+pub const fn beside(kind: u32, at: u32, length: u32) -> FlatArgument {
+    let mut arg = number(kind, 0);
+    arg.at = at;
+    arg.length = length;
+    arg
 }
 
 /// A client as `slot:serial`.
@@ -162,7 +195,7 @@ fn next(
 }
 
 /// The numbers, in square brackets.
-fn tell_numbers(log: &mut String, numbers: &[i32]) -> Result<(), Fail> {
+pub fn tell_numbers(log: &mut String, numbers: &[i32]) -> Result<(), Fail> {
     write!(log, " [")?;
     for number in numbers {
         write!(log, " {number}")?;
@@ -200,13 +233,15 @@ pub fn tell_counts(
 fn to_send(log: &mut String, server: &Server, client: &FlatClientId) -> Result<Status, Fail> {
     let mut bytes = [0u8; 256];
     let mut descriptors = [0i32; 28];
-    match server.to_send(client, &mut bytes, &mut descriptors) {
-        Ok(counts) => {
-            tell_counts(log, &counts, &bytes, &descriptors)?;
-            Ok(Status::Ok)
-        }
-        Err(status) => Ok(status),
+    let mut counts = Counts {
+        bytes: 0,
+        descriptors: 0,
+    };
+    let status = server.to_send(client, &mut bytes, &mut descriptors, &mut counts);
+    if status == Status::Ok {
+        tell_counts(log, &counts, &bytes, &descriptors)?;
     }
+    Ok(status)
 }
 
 /// The next client that is gone.
@@ -269,6 +304,24 @@ fn next_note(log: &mut String, server: &mut Server) -> Result<Status, Fail> {
     Ok(status)
 }
 
+/// The interface `note` is added to the table.
+fn add_note(log: &mut String, server: &mut Server) -> Result<Status, Fail> {
+    match with_more_rows(|rows| server.add_interfaces(rows)) {
+        Ok(()) => Ok(Status::Ok),
+        Err(refused) if refused.fault == fault::OUT_OF_MEMORY => Ok(Status::OutOfMemory),
+        Err(refused) => {
+            let (at, why) = (refused.interface, refused.fault);
+            write!(log, " interface {at} fault {why}")?;
+            Ok(Status::BadTable)
+        }
+    }
+}
+
+/// Tells the object that was made.
+fn tell_made(log: &mut String, id: FlatObjectId) -> Result<(), Fail> {
+    tell_object(log, &id)
+}
+
 /// The client receives these words.
 fn received(
     alloc: Global,
@@ -313,6 +366,21 @@ fn tell_global(log: &mut String, id: FlatGlobalId) -> Result<(), Fail> {
     Ok(())
 }
 
+/// Tells the ids that the next client and the next global get.
+fn next_ids(log: &mut String, server: &Server) -> Result<Status, Fail> {
+    let status = told(log, server.next_client_id(), tell_found)?;
+    if status != Status::Ok {
+        return Ok(status);
+    }
+    told(log, server.next_global_id(), tell_global)
+}
+
+/// Tells the name of a global.
+fn tell_name(log: &mut String, name: u32) -> Result<(), Fail> {
+    write!(log, " name {name}")?;
+    Ok(())
+}
+
 /// Tells whether the data are kept.
 fn tell_kept(log: &mut String, is_kept: bool) -> Result<(), Fail> {
     write!(log, " kept {is_kept}")?;
@@ -326,21 +394,33 @@ pub fn tell_descriptor(log: &mut String, descriptor: i32) -> Result<(), Fail> {
 }
 
 /// Does the act, and tells what came of it except the status, which it returns.
-fn act_on(log: &mut String, server: &mut Server, act: Act) -> Result<Status, Fail> {
+pub fn act_on(log: &mut String, server: &mut Server, act: Act) -> Result<Status, Fail> {
     let alloc = *log.allocator();
     match act {
         Act::Global(user_data, groups) => {
-            let answer = server.create_global(4, 2, user_data, groups);
+            let answer = server.create_global(4, 2, user_data, groups, &[]);
+            told(log, answer, tell_global)
+        }
+        Act::HiddenGlobal(user_data, groups, hidden) => {
+            let answer = server.create_global(4, 2, user_data, groups, hidden);
             told(log, answer, tell_global)
         }
         Act::Insert(user_data, groups) => {
-            let answer = server.insert_client(user_data, groups);
+            let answer = server.insert_client(user_data, groups, &[]);
             told(log, answer, tell_found)
         }
+        Act::InsertWithout(user_data, groups, hidden) => {
+            let answer = server.insert_client(user_data, groups, hidden);
+            told(log, answer, tell_found)
+        }
+        Act::NextIds => next_ids(log, server),
+        Act::Name(of, id) => told(log, server.global_name(&of, &id), tell_name),
+        Act::Disable(id) => Ok(server.disable_global(&id)),
         Act::Received(id, words, descriptors) => {
             received(alloc, server, &id, words, descriptors)
         }
         Act::End(id) => Ok(server.received_end(&id)),
+        Act::SendFailed(id) => Ok(server.send_failed(&id)),
         Act::Kill(id) => Ok(server.kill_client(&id)),
         Act::Next(id, room, most) => next(log, server, &id, room, most),
         Act::Finish(id) => Ok(server.finish_request(&id)),
@@ -354,6 +434,13 @@ fn act_on(log: &mut String, server: &mut Server, act: Act) -> Result<Status, Fai
         Act::Given(id, value) => {
             Ok(server.send_event(&id, 1, &[number(kind::DESCRIPTOR, value)], &[]))
         }
+        Act::AddNote => add_note(log, server),
+        Act::Create(id, interface, user_data) => {
+            let answer = server.create_object(&id, interface, 1, 1, user_data);
+            told(log, answer, tell_made)
+        }
+        Act::Send(id, arguments, bytes) => Ok(server.send_event(&id, 0, arguments, bytes)),
+        Act::PostError(id, code, message) => Ok(server.post_error(&id, code, message)),
         Act::Writable => told(log, server.next_writable(), tell_found),
         Act::ToSend(id) => to_send(log, server, &id),
         Act::Sent(id, count) => Ok(server.sent(&id, count)),

@@ -1,14 +1,12 @@
 //! Whole conversations with a client's session. The bytes are those of the wire format.
 
-use crate::tests::client_acts::{Act, object, placeholder, run};
+use crate::tests::acts::number;
+use crate::tests::client_acts::{
+    Act, bind_arguments, bound, display, object, placeholder, registry, run,
+};
 use std::test::Fail;
 use test_kit::log::tells;
-use wl_host::FlatObjectId;
-
-/// The display.
-fn display() -> FlatObjectId {
-    object(1, 1, 0)
-}
+use wl_host::kind;
 
 /// `wl_display.sync` is sent, and `wl_callback.done` and `wl_display.delete_id` come back. The callback had data, so it is
 /// noted.
@@ -59,7 +57,7 @@ Open
 UnexpectedData
 Ok
 NotOpen
-Ok 3@2 serial 1
+Ok 3@2 serial 1 data 7
 WouldBlock
 WouldBlock
 InvalidId

@@ -1,6 +1,8 @@
 //! What a test does with a client's session, and what it tells.
 
-use crate::tests::acts::{number, tell_argument, tell_counts, tell_descriptor, tell_object, told};
+use crate::tests::acts::{
+    beside, number, tell_argument, tell_counts, tell_descriptor, tell_object, told,
+};
 use crate::tests::rows::with_rows;
 use std::alloc::Global;
 use std::fmt::Write;
@@ -61,12 +63,29 @@ pub fn object(interface: u32, number: u32, serial: u64) -> FlatObjectId {
     }
 }
 
-/// An argument that is a string or an array.
-pub const fn beside(kind: u32, at: u32, length: u32) -> FlatArgument {
-    let mut arg = number(kind, 0);
-    arg.at = at;
-    arg.length = length;
-    arg
+/// The display.
+pub fn display() -> FlatObjectId {
+    object(1, 1, 0)
+}
+
+/// The registry, the first object that is made.
+pub fn registry() -> FlatObjectId {
+    object(2, 2, 1)
+}
+
+/// The `pad` that is bound, the second.
+pub fn bound() -> FlatObjectId {
+    object(4, 3, 2)
+}
+
+/// The arguments of a bind of the global 1 as a `pad` of version 2, whose name stands at the beginning of the bytes.
+pub fn bind_arguments() -> [FlatArgument; 4] {
+    [
+        number(kind::UINT, 1),
+        beside(kind::STRING, 0, 3),
+        number(kind::UINT, 2),
+        placeholder(),
+    ]
 }
 
 /// An event with nothing in it.
@@ -261,6 +280,18 @@ fn info(log: &mut String, client: &Client, id: &FlatObjectId) -> Result<Status, 
     }
 }
 
+/// The next note: the object that ended, and its data.
+fn next_note(log: &mut String, client: &mut Client) -> Result<Status, Fail> {
+    let mut ended = FlatObjectId::null();
+    let mut user_data = 0;
+    let status = client.next_note(&mut ended, &mut user_data);
+    if status == Status::Ok {
+        tell_id(log, ended)?;
+        tell_data(log, user_data)?;
+    }
+    Ok(status)
+}
+
 /// Does an act that is about the objects.
 fn act_on_objects(log: &mut String, client: &mut Client, act: Act) -> Result<Status, Fail> {
     match act {
@@ -268,13 +299,13 @@ fn act_on_objects(log: &mut String, client: &mut Client, act: Act) -> Result<Sta
         Act::Data(id) => told(log, client.object_data(&id), tell_data),
         Act::SetData(id, user_data) => Ok(client.set_object_data(&id, user_data)),
         Act::Destroy(id) => Ok(client.destroy_object(&id)),
-        Act::Note => told(log, client.next_note(), tell_id),
+        Act::Note => next_note(log, client),
         _ => Ok(Status::NoSession),
     }
 }
 
 /// Does the act, and tells what came of it except the status, which it returns.
-fn act_on(log: &mut String, client: &mut Client, act: Act) -> Result<Status, Fail> {
+pub fn act_on(log: &mut String, client: &mut Client, act: Act) -> Result<Status, Fail> {
     let alloc = *log.allocator();
     match act {
         Act::Received(words, descriptors) => received(alloc, client, words, descriptors),

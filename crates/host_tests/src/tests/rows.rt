@@ -1,6 +1,7 @@
-//! The table of the tests, as flat rows: one interface, `pad`, with the number 4.
+//! The table of the tests, as flat rows: one interface, `pad`, with the number 4. A second one, `note`, may be added.
 //!
-//! Requests: `push(int, fd)`, `label(string)`, the destructor `close`, `make(new_id<pad>)`. Events: `moved(int)`, `given(fd)`.
+//! Requests of `pad`: `push(int, fd)`, `label(string)`, the destructor `close`, `make(new_id<pad>)`. Its events: `moved(int)`,
+//! `given(fd)`. The event of `note`: `said(string, array, fixed, fd, uint)`.
 
 use wl_host::{ArgumentRow, InterfaceRow, MessageRow, Rows, kind};
 
@@ -61,6 +62,34 @@ pub fn with_rows<T, F: FnOnce(&Rows) -> T>(f: F) -> T
     let rows = Rows {
         text: TEXT,
         interfaces: INTERFACES,
+        messages: &messages,
+        arguments: &arguments,
+    };
+    f(&rows)
+}
+
+/// Calls the closure with the rows of `note`.
+pub fn with_more_rows<T, F: FnOnce(&Rows) -> T>(f: F) -> T
+    requires { F.IsAlwaysCallable f }
+{
+    let interfaces = [InterfaceRow {
+        name_at: 0,
+        name_length: 4,
+        version: 1,
+        requests: 0,
+        events: 1,
+    }];
+    let messages = [message(4, 4, 5)];
+    let arguments = [
+        argument(kind::STRING, 0),
+        argument(kind::ARRAY, 0),
+        argument(kind::FIXED, 0),
+        argument(kind::DESCRIPTOR, 0),
+        argument(kind::UINT, 0),
+    ];
+    let rows = Rows {
+        text: b"notesaid",
+        interfaces: &interfaces,
         messages: &messages,
         arguments: &arguments,
     };

@@ -1,9 +1,9 @@
 //! Whole conversations with a server's session. The bytes are those of the wire format.
 
-use crate::tests::acts::{Act, client, pad, run};
+use crate::tests::acts::{Act, beside, client, global, number, pad, run};
 use std::test::Fail;
 use test_kit::log::tells;
-use wl_host::{FlatClientId, FlatObjectId};
+use wl_host::{FlatClientId, FlatObjectId, kind};
 
 /// The first client.
 const FIRST: FlatClientId = FlatClientId { serial: 1, slot: 0 };
@@ -224,6 +224,47 @@ WouldBlock
     )
 }
 
+/// A client that broke the rules of the program is told so in its last bytes, and a note says so. A message with a zero byte is
+/// refused.
+#[test]
+fn errors_are_posted(rt: HostRuntime) -> Result<(), Fail> {
+    let acts = [
+        Act::Global(70, 1),
+        Act::Insert(7, 1),
+        Act::Received(FIRST, BIND, &[]),
+        Act::Next(FIRST, 0, 0),
+        Act::FinishBind(FIRST, 33),
+        Act::Writable,
+        Act::Sent(FIRST, 24),
+        Act::PostError(first_pad(), 9, b"no\0"),
+        Act::PostError(first_pad(), 9, b"no way"),
+        Act::Next(FIRST, 0, 0),
+        Act::Cleanup,
+        Act::Gone,
+        Act::Note,
+        Act::Note,
+    ];
+    tells(
+        &rt,
+        run(rt.alloc(), &acts),
+        "Ok global 1:1
+Ok client 0:1
+Ok
+Ok kind 2 opcode 0 ends 0 data 70 0@0 4@3 version 2 needs 0 0
+Ok kept true
+Ok client 0:1
+Ok
+InvalidInput
+Ok
+Closed
+Ok
+Ok client 0:1 data 7 [ 01 00 00 00 00 00 1c 00 03 00 00 00 09 00 00 00 07 00 00 00 6e 6f 20 77 61 79 00 00 ] [ ]
+Ok kind 1 error 0 0 data 0 client 0:1 0@0
+Ok kind 2 error 1 9 data 0 client 0:1 0@0
+",
+    )
+}
+
 /// A client that has no group in common with a global is not told of it.
 #[test]
 fn groups_hide_globals(rt: HostRuntime) -> Result<(), Fail> {
@@ -248,6 +289,57 @@ WouldBlock
 Ok global 2:2
 Ok client 0:1
 Ok [ 02 00 00 00 00 00 18 00 02 00 00 00 04 00 00 00 70 61 64 00 02 00 00 00 ] [ ]
+",
+    )
+}
+
+/// A client to which a send failed is killed at once. What it sent before is not read, and its descriptors come back. What was to
+/// be sent to it comes with its end.
+#[test]
+fn failed_sends_kill(rt: HostRuntime) -> Result<(), Fail> {
+    let acts = [
+        Act::Global(70, 1),
+        Act::Insert(7, 1),
+        Act::Received(FIRST, BIND, &[]),
+        Act::Next(FIRST, 0, 0),
+        Act::FinishBind(FIRST, 33),
+        Act::Received(FIRST, PUSH, &[42]),
+        Act::SendFailed(client(0, 9)),
+        Act::SendFailed(FIRST),
+        Act::Next(FIRST, 2, 0),
+        Act::Moved(first_pad(), 1),
+        Act::Cleanup,
+        Act::SendFailed(FIRST),
+        Act::Gone,
+        Act::Dropped,
+        Act::Dropped,
+        Act::Note,
+        Act::Note,
+        Act::Note,
+        Act::Note,
+    ];
+    tells(
+        &rt,
+        run(rt.alloc(), &acts),
+        "Ok global 1:1
+Ok client 0:1
+Ok
+Ok kind 2 opcode 0 ends 0 data 70 0@0 4@3 version 2 needs 0 0
+Ok kept true
+Ok
+InvalidId
+Ok
+Closed
+Ok
+Ok
+InvalidId
+Ok client 0:1 data 7 [ 02 00 00 00 00 00 18 00 01 00 00 00 04 00 00 00 70 61 64 00 02 00 00 00 ] [ ]
+Ok descriptor 42
+WouldBlock
+Ok kind 1 error 0 0 data 0 client 0:1 0@0
+Ok kind 2 error 0 0 data 0 client 0:1 0@0
+Ok kind 3 error 0 0 data 33 client 0:1 4@3
+WouldBlock
 ",
     )
 }

@@ -1,6 +1,12 @@
 //! What a client's session receives, its events and its requests.
 
-ghost use Rattle.std.specs.Prelude.{IsSome, None, ◌≡◌, ◌≢◌};
+ghost use Rattle.std.specs.Prelude.{IsSome, List, None, Some, [], ℤ, ◌≡◌, ◌≢◌};
+ghost use Rattle.wl_c.specs.Calls.{Did, Gave};
+ghost use Rattle.wl_host.specs.Arguments.{descriptors_given};
+ghost use Rattle.wl_host.specs.Client.{ConservesClient, EndsEvent, HandsNext, Receives, Sends, given_with, mailbox_of, taken_in, with_mailbox};
+ghost use Rattle.wl_host.specs.declared.status.Status.TheVariants as status;
+ghost use Rattle.wl_link.specs.declared.mailbox.Ending.TheVariants as ending;
+ghost use Rattle.wl_wire.specs.declared.error.IoFault.TheVariants as fault;
 
 use super::place::ClientPlace;
 use crate::answer::write_answer;
@@ -17,6 +23,8 @@ pub extern "C" fn nb_client_received(
 ) -> u32
     ensures none { place.old.kept.held ≡ None → (result ≡ 1) × (place.new.kept.held ≡ None) }
     ensures stays { IsSome place.old.kept.held → IsSome place.new.kept.held }
+    ensures call { Did place.old.kept.held result place.new.kept.held (λ s status t. Receives s bytes.now descriptors.now status t) }
+    ensures descriptors { Did place.old.kept.held result place.new.kept.held (λ s status t. ConservesClient s (taken_in status descriptors.now) [] t) }
 {
     let Some(mut session) = place.take(alloc) else {
         return Status::NoSession.code();
@@ -31,6 +39,9 @@ pub extern "C" fn nb_client_received(
 pub extern "C" fn nb_client_received_end(alloc: Global, place: &mut ClientPlace) -> u32
     ensures none { place.old.kept.held ≡ None → (result ≡ 1) × (place.new.kept.held ≡ None) }
     ensures stays { IsSome place.old.kept.held → IsSome place.new.kept.held }
+    ensures ended { Did place.old.kept.held result place.new.kept.held (λ s status t. t ≡ with_mailbox s (record (mailbox_of s) { ending = ending.Ended })) }
+    ensures descriptors { Did place.old.kept.held result place.new.kept.held (λ s status t. ConservesClient s [] [] t) }
+    ensures answer { IsSome place.old.kept.held → result ≡ 0 }
 {
     let Some(mut session) = place.take(alloc) else {
         return Status::NoSession.code();
@@ -49,6 +60,9 @@ pub extern "C" fn nb_client_receive_failed(
 ) -> u32
     ensures none { place.old.kept.held ≡ None → (result ≡ 1) × (place.new.kept.held ≡ None) }
     ensures stays { IsSome place.old.kept.held → IsSome place.new.kept.held }
+    ensures failed { Did place.old.kept.held result place.new.kept.held (λ s status t. t ≡ with_mailbox s (record (mailbox_of s) { ending = ending.Failed (fault.Other number) })) }
+    ensures descriptors { Did place.old.kept.held result place.new.kept.held (λ s status t. ConservesClient s [] [] t) }
+    ensures answer { IsSome place.old.kept.held → result ≡ 0 }
 {
     let Some(mut session) = place.take(alloc) else {
         return Status::NoSession.code();
@@ -63,6 +77,9 @@ pub extern "C" fn nb_client_receive_failed(
 pub extern "C" fn nb_client_send_failed(alloc: Global, place: &mut ClientPlace, number: i32) -> u32
     ensures none { place.old.kept.held ≡ None → (result ≡ 1) × (place.new.kept.held ≡ None) }
     ensures stays { IsSome place.old.kept.held → IsSome place.new.kept.held }
+    ensures failed { Did place.old.kept.held result place.new.kept.held (λ s status t. t ≡ with_mailbox s (record (mailbox_of s) { send_fault = Some (fault.Other number) })) }
+    ensures descriptors { Did place.old.kept.held result place.new.kept.held (λ s status t. ConservesClient s [] [] t) }
+    ensures answer { IsSome place.old.kept.held → result ≡ 0 }
 {
     let Some(mut session) = place.take(alloc) else {
         return Status::NoSession.code();
@@ -97,6 +114,7 @@ pub extern "C" fn nb_client_next_event(
 pub extern "C" fn nb_client_finish_event(alloc: Global, place: &mut ClientPlace) -> u32
     ensures none { place.old.kept.held ≡ None → (result ≡ 1) × (place.new.kept.held ≡ None) }
     ensures stays { IsSome place.old.kept.held → IsSome place.new.kept.held }
+    ensures descriptors { Did place.old.kept.held result place.new.kept.held (λ s status t. ConservesClient s [] [] t) }
 {
     let Some(mut session) = place.take(alloc) else {
         return Status::NoSession.code();
@@ -111,15 +129,16 @@ pub extern "C" fn nb_client_finish_event(alloc: Global, place: &mut ClientPlace)
 pub extern "C" fn nb_client_finish_event_with(
     alloc: Global,
     place: &mut ClientPlace,
-    data: u64,
+    user_data: u64,
 ) -> u32
     ensures none { place.old.kept.held ≡ None → (result ≡ 1) × (place.new.kept.held ≡ None) }
     ensures stays { IsSome place.old.kept.held → IsSome place.new.kept.held }
+    ensures descriptors { Did place.old.kept.held result place.new.kept.held (λ s status t. ConservesClient s [] [] t) }
 {
     let Some(mut session) = place.take(alloc) else {
         return Status::NoSession.code();
     };
-    let status = session.finish_event_with(data);
+    let status = session.finish_event_with(user_data);
     place.put(session);
     status.code()
 }
@@ -137,6 +156,7 @@ pub extern "C" fn nb_client_send_request(
     ensures none { place.old.kept.held ≡ None → (result ≡ 1) × (place.new.kept.held ≡ None) × (created.new ≡ created.old) }
     ensures stays { IsSome place.old.kept.held → IsSome place.new.kept.held }
     ensures unwritten { result ≢ 0 → created.new ≡ created.old }
+    ensures descriptors { Gave place.old.kept.held result created.old created.new place.new.kept.held (λ s answer t. ConservesClient s (given_with answer (descriptors_given arguments.now)) [] t) }
 {
     let Some(mut session) = place.take(alloc) else {
         return Status::NoSession.code();

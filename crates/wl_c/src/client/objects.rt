@@ -1,6 +1,12 @@
 //! The objects of a client's session.
 
-ghost use Rattle.std.specs.Prelude.{IsSome, None, ◌≡◌, ◌≢◌};
+ghost use Rattle.std.specs.Prelude.{IsSome, None, Ok, [], ◌≡◌, ◌≢◌};
+ghost use Rattle.wl_c.specs.Calls.{Did, Found};
+ghost use Rattle.wl_client.specs.Objects.{info_of, user_data_of};
+ghost use Rattle.wl_host.specs.Client.{ConservesClient, Destroys, GivesData, flat_info, found};
+ghost use Rattle.wl_host.specs.Flat.{flat_proxy, proxy_of};
+ghost use Rattle.wl_host.specs.declared.status.Status.TheVariants as status;
+ghost use Rattle.wl_wire.specs.Table.{display_id};
 
 use super::place::ClientPlace;
 use crate::answer::write_answer;
@@ -17,6 +23,7 @@ pub extern "C" fn nb_client_display(
     ensures none { place.old.kept.held ≡ None → (result ≡ 1) × (place.new.kept.held ≡ None) × (object.new ≡ object.old) }
     ensures kept { place.new.kept.held ≡ place.old.kept.held }
     ensures unwritten { result ≢ 0 → object.new ≡ object.old }
+    ensures answer { Found place.old.kept.held result object.old object.new (λ s answer. answer ≡ Ok (flat_proxy (record { number = 1; serial = 0; interface = display_id }))) }
 {
     let Some(session) = place.take(alloc) else {
         return Status::NoSession.code();
@@ -37,6 +44,7 @@ pub extern "C" fn nb_client_object_info(
     ensures none { place.old.kept.held ≡ None → (result ≡ 1) × (place.new.kept.held ≡ None) × (info.new ≡ info.old) }
     ensures kept { place.new.kept.held ≡ place.old.kept.held }
     ensures unwritten { result ≢ 0 → info.new ≡ info.old }
+    ensures answer { Found place.old.kept.held result info.old info.new (λ s answer. answer ≡ found (flat_info (info_of s.core.session (proxy_of object.now)))) }
 {
     let Some(session) = place.take(alloc) else {
         return Status::NoSession.code();
@@ -57,6 +65,7 @@ pub extern "C" fn nb_client_object_data(
     ensures none { place.old.kept.held ≡ None → (result ≡ 1) × (place.new.kept.held ≡ None) × (user_data.new ≡ user_data.old) }
     ensures kept { place.new.kept.held ≡ place.old.kept.held }
     ensures unwritten { result ≢ 0 → user_data.new ≡ user_data.old }
+    ensures answer { Found place.old.kept.held result user_data.old user_data.new (λ s answer. answer ≡ found (user_data_of s.core.session (proxy_of object.now))) }
 {
     let Some(session) = place.take(alloc) else {
         return Status::NoSession.code();
@@ -72,15 +81,17 @@ pub extern "C" fn nb_client_set_object_data(
     alloc: Global,
     place: &mut ClientPlace,
     object: &FlatObjectId,
-    data: u64,
+    user_data: u64,
 ) -> u32
     ensures none { place.old.kept.held ≡ None → (result ≡ 1) × (place.new.kept.held ≡ None) }
     ensures stays { IsSome place.old.kept.held → IsSome place.new.kept.held }
+    ensures beside { Did place.old.kept.held result place.new.kept.held (λ s status t. t ≡ record s { core = t.core }) }
+    ensures descriptors { Did place.old.kept.held result place.new.kept.held (λ s status t. ConservesClient s [] [] t) }
 {
     let Some(mut session) = place.take(alloc) else {
         return Status::NoSession.code();
     };
-    let status = session.set_object_data(object, data);
+    let status = session.set_object_data(object, user_data);
     place.put(session);
     status.code()
 }
@@ -94,6 +105,7 @@ pub extern "C" fn nb_client_destroy_object(
 ) -> u32
     ensures none { place.old.kept.held ≡ None → (result ≡ 1) × (place.new.kept.held ≡ None) }
     ensures stays { IsSome place.old.kept.held → IsSome place.new.kept.held }
+    ensures descriptors { Did place.old.kept.held result place.new.kept.held (λ s status t. ConservesClient s [] [] t) }
 {
     let Some(mut session) = place.take(alloc) else {
         return Status::NoSession.code();

@@ -1,6 +1,10 @@
 //! What a client's session hands out to the host.
 
-ghost use Rattle.std.specs.Prelude.{IsSome, None, ◌≡◌, ◌≢◌};
+ghost use Rattle.std.specs.Prelude.{IsSome, None, [], ◌≡◌, ◌≢◌};
+ghost use Rattle.wl_c.specs.Calls.{Did, Gave, Told};
+ghost use Rattle.wl_host.specs.Client.{ConservesClient, Drops, Flushes, HandsNote, sent, sent_descriptors, to_send, told};
+ghost use Rattle.wl_host.specs.Sending.{copied};
+ghost use Rattle.wl_host.specs.declared.status.Status.TheVariants as status;
 
 use super::place::ClientPlace;
 use crate::answer::write_answer;
@@ -12,6 +16,9 @@ use wl_host::{Counts, FlatObjectId, Status};
 pub extern "C" fn nb_client_flush(alloc: Global, place: &mut ClientPlace) -> u32
     ensures none { place.old.kept.held ≡ None → (result ≡ 1) × (place.new.kept.held ≡ None) }
     ensures stays { IsSome place.old.kept.held → IsSome place.new.kept.held }
+    ensures call { Did place.old.kept.held result place.new.kept.held (λ s status t. Flushes s.core status t.core) }
+    ensures beside { Did place.old.kept.held result place.new.kept.held (λ s status t. t ≡ record s { core = t.core }) }
+    ensures descriptors { Did place.old.kept.held result place.new.kept.held (λ s status t. ConservesClient s [] [] t) }
 {
     let Some(mut session) = place.take(alloc) else {
         return Status::NoSession.code();
@@ -32,6 +39,10 @@ pub extern "C" fn nb_client_to_send(
 ) -> u32
     ensures none { place.old.kept.held ≡ None → (result ≡ 1) × (place.new.kept.held ≡ None) × (bytes.new ≡ bytes.old) × (descriptors.new ≡ descriptors.old) × (counts.new ≡ counts.old) }
     ensures kept { place.new.kept.held ≡ place.old.kept.held }
+    ensures counts { Told place.old.kept.held result (λ s status. counts.new ≡ (copied (to_send s) s.departures bytes.old descriptors.old).counts) }
+    ensures bytes { Told place.old.kept.held result (λ s status. bytes.new ≡ (copied (to_send s) s.departures bytes.old descriptors.old).bytes) }
+    ensures descriptors { Told place.old.kept.held result (λ s status. descriptors.new ≡ (copied (to_send s) s.departures bytes.old descriptors.old).descriptors) }
+    ensures status { Told place.old.kept.held result (λ s status. status ≡ (copied (to_send s) s.departures bytes.old descriptors.old).status) }
 {
     let Some(session) = place.take(alloc) else {
         return Status::NoSession.code();
@@ -46,6 +57,9 @@ pub extern "C" fn nb_client_to_send(
 pub extern "C" fn nb_client_sent(alloc: Global, place: &mut ClientPlace, count: u32) -> u32
     ensures none { place.old.kept.held ≡ None → (result ≡ 1) × (place.new.kept.held ≡ None) }
     ensures stays { IsSome place.old.kept.held → IsSome place.new.kept.held }
+    ensures call { Did place.old.kept.held result place.new.kept.held (λ s status t. t ≡ sent s count) }
+    ensures descriptors { Did place.old.kept.held result place.new.kept.held (λ s status t. ConservesClient s [] (sent_descriptors s count) t) }
+    ensures answer { IsSome place.old.kept.held → result ≡ 0 }
 {
     let Some(mut session) = place.take(alloc) else {
         return Status::NoSession.code();
@@ -55,23 +69,25 @@ pub extern "C" fn nb_client_sent(alloc: Global, place: &mut ClientPlace, count: 
     status.code()
 }
 
-/// Hands out the next object that was destroyed.
+/// Hands out the next object that had data and was destroyed, with the data that it had then.
 #[unsafe(no_mangle)]
 pub extern "C" fn nb_client_next_note(
     alloc: Global,
     place: &mut ClientPlace,
     destroyed: &mut FlatObjectId,
+    user_data: &mut u64,
 ) -> u32
-    ensures none { place.old.kept.held ≡ None → (result ≡ 1) × (place.new.kept.held ≡ None) × (destroyed.new ≡ destroyed.old) }
+    ensures none { place.old.kept.held ≡ None → (result ≡ 1) × (place.new.kept.held ≡ None) × (destroyed.new ≡ destroyed.old) × (user_data.new ≡ user_data.old) }
     ensures stays { IsSome place.old.kept.held → IsSome place.new.kept.held }
-    ensures unwritten { result ≢ 0 → destroyed.new ≡ destroyed.old }
+    ensures call { Did place.old.kept.held result place.new.kept.held (λ s status t. HandsNote s.notes s destroyed.old user_data.old status t destroyed.new user_data.new) }
+    ensures descriptors { Did place.old.kept.held result place.new.kept.held (λ s status t. ConservesClient s [] [] t) }
 {
     let Some(mut session) = place.take(alloc) else {
         return Status::NoSession.code();
     };
-    let answer = session.next_note();
+    let status = session.next_note(destroyed, user_data);
     place.put(session);
-    write_answer(answer, destroyed)
+    status.code()
 }
 
 /// Hands out the next descriptor that no call will hand out. The host closes it.
@@ -84,6 +100,8 @@ pub extern "C" fn nb_client_next_dropped(
     ensures none { place.old.kept.held ≡ None → (result ≡ 1) × (place.new.kept.held ≡ None) × (descriptor.new ≡ descriptor.old) }
     ensures stays { IsSome place.old.kept.held → IsSome place.new.kept.held }
     ensures unwritten { result ≢ 0 → descriptor.new ≡ descriptor.old }
+    ensures call { Gave place.old.kept.held result descriptor.old descriptor.new place.new.kept.held (λ s answer t. Drops s answer t) }
+    ensures descriptors { Gave place.old.kept.held result descriptor.old descriptor.new place.new.kept.held (λ s answer t. ConservesClient s [] (told answer) t) }
 {
     let Some(mut session) = place.take(alloc) else {
         return Status::NoSession.code();

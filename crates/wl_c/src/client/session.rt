@@ -1,6 +1,12 @@
 //! A client's session as a whole: its begin and its end, its table, its limits, its error.
 
-ghost use Rattle.std.specs.Prelude.{IsSome, None, ◌≡◌, ◌≢◌, ◌↔◌};
+ghost use Rattle.std.specs.Prelude.{IfErr, IfOk, IsSome, None, Ok, Some, [], ◌↔◌, ◌≡◌, ◌≢◌};
+ghost use Rattle.wl_c.specs.Calls.{Added, Did, FoundFlag, Told, fault_code};
+ghost use Rattle.wl_host.specs.Client.{ConservesClient, HostedClient, SetsLimit, limit_of, mailbox_of, with_mailbox};
+ghost use Rattle.wl_host.specs.Faults.{flat_error, text_of_error};
+ghost use Rattle.wl_host.specs.Lent.{has_room, status_for, written};
+ghost use Rattle.wl_host.specs.Tables.{AddsToClient, IsFaultOf, IsNewClient};
+ghost use Rattle.wl_host.specs.declared.status.Status.TheVariants as status;
 
 use super::place::ClientPlace;
 use crate::answer::{write_fault, write_flag};
@@ -24,6 +30,8 @@ pub extern "C" fn nb_client_connect(
 ) -> u32
     ensures in_use { IsSome place.old.kept.held → (result ≡ 2) × (place.new.kept.held ≡ place.old.kept.held) × (fault.new ≡ fault.old) }
     ensures begun { place.old.kept.held ≡ None → (result ≡ 0) ↔ IsSome place.new.kept.held }
+    ensures made { (s : HostedClient) → place.old.kept.held ≡ None → place.new.kept.held ≡ Some s → IsNewClient (record { text = text.entry; interfaces = interfaces.entry; messages = messages.entry; arguments = arguments.entry }) s }
+    ensures refused { place.old.kept.held ≡ None → place.new.kept.held ≡ None → (result ≡ fault_code fault.new) × IsFaultOf (record { text = text.entry; interfaces = interfaces.entry; messages = messages.entry; arguments = arguments.entry }) fault.new }
     ensures unfaulted { result ≡ 0 → fault.new ≡ fault.old }
 {
     if let Some(session) = place.take(alloc) {
@@ -72,6 +80,8 @@ pub extern "C" fn nb_client_add_interfaces(
     ensures none { place.old.kept.held ≡ None → (result ≡ 1) × (place.new.kept.held ≡ None) × (fault.new ≡ fault.old) }
     ensures stays { IsSome place.old.kept.held → IsSome place.new.kept.held }
     ensures unfaulted { result ≡ 0 → fault.new ≡ fault.old }
+    ensures call { Added place.old.kept.held result fault.old fault.new place.new.kept.held (λ s answer t. AddsToClient (record { text = text.entry; interfaces = interfaces.entry; messages = messages.entry; arguments = arguments.entry }) s.core answer t.core) }
+    ensures beside { Added place.old.kept.held result fault.old fault.new place.new.kept.held (λ s answer t. t ≡ record s { core = t.core }) }
 {
     let Some(mut session) = place.take(alloc) else {
         return Status::NoSession.code();
@@ -100,13 +110,14 @@ pub extern "C" fn nb_client_memory_refused(
     ensures none { place.old.kept.held ≡ None → (result ≡ 1) × (place.new.kept.held ≡ None) × (is_refused.new ≡ is_refused.old) }
     ensures kept { place.new.kept.held ≡ place.old.kept.held }
     ensures unwritten { result ≢ 0 → is_refused.new ≡ is_refused.old }
+    ensures answer { FoundFlag place.old.kept.held result is_refused.old is_refused.new (λ s answer. answer ≡ Ok s.core.refused) }
 {
     let Some(session) = place.take(alloc) else {
         return Status::NoSession.code();
     };
     let answer = session.memory_refused();
     place.put(session);
-    write_flag(answer, is_refused)
+    write_flag(Ok(answer), is_refused)
 }
 
 /// Sets how many bytes may wait to be sent. Without a limit `size` is not read.
@@ -119,6 +130,10 @@ pub extern "C" fn nb_client_set_max_buffer_size(
 ) -> u32
     ensures none { place.old.kept.held ≡ None → (result ≡ 1) × (place.new.kept.held ≡ None) }
     ensures stays { IsSome place.old.kept.held → IsSome place.new.kept.held }
+    ensures call { Did place.old.kept.held result place.new.kept.held (λ s status t. SetsLimit s.core (limit_of has_limit size) t.core) }
+    ensures beside { Did place.old.kept.held result place.new.kept.held (λ s status t. t ≡ record s { core = t.core }) }
+    ensures descriptors { Did place.old.kept.held result place.new.kept.held (λ s status t. ConservesClient s [] [] t) }
+    ensures answer { IsSome place.old.kept.held → result ≡ 0 }
 {
     let Some(mut session) = place.take(alloc) else {
         return Status::NoSession.code();
@@ -133,6 +148,9 @@ pub extern "C" fn nb_client_set_max_buffer_size(
 pub extern "C" fn nb_client_set_room(alloc: Global, place: &mut ClientPlace, room: u64) -> u32
     ensures none { place.old.kept.held ≡ None → (result ≡ 1) × (place.new.kept.held ≡ None) }
     ensures stays { IsSome place.old.kept.held → IsSome place.new.kept.held }
+    ensures room { Did place.old.kept.held result place.new.kept.held (λ s status t. t ≡ with_mailbox s (record (mailbox_of s) { room = room })) }
+    ensures descriptors { Did place.old.kept.held result place.new.kept.held (λ s status t. ConservesClient s [] [] t) }
+    ensures answer { IsSome place.old.kept.held → result ≡ 0 }
 {
     let Some(mut session) = place.take(alloc) else {
         return Status::NoSession.code();
@@ -152,6 +170,9 @@ pub extern "C" fn nb_client_last_error(
 ) -> u32
     ensures none { place.old.kept.held ≡ None → (result ≡ 1) × (place.new.kept.held ≡ None) × (error.new ≡ error.old) × (text.new ≡ text.old) }
     ensures kept { place.new.kept.held ≡ place.old.kept.held }
+    ensures error { Told place.old.kept.held result (λ s status. error.new ≡ flat_error s.core.session.error) }
+    ensures text { Told place.old.kept.held result (λ s status. text.new ≡ written (text_of_error s.core.session.error) text.old) }
+    ensures status { Told place.old.kept.held result (λ s status. status ≡ status_for (has_room (text_of_error s.core.session.error) text.old)) }
 {
     let Some(session) = place.take(alloc) else {
         return Status::NoSession.code();
@@ -162,7 +183,10 @@ pub extern "C" fn nb_client_last_error(
 }
 
 /// A session in a box of its own.
-fn boxed(alloc: Global, rows: &Rows) -> Result<Box<Client>, TableFault> {
+fn boxed(alloc: Global, rows: &Rows) -> Result<Box<Client>, TableFault>
+    ensures made { IfOk result (λ session. IsNewClient rows.now session.value) }
+    ensures fault { IfErr result (IsFaultOf rows.now) }
+{
     let session = Client::connect(alloc, rows)?;
     match Box::new(alloc, session) {
         Ok(session) => Ok(session),

@@ -1,6 +1,15 @@
 //! What clients ask for, and what the program answers.
 
-ghost use Rattle.std.specs.Prelude.{IsSome, None, ◌≡◌, ◌≢◌};
+ghost use Rattle.std.specs.Prelude.{Bool, IsSome, List, None, Result, Some, [], ℤ, ◌≡◌, ◌≢◌};
+ghost use Rattle.wl_c.specs.Calls.{Did, GaveFlag};
+ghost use Rattle.wl_host.specs.Actions.{EndsBind, EndsRequest, NextAction, status_of_end};
+ghost use Rattle.wl_host.specs.Arguments.{descriptors_given};
+ghost use Rattle.wl_host.specs.Descriptors.{Conserves};
+ghost use Rattle.wl_host.specs.Events.{PostsError, SendsEvent};
+ghost use Rattle.wl_host.specs.Flat.{client_of};
+ghost use Rattle.wl_host.specs.Server.{kept_by_server, went_in};
+ghost use Rattle.wl_host.specs.declared.status.Status.TheVariants as status;
+ghost use Rattle.wl_host.specs.declared.status.Status.{Status};
 
 use super::place::ServerPlace;
 use crate::answer::write_flag;
@@ -37,6 +46,7 @@ pub extern "C" fn nb_server_finish_request(
 ) -> u32
     ensures none { place.old.kept.held ≡ None → (result ≡ 1) × (place.new.kept.held ≡ None) }
     ensures stays { IsSome place.old.kept.held → IsSome place.new.kept.held }
+    ensures descriptors { Did place.old.kept.held result place.new.kept.held (λ s status t. Conserves kept_by_server s [] [] t) }
 {
     let Some(mut session) = place.take(alloc) else {
         return Status::NoSession.code();
@@ -52,17 +62,19 @@ pub extern "C" fn nb_server_finish_request_with(
     alloc: Global,
     place: &mut ServerPlace,
     client: &FlatClientId,
-    data: u64,
+    user_data: u64,
     is_kept: &mut u32,
 ) -> u32
     ensures none { place.old.kept.held ≡ None → (result ≡ 1) × (place.new.kept.held ≡ None) × (is_kept.new ≡ is_kept.old) }
     ensures stays { IsSome place.old.kept.held → IsSome place.new.kept.held }
     ensures unwritten { result ≢ 0 → is_kept.new ≡ is_kept.old }
+    ensures call { GaveFlag place.old.kept.held result is_kept.old is_kept.new place.new.kept.held (λ s answer t. EndsRequest s (client_of client.now) (Some user_data) answer t) }
+    ensures descriptors { GaveFlag place.old.kept.held result is_kept.old is_kept.new place.new.kept.held (λ s answer t. Conserves kept_by_server s [] [] t) }
 {
     let Some(mut session) = place.take(alloc) else {
         return Status::NoSession.code();
     };
-    let answer = session.finish_request_with(client, data);
+    let answer = session.finish_request_with(client, user_data);
     place.put(session);
     write_flag(answer, is_kept)
 }
@@ -73,17 +85,19 @@ pub extern "C" fn nb_server_finish_bind(
     alloc: Global,
     place: &mut ServerPlace,
     client: &FlatClientId,
-    data: u64,
+    user_data: u64,
     is_kept: &mut u32,
 ) -> u32
     ensures none { place.old.kept.held ≡ None → (result ≡ 1) × (place.new.kept.held ≡ None) × (is_kept.new ≡ is_kept.old) }
     ensures stays { IsSome place.old.kept.held → IsSome place.new.kept.held }
     ensures unwritten { result ≢ 0 → is_kept.new ≡ is_kept.old }
+    ensures call { GaveFlag place.old.kept.held result is_kept.old is_kept.new place.new.kept.held (λ s answer t. EndsBind s (client_of client.now) user_data answer t) }
+    ensures descriptors { GaveFlag place.old.kept.held result is_kept.old is_kept.new place.new.kept.held (λ s answer t. Conserves kept_by_server s [] [] t) }
 {
     let Some(mut session) = place.take(alloc) else {
         return Status::NoSession.code();
     };
-    let answer = session.finish_bind(client, data);
+    let answer = session.finish_bind(client, user_data);
     place.put(session);
     write_flag(answer, is_kept)
 }
@@ -100,6 +114,8 @@ pub extern "C" fn nb_server_send_event(
 ) -> u32
     ensures none { place.old.kept.held ≡ None → (result ≡ 1) × (place.new.kept.held ≡ None) }
     ensures stays { IsSome place.old.kept.held → IsSome place.new.kept.held }
+    ensures call { Did place.old.kept.held result place.new.kept.held (λ s status t. SendsEvent s (record { sender = sender.now; opcode = opcode; arguments = arguments.now; bytes = bytes.now }) status t) }
+    ensures descriptors { Did place.old.kept.held result place.new.kept.held (λ s status t. Conserves kept_by_server s (went_in status (descriptors_given arguments.now)) [] t) }
 {
     let Some(mut session) = place.take(alloc) else {
         return Status::NoSession.code();
@@ -120,6 +136,8 @@ pub extern "C" fn nb_server_post_error(
 ) -> u32
     ensures none { place.old.kept.held ≡ None → (result ≡ 1) × (place.new.kept.held ≡ None) }
     ensures stays { IsSome place.old.kept.held → IsSome place.new.kept.held }
+    ensures call { Did place.old.kept.held result place.new.kept.held (λ s status t. PostsError s object.now code message.now status t) }
+    ensures descriptors { Did place.old.kept.held result place.new.kept.held (λ s status t. Conserves kept_by_server s [] [] t) }
 {
     let Some(mut session) = place.take(alloc) else {
         return Status::NoSession.code();

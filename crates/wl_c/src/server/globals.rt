@@ -1,6 +1,18 @@
 //! The globals of a server's session.
 
-ghost use Rattle.std.specs.Prelude.{IsSome, None, ◌≡◌, ◌≢◌};
+ghost use Rattle.std.specs.Prelude.{IsSome, None, OnErr, OnOk, [], option_map, ◌≡◌, ◌≢◌};
+ghost use Rattle.wl_c.specs.Calls.{Did, Found, Gave};
+ghost use Rattle.wl_host.specs.Calls.{CreatesGlobal, TellsNextGlobal, flat_global_info, or_invalid, world};
+ghost use Rattle.wl_host.specs.Descriptors.{Conserves};
+ghost use Rattle.wl_host.specs.Flat.{client_of, global_of};
+ghost use Rattle.wl_host.specs.Globals.{told_all};
+ghost use Rattle.wl_host.specs.Server.{kept_by_server};
+ghost use Rattle.wl_host.specs.Visibility.{sees};
+ghost use Rattle.wl_host.specs.declared.status.Status.TheVariants as status;
+ghost use Rattle.wl_server.specs.Backend.{Calls};
+ghost use Rattle.wl_server.specs.Lookups.{global_info_by, handler_of, name_for};
+ghost use Rattle.wl_server.specs.declared.runs.step.Reply.TheVariants as reply;
+ghost use Rattle.wl_server.specs.declared.runs.step.Step.TheVariants as step;
 
 use super::place::ServerPlace;
 use crate::answer::write_answer;
@@ -17,6 +29,7 @@ pub extern "C" fn nb_server_next_global_id(
     ensures none { place.old.kept.held ≡ None → (result ≡ 1) × (place.new.kept.held ≡ None) × (global.new ≡ global.old) }
     ensures kept { place.new.kept.held ≡ place.old.kept.held }
     ensures unwritten { result ≢ 0 → global.new ≡ global.old }
+    ensures answer { Found place.old.kept.held result global.old global.new (λ s answer. TellsNextGlobal s.core answer) }
 {
     let Some(session) = place.take(alloc) else {
         return Status::NoSession.code();
@@ -26,25 +39,30 @@ pub extern "C" fn nb_server_next_global_id(
     write_answer(answer, global)
 }
 
-/// Announces a global to the clients that share a bit of `groups`.
+/// Announces a global to the clients that share a bit of `groups`, but for those from which it is hidden: by its list, or by theirs.
 #[unsafe(no_mangle)]
 pub extern "C" fn nb_server_create_global(
     alloc: Global,
     place: &mut ServerPlace,
     interface: u32,
     version: u32,
-    data: u64,
+    user_data: u64,
     groups: u64,
+    hidden: &[FlatClientId],
     global: &mut FlatGlobalId,
 ) -> u32
     ensures none { place.old.kept.held ≡ None → (result ≡ 1) × (place.new.kept.held ≡ None) × (global.new ≡ global.old) }
     ensures stays { IsSome place.old.kept.held → IsSome place.new.kept.held }
     ensures unwritten { result ≢ 0 → global.new ≡ global.old }
+    ensures call { Gave place.old.kept.held result global.old global.new place.new.kept.held (λ s answer t. CreatesGlobal s.core interface version user_data groups hidden.now answer t.core) }
+    ensures told { Gave place.old.kept.held result global.old global.new place.new.kept.held (λ s answer t. OnOk answer (t ≡ told_all s t.core)) }
+    ensures refused { Gave place.old.kept.held result global.old global.new place.new.kept.held (λ s answer t. OnErr answer (t ≡ record s { core = t.core })) }
+    ensures descriptors { Gave place.old.kept.held result global.old global.new place.new.kept.held (λ s answer t. Conserves kept_by_server s [] [] t) }
 {
     let Some(mut session) = place.take(alloc) else {
         return Status::NoSession.code();
     };
-    let answer = session.create_global(interface, version, data, groups);
+    let answer = session.create_global(interface, version, user_data, groups, hidden);
     place.put(session);
     write_answer(answer, global)
 }
@@ -58,6 +76,10 @@ pub extern "C" fn nb_server_disable_global(
 ) -> u32
     ensures none { place.old.kept.held ≡ None → (result ≡ 1) × (place.new.kept.held ≡ None) }
     ensures stays { IsSome place.old.kept.held → IsSome place.new.kept.held }
+    ensures call { Did place.old.kept.held result place.new.kept.held (λ s status t. Calls world s.core (step.DisableGlobal (global_of global.now)) reply.DisableGlobal t.core) }
+    ensures beside { Did place.old.kept.held result place.new.kept.held (λ s status t. t ≡ told_all s t.core) }
+    ensures descriptors { Did place.old.kept.held result place.new.kept.held (λ s status t. Conserves kept_by_server s [] [] t) }
+    ensures status { IsSome place.old.kept.held → result ≡ 0 }
 {
     let Some(mut session) = place.take(alloc) else {
         return Status::NoSession.code();
@@ -76,6 +98,10 @@ pub extern "C" fn nb_server_remove_global(
 ) -> u32
     ensures none { place.old.kept.held ≡ None → (result ≡ 1) × (place.new.kept.held ≡ None) }
     ensures stays { IsSome place.old.kept.held → IsSome place.new.kept.held }
+    ensures call { Did place.old.kept.held result place.new.kept.held (λ s status t. Calls world s.core (step.RemoveGlobal (global_of global.now)) reply.RemoveGlobal t.core) }
+    ensures beside { Did place.old.kept.held result place.new.kept.held (λ s status t. t ≡ told_all s t.core) }
+    ensures descriptors { Did place.old.kept.held result place.new.kept.held (λ s status t. Conserves kept_by_server s [] [] t) }
+    ensures status { IsSome place.old.kept.held → result ≡ 0 }
 {
     let Some(mut session) = place.take(alloc) else {
         return Status::NoSession.code();
@@ -96,6 +122,7 @@ pub extern "C" fn nb_server_global_info(
     ensures none { place.old.kept.held ≡ None → (result ≡ 1) × (place.new.kept.held ≡ None) × (info.new ≡ info.old) }
     ensures kept { place.new.kept.held ≡ place.old.kept.held }
     ensures unwritten { result ≢ 0 → info.new ≡ info.old }
+    ensures answer { Found place.old.kept.held result info.old info.new (λ s answer. answer ≡ or_invalid (option_map flat_global_info (global_info_by s.core.server (global_of global.now)))) }
 {
     let Some(session) = place.take(alloc) else {
         return Status::NoSession.code();
@@ -116,6 +143,7 @@ pub extern "C" fn nb_server_global_data(
     ensures none { place.old.kept.held ≡ None → (result ≡ 1) × (place.new.kept.held ≡ None) × (user_data.new ≡ user_data.old) }
     ensures kept { place.new.kept.held ≡ place.old.kept.held }
     ensures unwritten { result ≢ 0 → user_data.new ≡ user_data.old }
+    ensures answer { Found place.old.kept.held result user_data.old user_data.new (λ s answer. answer ≡ or_invalid (option_map (λ g. g.user_data) (handler_of s.core.server (global_of global.now)))) }
 {
     let Some(session) = place.take(alloc) else {
         return Status::NoSession.code();
@@ -137,6 +165,7 @@ pub extern "C" fn nb_server_global_name(
     ensures none { place.old.kept.held ≡ None → (result ≡ 1) × (place.new.kept.held ≡ None) × (name.new ≡ name.old) }
     ensures kept { place.new.kept.held ≡ place.old.kept.held }
     ensures unwritten { result ≢ 0 → name.new ≡ name.old }
+    ensures answer { Found place.old.kept.held result name.old name.new (λ s answer. answer ≡ or_invalid (name_for s.core.server sees (global_of global.now) (client_of client.now))) }
 {
     let Some(session) = place.take(alloc) else {
         return Status::NoSession.code();

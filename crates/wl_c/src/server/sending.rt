@@ -1,6 +1,12 @@
 //! What a server's session hands out to the host.
 
-ghost use Rattle.std.specs.Prelude.{IsSome, None, ◌≡◌, ◌≢◌};
+ghost use Rattle.std.specs.Prelude.{IsSome, None, [], ◌≡◌, ◌≢◌};
+ghost use Rattle.wl_c.specs.Calls.{Did, Gave, Told};
+ghost use Rattle.wl_host.specs.Descriptors.{Conserves};
+ghost use Rattle.wl_host.specs.Flat.{client_of};
+ghost use Rattle.wl_host.specs.Notes.{NextNote};
+ghost use Rattle.wl_host.specs.Server.{CleansUp, NextDropped, NextWritable, Sent, gone_with_first, handed, kept_by_server, next_gone, sent_with, to_send};
+ghost use Rattle.wl_host.specs.declared.status.Status.TheVariants as status;
 
 use super::place::ServerPlace;
 use crate::answer::write_answer;
@@ -17,6 +23,7 @@ pub extern "C" fn nb_server_next_writable(
     ensures none { place.old.kept.held ≡ None → (result ≡ 1) × (place.new.kept.held ≡ None) × (client.new ≡ client.old) }
     ensures stays { IsSome place.old.kept.held → IsSome place.new.kept.held }
     ensures unwritten { result ≢ 0 → client.new ≡ client.old }
+    ensures call { Gave place.old.kept.held result client.old client.new place.new.kept.held (λ s answer t. NextWritable s answer t) }
 {
     let Some(mut session) = place.take(alloc) else {
         return Status::NoSession.code();
@@ -36,16 +43,19 @@ pub extern "C" fn nb_server_to_send(
     descriptors: &mut [i32],
     counts: &mut Counts,
 ) -> u32
-    ensures none { place.old.kept.held ≡ None → (result ≡ 1) × (place.new.kept.held ≡ None) × (counts.new ≡ counts.old) }
+    ensures none { place.old.kept.held ≡ None → (result ≡ 1) × (place.new.kept.held ≡ None) × (bytes.new ≡ bytes.old) × (descriptors.new ≡ descriptors.old) × (counts.new ≡ counts.old) }
     ensures kept { place.new.kept.held ≡ place.old.kept.held }
-    ensures unwritten { result ≢ 0 → counts.new ≡ counts.old }
+    ensures status { Told place.old.kept.held result (λ s status. status ≡ (to_send s (client_of client.now) bytes.old descriptors.old).status) }
+    ensures bytes { Told place.old.kept.held result (λ s status. bytes.new ≡ (to_send s (client_of client.now) bytes.old descriptors.old).bytes) }
+    ensures descriptors { Told place.old.kept.held result (λ s status. descriptors.new ≡ (to_send s (client_of client.now) bytes.old descriptors.old).descriptors) }
+    ensures counts { Told place.old.kept.held result (λ s status. counts.new ≡ (to_send s (client_of client.now) bytes.old descriptors.old).counts) }
 {
     let Some(session) = place.take(alloc) else {
         return Status::NoSession.code();
     };
-    let answer = session.to_send(client, bytes, descriptors);
+    let status = session.to_send(client, bytes, descriptors, counts);
     place.put(session);
-    write_answer(answer, counts)
+    status.code()
 }
 
 /// Says that so many bytes were sent to a client, and with the first of them all descriptors.
@@ -58,6 +68,8 @@ pub extern "C" fn nb_server_sent(
 ) -> u32
     ensures none { place.old.kept.held ≡ None → (result ≡ 1) × (place.new.kept.held ≡ None) }
     ensures stays { IsSome place.old.kept.held → IsSome place.new.kept.held }
+    ensures sent { Did place.old.kept.held result place.new.kept.held (λ s status t. Sent s (client_of client.now) count status t) }
+    ensures descriptors { Did place.old.kept.held result place.new.kept.held (λ s status t. Conserves kept_by_server s [] (sent_with s (client_of client.now) count) t) }
 {
     let Some(mut session) = place.take(alloc) else {
         return Status::NoSession.code();
@@ -72,6 +84,7 @@ pub extern "C" fn nb_server_sent(
 pub extern "C" fn nb_server_cleanup(alloc: Global, place: &mut ServerPlace) -> u32
     ensures none { place.old.kept.held ≡ None → (result ≡ 1) × (place.new.kept.held ≡ None) }
     ensures stays { IsSome place.old.kept.held → IsSome place.new.kept.held }
+    ensures descriptors { Did place.old.kept.held result place.new.kept.held (λ s status t. Conserves kept_by_server s [] [] t) }
 {
     let Some(mut session) = place.take(alloc) else {
         return Status::NoSession.code();
@@ -92,6 +105,12 @@ pub extern "C" fn nb_server_next_gone(
 ) -> u32
     ensures none { place.old.kept.held ≡ None → (result ≡ 1) × (place.new.kept.held ≡ None) × (gone.new ≡ gone.old) × (bytes.new ≡ bytes.old) × (descriptors.new ≡ descriptors.old) }
     ensures stays { IsSome place.old.kept.held → IsSome place.new.kept.held }
+    ensures status { Did place.old.kept.held result place.new.kept.held (λ s status t. status ≡ (next_gone s gone.old bytes.old descriptors.old).status) }
+    ensures out { Did place.old.kept.held result place.new.kept.held (λ s status t. gone.new ≡ (next_gone s gone.old bytes.old descriptors.old).out) }
+    ensures bytes { Did place.old.kept.held result place.new.kept.held (λ s status t. bytes.new ≡ (next_gone s gone.old bytes.old descriptors.old).bytes) }
+    ensures descriptors { Did place.old.kept.held result place.new.kept.held (λ s status t. descriptors.new ≡ (next_gone s gone.old bytes.old descriptors.old).descriptors) }
+    ensures after { Did place.old.kept.held result place.new.kept.held (λ s status t. t ≡ (next_gone s gone.old bytes.old descriptors.old).after) }
+    ensures conserves { Did place.old.kept.held result place.new.kept.held (λ s status t. Conserves kept_by_server s [] (gone_with_first s status) t) }
 {
     let Some(mut session) = place.take(alloc) else {
         return Status::NoSession.code();
@@ -111,6 +130,7 @@ pub extern "C" fn nb_server_next_note(
 ) -> u32
     ensures none { place.old.kept.held ≡ None → (result ≡ 1) × (place.new.kept.held ≡ None) × (note.new ≡ note.old) × (text.new ≡ text.old) }
     ensures stays { IsSome place.old.kept.held → IsSome place.new.kept.held }
+    ensures descriptors { Did place.old.kept.held result place.new.kept.held (λ s status t. Conserves kept_by_server s [] [] t) }
 {
     let Some(mut session) = place.take(alloc) else {
         return Status::NoSession.code();
@@ -130,6 +150,8 @@ pub extern "C" fn nb_server_next_dropped(
     ensures none { place.old.kept.held ≡ None → (result ≡ 1) × (place.new.kept.held ≡ None) × (descriptor.new ≡ descriptor.old) }
     ensures stays { IsSome place.old.kept.held → IsSome place.new.kept.held }
     ensures unwritten { result ≢ 0 → descriptor.new ≡ descriptor.old }
+    ensures call { Gave place.old.kept.held result descriptor.old descriptor.new place.new.kept.held (λ s answer t. NextDropped s answer t) }
+    ensures descriptors { Gave place.old.kept.held result descriptor.old descriptor.new place.new.kept.held (λ s answer t. Conserves kept_by_server s [] (handed answer) t) }
 {
     let Some(mut session) = place.take(alloc) else {
         return Status::NoSession.code();

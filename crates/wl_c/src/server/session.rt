@@ -1,6 +1,17 @@
 //! A server's session as a whole: its begin and its end, its table, its limits.
 
-ghost use Rattle.std.specs.Prelude.{IsSome, None, ◌≡◌, ◌≢◌, ◌↔◌};
+ghost use Rattle.std.specs.Prelude.{IfErr, IfOk, IsSome, None, Ok, Some, [], ◌↔◌, ◌≡◌, ◌≢◌};
+ghost use Rattle.wl_c.specs.Calls.{Added, Did, FoundFlag, fault_code};
+ghost use Rattle.wl_host.specs.Calls.{world};
+ghost use Rattle.wl_host.specs.Clients.{SetsRoom};
+ghost use Rattle.wl_host.specs.Descriptors.{Conserves};
+ghost use Rattle.wl_host.specs.Flat.{client_of};
+ghost use Rattle.wl_host.specs.Server.{ServerState, kept_by_server};
+ghost use Rattle.wl_host.specs.Tables.{AddsInterfaces, IsFaultOf, IsNewServer};
+ghost use Rattle.wl_host.specs.declared.status.Status.TheVariants as status;
+ghost use Rattle.wl_server.specs.Backend.{Calls};
+ghost use Rattle.wl_server.specs.declared.runs.step.Reply.TheVariants as reply;
+ghost use Rattle.wl_server.specs.declared.runs.step.Step.TheVariants as step;
 
 use super::place::ServerPlace;
 use crate::answer::{write_fault, write_flag};
@@ -24,6 +35,8 @@ pub extern "C" fn nb_server_new(
 ) -> u32
     ensures in_use { IsSome place.old.kept.held → (result ≡ 2) × (place.new.kept.held ≡ place.old.kept.held) × (fault.new ≡ fault.old) }
     ensures begun { place.old.kept.held ≡ None → (result ≡ 0) ↔ IsSome place.new.kept.held }
+    ensures made { (s : ServerState) → place.old.kept.held ≡ None → place.new.kept.held ≡ Some s → IsNewServer (record { text = text.entry; interfaces = interfaces.entry; messages = messages.entry; arguments = arguments.entry }) s }
+    ensures refused { place.old.kept.held ≡ None → place.new.kept.held ≡ None → (result ≡ fault_code fault.new) × IsFaultOf (record { text = text.entry; interfaces = interfaces.entry; messages = messages.entry; arguments = arguments.entry }) fault.new }
     ensures unfaulted { result ≡ 0 → fault.new ≡ fault.old }
 {
     if let Some(session) = place.take(alloc) {
@@ -72,6 +85,8 @@ pub extern "C" fn nb_server_add_interfaces(
     ensures none { place.old.kept.held ≡ None → (result ≡ 1) × (place.new.kept.held ≡ None) × (fault.new ≡ fault.old) }
     ensures stays { IsSome place.old.kept.held → IsSome place.new.kept.held }
     ensures unfaulted { result ≡ 0 → fault.new ≡ fault.old }
+    ensures beside { Added place.old.kept.held result fault.old fault.new place.new.kept.held (λ s answer t. t ≡ record s { core = t.core }) }
+    ensures descriptors { Added place.old.kept.held result fault.old fault.new place.new.kept.held (λ s answer t. Conserves kept_by_server s [] [] t) }
 {
     let Some(mut session) = place.take(alloc) else {
         return Status::NoSession.code();
@@ -100,6 +115,7 @@ pub extern "C" fn nb_server_memory_refused(
     ensures none { place.old.kept.held ≡ None → (result ≡ 1) × (place.new.kept.held ≡ None) × (is_refused.new ≡ is_refused.old) }
     ensures kept { place.new.kept.held ≡ place.old.kept.held }
     ensures unwritten { result ≢ 0 → is_refused.new ≡ is_refused.old }
+    ensures answer { FoundFlag place.old.kept.held result is_refused.old is_refused.new (λ s answer. answer ≡ Ok s.core.refused) }
 {
     let Some(session) = place.take(alloc) else {
         return Status::NoSession.code();
@@ -118,6 +134,10 @@ pub extern "C" fn nb_server_set_default_max_buffer_size(
 ) -> u32
     ensures none { place.old.kept.held ≡ None → (result ≡ 1) × (place.new.kept.held ≡ None) }
     ensures stays { IsSome place.old.kept.held → IsSome place.new.kept.held }
+    ensures call { Did place.old.kept.held result place.new.kept.held (λ s status t. Calls world s.core (step.SetDefaultMaxBufferSize size) reply.SetDefaultMaxBufferSize t.core) }
+    ensures beside { Did place.old.kept.held result place.new.kept.held (λ s status t. t ≡ record s { core = t.core }) }
+    ensures descriptors { Did place.old.kept.held result place.new.kept.held (λ s status t. Conserves kept_by_server s [] [] t) }
+    ensures status { IsSome place.old.kept.held → result ≡ 0 }
 {
     let Some(mut session) = place.take(alloc) else {
         return Status::NoSession.code();
@@ -137,6 +157,10 @@ pub extern "C" fn nb_server_set_max_buffer_size(
 ) -> u32
     ensures none { place.old.kept.held ≡ None → (result ≡ 1) × (place.new.kept.held ≡ None) }
     ensures stays { IsSome place.old.kept.held → IsSome place.new.kept.held }
+    ensures call { Did place.old.kept.held result place.new.kept.held (λ s status t. Calls world s.core (step.SetClientMaxBufferSize (client_of client.now) size) reply.SetClientMaxBufferSize t.core) }
+    ensures beside { Did place.old.kept.held result place.new.kept.held (λ s status t. t ≡ record s { core = t.core }) }
+    ensures descriptors { Did place.old.kept.held result place.new.kept.held (λ s status t. Conserves kept_by_server s [] [] t) }
+    ensures status { IsSome place.old.kept.held → result ≡ 0 }
 {
     let Some(mut session) = place.take(alloc) else {
         return Status::NoSession.code();
@@ -156,6 +180,8 @@ pub extern "C" fn nb_server_set_room(
 ) -> u32
     ensures none { place.old.kept.held ≡ None → (result ≡ 1) × (place.new.kept.held ≡ None) }
     ensures stays { IsSome place.old.kept.held → IsSome place.new.kept.held }
+    ensures room { Did place.old.kept.held result place.new.kept.held (λ s status t. SetsRoom s (client_of client.now) room status t) }
+    ensures descriptors { Did place.old.kept.held result place.new.kept.held (λ s status t. Conserves kept_by_server s [] [] t) }
 {
     let Some(mut session) = place.take(alloc) else {
         return Status::NoSession.code();
@@ -166,7 +192,10 @@ pub extern "C" fn nb_server_set_room(
 }
 
 /// A session in a box of its own.
-fn boxed(alloc: Global, rows: &Rows) -> Result<Box<Server>, TableFault> {
+fn boxed(alloc: Global, rows: &Rows) -> Result<Box<Server>, TableFault>
+    ensures made { IfOk result (λ session. IsNewServer rows.now session.value) }
+    ensures fault { IfErr result (IsFaultOf rows.now) }
+{
     let session = Server::new(alloc, rows)?;
     match Box::new(alloc, session) {
         Ok(session) => Ok(session),

@@ -1,31 +1,65 @@
 //! Events.
 
-ghost use Rattle.std.specs.Prelude.{◌≡◌, None, Some};
-ghost use Rattle.wl_host.specs.Client.{EndsEvent, ReadsUnlessKept};
+ghost use Rattle.std.specs.Prelude.{◌≡◌, ℤ, List, [], None, Some, if◌then◌else◌};
+ghost use Rattle.wl_client.specs.Requests.{session_content};
+ghost use Rattle.wl_host.specs.Arguments.{all_bytes, flat_arguments, queue_after_all};
+ghost use Rattle.wl_host.specs.Client.{ConservesClient, EndsEvent, HandsNext, ReadsUnlessKept, data_or_zero, fits, flat_event, kept_of};
+ghost use Rattle.wl_host.specs.Flat.{flat_proxy, over_front};
 
-use super::Client;
 use super::flattening::flat_event;
+use super::notes::take_notes;
+use super::{Client, Core};
 use crate::arguments::{Needs, write_arguments};
+use crate::descriptors::DescriptorQueue;
 use crate::flat::{FlatArgument, FlatEvent};
 use crate::status::Status;
+use wl_client::ObjectId;
+use wl_wire::{Message, Token};
+
+/// Reads the next event, unless one is kept. Then it is kept.
+fn read(core: &mut Core, event: &mut Message<ObjectId, Token>, is_kept: &mut bool) -> Status
+    ensures { ReadsUnlessKept (kept_of is_kept.old event.old) core.old result (kept_of is_kept.new event.new) core.new }
+{
+    if *is_kept {
+        return Status::Ok;
+    }
+    match core.next_event_into(event) {
+        Ok(()) => {
+            *is_kept = true;
+            Status::Ok
+        }
+        Err(error) => Status::from(error),
+    }
+}
+
+/// Writes the event, which is open, to the lent memory, and takes its descriptors out. If there is no room for its arguments, it
+/// writes only `out`, and returns false.
+fn hand_out(
+    core: &Core,
+    event: &Message<ObjectId, Token>,
+    arrivals: &mut DescriptorQueue,
+    out: &mut FlatEvent,
+    arguments: &mut [FlatArgument],
+    bytes: &mut [u8],
+) -> bool
+    ensures fits { result ≡ fits event.now.args.items arguments.old bytes.old }
+    ensures out { out.new ≡ flat_event core.now (session_content event.now) }
+    ensures arguments { arguments.new ≡ (if result then
+        over_front (flat_arguments flat_proxy (data_or_zero core.now) arrivals.old 0 event.now.args.items) arguments.old else arguments.old) }
+    ensures bytes { bytes.new ≡ (if result then over_front (all_bytes event.now.args.items) bytes.old else bytes.old) }
+    ensures arrivals { arrivals.new ≡ (if result then queue_after_all arrivals.old event.now.args.items else arrivals.old) }
+{
+    let args = event.args.as_slice();
+    let needs = Needs::of(args);
+    *out = flat_event(core, event, needs);
+    if !needs.fit(arguments, bytes) {
+        return false;
+    }
+    write_arguments(core, args, arrivals, arguments, bytes);
+    true
+}
 
 impl Client {
-    /// Reads the next event, unless one is kept. Then it is kept.
-    fn read(&mut self) -> Status
-        ensures { ReadsUnlessKept self.old.is_kept self.old.core self.old.event result self.new.event self.new.core }
-    {
-        if self.is_kept {
-            return Status::Ok;
-        }
-        match self.core.next_event_into(&mut self.event) {
-            Ok(()) => {
-                self.is_kept = true;
-                Status::Ok
-            }
-            Err(error) => Status::from(error),
-        }
-    }
-
     /// Hands out the next event: what it is in `out`, its arguments in `arguments`, and their strings and arrays in `bytes`.
     /// It is *open* until `finish_event` or `finish_event_with` ends it.
     ///
@@ -46,40 +80,44 @@ impl Client {
         out: &mut FlatEvent,
         arguments: &mut [FlatArgument],
         bytes: &mut [u8],
-    ) -> Status {
-        let status = self.read();
-        if status != Status::Ok {
-            return status;
+    ) -> Status
+        ensures { (came_out : List ℤ)
+            × HandsNext self.old (record { out = out.old; arguments = arguments.old; bytes = bytes.old }) result came_out
+            self.new (record { out = out.new; arguments = arguments.new; bytes = bytes.new })
+            × ConservesClient self.old [] came_out self.new }
+    {
+        match read(&mut self.core, &mut self.event, &mut self.is_kept) {
+            Status::Ok => {}
+            status => return status,
         }
-        let needs = Needs::of(self.event.args.as_slice());
-        *out = flat_event(&self.core, &self.event, needs);
-        if !needs.fit(arguments, bytes) {
-            return Status::TooSmall;
-        }
-        write_arguments(
+        let handed_out = hand_out(
             &self.core,
-            self.event.args.as_slice(),
+            &self.event,
             &mut self.arrivals,
+            out,
             arguments,
             bytes,
         );
+        if !handed_out {
+            return Status::TooSmall;
+        }
         self.is_kept = false;
         Status::Ok
     }
 
     /// Ends the event that was handed out, which made no object.
     ///
-    /// If the event ends its sender, the sender is noted, unless it has no data or the client had destroyed it. The statuses
-    /// are, in this order:
+    /// If the event ends its sender, `next_note` tells of the sender, unless it has no data or the client had destroyed it. The
+    /// statuses are:
     ///
     /// - `NotOpen` if no event was handed out that is not finished;
     /// - `MissingData` if the event made an object;
-    /// - `OutOfMemory` if there is no memory for the note.
+    /// - `OutOfMemory` if there is no memory for the note. That is looked at before the event is.
     ///
     /// Then the event stays open.
     pub fn finish_event(&mut self) -> Status
-        ensures call { EndsEvent self.old.is_kept self.old.core None result self.new.core }
-        ensures beside { self.new ≡ record self.old { core = self.new.core } }
+        ensures call { EndsEvent self.old None result self.new }
+        ensures descriptors { ConservesClient self.old [] [] self.new }
     {
         self.finish(None)
     }
@@ -88,22 +126,28 @@ impl Client {
     ///
     /// The statuses are those of `finish_event`, with `UnexpectedData` in place of `MissingData`: the event made no object.
     pub fn finish_event_with(&mut self, user_data: u64) -> Status
-        ensures call { EndsEvent self.old.is_kept self.old.core (Some user_data) result self.new.core }
-        ensures beside { self.new ≡ record self.old { core = self.new.core } }
+        ensures call { EndsEvent self.old (Some user_data) result self.new }
+        ensures descriptors { ConservesClient self.old [] [] self.new }
     {
         self.finish(Some(user_data))
     }
 
     /// Ends the event that was handed out.
     fn finish(&mut self, user_data: Option<u64>) -> Status
-        ensures call { EndsEvent self.old.is_kept self.old.core user_data result self.new.core }
-        ensures beside { self.new ≡ record self.old { core = self.new.core } }
+        ensures call { EndsEvent self.old user_data result self.new }
+        ensures descriptors { ConservesClient self.old [] [] self.new }
     {
         if self.is_kept {
             return Status::NotOpen;
         }
+        if self.notes.reserve(1).is_err() {
+            return Status::OutOfMemory;
+        }
         match self.core.finish_event(user_data) {
-            Ok(()) => Status::Ok,
+            Ok(()) => {
+                take_notes(&mut self.core, &mut self.notes);
+                Status::Ok
+            }
             Err(refused) => Status::from(refused.error),
         }
     }

@@ -1,5 +1,9 @@
 //! The error that ended a session.
 
+ghost use Rattle.std.specs.Prelude.{◌≡◌, ◌++◌};
+ghost use Rattle.wl_host.specs.Faults.{flat_error, io_error, no_error, number_of, protocol_error, text_of_error};
+ghost use Rattle.wl_host.specs.Lent.{has_room, status_for, written};
+
 use super::Client;
 use crate::flat::{FlatError, IO, PROTOCOL, count_number};
 use crate::status::Status;
@@ -7,7 +11,9 @@ use wl_client::WaylandError;
 use wl_wire::{IoFault, ProtocolError};
 
 /// No error.
-fn no_error() -> FlatError {
+fn no_error() -> FlatError
+    ensures { result ≡ no_error }
+{
     FlatError {
         kind: 0,
         status: Status::Ok.code(),
@@ -20,7 +26,9 @@ fn no_error() -> FlatError {
 }
 
 /// The number of the system in a fault; 0 if it has none.
-fn number_of(fault: IoFault) -> i32 {
+fn number_of(fault: IoFault) -> i32
+    ensures { result ≡ number_of fault }
+{
     match fault {
         IoFault::Other(number) => number,
         _ => 0,
@@ -28,7 +36,9 @@ fn number_of(fault: IoFault) -> i32 {
 }
 
 /// A fault of the transport.
-fn io_error(fault: IoFault) -> FlatError {
+fn io_error(fault: IoFault) -> FlatError
+    ensures { result ≡ io_error fault }
+{
     FlatError {
         kind: IO,
         status: Status::from(fault).code(),
@@ -38,7 +48,9 @@ fn io_error(fault: IoFault) -> FlatError {
 }
 
 /// A protocol error, without its text.
-fn protocol_error(error: &ProtocolError) -> FlatError {
+fn protocol_error(error: &ProtocolError) -> FlatError
+    ensures { result ≡ protocol_error error.now }
+{
     FlatError {
         kind: PROTOCOL,
         status: Status::ProtocolError.code(),
@@ -51,15 +63,16 @@ fn protocol_error(error: &ProtocolError) -> FlatError {
 }
 
 /// Copies the two texts behind each other. The status is `TooSmall` if there is no room for them.
-fn put_texts(to: &mut [u8], first: &str, second: &str) -> Status {
-    let Some((place, rest)) = to.split_at_mut_checked(first.len()) else {
+fn put_texts(to: &mut [u8], first: &str, second: &str) -> Status
+    ensures texts { to.new ≡ written (first.now ++ second.now) to.old }
+    ensures status { result ≡ status_for (has_room (first.now ++ second.now) to.old) }
+{
+    let end = first.len() + second.len();
+    if end > to.len() {
         return Status::TooSmall;
-    };
-    let Some((next, _)) = rest.split_at_mut_checked(second.len()) else {
-        return Status::TooSmall;
-    };
-    place.copy_from_slice(first.as_bytes());
-    next.copy_from_slice(second.as_bytes());
+    }
+    to[..first.len()].copy_from_slice(first.as_bytes());
+    to[first.len()..end].copy_from_slice(second.as_bytes());
     Status::Ok
 }
 
@@ -69,8 +82,12 @@ impl Client {
     ///
     /// The kind is 0 if the session has no error, 1 for a fault of the transport, 2 for a protocol error: one that the
     /// server sent, or what was wrong with what it sent. The status is `TooSmall` if there is no room for the text. Then the
-    /// lengths in `out` say how much is needed.
-    pub fn last_error(&self, out: &mut FlatError, text: &mut [u8]) -> Status {
+    /// lengths in `out` say how much is needed, and `text` is as it was.
+    pub fn last_error(&self, out: &mut FlatError, text: &mut [u8]) -> Status
+        ensures error { out.new ≡ flat_error self.now.core.session.error }
+        ensures text { text.new ≡ written (text_of_error self.now.core.session.error) text.old }
+        ensures status { result ≡ status_for (has_room (text_of_error self.now.core.session.error) text.old) }
+    {
         match self.core.last_error() {
             None => {
                 *out = no_error();

@@ -1,5 +1,11 @@
 //! Events and object ids of a client's core as flat structs.
 
+ghost use Rattle.std.specs.Prelude.{◌≡◌, length, min};
+ghost use Rattle.wl_client.specs.Objects.{info_of, user_data_of};
+ghost use Rattle.wl_client.specs.Requests.{session_content};
+ghost use Rattle.wl_host.specs.Arguments.{all_bytes};
+ghost use Rattle.wl_host.specs.Client.{created_by, ends_sender, flat_event, version_in};
+
 use super::Core;
 use crate::arguments::{FromFlat, Needs, Objects};
 use crate::flat::{FlatEvent, FlatObjectId, count_number};
@@ -7,7 +13,9 @@ use wl_client::ObjectId;
 use wl_wire::{Message, Token};
 
 /// The data of the object, if it has any.
-fn data_of(core: &Core, id: &ObjectId) -> Option<u64> {
+pub fn data_of(core: &Core, id: &ObjectId) -> Option<u64>
+    ensures { result ≡ user_data_of core.now.session id.now }
+{
     match core.get_data(id) {
         Ok(user_data) => Some(*user_data),
         Err(_) => None,
@@ -15,7 +23,9 @@ fn data_of(core: &Core, id: &ObjectId) -> Option<u64> {
 }
 
 /// The version of the object; 0 if the id names none.
-fn version_of(core: &Core, id: &ObjectId) -> u32 {
+fn version_of(core: &Core, id: &ObjectId) -> u32
+    ensures { result ≡ version_in (info_of core.now.session id.now) }
+{
     match core.info(id) {
         Ok(info) => info.version,
         Err(_) => 0,
@@ -23,6 +33,13 @@ fn version_of(core: &Core, id: &ObjectId) -> u32 {
 }
 
 impl Objects<ObjectId> for Core {
+    ghost use Rattle.wl_host.specs.Client.{data_or_zero};
+    ghost use Rattle.wl_host.specs.Flat.{flat_proxy};
+
+    ghost flat_of = { flat_proxy };
+
+    ghost data_of = { data_or_zero };
+
     fn flat(&self, id: &ObjectId) -> FlatObjectId {
         FlatObjectId::of_proxy(*id)
     }
@@ -33,19 +50,34 @@ impl Objects<ObjectId> for Core {
 }
 
 impl FromFlat for ObjectId {
+    ghost use Rattle.wl_host.specs.Flat.{proxy_of};
+
+    ghost stands_for = { proxy_of };
+
     fn from_flat(flat: &FlatObjectId) -> ObjectId {
         flat.proxy()
     }
 }
 
+/// What the open event made, and whether it ends its sender.
+fn made_and_ends(core: &Core) -> (ObjectId, bool)
+    ensures made { result.0 ≡ created_by core.now.session.open_event }
+    ensures ends { result.1 ≡ ends_sender core.now.session.open_event }
+{
+    match core.open_event() {
+        Some(open) => (open.created.unwrap_or(ObjectId::null()), open.is_destructor),
+        None => (ObjectId::null(), false),
+    }
+}
+
 /// The event without its arguments, which need this much. It is open.
-pub fn flat_event(core: &Core, event: &Message<ObjectId, Token>, needs: Needs) -> FlatEvent {
+pub fn flat_event(core: &Core, event: &Message<ObjectId, Token>, needs: Needs) -> FlatEvent
+    requires arguments { needs.arguments ≡ length event.now.args.items }
+    requires bytes { needs.bytes ≡ min (length (all_bytes event.now.args.items)) usize.MAX }
+    ensures { result ≡ flat_event core.now (session_content event.now) }
+{
     let user_data = data_of(core, &event.sender_id);
-    let (created, is_destructor) = match core.open_event() {
-        Some(open) => (open.created, open.is_destructor),
-        None => (None, false),
-    };
-    let created = created.unwrap_or(ObjectId::null());
+    let (created, is_destructor) = made_and_ends(core);
     FlatEvent {
         opcode: u32::from(event.opcode),
         arguments: count_number(needs.arguments),

@@ -1,15 +1,16 @@
 //! The objects of a client.
 
-ghost use Rattle.std.specs.Prelude.{◌≡◌};
+ghost use Rattle.std.specs.Prelude.{◌≡◌, []};
 ghost use Rattle.wl_client.specs.Objects.{info_of, user_data_of};
-ghost use Rattle.wl_host.specs.Client.{Destroys, flat_info, found, status_of};
+ghost use Rattle.wl_host.specs.Client.{ConservesClient, Destroys, GivesData, flat_info, found, status_of};
 ghost use Rattle.wl_host.specs.declared.status.Status.TheVariants as status;
 ghost use Rattle.wl_host.specs.Flat.{proxy_of};
 
 use super::Client;
+use super::notes::take_notes;
 use crate::flat::{FlatObjectId, FlatObjectInfo, interface_number};
 use crate::status::Status;
-use wl_client::{InvalidId, Note};
+use wl_client::InvalidId;
 
 /// The status of an answer to `set_data`.
 fn given_status(answer: Result<(), InvalidId>) -> Status
@@ -54,39 +55,30 @@ impl Client {
     ///
     /// The status is `InvalidId` if the id names no object.
     pub fn set_object_data(&mut self, id: &FlatObjectId, user_data: u64) -> Status
+        ensures call { GivesData self.old.core (proxy_of id.now) user_data result self.new.core }
         ensures beside { self.new ≡ record self.old { core = self.new.core } }
+        ensures descriptors { ConservesClient self.old [] [] self.new }
     {
         given_status(self.core.set_data(&id.proxy(), user_data))
     }
 
-    /// Destroys the object that the id names, on the client's side. It is noted, if it has data.
+    /// Destroys the object that the id names, on the client's side. If it has data, `next_note` tells of it.
     ///
-    /// The status is `InvalidId` if the id names no object, or the display, or an object that the client has destroyed
-    /// before; else `OutOfMemory` if there is no memory for the note. Then nothing is changed.
+    /// The status is `OutOfMemory` if there is no memory for that, and else `InvalidId` if the id names no object, or the display, or
+    /// an object that the client has destroyed before. Then nothing is changed.
     pub fn destroy_object(&mut self, id: &FlatObjectId) -> Status
-        ensures call { Destroys self.old.core (proxy_of id.now) result self.new.core }
-        ensures beside { self.new ≡ record self.old { core = self.new.core } }
+        ensures call { Destroys self.old (proxy_of id.now) result self.new }
+        ensures descriptors { ConservesClient self.old [] [] self.new }
     {
+        if self.notes.reserve(1).is_err() {
+            return Status::OutOfMemory;
+        }
         match self.core.destroy_object(&id.proxy()) {
-            Ok(()) => Status::Ok,
+            Ok(()) => {
+                take_notes(&mut self.core, &mut self.notes);
+                Status::Ok
+            }
             Err(error) => Status::from(error),
         }
-    }
-
-    /// The id of the next object that had data and was destroyed, by the client or by an event, in the order in which they
-    /// ended. Each comes once.
-    ///
-    /// The status is `WouldBlock` if there is none.
-    pub fn next_note(&mut self) -> Result<FlatObjectId, Status> {
-        if self.noted >= self.notes.len() {
-            self.notes = self.core.take_notes();
-            self.noted = 0;
-        }
-        let Some(note) = self.notes.get(self.noted) else {
-            return Err(Status::WouldBlock);
-        };
-        let Note::Destroyed(id) = *note;
-        self.noted += 1;
-        Ok(FlatObjectId::of_proxy(id))
     }
 }

@@ -1,13 +1,16 @@
 //! What the host received.
 
-ghost use Rattle.std.specs.Prelude.{◌≡◌};
+ghost use Rattle.std.specs.Prelude.{◌≡◌, []};
 ghost use Rattle.wl_link.specs.declared.mailbox.Ending.TheVariants as ending;
-ghost use Rattle.wl_client.specs.Lending.{client_over};
+ghost use Rattle.wl_wire.specs.declared.error.IoFault.TheVariants as fault;
+ghost use Rattle.wl_host.specs.Client.{ConservesClient, Receives, mailbox_of, taken_in, with_mailbox};
+ghost use Rattle.wl_host.specs.declared.status.Status.TheVariants as status;
 
 use super::Client;
+use crate::incoming::take_in;
 use crate::status::Status;
-use wl_link::{Ending, MAX_FDS_OUT};
-use wl_wire::{IoFault, Token};
+use wl_link::Ending;
+use wl_wire::IoFault;
 
 impl Client {
     /// Puts in bytes that the host received, and the descriptors that came with them.
@@ -19,28 +22,24 @@ impl Client {
     /// - `OutOfMemory` if there is no memory.
     ///
     /// Then nothing is changed, and the descriptors are still the host's.
-    pub fn received(&mut self, bytes: &[u8], descriptors: &[i32]) -> Status {
-        let mut tokens = [Token(0); MAX_FDS_OUT];
-        let Some(tokens) = tokens.get_mut(..descriptors.len()) else {
-            return Status::TooManyDescriptors;
-        };
-        self.arrivals.next_tokens(tokens);
-        if self.arrivals.put_in(descriptors).is_err() {
-            return Status::OutOfMemory;
-        }
-        match self.core.transport_mut().arrive(bytes, tokens) {
-            Ok(()) => Status::Ok,
-            Err(error) => {
-                self.arrivals.take_back(descriptors.len());
-                Status::from(error)
-            }
-        }
+    pub fn received(&mut self, bytes: &[u8], descriptors: &[i32]) -> Status
+        ensures call { Receives self.old bytes.now descriptors.now result self.new }
+        ensures descriptors { ConservesClient self.old (taken_in result descriptors.now) [] self.new }
+    {
+        take_in(
+            self.core.transport_mut(),
+            &mut self.arrivals,
+            bytes,
+            descriptors,
+        )
     }
 
     /// Says that the server closed the connection. The events that arrived before are still read. Then the session fails,
     /// and its error is `Closed`.
     pub fn received_end(&mut self) -> Status
-        ensures ended { self.new.core ≡ client_over self.old.core (record self.old.core.session.link.transport { ending = ending.Ended }) }
+        ensures ended { self.new ≡ with_mailbox self.old (record (mailbox_of self.old) { ending = ending.Ended }) }
+        ensures descriptors { ConservesClient self.old [] [] self.new }
+        ensures answer { result ≡ status.Ok }
     {
         self.core.transport_mut().end(Ending::Ended);
         Status::Ok
@@ -48,7 +47,11 @@ impl Client {
 
     /// Says that a receive failed, with this number of the system. The events that arrived before are still read. Then the
     /// session fails, and its error is `IoError` with this number.
-    pub fn receive_failed(&mut self, number: i32) -> Status {
+    pub fn receive_failed(&mut self, number: i32) -> Status
+        ensures failed { self.new ≡ with_mailbox self.old (record (mailbox_of self.old) { ending = ending.Failed (fault.Other number) }) }
+        ensures descriptors { ConservesClient self.old [] [] self.new }
+        ensures answer { result ≡ status.Ok }
+    {
         self.core
             .transport_mut()
             .end(Ending::Failed(IoFault::Other(number)));

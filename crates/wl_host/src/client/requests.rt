@@ -1,13 +1,20 @@
 //! Requests.
 
+ghost use Rattle.std.specs.Prelude.{◌≡◌, []};
+ghost use Rattle.wl_host.specs.Arguments.{descriptors_given};
+ghost use Rattle.wl_host.specs.Client.{ConservesClient, Sends, child_asked_by, data_given_by, given_with};
+
 use super::Client;
+use super::notes::take_notes;
 use crate::arguments::read_arguments;
 use crate::flat::{FlatArgument, FlatObjectId, FlatRequest};
 use crate::status::Status;
 use wl_wire::InterfaceId;
 
 /// The interface and version that the host asks for the object that the request makes.
-fn child_of(request: &FlatRequest) -> Option<(InterfaceId, u32)> {
+fn child_of(request: &FlatRequest) -> Option<(InterfaceId, u32)>
+    ensures { result ≡ child_asked_by request.now }
+{
     if request.has_child == 0 {
         return None;
     }
@@ -16,7 +23,9 @@ fn child_of(request: &FlatRequest) -> Option<(InterfaceId, u32)> {
 }
 
 /// The data for the object that the request makes.
-fn data_of(request: &FlatRequest) -> Option<u64> {
+fn data_of(request: &FlatRequest) -> Option<u64>
+    ensures { result ≡ data_given_by request.now }
+{
     if request.has_data == 0 {
         return None;
     }
@@ -25,7 +34,7 @@ fn data_of(request: &FlatRequest) -> Option<u64> {
 
 impl Client {
     /// Checks the request, and appends it to what waits to be sent. Returns the id of the object that it makes, or the null
-    /// id.
+    /// id. If the request ends its sender, and that has data, `next_note` tells of it.
     ///
     /// Strings and arrays are ranges of `bytes`. A new id among the arguments is null: the session chooses the number. The
     /// statuses are those of `wl_client::RequestError`, and before them
@@ -40,10 +49,16 @@ impl Client {
         request: &FlatRequest,
         arguments: &[FlatArgument],
         bytes: &[u8],
-    ) -> Result<FlatObjectId, Status> {
+    ) -> Result<FlatObjectId, Status>
+        ensures call { Sends self.old request.now arguments.now bytes.now result self.new }
+        ensures descriptors { ConservesClient self.old (given_with result (descriptors_given arguments.now)) [] self.new }
+    {
         let Ok(opcode) = u16::try_from(request.opcode) else {
             return Err(Status::InvalidInput);
         };
+        if self.notes.reserve(1).is_err() {
+            return Err(Status::OutOfMemory);
+        }
         self.request.sender_id = request.sender.proxy();
         self.request.opcode = opcode;
         let count = read_arguments(
@@ -56,7 +71,10 @@ impl Client {
             .core
             .send_request_lent(&self.request, data_of(request), child_of(request));
         match answer {
-            Ok(id) => Ok(FlatObjectId::of_proxy(id)),
+            Ok(id) => {
+                take_notes(&mut self.core, &mut self.notes);
+                Ok(FlatObjectId::of_proxy(id))
+            }
             Err(error) => {
                 self.departures.take_back(count);
                 Err(Status::from(error))

@@ -1,10 +1,14 @@
 //! What the host is to send, and the descriptors that it takes back.
 
-ghost use Rattle.std.specs.Prelude.{◌≡◌};
-ghost use Rattle.wl_host.specs.Client.{Flushes};
+ghost use Rattle.std.specs.Prelude.{◌≡◌, [], Some};
+ghost use Rattle.wl_wire.specs.declared.error.IoFault.TheVariants as fault;
+ghost use Rattle.wl_host.specs.Client.{ConservesClient, Drops, Flushes, HandsDropped, has_failed, let_go, mailbox_of, sent, sent_descriptors, to_send, told, with_mailbox};
+ghost use Rattle.wl_host.specs.Sending.{copied};
+ghost use Rattle.wl_host.specs.declared.status.Status.TheVariants as status;
 
 use super::Client;
 use crate::flat::Counts;
+use crate::outgoing::{copy_out, take_off};
 use crate::status::Status;
 use wl_wire::IoFault;
 
@@ -19,6 +23,7 @@ impl Client {
     pub fn flush(&mut self) -> Status
         ensures call { Flushes self.old.core result self.new.core }
         ensures beside { self.new ≡ record self.old { core = self.new.core } }
+        ensures descriptors { ConservesClient self.old [] [] self.new }
     {
         match self.core.flush() {
             Ok(()) => Status::Ok,
@@ -30,49 +35,42 @@ impl Client {
     /// say how many these are; both are 0 if no bytes wait. Nothing is changed: `sent` takes away what the host sent.
     ///
     /// The status is `TooSmall` if there is room for fewer descriptors than wait. Then `counts` says how many of them there
-    /// are. Room for 28 is always enough.
-    pub fn to_send(
-        &self,
-        bytes: &mut [u8],
-        descriptors: &mut [i32],
-        counts: &mut Counts,
-    ) -> Status {
-        *counts = Counts::new(0, 0);
-        let waiting = self.core.transport().bytes();
-        let count = waiting.len().min(bytes.len());
-        if count == 0 || self.has_failed() {
+    /// are, and the rest of what was lent is as it was. Room for 28 is always enough.
+    pub fn to_send(&self, bytes: &mut [u8], descriptors: &mut [i32], counts: &mut Counts) -> Status
+        ensures counts { counts.new ≡ (copied (to_send self.now) self.now.departures bytes.old descriptors.old).counts }
+        ensures bytes { bytes.new ≡ (copied (to_send self.now) self.now.departures bytes.old descriptors.old).bytes }
+        ensures descriptors { descriptors.new ≡ (copied (to_send self.now) self.now.departures bytes.old descriptors.old).descriptors }
+        ensures status { result ≡ (copied (to_send self.now) self.now.departures bytes.old descriptors.old).status }
+    {
+        if self.has_failed() {
+            *counts = Counts::new(0, 0);
             return Status::Ok;
         }
-        let tokens = self.core.transport().tokens();
-        *counts = Counts::new(count, tokens.len());
-        if tokens.len() > descriptors.len() {
-            return Status::TooSmall;
-        }
-        for (place, token) in descriptors.iter_mut().zip(tokens) {
-            *place = self.departures.descriptor(*token).unwrap_or(-1);
-        }
-        bytes[..count].copy_from_slice(&waiting[..count]);
-        Status::Ok
+        let mailbox = self.core.transport();
+        copy_out(mailbox, &self.departures, bytes, descriptors, counts)
     }
 
     /// Takes away what the host sent: so many of the bytes, or all if there are fewer. If that is a byte at least, the
     /// descriptors were sent too.
-    pub fn sent(&mut self, count: u32) -> Status {
-        let waiting = self.core.transport().bytes().len();
-        let count = waiting.min(count as usize);
-        if count == 0 || self.has_failed() {
+    pub fn sent(&mut self, count: u32) -> Status
+        ensures call { self.new ≡ sent self.old count }
+        ensures descriptors { ConservesClient self.old [] (sent_descriptors self.old count) self.new }
+        ensures answer { result ≡ status.Ok }
+    {
+        if self.has_failed() {
             return Status::Ok;
         }
-        for token in self.core.transport().tokens() {
-            self.departures.take_out(*token);
-        }
-        self.core.transport_mut().sent(count);
+        take_off(self.core.transport_mut(), &mut self.departures, count);
         Status::Ok
     }
 
     /// Says that a send failed, with this number of the system. The next `flush` that has something to send fails, and the
     /// session's error is `IoError` with this number.
-    pub fn send_failed(&mut self, number: i32) -> Status {
+    pub fn send_failed(&mut self, number: i32) -> Status
+        ensures failed { self.new ≡ with_mailbox self.old (record (mailbox_of self.old) { send_fault = Some (fault.Other number) }) }
+        ensures descriptors { ConservesClient self.old [] [] self.new }
+        ensures answer { result ≡ status.Ok }
+    {
         self.core.transport_mut().fail_sends(IoFault::Other(number));
         Status::Ok
     }
@@ -83,21 +81,33 @@ impl Client {
     /// event is kept, they are all that were put in and did not come out. Then nothing is left to be sent.
     ///
     /// The status is `WouldBlock` if there is none.
-    pub fn next_dropped(&mut self) -> Result<i32, Status> {
+    pub fn next_dropped(&mut self) -> Result<i32, Status>
+        ensures call { Drops self.old result self.new }
+        ensures descriptors { ConservesClient self.old [] (told result) self.new }
+    {
         if self.has_failed() {
             self.let_go();
         }
+        self.next_passed()
+    }
+
+    /// Takes the next descriptor out that was passed over, on either side. The status is `WouldBlock` if there is none.
+    fn next_passed(&mut self) -> Result<i32, Status>
+        ensures { HandsDropped self.old.arrivals.passed self.old.departures.passed self.old result self.new }
+    {
         if let Some(descriptor) = self.arrivals.next_passed() {
             return Ok(descriptor);
         }
-        match self.departures.next_passed() {
-            Some(descriptor) => Ok(descriptor),
-            None => Err(Status::WouldBlock),
+        if let Some(descriptor) = self.departures.next_passed() {
+            return Ok(descriptor);
         }
+        Err(Status::WouldBlock)
     }
 
     /// Drops the descriptors that nobody takes any more, since the session has failed.
-    fn let_go(&mut self) {
+    fn let_go(&mut self)
+        ensures { self.new ≡ let_go self.old }
+    {
         self.departures.give_up();
         if !self.is_kept {
             self.arrivals.give_up();
@@ -105,7 +115,9 @@ impl Client {
     }
 
     /// Whether the session has an error.
-    fn has_failed(&self) -> bool {
+    fn has_failed(&self) -> bool
+        ensures { result ≡ has_failed self.now }
+    {
         self.core.last_error().is_some()
     }
 }

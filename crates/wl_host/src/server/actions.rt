@@ -1,23 +1,34 @@
-//! The actions of clients.
-
-ghost use Rattle.std.specs.Prelude.{◌≡◌, ◌⊎◌, IfErr, Some};
+ghost use Rattle.std.specs.Prelude.{◌≡◌, ◌≤◌, [], ℤ, List, Bool, Result, MatchOption, None, Ok, Err, Some, length, min};
+ghost use Rattle.std.specs.Result.{result_and};
+ghost use Rattle.wl_host.specs.declared.status.Status.{Status};
 ghost use Rattle.wl_host.specs.declared.status.Status.TheVariants as status;
-ghost use Rattle.wl_host.specs.Calls.{EndsBind, EndsRequest, kept_by};
-ghost use Rattle.wl_host.specs.Flat.{client_of};
+ghost use Rattle.wl_host.specs.Actions.{EndsBind, EndsRequest, HandsFrom, NextAction, ReadsNext, args_of, ended, flat_action, flat_created, is_end, kills, marked_if, status_of_end, version_created};
+ghost use Rattle.wl_host.specs.Arguments.{all_bytes, flat_arguments, queue_after_all};
+ghost use Rattle.wl_host.specs.Calls.{bit_of, data_or_zero, global_data_or_zero, kept_by, version_or_zero};
+ghost use Rattle.wl_host.specs.Flat.{client_of, flat_resource, no_action, over_front};
+ghost use Rattle.wl_host.specs.Descriptors.{Conserves};
+ghost use Rattle.wl_host.specs.Inside.Actions.{NextOf, is_killed_in, status_of_next};
+ghost use Rattle.wl_host.specs.Seats.{ledger_of};
+ghost use Rattle.wl_host.specs.Server.{kept_by_server};
+ghost use Rattle.wl_server.specs.Deeds.{handed};
 
 use crate::arguments::{Needs, Objects, write_arguments};
 use crate::descriptors::DescriptorQueue;
 use crate::flat::{
     BIND, FlatAction, FlatArgument, FlatClientId, FlatGlobalId, FlatObjectId, REQUEST, count_number,
 };
+use crate::server::ledger::Ledger;
 use crate::server::{Core, Server, no_action};
 use crate::status::Status;
+use std::alloc::Global;
 use std::mem;
 use wl_server::{Action, ActionError, ClientId, FinishRefused, GlobalId, ObjectId};
 use wl_wire::IoFault;
 
 /// Whether a reading that ended so killed the client.
-fn kills(error: ActionError) -> bool {
+fn kills(error: ActionError) -> bool
+    ensures { result ≡ kills error }
+{
     match error {
         ActionError::Io(fault) => !matches!(
             fault,
@@ -28,7 +39,10 @@ fn kills(error: ActionError) -> bool {
 }
 
 /// What the action needs of lent memory.
-fn needs_of(action: &Action) -> Needs {
+fn needs_of(action: &Action) -> Needs
+    ensures arguments { result.arguments ≡ length (args_of (handed action.now)) }
+    ensures bytes { result.bytes ≡ min (length (all_bytes (args_of (handed action.now)))) usize.MAX }
+{
     match action {
         Action::Request { args, .. } => Needs::of(args.as_slice()),
         Action::Bind { .. } => Needs {
@@ -39,7 +53,9 @@ fn needs_of(action: &Action) -> Needs {
 }
 
 /// Whether the action ends the object that it was sent to.
-fn ends_sender(action: &Action) -> bool {
+fn ends_sender(action: &Action) -> bool
+    ensures { result ≡ is_end (handed action.now) }
+{
     match action {
         Action::Request { is_destructor, .. } => *is_destructor,
         Action::Bind { .. } => false,
@@ -47,66 +63,164 @@ fn ends_sender(action: &Action) -> bool {
 }
 
 /// The program's data of the global; 0 if it was removed.
-fn global_data(core: &Core, id: &GlobalId) -> u64 {
+fn global_data(core: &Core, id: &GlobalId) -> u64
+    ensures { result ≡ global_data_or_zero core.now id.now }
+{
     match core.get_global_handler(id) {
         Ok(global) => global.user_data,
         Err(_) => 0,
     }
 }
 
-/// Writes the object that the action made, with its version.
-fn write_created(core: &Core, id: &ObjectId, out: &mut FlatAction) {
-    out.created = FlatObjectId::of_resource(*id);
-    if let Ok(info) = core.object_info(id) {
-        out.version = info.version;
+/// The version of the object; 0 if the id names none.
+fn version_of(core: &Core, id: &ObjectId) -> u32
+    ensures { result ≡ version_or_zero core.now id.now }
+{
+    match core.object_info(id) {
+        Ok(info) => info.version,
+        Err(_) => 0,
     }
 }
 
-/// Writes a request without its arguments.
-fn write_request(
+/// A request as a flat struct, without how much its arguments need.
+fn flat_request(
     core: &Core,
     sender: &ObjectId,
     opcode: u16,
     is_destructor: bool,
     created: Option<ObjectId>,
-    out: &mut FlatAction,
-) {
-    out.kind = REQUEST;
-    out.opcode = u32::from(opcode);
-    out.is_destructor = u32::from(is_destructor);
-    out.sender = FlatObjectId::of_resource(*sender);
-    out.data = core.data_or_zero(sender);
-    if let Some(id) = created {
-        write_created(core, &id, out);
+) -> FlatAction
+    ensures { result ≡ record no_action { kind = REQUEST; opcode = opcode; is_destructor = bit_of is_destructor; sender = flat_resource sender.now; «data» = data_or_zero core.now sender.now; created = flat_created created; version = version_created core.now created } }
+{
+    let (object, version) = match created {
+        Some(id) => (FlatObjectId::of_resource(id), version_of(core, &id)),
+        None => (FlatObjectId::null(), 0),
+    };
+    FlatAction {
+        kind: REQUEST,
+        opcode: u32::from(opcode),
+        is_destructor: u32::from(is_destructor),
+        sender: FlatObjectId::of_resource(*sender),
+        data: core.data_or_zero(sender),
+        created: object,
+        version,
+        ..FlatAction::none()
     }
 }
 
-/// Writes the action to the lent memory, which has room for it. Its descriptors are taken out.
-fn write_action(
-    core: &Core,
-    action: &Action,
-    received: &mut DescriptorQueue,
-    out: &mut FlatAction,
-    arguments: &mut [FlatArgument],
-    bytes: &mut [u8],
-) {
+/// The action as a flat struct, without how much its arguments need.
+fn flat_action(core: &Core, action: &Action) -> FlatAction
+    ensures { result ≡ record (flat_action core.now (handed action.now)) { arguments = 0; bytes = 0 } }
+{
     match action {
         Action::Request {
             sender,
             opcode,
-            args,
             is_destructor,
             created,
-        } => {
-            write_request(core, sender, *opcode, *is_destructor, *created, out);
+            ..
+        } => flat_request(core, sender, *opcode, *is_destructor, *created),
+        Action::Bind { global, object } => FlatAction {
+            kind: BIND,
+            data: global_data(core, global),
+            global: FlatGlobalId::new(*global),
+            created: FlatObjectId::of_resource(*object),
+            version: version_of(core, object),
+            ..FlatAction::none()
+        },
+    }
+}
+
+/// Writes the arguments of the action to the front of the lent memory, which has room for them. Their descriptors are taken
+/// out.
+fn write_arguments_of(
+    core: &Core,
+    action: &Action,
+    received: &mut DescriptorQueue,
+    arguments: &mut [FlatArgument],
+    bytes: &mut [u8],
+)
+    requires room { length (args_of (handed action.now)) ≤ length arguments.old }
+    requires room_for_bytes { length (all_bytes (args_of (handed action.now))) ≤ length bytes.old }
+    ensures arguments { arguments.new ≡ over_front (flat_arguments flat_resource (data_or_zero core.now) received.old 0 (args_of (handed action.now))) arguments.old }
+    ensures bytes { bytes.new ≡ over_front (all_bytes (args_of (handed action.now))) bytes.old }
+    ensures descriptors { received.new ≡ queue_after_all received.old (args_of (handed action.now)) }
+{
+    match action {
+        Action::Request { args, .. } => {
             write_arguments(core, args.as_slice(), received, arguments, bytes);
         }
-        Action::Bind { global, object } => {
-            out.kind = BIND;
-            out.data = global_data(core, global);
-            out.global = FlatGlobalId::new(*global);
-            write_created(core, object, out);
+        Action::Bind { .. } => {}
+    }
+}
+
+/// Puts the action that was kept, or else the next one, into `action`.
+fn read_action(
+    core: &mut Core,
+    id: &ClientId,
+    kept: Option<Action>,
+    action: &mut Action,
+) -> Result<(), ActionError>
+    ensures { ReadsNext core.old id.now kept (result_and result (Ok action.new)) core.new }
+{
+    match kept {
+        Some(kept) => {
+            *action = kept;
+            Ok(())
         }
+        None => core.next_action_into(id, action),
+    }
+}
+
+/// Writes the action to the lent memory, if that has room for it. Else it is kept in the client's ledger.
+fn hand_out(
+    core: &Core,
+    ledger: &mut Ledger,
+    action: &mut Action,
+    alloc: Global,
+    out: &mut FlatAction,
+    arguments: &mut [FlatArgument],
+    bytes: &mut [u8],
+) -> Status
+    ensures { HandsFrom core.now ledger.old action.old arguments.old bytes.old result (record { out = out.new; arguments = arguments.new; bytes = bytes.new }) ledger.new }
+{
+    let needs = needs_of(action);
+    if !needs.fit(arguments, bytes) {
+        *out = FlatAction {
+            arguments: count_number(needs.arguments),
+            bytes: count_number(needs.bytes),
+            ..FlatAction::none()
+        };
+        ledger.kept = Some(mem::replace(action, no_action(alloc)));
+        return Status::TooSmall;
+    }
+    *out = FlatAction {
+        arguments: count_number(needs.arguments),
+        bytes: count_number(needs.bytes),
+        ..flat_action(core, action)
+    };
+    ledger.ends_sender = ends_sender(action);
+    write_arguments_of(core, action, &mut ledger.received, arguments, bytes);
+    Status::Ok
+}
+
+/// Reads the next action of a client, and hands it out.
+fn next_of(
+    core: &mut Core,
+    id: &ClientId,
+    ledger: &mut Ledger,
+    action: &mut Action,
+    alloc: Global,
+    out: &mut FlatAction,
+    arguments: &mut [FlatArgument],
+    bytes: &mut [u8],
+) -> Result<Status, ActionError>
+    ensures { NextOf core.old id.now ledger.old (record { out = out.old; arguments = arguments.old; bytes = bytes.old }) result (record { out = out.new; arguments = arguments.new; bytes = bytes.new }) core.new ledger.new }
+{
+    let kept = ledger.kept.take();
+    match read_action(core, id, kept, action) {
+        Ok(()) => Ok(hand_out(core, ledger, action, alloc, out, arguments, bytes)),
+        Err(error) => Err(error),
     }
 }
 
@@ -127,86 +241,74 @@ impl Server {
     ///
     /// The bytes of strings and arrays go to `bytes`, behind each other. The status is
     ///
+    /// - `InvalidId` if the client is not stored;
     /// - `TooSmall` if `arguments` or `bytes` has no room for the action. Then `out` says how much is needed, and the action is
     ///   handed out by the next call with enough;
-    /// - `InvalidId` if the client is not stored;
     /// - `Open` if an action that was handed out is not finished;
     /// - `WouldBlock` if there is no more now;
     /// - `ProtocolError`, `Closed`, `TooBig` or `IoError` if the client was killed, now or before;
     /// - `OutOfMemory`. The next call goes on.
+    ///
+    /// After any but `Ok` and `TooSmall` `out` is all zeros. After any but `Ok` the rest of the lent memory is as it was.
     pub fn next_action(
         &mut self,
         client: &FlatClientId,
         out: &mut FlatAction,
         arguments: &mut [FlatArgument],
         bytes: &mut [u8],
-    ) -> Status {
+    ) -> Status
+        ensures { (came_out : List ℤ)
+            × NextAction self.old (client_of client.now) arguments.old bytes.old result (record { out = out.new; arguments = arguments.new; bytes = bytes.new }) came_out self.new
+            × Conserves kept_by_server self.old [] came_out self.new }
+    {
         *out = FlatAction::none();
         let id = client.id();
-        match self.read_action(&id) {
-            Ok(()) => self.hand_out(&id, out, arguments, bytes),
-            Err(status) => status,
-        }
+        let alloc = self.alloc();
+        let answer = match self.seats.get_mut(&id) {
+            Some(ledger) => {
+                let action = &mut self.action;
+                next_of(
+                    &mut self.core,
+                    &id,
+                    ledger,
+                    action,
+                    alloc,
+                    out,
+                    arguments,
+                    bytes,
+                )
+            }
+            None => return Status::InvalidId,
+        };
+        // The core may have answered a sync, or told the client of globals.
+        self.seats.list(id.slot());
+        self.tell_next(answer)
     }
 
-    /// Puts the action that was kept, or else the next one, into `self.action`.
-    fn read_action(&mut self, id: &ClientId) -> Result<(), Status> {
-        if let Some(kept) = self.take_kept(id) {
-            self.action = kept;
-            return Ok(());
-        }
-        let answer = self.core.next_action_into(id, &mut self.action);
-        // It may have answered a sync, or told the client of globals.
-        self.seats.list(id.slot());
+    /// The status of an answer. If a reading killed the client, there may be notes, and something to be cleaned up.
+    fn tell_next(&mut self, answer: Result<Status, ActionError>) -> Status
+        ensures status { result ≡ status_of_next answer }
+        ensures after { self.new ≡ marked_if (is_killed_in answer) self.old }
+    {
         match answer {
-            Ok(()) => Ok(()),
+            Ok(status) => status,
             Err(error) => {
                 if kills(error) {
                     self.mark();
                 }
-                Err(Status::from(error))
+                Status::from(error)
             }
         }
     }
 
-    /// The action of the client that was kept, if one was.
-    fn take_kept(&mut self, id: &ClientId) -> Option<Action> {
-        self.seats.get_mut(id)?.kept.take()
-    }
-
-    /// Writes the action in `self.action` to the lent memory, or keeps it.
-    fn hand_out(
-        &mut self,
-        id: &ClientId,
-        out: &mut FlatAction,
-        arguments: &mut [FlatArgument],
-        bytes: &mut [u8],
-    ) -> Status {
-        let needs = needs_of(&self.action);
-        out.arguments = count_number(needs.arguments);
-        out.bytes = count_number(needs.bytes);
-        let alloc = self.alloc();
-        let Some(ledger) = self.seats.get_mut(id) else {
-            return Status::InvalidId;
-        };
-        if !needs.fit(arguments, bytes) {
-            ledger.kept = Some(mem::replace(&mut self.action, no_action(alloc)));
-            return Status::TooSmall;
-        }
-        ledger.ends_sender = ends_sender(&self.action);
-        let received = &mut ledger.received;
-        write_action(&self.core, &self.action, received, out, arguments, bytes);
-        if received.has_passed() {
-            self.seats.mark_passed();
-        }
-        Status::Ok
-    }
-
     /// Finishes the open request, which made no object (`wl_server::Backend::finish_request`).
     ///
-    /// The status is `NotOpen` if no action was handed out that is still open, and else that of `wl_server::FinishError`. Then
-    /// nothing is changed.
-    pub fn finish_request(&mut self, client: &FlatClientId) -> Status {
+    /// The status is `InvalidId` if the client is not stored, `NotOpen` if no action was handed out that is still open, and else
+    /// that of `wl_server::FinishError`. Then nothing is changed.
+    pub fn finish_request(&mut self, client: &FlatClientId) -> Status
+        ensures call { (answer : Result Bool Status) × EndsRequest self.old (client_of client.now) None answer self.new × (result ≡ status_of_end answer) }
+        ensures descriptors { Conserves kept_by_server self.old [] [] self.new }
+    {
         match self.end_request(&client.id(), None) {
             Ok(_) => Status::Ok,
             Err(status) => status,
@@ -222,14 +324,16 @@ impl Server {
         client: &FlatClientId,
         user_data: u64,
     ) -> Result<bool, Status>
-        ensures { EndsRequest self.old.core (client_of client.now) (Some user_data) result self.new.core }
+        ensures call { EndsRequest self.old (client_of client.now) (Some user_data) result self.new }
+        ensures descriptors { Conserves kept_by_server self.old [] [] self.new }
     {
         self.end_request(&client.id(), Some(user_data))
     }
 
     /// Finishes the open request. Returns whether the data, if any, are kept.
     fn end_request(&mut self, id: &ClientId, user_data: Option<u64>) -> Result<bool, Status>
-        ensures { EndsRequest self.old.core id.now user_data result self.new.core }
+        ensures call { EndsRequest self.old id.now user_data result self.new }
+        ensures descriptors { Conserves kept_by_server self.old [] [] self.new }
     {
         let ends_sender = match self.open_action_ends_sender(id) {
             Ok(ends_sender) => ends_sender,
@@ -242,7 +346,7 @@ impl Server {
 
     /// If the request ended its sender, the client is told that the number is free, and there is a note of the end.
     fn tell_end(&mut self, id: &ClientId, ends_sender: bool)
-        ensures { self.new.core ≡ self.old.core }
+        ensures { self.new ≡ ended ends_sender id.now self.old }
     {
         if ends_sender {
             self.seats.list(id.slot());
@@ -254,7 +358,8 @@ impl Server {
     ///
     /// The status is `NotOpen` if the action was not handed out yet, and `InvalidId` if the client is not stored.
     fn open_action_ends_sender(&self, id: &ClientId) -> Result<bool, Status>
-        ensures { IfErr result (λ s. (s ≡ status.NotOpen) ⊎ (s ≡ status.InvalidId)) }
+        ensures { MatchOption (ledger_of id.now self.now.seats.ledgers) (result ≡ Err status.InvalidId)
+            (λ l. MatchOption l.kept (result ≡ Ok l.ends_sender) (λ _. result ≡ Err status.NotOpen)) }
     {
         let Some(ledger) = self.seats.get(id) else {
             return Err(Status::InvalidId);
@@ -270,7 +375,8 @@ impl Server {
     ///
     /// The status is as that of `finish_request`.
     pub fn finish_bind(&mut self, client: &FlatClientId, user_data: u64) -> Result<bool, Status>
-        ensures { EndsBind self.old.core (client_of client.now) user_data result self.new.core }
+        ensures call { EndsBind self.old (client_of client.now) user_data result self.new }
+        ensures descriptors { Conserves kept_by_server self.old [] [] self.new }
     {
         let id = client.id();
         if let Err(status) = self.open_action_ends_sender(&id) {

@@ -1,48 +1,61 @@
 //! The clients of a server's session.
 
-ghost use Rattle.std.specs.Prelude.{◌≡◌, option_map};
-ghost use Rattle.wl_host.specs.Calls.{HasMailbox, InsertsClient, TellsNextClient, or_invalid, world};
-ghost use Rattle.wl_host.specs.Flat.{client_of};
+ghost use Rattle.std.specs.Prelude.{[], ◌≡◌, length, map, min, option_map};
+ghost use Rattle.wl_host.specs.Descriptors.{Conserves};
+ghost use Rattle.wl_host.specs.Server.{kept_by_server};
+ghost use Rattle.wl_host.specs.Calls.{InsertsClient, TellsNextClient, or_invalid, world};
+ghost use Rattle.wl_host.specs.Clients.{SetsRoom, inserted, marked};
+ghost use Rattle.wl_host.specs.Lists.{Lists, filled};
+ghost use Rattle.wl_host.specs.Flat.{client_of, flat_client};
 ghost use Rattle.wl_server.specs.Backend.{Calls};
-ghost use Rattle.wl_server.specs.Lookups.{client_data_of};
+ghost use Rattle.wl_server.specs.Lookups.{client_data_of, live_clients};
 ghost use Rattle.wl_server.specs.declared.runs.step.Reply.TheVariants as reply;
 ghost use Rattle.wl_server.specs.declared.runs.step.Step.TheVariants as step;
 ghost use Rattle.wl_server.specs.declared.notes.DisconnectReason.TheVariants as reason;
 ghost use Rattle.wl_host.specs.declared.status.Status.TheVariants as status;
 
-use crate::flat::{FlatClientId, count_number};
-use crate::server::ledger::Ledger;
-use crate::server::{HostClient, Server};
+use crate::flat::{FlatClientId, FlatGlobalId, count_number};
+use crate::server::listing::{put_next, room_for};
+use crate::server::{HostClient, Server, hidden};
 use crate::status::Status;
 use wl_link::Mailbox;
-use wl_server::DisconnectReason;
+use wl_server::{ClientId, DisconnectReason};
 
 /// How many bytes wait in the mailbox of a client until no more are put there, if the host sets no other number. What comes
 /// behind them waits in the core, up to the limit of the client's buffers.
 const DEFAULT_ROOM: usize = 65536;
 
 impl Server {
-    /// Inserts a client. It sees each global with which it has a group in common: a bit of `groups`.
+    /// Inserts a client. It sees each global with which it has a group in common: a bit of `groups`. But it does not see
+    /// those of `hidden`, nor those that are hidden from it.
+    ///
+    /// An id of `hidden` need not name a global yet: `next_global_id` tells the one that the next global gets.
     ///
     /// The status is that of `wl_server::InsertClientError`: `Full`, or `OutOfMemory`. Then nothing is changed.
-    pub fn insert_client(&mut self, user_data: u64, groups: u64) -> Result<FlatClientId, Status>
-        ensures { InsertsClient self.old.core (record { user_data = user_data; groups = groups }) result self.new.core }
+    pub fn insert_client(
+        &mut self,
+        user_data: u64,
+        groups: u64,
+        hidden: &[FlatGlobalId],
+    ) -> Result<FlatClientId, Status>
+        ensures call { InsertsClient self.old.core user_data groups hidden.now result self.new.core }
+        ensures beside { self.new ≡ inserted self.old self.new.core result user_data }
+        ensures descriptors { Conserves kept_by_server self.old [] [] self.new }
     {
-        let Some(next) = self.core.next_client_id() else {
-            return Err(Status::Full);
-        };
-        self.seats.make_room(next.slot())?;
-        let alloc = self.alloc();
-        let mut mailbox = Mailbox::new(alloc);
+        let hidden = hidden::globals(self.alloc(), hidden)?;
+        let mut mailbox = Mailbox::new(self.alloc());
         mailbox.set_room(DEFAULT_ROOM);
-        let client = HostClient { user_data, groups };
-        match self.core.insert_client(mailbox, client) {
+        let client = HostClient {
+            user_data,
+            groups,
+            hidden,
+        };
+        match self.seats.insert(&mut self.core, mailbox, client) {
             Ok(id) => {
                 self.may_have_notes = true;
-                self.seats.put(Ledger::new(alloc, id, user_data));
                 Ok(FlatClientId::new(id))
             }
-            Err(error) => Err(Status::from(error)),
+            Err(status) => Err(status),
         }
     }
 
@@ -68,25 +81,30 @@ impl Server {
 
     /// Writes the ids of the live clients to the lent memory, by ascending slot, as far as it has room. `count` is how many
     /// there are. The status is `TooSmall` if the memory has no room for all.
-    pub fn clients(&self, clients: &mut [FlatClientId], count: &mut u32) -> Status {
-        let mut found = 0usize;
-        let places = &mut *clients;
-        self.core.with_all_clients(|id| {
-            if let Some(place) = places.get_mut(found) {
-                *place = FlatClientId::new(id);
-            }
-            found = found.saturating_add(1);
-        });
+    pub fn clients(&self, clients: &mut [FlatClientId], count: &mut u32) -> Status
+        ensures { Lists (map flat_client (live_clients self.now.core.server)) clients.old clients.new count.new result }
+    {
+        let found = self.list_clients(clients);
         *count = count_number(found);
-        if found > clients.len() {
-            return Status::TooSmall;
-        }
-        Status::Ok
+        room_for(found, clients.len())
+    }
+
+    /// Writes the ids of the live clients to the lent memory. Returns how many there are.
+    fn list_clients(&self, clients: &mut [FlatClientId]) -> usize
+        ensures list { clients.new ≡ filled (map flat_client (live_clients self.now.core.server)) clients.old }
+        ensures count { result ≡ min (length (live_clients self.now.core.server)) 18446744073709551615 }
+    {
+        let mut found = 0usize;
+        let mut write = |id: ClientId| put_next(clients, &mut found, FlatClientId::new(id));
+        self.core.visit_clients(&mut write);
+        found
     }
 
     /// Kills the client, with the reason that its connection is closed. If it is not stored, nothing happens.
     pub fn kill_client(&mut self, client: &FlatClientId) -> Status
         ensures call { Calls world self.old.core (step.KillClient (client_of client.now) reason.ConnectionClosed) reply.KillClient self.new.core }
+        ensures beside { self.new ≡ marked self.old self.new.core }
+        ensures descriptors { Conserves kept_by_server self.old [] [] self.new }
         ensures status { result ≡ status.Ok }
     {
         self.core
@@ -99,6 +117,8 @@ impl Server {
     /// not stored, nothing happens.
     pub fn set_max_buffer_size(&mut self, client: &FlatClientId, size: u64) -> Status
         ensures call { Calls world self.old.core (step.SetClientMaxBufferSize (client_of client.now) size) reply.SetClientMaxBufferSize self.new.core }
+        ensures beside { self.new ≡ record self.old { core = self.new.core } }
+        ensures descriptors { Conserves kept_by_server self.old [] [] self.new }
         ensures status { result ≡ status.Ok }
     {
         self.core
@@ -109,7 +129,8 @@ impl Server {
     /// Sets how many bytes wait in the client's mailbox until no more are put there (`wl_link::Mailbox::set_room`). The status
     /// is `InvalidId` if the client is not stored.
     pub fn set_room(&mut self, client: &FlatClientId, room: u64) -> Status
-        ensures room { result ≡ status.Ok → HasMailbox self.old.core (client_of client.now) (λ m. record m { room = room }) self.new.core }
+        ensures room { SetsRoom self.old (client_of client.now) room result self.new }
+        ensures descriptors { Conserves kept_by_server self.old [] [] self.new }
     {
         match self.core.transport_mut(&client.id()) {
             Ok(mailbox) => {

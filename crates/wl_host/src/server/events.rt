@@ -1,20 +1,78 @@
 //! Events, and protocol errors that the program posts.
 
-ghost use Rattle.std.specs.Prelude.{◌≡◌};
-ghost use Rattle.wl_host.specs.Calls.{PostsError, SendsEvent};
+ghost use Rattle.std.specs.Prelude.{◌≡◌, ◌⊎◌, [], IfErr, IfOk, OnErr, OnOk, length};
+ghost use Rattle.wl_host.specs.Descriptors.{Conserves, put_in};
+ghost use Rattle.wl_host.specs.Arguments.{descriptors_given};
+ghost use Rattle.wl_host.specs.Events.{IsEvent, IsUnreadable, PostsError, SendsEvent, SendsFrom};
+ghost use Rattle.wl_host.specs.Server.{kept_by_server, went_in};
+ghost use Rattle.wl_host.specs.declared.status.Status.TheVariants as status;
 
 use crate::arguments::{read_arguments, text_of};
+use crate::descriptors::DescriptorQueue;
 use crate::flat::{FlatArgument, FlatObjectId};
-use crate::server::Server;
+use crate::server::{Core, Server};
 use crate::status::Status;
-use wl_server::ClientId;
+use wl_server::ObjectId;
+use wl_wire::{Message, Token};
+
+/// Reads the event that the host passed into `event`. Returns how many descriptors were put in.
+///
+/// The status is `InvalidInput` if it cannot be read, and `OutOfMemory`. Then no descriptor was put in.
+fn read_event(
+    sending: &mut DescriptorQueue,
+    event: &mut Message<ObjectId, Token>,
+    sender: &FlatObjectId,
+    opcode: u32,
+    arguments: &[FlatArgument],
+    bytes: &[u8],
+) -> Result<usize, Status>
+    ensures event { OnOk result (IsEvent (record { sender = sender.now; opcode = opcode; arguments = arguments.now; bytes = bytes.now }) sending.old event.new) }
+    ensures put_in { OnOk result (sending.new ≡ put_in sending.old (descriptors_given arguments.now)) }
+    ensures count { IfOk result (λ count. count ≡ length (descriptors_given arguments.now)) }
+    ensures err { OnErr result (sending.new ≡ sending.old) }
+    ensures why { IfErr result (λ s. ((s ≡ status.InvalidInput) × IsUnreadable (record { sender = sender.now; opcode = opcode; arguments = arguments.now; bytes = bytes.now }) sending.old) ⊎ (s ≡ status.OutOfMemory)) }
+{
+    let Ok(opcode) = u16::try_from(opcode) else {
+        return Err(Status::InvalidInput);
+    };
+    event.sender_id = sender.resource();
+    event.opcode = opcode;
+    read_arguments(&mut event.args, arguments, bytes, sending)
+}
+
+/// Reads the event that the host passed, and sends it. Returns the status of what the core answered.
+///
+/// The error is the status if the event was not read. Then nothing is changed.
+fn send(
+    core: &mut Core,
+    sending: &mut DescriptorQueue,
+    event: &mut Message<ObjectId, Token>,
+    sender: &FlatObjectId,
+    opcode: u32,
+    arguments: &[FlatArgument],
+    bytes: &[u8],
+) -> Result<Status, Status>
+    ensures { SendsFrom core.old sending.old (record { sender = sender.now; opcode = opcode; arguments = arguments.now; bytes = bytes.now }) result core.new sending.new }
+{
+    let count = match read_event(sending, event, sender, opcode, arguments, bytes) {
+        Ok(count) => count,
+        Err(status) => return Err(status),
+    };
+    match core.send_event_lent(event) {
+        Ok(()) => Ok(Status::Ok),
+        Err(error) => {
+            sending.take_back(count);
+            Ok(Status::from(error))
+        }
+    }
+}
 
 impl Server {
     /// Sends an event (`wl_server::Backend::send_event`). The strings and arrays are in `bytes`, where the arguments say.
     ///
-    /// The status is `InvalidId` if the sender's client is not stored, `InvalidInput` if a flat struct cannot be read,
-    /// `OutOfMemory`, and else that of `wl_server::EventError`. Then the descriptors are still the host's. If the client was
-    /// killed, nothing is sent, and the status is `Ok`.
+    /// The status is `InvalidId` if the sender's client is not stored, `InvalidInput` if a flat struct cannot be read or the
+    /// opcode is above 65535, `OutOfMemory`, and else that of `wl_server::EventError`. Then the descriptors are still the host's.
+    /// If the client was killed, nothing is sent, and the status is `Ok`.
     pub fn send_event(
         &mut self,
         sender: &FlatObjectId,
@@ -22,52 +80,32 @@ impl Server {
         arguments: &[FlatArgument],
         bytes: &[u8],
     ) -> Status
-        ensures { SendsEvent self.old.core result self.new.core }
+        ensures call { SendsEvent self.old (record { sender = sender.now; opcode = opcode; arguments = arguments.now; bytes = bytes.now }) result self.new }
+        ensures descriptors { Conserves kept_by_server self.old (went_in result (descriptors_given arguments.now)) [] self.new }
     {
         let id = sender.client.id();
-        match self.read_event(&id, sender, opcode, arguments, bytes) {
-            Ok(count) => self.send_read(&id, count),
-            Err(status) => status,
-        }
-    }
-
-    /// Reads the event into `self.event`. Returns how many descriptors were put in.
-    fn read_event(
-        &mut self,
-        id: &ClientId,
-        sender: &FlatObjectId,
-        opcode: u32,
-        arguments: &[FlatArgument],
-        bytes: &[u8],
-    ) -> Result<usize, Status>
-        ensures { self.new.core ≡ self.old.core }
-    {
-        let Some(ledger) = self.seats.get_mut(id) else {
-            return Err(Status::InvalidId);
-        };
-        let Ok(opcode) = u16::try_from(opcode) else {
-            return Err(Status::InvalidInput);
-        };
-        self.event.sender_id = sender.resource();
-        self.event.opcode = opcode;
-        read_arguments(&mut self.event.args, arguments, bytes, &mut ledger.sending)
-    }
-
-    /// Sends the event in `self.event`, for which so many descriptors were put in.
-    fn send_read(&mut self, id: &ClientId, count: usize) -> Status
-        ensures { SendsEvent self.old.core result self.new.core }
-    {
-        let answer = self.core.send_event_lent(&self.event);
-        self.seats.list(id.slot());
-        self.mark();
-        match answer {
-            Ok(()) => Status::Ok,
-            Err(error) => {
-                if let Some(ledger) = self.seats.get_mut(id) {
-                    ledger.sending.take_back(count);
-                }
-                Status::from(error)
+        let sent = match self.seats.get_mut(&id) {
+            Some(ledger) => {
+                let sending = &mut ledger.sending;
+                send(
+                    &mut self.core,
+                    sending,
+                    &mut self.event,
+                    sender,
+                    opcode,
+                    arguments,
+                    bytes,
+                )
             }
+            None => return Status::InvalidId,
+        };
+        match sent {
+            Ok(status) => {
+                self.seats.list(id.slot());
+                self.mark();
+                status
+            }
+            Err(status) => status,
         }
     }
 
@@ -76,7 +114,8 @@ impl Server {
     ///
     /// The status is `InvalidInput` if the message has a zero byte, and `OutOfMemory`. Then nothing is changed.
     pub fn post_error(&mut self, object: &FlatObjectId, code: u32, message: &[u8]) -> Status
-        ensures { PostsError self.old.core object.now code message.now result self.new.core }
+        ensures call { PostsError self.old object.now code message.now result self.new }
+        ensures descriptors { Conserves kept_by_server self.old [] [] self.new }
     {
         let text = match text_of(self.alloc(), message) {
             Ok(text) => text,

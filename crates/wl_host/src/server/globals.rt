@@ -1,7 +1,11 @@
 //! The globals of a server's session.
 
-ghost use Rattle.std.specs.Prelude.{◌≡◌, option_map};
-ghost use Rattle.wl_host.specs.Calls.{CreatesGlobal, TellsNextGlobal, flat_global_info, or_invalid, sees, world};
+ghost use Rattle.std.specs.Prelude.{[], ◌≡◌, OnErr, OnOk, option_map};
+ghost use Rattle.wl_host.specs.Descriptors.{Conserves};
+ghost use Rattle.wl_host.specs.Server.{kept_by_server};
+ghost use Rattle.wl_host.specs.Calls.{CreatesGlobal, TellsNextGlobal, flat_global_info, or_invalid, world};
+ghost use Rattle.wl_host.specs.Globals.{told_all};
+ghost use Rattle.wl_host.specs.Visibility.{sees};
 ghost use Rattle.wl_host.specs.Flat.{client_of, global_of};
 ghost use Rattle.wl_server.specs.Backend.{Calls};
 ghost use Rattle.wl_server.specs.Lookups.{global_info_by, handler_of, name_for};
@@ -10,37 +14,49 @@ ghost use Rattle.wl_server.specs.declared.runs.step.Step.TheVariants as step;
 ghost use Rattle.wl_host.specs.declared.status.Status.TheVariants as status;
 
 use crate::flat::{FlatClientId, FlatGlobalId, FlatGlobalInfo, interface_number};
-use crate::server::{HostGlobal, Server};
+use crate::server::{HostGlobal, Server, hidden};
 use crate::status::Status;
 use wl_wire::InterfaceId;
 
 impl Server {
     /// Creates a global (`wl_server::Backend::create_global`). The clients that have a group in common with it see it: a bit of
-    /// `groups`.
+    /// `groups`. But those of `hidden` do not see it, nor those from which it is hidden.
     ///
-    /// The status is that of `wl_server::GlobalError`.
+    /// An id of `hidden` need not name a client yet: `next_client_id` tells the one that the next client gets.
+    ///
+    /// The status is that of `wl_server::GlobalError`. Then nothing is changed.
     pub fn create_global(
         &mut self,
         interface: u32,
         version: u32,
         user_data: u64,
         groups: u64,
+        hidden: &[FlatClientId],
     ) -> Result<FlatGlobalId, Status>
-        ensures { CreatesGlobal self.old.core interface version (record { user_data = user_data; groups = groups }) result self.new.core }
+        ensures call { CreatesGlobal self.old.core interface version user_data groups hidden.now result self.new.core }
+        ensures told { OnOk result (self.new ≡ told_all self.old self.new.core) }
+        ensures refused { OnErr result (self.new ≡ record self.old { core = self.new.core }) }
+        ensures descriptors { Conserves kept_by_server self.old [] [] self.new }
     {
+        let hidden = hidden::clients(self.alloc(), hidden)?;
         let interface = InterfaceId(interface as usize);
-        let global = HostGlobal { user_data, groups };
-        let answer = self.core.create_global(interface, version, global);
-        self.tells_all();
-        match answer {
-            Ok(id) => Ok(FlatGlobalId::new(id)),
+        let global = HostGlobal {
+            user_data,
+            groups,
+            hidden,
+        };
+        match self.core.create_global(interface, version, global) {
+            Ok(id) => {
+                self.tells_all();
+                Ok(FlatGlobalId::new(id))
+            }
             Err(error) => Err(Status::from(error)),
         }
     }
 
     /// A call may have told each client of a global.
     fn tells_all(&mut self)
-        ensures { self.new.core ≡ self.old.core }
+        ensures { self.new ≡ told_all self.old self.old.core }
     {
         self.seats.list_all();
         self.mark();
@@ -59,6 +75,8 @@ impl Server {
     /// Announces the global no longer (`wl_server::Backend::disable_global`). If it is not there, nothing happens.
     pub fn disable_global(&mut self, global: &FlatGlobalId) -> Status
         ensures call { Calls world self.old.core (step.DisableGlobal (global_of global.now)) reply.DisableGlobal self.new.core }
+        ensures beside { self.new ≡ told_all self.old self.new.core }
+        ensures descriptors { Conserves kept_by_server self.old [] [] self.new }
         ensures status { result ≡ status.Ok }
     {
         self.core.disable_global(&global.id());
@@ -69,6 +87,8 @@ impl Server {
     /// Removes the global (`wl_server::Backend::remove_global`). If it is not there, nothing happens.
     pub fn remove_global(&mut self, global: &FlatGlobalId) -> Status
         ensures call { Calls world self.old.core (step.RemoveGlobal (global_of global.now)) reply.RemoveGlobal self.new.core }
+        ensures beside { self.new ≡ told_all self.old self.new.core }
+        ensures descriptors { Conserves kept_by_server self.old [] [] self.new }
         ensures status { result ≡ status.Ok }
     {
         self.core.remove_global(&global.id());

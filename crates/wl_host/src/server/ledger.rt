@@ -1,22 +1,16 @@
 //! What a session keeps of a client beside the core.
 
+ghost use Rattle.std.specs.Prelude.{◌≡◌, ◌||◌, ◌==◌, MatchOption, length, not};
+ghost use Rattle.wl_host.specs.Descriptors.{given_up};
+ghost use Rattle.wl_host.specs.Seats.{HasNonePassed, LedgerPassesOut, departed, left_of, new_ledger};
+
 use crate::descriptors::DescriptorQueue;
+use crate::outgoing::take_all_out;
 use std::alloc::Global;
 use wl_link::Mailbox;
 use wl_server::{Action, ClientId};
 
-/// How far a client is gone.
-#[derive(Drop)]
-pub enum Stage {
-    /// The core has it.
-    Stored,
-    /// The core let it go, and gave its mailbox back. `next_gone` hands that out.
-    Gone(Mailbox),
-    /// It was handed out. Only descriptors that were passed over are left.
-    Left,
-}
-
-/// What is kept of a client: from its insertion until all that is left of it was handed out.
+/// What is kept of a client from its insertion until the core lets it go.
 #[derive(Drop)]
 pub struct Ledger {
     /// The client.
@@ -31,13 +25,26 @@ pub struct Ledger {
     pub kept: Option<Action>,
     /// Whether the open action ends the object that it was sent to.
     pub ends_sender: bool,
-    /// How far the client is gone.
-    pub stage: Stage,
+}
+
+/// What is kept of a client that the core let go, until it is handed out.
+#[derive(Drop)]
+pub struct Departed {
+    /// The client.
+    pub id: ClientId,
+    /// The program's data of the client.
+    pub user_data: u64,
+    /// The descriptors of events, and that were not sent.
+    pub sending: DescriptorQueue,
+    /// What is still to be sent to the client.
+    pub mailbox: Mailbox,
 }
 
 impl Ledger {
     /// What is kept of a client that was inserted just now.
-    pub fn new(alloc: Global, id: ClientId, user_data: u64) -> Self {
+    pub fn new(alloc: Global, id: ClientId, user_data: u64) -> Self
+        ensures { result ≡ new_ledger id user_data }
+    {
         Ledger {
             id,
             user_data,
@@ -45,53 +52,56 @@ impl Ledger {
             sending: DescriptorQueue::new(alloc),
             kept: None,
             ends_sender: false,
-            stage: Stage::Stored,
         }
     }
 
-    /// Whether the core has the client.
-    pub fn is_stored(&self) -> bool {
-        matches!(self.stage, Stage::Stored)
-    }
-
-    /// Whether the client is gone, and was not handed out.
-    pub fn is_gone(&self) -> bool {
-        matches!(self.stage, Stage::Gone(_))
-    }
-
-    /// Whether a descriptor was passed over, and was not handed out.
-    pub fn has_passed(&self) -> bool {
-        self.received.has_passed() || self.sending.has_passed()
-    }
-
-    /// Whether nothing is left of the client.
-    pub fn is_over(&self) -> bool {
-        matches!(self.stage, Stage::Left) && !self.has_passed()
-    }
-
     /// The next descriptor that was passed over.
-    pub fn next_passed(&mut self) -> Option<i32> {
+    pub fn next_passed(&mut self) -> Option<i32>
+        ensures { MatchOption result (HasNonePassed self.old × (self.new ≡ self.old)) (λ d. LedgerPassesOut self.old d self.new) }
+    {
         match self.received.next_passed() {
             Some(descriptor) => Some(descriptor),
             None => self.sending.next_passed(),
         }
     }
 
-    /// The core let the client go, and gave its mailbox back: nothing that arrived will be read.
-    pub fn depart(&mut self, mailbox: Mailbox) {
-        self.kept = None;
-        self.received.give_up();
-        self.stage = Stage::Gone(mailbox);
+    /// The core let the client go, and gave its mailbox back. Nothing that arrived will be read: those descriptors were passed
+    /// over.
+    pub fn depart(self, mailbox: Mailbox) -> (Departed, DescriptorQueue)
+        ensures departed { result.0 ≡ departed self mailbox }
+        ensures received { result.1 ≡ given_up self.received }
+    {
+        let Ledger {
+            id,
+            user_data,
+            mut received,
+            sending,
+            ..
+        } = self;
+        received.give_up();
+        let departed = Departed {
+            id,
+            user_data,
+            sending,
+            mailbox,
+        };
+        (departed, received)
     }
+}
 
-    /// The mailbox was handed out with its descriptors. Nothing else will be sent.
-    pub fn leave(&mut self) {
-        if let Stage::Gone(mailbox) = &self.stage {
-            for token in mailbox.tokens() {
-                self.sending.take_out(*token);
-            }
-        }
-        self.sending.give_up();
-        self.stage = Stage::Left;
+impl Departed {
+    /// The mailbox was handed out with its descriptors, and nothing else will be sent: the rest of the descriptors were passed
+    /// over.
+    pub fn leave(self) -> DescriptorQueue
+        ensures { result ≡ left_of self }
+    {
+        let Departed {
+            mut sending,
+            mailbox,
+            ..
+        } = self;
+        take_all_out(&mut sending, mailbox.tokens());
+        sending.give_up();
+        sending
     }
 }

@@ -1,5 +1,10 @@
 //! Notes: what happened to clients and their objects.
 
+ghost use Rattle.std.specs.Prelude.{◌≡◌, ◌++◌, [], length, nat_lt, not};
+ghost use Rattle.wl_host.specs.Descriptors.{Conserves};
+ghost use Rattle.wl_host.specs.Notes.{Fetches, NextNote, client_note, error_note, flat_note, text_of, with_text};
+ghost use Rattle.wl_host.specs.Server.{kept_by_server};
+
 use crate::flat::{
     DESTROYED, FlatClientId, FlatNote, FlatObjectId, INSERTED, KILLED, count_number,
 };
@@ -10,7 +15,9 @@ use wl_server::{ClientId, DisconnectReason, Note, ObjectId};
 use wl_wire::ProtocolError;
 
 /// A note of a client, with nothing else in it.
-fn client_note(kind: u32, client: ClientId) -> FlatNote {
+fn client_note(kind: u32, client: ClientId) -> FlatNote
+    ensures { result ≡ client_note kind client }
+{
     FlatNote {
         kind,
         is_protocol_error: 0,
@@ -25,7 +32,9 @@ fn client_note(kind: u32, client: ClientId) -> FlatNote {
 }
 
 /// A note of a client that was killed for a protocol error.
-fn error_note(client: ClientId, error: &ProtocolError) -> FlatNote {
+fn error_note(client: ClientId, error: &ProtocolError) -> FlatNote
+    ensures { result ≡ error_note client error.now }
+{
     let mut note = client_note(KILLED, client);
     note.is_protocol_error = 1;
     note.code = error.code;
@@ -36,7 +45,9 @@ fn error_note(client: ClientId, error: &ProtocolError) -> FlatNote {
 }
 
 /// A note of an object that is gone.
-fn end_note(client: ClientId, object: ObjectId, user_data: u64) -> FlatNote {
+fn end_note(client: ClientId, object: ObjectId, user_data: u64) -> FlatNote
+    ensures { result ≡ flat_note (Note.Destroyed client object user_data) }
+{
     let mut note = client_note(DESTROYED, client);
     note.object = FlatObjectId::of_resource(object);
     note.data = user_data;
@@ -44,7 +55,9 @@ fn end_note(client: ClientId, object: ObjectId, user_data: u64) -> FlatNote {
 }
 
 /// The note as a flat struct.
-fn flat_note(note: &Note<u64>) -> FlatNote {
+fn flat_note(note: &Note<u64>) -> FlatNote
+    ensures { result ≡ flat_note note.now }
+{
     match note {
         Note::Initialized(client) => client_note(INSERTED, *client),
         Note::Disconnected(client, DisconnectReason::ConnectionClosed) => {
@@ -58,7 +71,10 @@ fn flat_note(note: &Note<u64>) -> FlatNote {
 }
 
 /// Copies the text of a protocol error: the message, and then the name of the interface. Returns whether there was room.
-pub(crate) fn copy_error_text(error: &ProtocolError, text: &mut [u8]) -> bool {
+pub(crate) fn copy_error_text(error: &ProtocolError, text: &mut [u8]) -> bool
+    ensures room { result ≡ not (nat_lt (length text.old) (length (error.now.message ++ error.now.object_interface))) }
+    ensures text { text.new ≡ with_text (error.now.message ++ error.now.object_interface) text.old }
+{
     let message = error.message.as_str().as_bytes();
     let interface = error.object_interface.as_str().as_bytes();
     if message.len() > text.len() || interface.len() > text.len() - message.len() {
@@ -71,7 +87,10 @@ pub(crate) fn copy_error_text(error: &ProtocolError, text: &mut [u8]) -> bool {
 }
 
 /// Copies the text of the note, if it has one. Returns whether there was room.
-fn copy_text(note: &Note<u64>, text: &mut [u8]) -> bool {
+fn copy_text(note: &Note<u64>, text: &mut [u8]) -> bool
+    ensures room { result ≡ not (nat_lt (length text.old) (length (text_of note.now))) }
+    ensures text { text.new ≡ with_text (text_of note.now) text.old }
+{
     match note {
         Note::Disconnected(_, DisconnectReason::ProtocolError(error)) => {
             copy_error_text(error, text)
@@ -86,9 +105,11 @@ impl Server {
     ///
     /// The status is `WouldBlock` if there is none, `TooSmall` if `text` has no room for the text, and `OutOfMemory`. After
     /// `TooSmall` `out` says how long the text is, and the note is handed out by the next call with enough.
-    pub fn next_note(&mut self, out: &mut FlatNote, text: &mut [u8]) -> Status {
-        let status = self.fetch_notes();
-        if status != Status::Ok {
+    pub fn next_note(&mut self, out: &mut FlatNote, text: &mut [u8]) -> Status
+        ensures call { NextNote self.old out.old text.old result out.new text.new self.new }
+        ensures descriptors { Conserves kept_by_server self.old [] [] self.new }
+    {
+        if let Err(status) = self.fetch_notes() {
             return status;
         }
         let Some(note) = self.notes.front() else {
@@ -103,17 +124,19 @@ impl Server {
     }
 
     /// Takes the notes of the core, if none are left and there may be some.
-    fn fetch_notes(&mut self) -> Status {
+    fn fetch_notes(&mut self) -> Result<(), Status>
+        ensures { Fetches self.old result self.new }
+    {
         if !self.notes.is_empty() || !self.may_have_notes {
-            return Status::Ok;
+            return Ok(());
         }
         match self.core.take_notes() {
             Ok(notes) => {
                 self.notes = VecDeque::from_vec(notes);
                 self.may_have_notes = false;
-                Status::Ok
+                Ok(())
             }
-            Err(error) => Status::from(error),
+            Err(error) => Err(Status::from(error)),
         }
     }
 }

@@ -1,16 +1,21 @@
 //! The objects of a server's session.
 
-ghost use Rattle.std.specs.Prelude.{◌≡◌, ◌≢◌, Err, option_map};
+ghost use Rattle.std.specs.Prelude.{[], ◌≡◌, ◌≢◌, Err, MatchOption, Ok, length, map, min, option_map};
+ghost use Rattle.wl_host.specs.Descriptors.{Conserves};
+ghost use Rattle.wl_host.specs.Server.{kept_by_server};
 ghost use Rattle.wl_host.specs.Status.{of_create};
 ghost use Rattle.wl_host.specs.declared.status.Status.TheVariants as status;
 ghost use Rattle.wl_host.specs.Calls.{CreatesObject, DestroysObject, SetsObjectData, flat_object_info, flattened, interface_of, of_invalid, or_invalid, status_by};
+ghost use Rattle.wl_host.specs.Clients.{told_at};
+ghost use Rattle.wl_host.specs.Lists.{Lists, filled};
 ghost use Rattle.wl_host.specs.Flat.{client_of, flat_resource, resource_of};
-ghost use Rattle.wl_server.specs.Lookups.{object_data_of, object_for_number, object_info_of};
+ghost use Rattle.wl_server.specs.Lookups.{object_data_of, object_for_number, object_info_of, objects_of_client};
 
 use crate::flat::{FlatClientId, FlatObjectId, FlatObjectInfo, count_number, interface_number};
 use crate::server::Server;
+use crate::server::listing::{put_next, room_for};
 use crate::status::Status;
-use wl_server::{CreateError, InvalidId, ObjectId};
+use wl_server::{ClientId, CreateError, InvalidId, ObjectId};
 use wl_wire::InterfaceId;
 
 /// The object that was created, or the status of the error.
@@ -46,8 +51,10 @@ impl Server {
         has_data: u32,
         user_data: u64,
     ) -> Result<FlatObjectId, Status>
-        ensures none { has_data ≡ 0 → (result ≡ Err status.MissingData) × (self.new.core ≡ self.old.core) }
+        ensures none { has_data ≡ 0 → (result ≡ Err status.MissingData) × (self.new ≡ self.old) }
         ensures created { has_data ≢ 0 → CreatesObject self.old.core client.now interface version user_data result self.new.core }
+        ensures beside { self.new ≡ record self.old { core = self.new.core } }
+        ensures descriptors { Conserves kept_by_server self.old [] [] self.new }
     {
         if has_data == 0 {
             return Err(Status::MissingData);
@@ -62,7 +69,9 @@ impl Server {
 
     /// Destroys the object (`wl_server::Backend::destroy_object`). The status is that of `wl_server::DestroyError`.
     pub fn destroy_object(&mut self, object: &FlatObjectId) -> Status
-        ensures { DestroysObject self.old.core object.now result self.new.core }
+        ensures call { DestroysObject self.old.core object.now result self.new.core }
+        ensures beside { self.new ≡ told_at self.old self.new.core object.now.client.slot }
+        ensures descriptors { Conserves kept_by_server self.old [] [] self.new }
     {
         let id = object.resource();
         let answer = self.core.destroy_object(&id);
@@ -100,7 +109,9 @@ impl Server {
 
     /// Gives the object these data in place of those that it had. The status is `InvalidId` if the id names none.
     pub fn set_object_data(&mut self, object: &FlatObjectId, user_data: u64) -> Status
-        ensures { SetsObjectData self.old.core object.now user_data result self.new.core }
+        ensures call { SetsObjectData self.old.core object.now user_data result self.new.core }
+        ensures beside { self.new ≡ record self.old { core = self.new.core } }
+        ensures descriptors { Conserves kept_by_server self.old [] [] self.new }
     {
         data_set(self.core.set_object_data(&object.resource(), user_data))
     }
@@ -132,20 +143,32 @@ impl Server {
         client: &FlatClientId,
         objects: &mut [FlatObjectId],
         count: &mut u32,
-    ) -> Status {
-        let mut found = 0usize;
-        let places = &mut *objects;
-        let answer = self.core.with_all_objects_for(&client.id(), |id| {
-            if let Some(place) = places.get_mut(found) {
-                *place = FlatObjectId::of_resource(id);
-            }
-            found = found.saturating_add(1);
-        });
+    ) -> Status
+        ensures { MatchOption (objects_of_client self.now.core.server (client_of client.now))
+            ((result ≡ status.InvalidId) × (objects.new ≡ objects.old) × (count.new ≡ 0))
+            (λ ids. Lists (map flat_resource ids) objects.old objects.new count.new result) }
+    {
+        let Ok(found) = self.list_objects(&client.id(), objects) else {
+            *count = 0;
+            return Status::InvalidId;
+        };
         *count = count_number(found);
-        match answer {
-            Ok(()) if found > objects.len() => Status::TooSmall,
-            Ok(()) => Status::Ok,
-            Err(InvalidId) => Status::InvalidId,
-        }
+        room_for(found, objects.len())
+    }
+
+    /// Writes the ids of the client's objects to the lent memory. Returns how many there are.
+    fn list_objects(
+        &self,
+        client: &ClientId,
+        objects: &mut [FlatObjectId],
+    ) -> Result<usize, InvalidId>
+        ensures { MatchOption (objects_of_client self.now.core.server client.now)
+            ((result ≡ Err _) × (objects.new ≡ objects.old))
+            (λ ids. (result ≡ Ok (min (length ids) 18446744073709551615)) × (objects.new ≡ filled (map flat_resource ids) objects.old)) }
+    {
+        let mut found = 0usize;
+        let mut write = |id: ObjectId| put_next(objects, &mut found, FlatObjectId::of_resource(id));
+        self.core.visit_objects(client, &mut write)?;
+        Ok(found)
     }
 }

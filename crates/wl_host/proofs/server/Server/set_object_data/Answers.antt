@@ -2,5 +2,5 @@ use Rattle.std.proofs.Common.{rules}
 use Rattle.wl_host.proofs.server.Server.set_object_data.Goals as goal
 
 -- the answer of the core is the witness
-pub returns : goal.returns
-returns c = (c.set_object_data.result, search rules, search rules)
+pub returns-clause-call : goal.returns-clause-call
+returns-clause-call c = (c.set_object_data.result, search rules, search rules)

@@ -1,0 +1,66 @@
+-- What an export says of the call that it makes: of the session that the place held before it, of the one that it holds after it, of
+-- the number that it answers, and of what it writes.
+use Rattle.std.specs.Prelude.{◌≡◌, ◌==◌, ℕ, Bool, if◌then◌else◌, Option, Some, Result, Ok, Err}
+use Rattle.wl_c.specs.Flags.{flag}
+use Rattle.wl_host.specs.Status.{code_of}
+use Rattle.wl_host.specs.declared.rows.TableFault.{TableFault}
+use Rattle.wl_host.specs.declared.rows.fault.TheConstants.{OUT_OF_MEMORY}
+use Rattle.wl_host.specs.declared.status.Status.{Status}
+
+-- ---- how an answer goes out
+
+-- its value is written, and the number is 0; or nothing is written, and the number is that of the status
+abbrev pub Written : {A : Type 0} → Result A Status → ℕ → A → A → Type 0
+Written (Ok x) code old new = (code ≡ 0) × (new ≡ x)
+Written (Err s) code old new = (code ≡ code_of s) × (new ≡ old)
+
+-- yes and no go out as 1 and 0
+abbrev pub flagged : Result Bool Status → Result ℕ Status
+flagged (Ok b) = Ok (flag b)
+flagged (Err s) = Err s
+
+-- ---- look-ups: the session that is held
+
+-- answered a status, of which this holds
+abbrev pub Told : {S : Type 0} → Option S → ℕ → (S → Status → Type 0) → Type 0
+Told {S} held code R = (s : S) → held ≡ Some s → (status : Status) × (code ≡ code_of status) × R s status
+
+-- gave an answer, of which this holds
+abbrev pub Found : {S A : Type 0} → Option S → ℕ → A → A → (S → Result A Status → Type 0) → Type 0
+Found {S} {A} held code old new R = (s : S) → held ≡ Some s → (answer : Result A Status) × Written answer code old new × R s answer
+
+-- answered yes or no
+abbrev pub FoundFlag : {S : Type 0} → Option S → ℕ → ℕ → ℕ → (S → Result Bool Status → Type 0) → Type 0
+FoundFlag {S} held code old new R = (s : S) → held ≡ Some s → (answer : Result Bool Status) × Written (flagged answer) code old new × R s answer
+
+-- ---- steps: the session that was held became the one that is
+
+-- with a status, so that this holds
+abbrev pub Did : {S : Type 0} → Option S → ℕ → Option S → (S → Status → S → Type 0) → Type 0
+Did {S} before code after R = (s t : S) → before ≡ Some s → after ≡ Some t → (status : Status) × (code ≡ code_of status) × R s status t
+
+-- with an answer, so that this holds
+abbrev pub Gave : {S A : Type 0} → Option S → ℕ → A → A → Option S → (S → Result A Status → S → Type 0) → Type 0
+Gave {S} {A} before code old new after R =
+    (s t : S) → before ≡ Some s → after ≡ Some t → (answer : Result A Status) × Written answer code old new × R s answer t
+
+-- with yes or no, so that this holds
+abbrev pub GaveFlag : {S : Type 0} → Option S → ℕ → ℕ → ℕ → Option S → (S → Result Bool Status → S → Type 0) → Type 0
+GaveFlag {S} before code old new after R =
+    (s t : S) → before ≡ Some s → after ≡ Some t → (answer : Result Bool Status) × Written (flagged answer) code old new × R s answer t
+
+-- ---- tables
+
+-- the number for a table that is refused
+abbrev pub fault_code : TableFault → ℕ
+fault_code refused = if refused.fault == OUT_OF_MEMORY then 3 else 8
+
+-- the table is taken, and the number is 0; or it is refused, and why is written
+abbrev pub WrittenFault : Result (Unit {0}) TableFault → ℕ → TableFault → TableFault → Type 0
+WrittenFault (Ok u) code old new = (code ≡ 0) × (new ≡ old)
+WrittenFault (Err refused) code old new = (code ≡ fault_code refused) × (new ≡ refused)
+
+-- a table was added to that of the session, or refused, so that this holds
+abbrev pub Added : {S : Type 0} → Option S → ℕ → TableFault → TableFault → Option S → (S → Result (Unit {0}) TableFault → S → Type 0) → Type 0
+Added {S} before code old new after R =
+    (s t : S) → before ≡ Some s → after ≡ Some t → (answer : Result (Unit {0}) TableFault) × WrittenFault answer code old new × R s answer t

@@ -1,0 +1,131 @@
+-- No call of a client's session loses a descriptor or hands one out twice.
+use Rattle.std.proofs.Common.{◌≡◌, ℕ, ℤ, ◌+◌, ◌-◌, ◌++◌, ◌⊎◌, inl, inr, List, [], ◌∷◌, Bool, true, false, Option, None, Some, Result, Ok, Err, refl, ap, arith, length, take, if◌then◌else◌}
+use Rattle.std.proofs.lemmas.List.{append-nil, length-append}
+use Rattle.std.proofs.Math.Seq.{take-append_seam}
+use Rattle.std.specs.Prelude.{◌==◌, is_some, option_to_list}
+use Rattle.wl_wire.specs.declared.argument.Argument.{Argument}
+use Rattle.wl_wire.specs.declared.argument.Argument.TheVariants as arg
+use Rattle.wl_wire.specs.declared.argument.Token.{Token}
+use Rattle.wl_client.specs.ObjectId.{IdParts}
+use Rattle.wl_client.specs.Requests.{SessionMessage}
+use Rattle.wl_link.specs.Mailbox.{MailboxState}
+use Rattle.wl_host.specs.Arguments.{descriptor_in, descriptors_out, queue_after, queue_after_all}
+use Rattle.wl_host.specs.Arrivals.{Arrives}
+use Rattle.wl_host.specs.Client.{ConservesClient, Drops, HandsDropped, HostedClient, Receives, has_failed, let_go, mailbox_of, sent, sent_descriptors, taken_in, told, with_mailbox}
+use Rattle.wl_host.specs.Descriptors.{Conserves, Descriptors, given_up, kept_in, put_in}
+use Rattle.wl_host.specs.declared.status.Status.{Status}
+use Rattle.wl_host.specs.Sending.{all_taken_out, came_out, descriptors_of, mailbox_after, queue_after as queue_after_send, sent_of, some_of}
+use Rattle.wl_host.proofs.Ledgers.{conserves_taken_out}
+use Rattle.wl_host.proofs.Queues.{conserves_given_up, conserves_nothing, conserves_out, conserves_passed, conserves_put_in, conserves_without}
+
+-- what is true of one of the two queues is true of the session, if the other is as it was
+pub conserves_by_arrivals : (before after : HostedClient) (i o : List ℤ) → Conserves kept_in before.arrivals i o after.arrivals
+    → after.departures ≡ before.departures → ConservesClient before i o after
+conserves_by_arrivals before after i o h e = record { each = λ d. rw e (let g = h.each d in omega (arith, g)) }
+
+pub conserves_by_departures : (before after : HostedClient) (i o : List ℤ) → Conserves kept_in before.departures i o after.departures
+    → after.arrivals ≡ before.arrivals → ConservesClient before i o after
+conserves_by_departures before after i o h e = record { each = λ d. rw e (let g = h.each d in omega (arith, g)) }
+
+-- ---- what arrived
+
+conserves_arrived : (m : MailboxState) (q : Descriptors) (bytes : List ℕ) (descriptors : List ℤ) (s : Status) (m' : MailboxState) (q' : Descriptors)
+    → Arrives m q bytes descriptors s m' q' → Conserves kept_in q (taken_in s descriptors) [] q'
+conserves_arrived m q bytes descriptors s m' q' (inl (ok, now, put)) = rw (ok, put) (conserves_put_in q descriptors)
+conserves_arrived m q bytes descriptors s m' q' (inr (inl (many, over), now, same)) = rw (many, same) (conserves_nothing q)
+conserves_arrived m q bytes descriptors s m' q' (inr (inr memory, now, same)) = rw (memory, same) (conserves_nothing q)
+
+pub conserves_received : (before : HostedClient) (bytes : List ℕ) (descriptors : List ℤ) (s : Status) (after : HostedClient)
+    → Receives before bytes descriptors s after → ConservesClient before (taken_in s descriptors) [] after
+conserves_received before bytes descriptors s after (mailbox, arrivals, arrives, now) =
+    rw now (conserves_by_arrivals before _ _ _ (conserves_arrived _ _ _ _ _ _ _ arrives) refl)
+
+-- ---- what is dropped
+
+conserves_let_go : (s : HostedClient) (kept : Option SessionMessage)
+    → ConservesClient s [] [] (record s { arrivals = if is_some kept then s.arrivals else given_up s.arrivals; departures = given_up s.departures })
+conserves_let_go s None = record { each = λ d. let a = (conserves_given_up s.arrivals).each d in let b = (conserves_given_up s.departures).each d in omega (arith, a, b) }
+conserves_let_go s (Some event) = record { each = λ d. let b = (conserves_given_up s.departures).each d in omega (arith, b) }
+
+conserves_before_drop : (s : HostedClient) (failed : Bool) → ConservesClient s [] [] (if failed then let_go s else s)
+conserves_before_drop s true = conserves_let_go s s.kept
+conserves_before_drop s false = conserves_nothing s
+
+conserves_handed : (arrived departed : List ℤ) (s : HostedClient) (answer : Result ℤ Status) (after : HostedClient)
+    → s.arrivals.passed ≡ arrived → s.departures.passed ≡ departed → HandsDropped arrived departed s answer after
+    → ConservesClient s [] (told answer) after
+conserves_handed (d ∷ arrived) departed s answer after e f (ok, now) =
+    rw (ok, now) (conserves_by_arrivals s _ _ _ (conserves_passed s.arrivals _ (Some d) e refl) refl)
+conserves_handed [] (d ∷ departed) s answer after e f (ok, now) =
+    rw (ok, now) (conserves_by_departures s _ _ _ (conserves_passed s.departures _ (Some d) f refl) refl)
+conserves_handed [] [] s answer after e f (none, same) = rw (none, same) (conserves_nothing s)
+
+pub conserves_dropped : (before : HostedClient) (answer : Result ℤ Status) (after : HostedClient)
+    → Drops before answer after → ConservesClient before [] (told answer) after
+conserves_dropped before answer after h =
+    let s : HostedClient = if has_failed before then let_go before else before in
+    conserves_out (conserves_before_drop before (has_failed before)) (conserves_handed s.arrivals.passed s.departures.passed s answer after refl refl h)
+
+-- ---- what is sent
+
+-- these went in with a request
+pub conserves_given : (before after : HostedClient) (descriptors : List ℤ) → after.departures ≡ put_in before.departures descriptors
+    → after.arrivals ≡ before.arrivals → ConservesClient before descriptors [] after
+conserves_given before after descriptors put same =
+    conserves_by_departures before after descriptors [] (rw put (conserves_put_in before.departures descriptors)) same
+
+-- what was put in was taken back
+pub taken_back : (q : Descriptors) (descriptors : List ℤ) (count : ℕ) → count ≡ length descriptors
+    → record (put_in q descriptors) { held = take (length (put_in q descriptors).held - count) (put_in q descriptors).held } ≡ put_in q []
+taken_back q descriptors count e =
+    let l : length (q.held ++ descriptors) - count ≡ length q.held = let a = length-append q.held descriptors in omega (arith, a, e) in
+    let t = take-append_seam q.held descriptors in
+    let n = append-nil q.held in
+    let h : take (length (q.held ++ descriptors) - count) (q.held ++ descriptors) ≡ q.held ++ [] = rw (l, n) t in
+    ap (λ held. record q { held = held }) h
+
+-- ---- what is handed out
+
+-- an argument comes out
+conserves_argument : (q : Descriptors) (a : Argument IdParts Token) → Conserves kept_in q [] (option_to_list (descriptor_in q a)) (queue_after q a)
+conserves_argument q (arg.Int value) = conserves_nothing q
+conserves_argument q (arg.Uint value) = conserves_nothing q
+conserves_argument q (arg.Fixed value) = conserves_nothing q
+conserves_argument q (arg.Str text) = conserves_nothing q
+conserves_argument q (arg.Object id) = conserves_nothing q
+conserves_argument q (arg.NewId id) = conserves_nothing q
+conserves_argument q (arg.Array bytes) = conserves_nothing q
+conserves_argument q (arg.Fd t) = conserves_without q t
+
+pub conserves_arguments : (q : Descriptors) (args : List (Argument IdParts Token)) → Conserves kept_in q [] (descriptors_out q args) (queue_after_all q args)
+conserves_arguments q [] = conserves_nothing q
+conserves_arguments q (a ∷ args) = conserves_out (conserves_argument q a) (conserves_arguments (queue_after q a) args)
+
+-- an event comes out
+pub conserves_event : (before after : HostedClient) (args : List (Argument IdParts Token)) → after.arrivals ≡ queue_after_all before.arrivals args
+    → after.departures ≡ before.departures → ConservesClient before [] (descriptors_out before.arrivals args) after
+conserves_event before after args out same =
+    conserves_by_arrivals before after [] _ (rw out (conserves_arguments before.arrivals args)) same
+
+-- ---- what was sent
+
+conserves_off : (count : ℕ) (m : MailboxState) (q : Descriptors) → Conserves kept_in q [] (came_out count m q) (queue_after_send count m q)
+conserves_off count m q = by (sent_of count m == 0)
+  where
+    by : (nothing_sent : Bool)
+        → Conserves kept_in q [] (if nothing_sent then [] else some_of (descriptors_of q m.waiting.tokens))
+        (if nothing_sent then q else all_taken_out q m.waiting.tokens)
+    by true = conserves_nothing q
+    by false = conserves_taken_out q m.waiting.tokens
+
+pub conserves_sent : (before : HostedClient) (count : ℕ) (after : HostedClient) → after ≡ sent before count
+    → ConservesClient before [] (sent_descriptors before count) after
+conserves_sent before count after e = rw e (by (has_failed before))
+  where
+    by : (failed : Bool)
+        → ConservesClient before [] (if failed then [] else came_out count (mailbox_of before) before.departures)
+        (if failed then before else
+        record (with_mailbox before (mailbox_after count (mailbox_of before)))
+        { departures = queue_after_send count (mailbox_of before) before.departures })
+    by true = conserves_nothing before
+    by false = conserves_by_departures before _ _ _ (conserves_off count (mailbox_of before) before.departures) refl

@@ -1,0 +1,10 @@
+use Rattle.std.proofs.Common.{rules}
+use Rattle.wl_host.proofs.ClientDescriptors.{conserves_dropped}
+use Rattle.wl_host.proofs.client.Client.next_dropped.Goals as goal
+use Rattle.wl_host.proofs.client.Client.next_dropped.Goals.{then-has_failed, else-has_failed}
+
+pub returns-clause-call : goal.returns-clause-call
+returns-clause-call c = elim c.if-has_failed.branch [ then-has_failed w ↦ search rules | else-has_failed w ↦ search rules ]
+
+pub returns-clause-descriptors : goal.returns-clause-descriptors
+returns-clause-descriptors c = conserves_dropped _ _ _ (returns-clause-call c)

@@ -1,0 +1,58 @@
+use Rattle.std.proofs.Common.{rules, refl, ◌∙◌, [], List, ℤ}
+use Rattle.wl_client.specs.Requests.{session_content}
+use Rattle.wl_host.specs.Arguments.{descriptors_out}
+use Rattle.wl_host.specs.Client.{ReadsUnlessKept, kept_of}
+use Rattle.wl_host.specs.declared.status.Status.TheVariants as status
+use Rattle.wl_host.proofs.ClientDescriptors.{conserves_event}
+use Rattle.wl_host.proofs.ClientReading.{event_read, hands_event, hands_nothing, read_keeps_notes}
+use Rattle.wl_host.proofs.client.Client.next_event.Goals as goal
+
+-- reading made no note
+
+pub invariant_of-self : goal.invariant_of-self
+invariant_of-self c = read_keeps_notes c.self.inside.core c.read.new.core _ c.read.result _ c.read.ensures ∙ c.self.invariant
+
+pub invariant_of-self-then-not-handed_out : goal.invariant_of-self-then-not-handed_out
+invariant_of-self-then-not-handed_out c = read_keeps_notes c.self.inside.core c.read.new.core _ c.read.result _ c.read.ensures ∙ c.self.invariant
+
+pub invariant_of-self-2 : goal.invariant_of-self-2
+invariant_of-self-2 c = read_keeps_notes c.self.inside.core c.read.new.core _ c.read.result _ c.read.ensures ∙ c.self.invariant
+
+-- no event was read
+
+pub returns-in_default : goal.returns-in_default
+returns-in_default c =
+    let reads : ReadsUnlessKept c.args.self.now.kept c.args.self.now.core c.read.result (kept_of c.read.new.is_kept c.read.new.event) c.read.new.core =
+    rw (← c.self.view_is) c.read.ensures in (
+      [],
+      hands_nothing c.args.self.now (record { out = c.args.out.now; arguments = c.args.arguments.now; bytes = c.args.bytes.now }) c.read.result _
+          c.read.new.core _ reads c.in_default.not-Ok (search rules),
+      search rules,
+    )
+
+-- there was no room for it
+
+pub returns-then-not-handed_out : goal.returns-then-not-handed_out
+returns-then-not-handed_out c =
+    let reads : ReadsUnlessKept c.args.self.now.kept c.args.self.now.core status.Ok (kept_of c.read.new.is_kept c.read.new.event) c.read.new.core =
+    rw (← c.self.view_is) c.in-Ok.ensures in
+    let kept = event_read c.args.self.now.core c.read.new.core c.args.self.now.kept c.read.new.is_kept c.read.new.event reads in (
+      [],
+      hands_event c.args.self.now _ _ c.read.new.core (session_content c.read.new.event) status.TooSmall [] _ _ reads kept
+          (rw (← c.if-not-handed_out.ensures.fits) (refl, refl, search rules, search (rules, kept))),
+      search rules,
+    )
+
+-- it was handed out
+
+pub returns : goal.returns
+returns c =
+    let reads : ReadsUnlessKept c.args.self.now.kept c.args.self.now.core status.Ok (kept_of c.read.new.is_kept c.read.new.event) c.read.new.core =
+    rw (← c.self.view_is) c.in-Ok.ensures in
+    let kept = event_read c.args.self.now.core c.read.new.core c.args.self.now.kept c.read.new.is_kept c.read.new.event reads in
+    let came_out : List ℤ = descriptors_out c.args.self.now.arrivals c.read.new.event.args.items in (
+      came_out,
+      hands_event c.args.self.now _ _ c.read.new.core (session_content c.read.new.event) status.Ok came_out _ _ reads kept
+          (rw (← c.if-not-handed_out.ensures.fits) (refl, refl, search rules, search rules)),
+      conserves_event c.args.self.now _ c.read.new.event.args.items (search rules) (search rules),
+    )

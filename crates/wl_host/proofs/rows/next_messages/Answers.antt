@@ -1,0 +1,11 @@
+use Rattle.std.proofs.Common.{◌∙◌, map}
+use Rattle.std.proofs.lemmas.List.{map-append}
+use Rattle.wl_wire.specs.Table.{message_row}
+use Rattle.wl_host.proofs.RowsRead.{messages_said-one}
+use Rattle.wl_host.proofs.rows.next_messages.Goals as goal
+
+pub loop-row-preserved : goal.loop-row-preserved
+loop-row-preserved c =
+    let one = messages_said-one c.args.text.now c.in_ok-rows.rows.now c.loop-row.row-index _ _ _ _ (map message_row c.loop-row.messages.items) _
+    c.loop-row-test.true c.in_ok-arguments.ensures.rows c.in_ok-message_of.ensures in
+    record { said = rw (c.in_ok-push.ensures.items, map-append) (c.loop-row.invariant.said ∙ one); kept = c.loop-row.invariant.kept }

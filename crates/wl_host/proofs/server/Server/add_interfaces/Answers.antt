@@ -1,0 +1,6 @@
+use Rattle.std.proofs.Common.{rules, inl}
+use Rattle.wl_host.proofs.server.Server.add_interfaces.Goals as goal
+
+-- the interfaces that were read, and the answer of the core
+pub returns-clause-call : goal.returns-clause-call
+returns-clause-call c = inl (c.in_ok-interfaces.interfaces, c.add_interfaces.result, search rules, search rules, search rules)

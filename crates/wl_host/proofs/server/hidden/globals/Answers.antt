@@ -1,0 +1,7 @@
+use Rattle.std.proofs.Common.{rules}
+use Rattle.wl_host.specs.Flat.{flat_global}
+use Rattle.wl_host.proofs.server.hidden.globals.Goals as goal
+
+-- two ids compare equal if their parts are equal
+pub returns : goal.returns
+returns c = λ id. search (rules, c.in_ok-set.ensures (flat_global id))

@@ -1,0 +1,221 @@
+-- The actions of clients: as flat structs, and what the calls that hand them out and end them do.
+use Rattle.std.specs.Prelude.{◌≡◌, ◌&&◌, ℕ, ℤ, List, [], length, nat_le, Bool, true, false, MatchBool, Option, None, Some, Result, Ok, Err, MatchOption, MatchResult, if◌then◌else◌}
+use Rattle.wl_wire.specs.declared.argument.Argument.{Argument}
+use Rattle.wl_wire.specs.declared.argument.Token.{Token}
+use Rattle.wl_wire.specs.declared.error.IoFault.TheVariants as fault
+use Rattle.wl_server.specs.Backend.{Calls}
+use Rattle.wl_server.specs.Deeds.{Handed, handed}
+use Rattle.wl_server.specs.Deeds as deeds
+use Rattle.wl_server.specs.Ids.{ClientParts, IdParts}
+use Rattle.std.specs.Result.{result_and}
+use Rattle.wl_server.specs.declared.error.FinishRefused.{FinishRefused}
+use Rattle.wl_server.specs.declared.error.ActionError.{ActionError}
+use Rattle.wl_server.specs.declared.error.ActionError.TheVariants as action_error
+use Rattle.wl_server.specs.declared.reading.action.Action.{Action}
+use Rattle.wl_server.specs.declared.runs.step.Reply.TheVariants as reply
+use Rattle.wl_server.specs.declared.runs.step.Step.TheVariants as step
+use Rattle.wl_host.specs.Arguments.{all_bytes, descriptors_out, flat_arguments, queue_after_all}
+use Rattle.wl_host.specs.Calls.{CoreState, bit_of, data_or_zero, global_data_or_zero, kept_by, version_or_zero, world}
+use Rattle.wl_host.specs.Flat.{count_number, flat_global, flat_resource, no_action, no_object, over_front}
+use Rattle.wl_host.specs.Seats.{SeatsState, ledger_of, listed, with_ledger}
+use Rattle.wl_host.specs.Server.{ServerState}
+use Rattle.wl_host.specs.Status.{of_action}
+use Rattle.wl_host.specs.declared.flat.FlatAction.{FlatAction}
+use Rattle.wl_host.specs.declared.flat.FlatArgument.{FlatArgument}
+use Rattle.wl_host.specs.declared.flat.FlatObjectId.{FlatObjectId}
+use Rattle.wl_host.specs.declared.flat.TheConstants as kinds
+use Rattle.wl_host.specs.declared.server.ledger.Ledger.{Ledger}
+use Rattle.wl_host.specs.declared.status.Status.{Status}
+use Rattle.wl_host.specs.declared.status.Status.TheVariants as status
+
+-- ---- flat
+
+-- the arguments of a request; a bind has none
+abbrev pub args_of : Handed → List (Argument IdParts Token)
+args_of (deeds.Request sender opcode args is_destructor created) = args
+args_of (deeds.Bind global object) = []
+
+-- whether it ends the object that it was sent to
+abbrev pub is_end : Handed → Bool
+is_end (deeds.Request sender opcode args is_destructor created) = is_destructor
+is_end (deeds.Bind global object) = false
+
+-- the object that it made, if it made one
+abbrev pub flat_created : Option IdParts → FlatObjectId
+flat_created None = no_object
+flat_created (Some id) = flat_resource id
+
+abbrev pub version_created : CoreState → Option IdParts → ℕ
+version_created core None = 0
+version_created core (Some id) = version_or_zero core id
+
+-- how much room it needs, and nothing else
+abbrev pub flat_needs : Handed → FlatAction
+flat_needs h = record no_action { arguments = count_number (length (args_of h)); bytes = count_number (length (all_bytes (args_of h))) }
+
+-- with what the core knows of its objects and of its global
+abbrev pub flat_action : CoreState → Handed → FlatAction
+flat_action core (deeds.Request sender opcode args is_destructor created) = record {
+  kind = kinds.REQUEST;
+  opcode = opcode;
+  arguments = count_number (length args);
+  is_destructor = bit_of is_destructor;
+  sender = flat_resource sender;
+  «data» = data_or_zero core sender;
+  created = flat_created created;
+  version = version_created core created;
+  bytes = count_number (length (all_bytes args));
+  global = no_action.global;
+}
+flat_action core (deeds.Bind global object) = record {
+  kind = kinds.BIND;
+  opcode = 0;
+  arguments = 0;
+  is_destructor = 0;
+  sender = no_object;
+  «data» = global_data_or_zero core global;
+  created = flat_resource object;
+  version = version_or_zero core object;
+  bytes = 0;
+  global = flat_global global;
+}
+
+-- ---- the next action of a client
+
+-- a reading that ended so killed the client
+abbrev pub kills : ActionError → Bool
+kills (action_error.Io fault.WouldBlock) = false
+kills (action_error.Io fault.OutOfMemory) = false
+kills (action_error.Io fault.InvalidInput) = false
+kills (action_error.Io _) = true
+kills action_error.ActionOpen = false
+
+-- the client may have been killed, and notes may have been made
+abbrev pub marked : ServerState → ServerState
+marked s = record s { may_clean_up = true; may_have_notes = true }
+
+abbrev pub marked_if : Bool → ServerState → ServerState
+marked_if true s = marked s
+marked_if false s = s
+
+-- the ledger without the action that it keeps
+abbrev pub without_kept : Ledger → Ledger
+without_kept l = record l { kept = None }
+
+-- The action that was kept for the client. Or none was, and the core reads the next one.
+abbrev pub ReadsNext : CoreState → ClientParts → Option Action → Result Action ActionError → CoreState → Type 0
+ReadsNext before id (Some kept) read after = (read ≡ Ok kept) × (after ≡ before)
+ReadsNext before id None read after = Calls world before (step.NextAction id) (reply.NextAction read) after
+
+-- the lent memory has room for the arguments and for their bytes
+abbrev pub has_room : List (Argument IdParts Token) → List FlatArgument → List ℕ → Bool
+has_room args arguments bytes = nat_le (length args) (length arguments) && nat_le (length (all_bytes args)) (length bytes)
+
+-- the lent memory after a call
+pub record Lent : Type 0 where
+  pub out : FlatAction
+  pub arguments : List FlatArgument
+  pub bytes : List ℕ
+
+-- the action in lent memory, behind which the memory is as it was
+abbrev pub lent_action : CoreState → Ledger → Handed → List FlatArgument → List ℕ → Lent
+lent_action core l h arguments bytes = record {
+  out = flat_action core h;
+  arguments = over_front (flat_arguments flat_resource (data_or_zero core) l.received 0 (args_of h)) arguments;
+  bytes = over_front (all_bytes (args_of h)) bytes;
+}
+
+-- the client's ledger after the action was handed out
+abbrev pub handed_from : Ledger → Handed → Ledger
+handed_from l h = record l { ends_sender = is_end h; received = queue_after_all l.received (args_of h) }
+
+-- there is room for the action, and it is handed out
+abbrev pub HandsWhole : CoreState → Ledger → Action → List FlatArgument → List ℕ → Status → Lent → Ledger → Type 0
+HandsWhole core l action arguments bytes s lent after =
+    (s ≡ status.Ok) × (lent ≡ lent_action core l (handed action) arguments bytes) × (after ≡ handed_from l (handed action))
+
+-- there is no room: it is kept, and the host is told how much it needs
+abbrev pub KeepsAction : Ledger → Action → List FlatArgument → List ℕ → Status → Lent → Ledger → Type 0
+KeepsAction l action arguments bytes s lent after =
+    (s ≡ status.TooSmall) × (lent ≡ record { out = flat_needs (handed action); arguments = arguments; bytes = bytes })
+    × (after ≡ record l { kept = Some action })
+
+abbrev pub HandsFrom : CoreState → Ledger → Action → List FlatArgument → List ℕ → Status → Lent → Ledger → Type 0
+HandsFrom core l action arguments bytes s lent after =
+    MatchBool (has_room (args_of (handed action)) arguments bytes)
+    (HandsWhole core l action arguments bytes s lent after) (KeepsAction l action arguments bytes s lent after)
+
+-- nothing was handed out
+abbrev pub HandsNothing : Status → List FlatArgument → List ℕ → Status → Lent → Type 0
+HandsNothing e arguments bytes s lent = (s ≡ e) × (lent ≡ record { out = no_action; arguments = arguments; bytes = bytes })
+
+-- the descriptors that come out with the action, if it is handed out
+abbrev pub descriptors_with : Ledger → Action → List FlatArgument → List ℕ → List ℤ
+descriptors_with l action arguments bytes =
+    if has_room (args_of (handed action)) arguments bytes then descriptors_out l.received (args_of (handed action)) else []
+
+-- What was read is handed out with these descriptors, and the ledger is as that leaves it. Or nothing was read.
+abbrev pub HandsOut : CoreState → Ledger → Result Action ActionError → List FlatArgument → List ℕ → Status → Lent → List ℤ → Ledger → Type 0
+HandsOut core l read arguments bytes s lent out after =
+    MatchResult read
+    (λ action. HandsFrom core l action arguments bytes s lent after × (out ≡ descriptors_with l action arguments bytes))
+    (λ e. HandsNothing (of_action e) arguments bytes s lent × (out ≡ []) × (after ≡ l))
+
+abbrev pub is_killed_by : Result Action ActionError → Bool
+is_killed_by (Ok action) = false
+is_killed_by (Err e) = kills e
+
+-- The next action of a client with this ledger is read, and handed out with these descriptors. The client is to be asked for
+-- what is to be sent: the core may have answered a sync, or told it of globals.
+abbrev pub NextActionOf : ServerState → ClientParts → List FlatArgument → List ℕ → Status → Lent → List ℤ → ServerState → Ledger → Type 0
+NextActionOf before id arguments bytes s lent out after l =
+    (read : Result Action ActionError) × (core : CoreState) × (l' : Ledger)
+    × ReadsNext before.core id l.kept read core
+    × HandsOut core (without_kept l) read arguments bytes s lent out l'
+    × (after ≡ marked_if (is_killed_by read) (record before { core = core; seats = listed (with_ledger before.seats id l') id.slot }))
+
+-- The client may not be stored. Then nothing is changed.
+abbrev pub NextAction : ServerState → ClientParts → List FlatArgument → List ℕ → Status → Lent → List ℤ → ServerState → Type 0
+NextAction before id arguments bytes s lent out after =
+    MatchOption (ledger_of id before.seats.ledgers)
+    (HandsNothing status.InvalidId arguments bytes s lent × (out ≡ []) × (after ≡ before))
+    (NextActionOf before id arguments bytes s lent out after)
+
+-- ---- the end of an action
+
+-- if a request ended its sender, the client is told that the number is free, and there is a note of the end
+abbrev pub ended : Bool → ClientParts → ServerState → ServerState
+ended false id s = s
+ended true id s = marked (record s { seats = listed s.seats id.slot })
+
+-- The open action of the client was handed out, and the core is asked to end it. Else nothing is changed: the client is not
+-- stored, or the action is kept for the next call.
+abbrev pub EndsAction : ServerState → ClientParts → (Ledger → Result Bool Status → ServerState → Type 0) → Result Bool Status → ServerState → Type 0
+EndsAction before id Ends result after =
+    MatchOption (ledger_of id before.seats.ledgers) ((result ≡ Err status.InvalidId) × (after ≡ before))
+    (λ l. MatchOption l.kept (Ends l result after) (λ kept. (result ≡ Err status.NotOpen) × (after ≡ before)))
+
+-- the core is asked to end the request; the answer says whether the data are kept
+abbrev pub EndsRequestOf : ServerState → ClientParts → Option ℕ → Ledger → Result Bool Status → ServerState → Type 0
+EndsRequestOf before id data_given l result after =
+    (answer : Result (Option ℕ) (FinishRefused (Option ℕ))) × (core : CoreState)
+    × Calls world before.core (step.FinishRequest id data_given) (reply.FinishRequest (result_and answer (Ok tt))) core
+    × (result ≡ kept_by answer) × (after ≡ ended l.ends_sender id (record before { core = core }))
+
+abbrev pub EndsRequest : ServerState → ClientParts → Option ℕ → Result Bool Status → ServerState → Type 0
+EndsRequest before id data_given result after = EndsAction before id (EndsRequestOf before id data_given) result after
+
+-- the core is asked to end the bind
+abbrev pub EndsBindOf : ServerState → ClientParts → ℕ → Ledger → Result Bool Status → ServerState → Type 0
+EndsBindOf before id data_given l result after =
+    (answer : Result (Option ℕ) (FinishRefused ℕ)) × (core : CoreState)
+    × Calls world before.core (step.FinishBind id data_given) (reply.FinishBind (result_and answer (Ok tt))) core
+    × (result ≡ kept_by answer) × (after ≡ record before { core = core })
+
+abbrev pub EndsBind : ServerState → ClientParts → ℕ → Result Bool Status → ServerState → Type 0
+EndsBind before id data_given result after = EndsAction before id (EndsBindOf before id data_given) result after
+
+-- the status of an answer that says whether data are kept
+abbrev pub status_of_end : Result Bool Status → Status
+status_of_end (Ok kept) = status.Ok
+status_of_end (Err s) = s

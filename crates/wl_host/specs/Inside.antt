@@ -1,0 +1,6 @@
+-- What the functions inside promise each other; no public clause names these.
+pub mod Actions
+pub mod Lending
+pub mod Seats
+pub mod Sending
+pub mod Slots
