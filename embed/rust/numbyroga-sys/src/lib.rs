@@ -1,0 +1,913 @@
+//! The declarations of `numbyroga.h`: a server's and a client's session of the Wayland protocol, proved, as plain calls.
+//!
+//! Names are those of the header, which says what each call does. A call whose pointers all name one value takes
+//! references, and is safe to call: a reference keeps the header's rules about memory, and `&mut` to a place keeps two
+//! threads out of it. A call that takes a slice as a pointer and a count is `unsafe`: the pointer has to name as many
+//! elements as the count says, and memory that is written must overlap no other memory of the call.
+//!
+//! Descriptors are numbers here. Which of them the session owns, and when it hands them back, stands in the header,
+//! "Descriptors".
+//!
+//! The crate links `libnumbyroga.a`. `build.rs` looks for it in the folder that `NUMBYROGA_LIB_DIR` names, then by
+//! pkg-config, then in `embed/build` of the repository.
+
+#![no_std]
+#![allow(non_camel_case_types)]
+#![warn(missing_docs)]
+
+use core::ffi::c_void;
+use core::mem::{align_of, offset_of, size_of};
+use core::ptr;
+
+/// Declares the place of a session.
+macro_rules! place {
+    ($(#[$doc:meta])* $name:ident) => {
+        $(#[$doc])*
+        ///
+        /// It is empty at first, and may be moved. It is never copied, and dropping it frees nothing.
+        #[repr(C)]
+        #[derive(Debug)]
+        pub struct $name {
+            state: u64,
+            session: *mut c_void,
+        }
+
+        impl $name {
+            /// A place without a session, `NB_EMPTY`.
+            pub const EMPTY: Self = Self { state: 0, session: ptr::null_mut() };
+        }
+
+        impl Default for $name {
+            fn default() -> Self {
+                Self::EMPTY
+            }
+        }
+
+        // SAFETY: any thread may call with a place, as long as no two calls of one place overlap in time; a call takes
+        // the place by `&mut`. The library has no global variable, and its memory comes from malloc.
+        unsafe impl Send for $name {}
+
+        // SAFETY: nothing can be done with a shared reference to a place.
+        unsafe impl Sync for $name {}
+
+        layout!($name: 16, 8 { state: 0, session: 8 });
+    };
+}
+
+/// Refuses to compile if a struct is not laid out as the header's: its size and alignment, and where each field begins.
+macro_rules! layout {
+    ($name:ident: $size:literal, $align:literal { $($field:ident: $offset:literal),* $(,)? }) => {
+        const _: () = {
+            assert!(size_of::<$name>() == $size && align_of::<$name>() == $align);
+            $(assert!(offset_of!($name, $field) == $offset);)*
+        };
+    };
+}
+
+/// Declares a struct of plain numbers, with its layout.
+macro_rules! plain {
+    (
+        $(#[$doc:meta])*
+        $name:ident: $size:literal, $align:literal {
+            $($(#[$field_doc:meta])* $field:ident: $type:ty = $offset:literal),* $(,)?
+        }
+    ) => {
+        $(#[$doc])*
+        #[repr(C)]
+        #[derive(Clone, Copy, Debug, Default, PartialEq, Eq)]
+        pub struct $name {
+            $($(#[$field_doc])* pub $field: $type,)*
+        }
+
+        layout!($name: $size, $align { $($field: $offset),* });
+    };
+}
+
+place! {
+    /// The place of a server's session.
+    nb_server
+}
+
+place! {
+    /// The place of a client's session.
+    nb_client
+}
+
+/// What a call answers: one of the values below.
+pub type nb_status = u32;
+
+/// Done.
+pub const NB_OK: nb_status = 0;
+/// The place is empty, or in a call.
+pub const NB_NO_SESSION: nb_status = 1;
+/// The place has a session already.
+pub const NB_IN_USE: nb_status = 2;
+/// malloc refused.
+pub const NB_OUT_OF_MEMORY: nb_status = 3;
+/// Nothing more is there now.
+pub const NB_WOULD_BLOCK: nb_status = 4;
+/// The memory that was lent is too small; what is needed is told, and nothing is lost.
+pub const NB_TOO_SMALL: nb_status = 5;
+/// A struct has what it cannot have: a kind, an opcode above 65535, a range outside of the bytes.
+pub const NB_INVALID_INPUT: nb_status = 6;
+/// The id names nothing that the call may use.
+pub const NB_INVALID_ID: nb_status = 7;
+/// The rows make no table; the fault says which and why.
+pub const NB_BAD_TABLE: nb_status = 8;
+/// More than [`NB_MOST_DESCRIPTORS`] would wait.
+pub const NB_TOO_MANY_DESCRIPTORS: nb_status = 9;
+/// The client is killed, or the connection has ended.
+pub const NB_CLOSED: nb_status = 10;
+/// The bytes are no message that the other side may send.
+pub const NB_PROTOCOL_ERROR: nb_status = 11;
+/// A message is longer than a message, or than the buffer, may be.
+pub const NB_TOO_BIG: nb_status = 12;
+/// The socket failed, as the host told the session.
+pub const NB_IO_ERROR: nb_status = 13;
+/// A client's session has an error: [`nb_client_last_error`].
+pub const NB_FAILED: nb_status = 14;
+/// An action, or event, was handed out and is not finished.
+pub const NB_OPEN: nb_status = 15;
+/// No action, or event, is open.
+pub const NB_NOT_OPEN: nb_status = 16;
+/// A request is finished as a bind, or a bind as a request.
+pub const NB_WRONG_KIND: nb_status = 17;
+/// An object is made, and no data are given for it.
+pub const NB_MISSING_DATA: nb_status = 18;
+/// No object is made, and data are given.
+pub const NB_UNEXPECTED_DATA: nb_status = 19;
+/// The interface has no such event, or request.
+pub const NB_UNKNOWN_OPCODE: nb_status = 20;
+/// The arguments are not those of the message: their number, or the kind of one.
+pub const NB_BAD_SIGNATURE: nb_status = 21;
+/// An object argument is null, and may not be.
+pub const NB_NULL_OBJECT: nb_status = 22;
+/// An event has a new id that is null.
+pub const NB_NULL_NEW_ID: nb_status = 23;
+/// An argument is an object of another client.
+pub const NB_FOREIGN_OBJECT: nb_status = 24;
+/// An argument is an object of another interface than the table asks for.
+pub const NB_WRONG_INTERFACE: nb_status = 25;
+/// No interface of the table has the number.
+pub const NB_UNKNOWN_INTERFACE: nb_status = 26;
+/// The version is above that of the interface in the table.
+pub const NB_VERSION_TOO_HIGH: nb_status = 27;
+/// No number is left for an object.
+pub const NB_IDS_EXHAUSTED: nb_status = 28;
+/// No serial is left.
+pub const NB_SERIALS_EXHAUSTED: nb_status = 29;
+/// No slot, or no name, is left.
+pub const NB_FULL: nb_status = 30;
+/// A request makes an object of another interface than the table says.
+pub const NB_WRONG_CHILD: nb_status = 31;
+/// A request makes an object of another version than that of its sender.
+pub const NB_WRONG_CHILD_VERSION: nb_status = 32;
+/// Nobody says of which interface the new object is.
+pub const NB_MISSING_CHILD: nb_status = 33;
+/// A request's new id is not null: the session chooses it.
+pub const NB_NOT_PLACEHOLDER: nb_status = 34;
+
+/// As many descriptors wait on each side of a connection, and are in one receive or send.
+pub const NB_MOST_DESCRIPTORS: usize = 28;
+/// No message has more bytes: so many are enough for the strings and arrays of an action or event.
+pub const NB_MOST_BYTES: usize = 65536;
+/// So many bytes are enough for what waits for a client, if its room was not set.
+pub const NB_MOST_WAITING: usize = 69632;
+
+plain! {
+    /// A client of a server.
+    nb_client_id: 16, 8 {
+        /// Never used again.
+        serial: u64 = 0,
+        /// Its slot, used again.
+        slot: u32 = 8,
+    }
+}
+
+plain! {
+    /// An object. An id with the number 0 is null.
+    nb_object_id: 32, 8 {
+        /// Never used again.
+        serial: u64 = 0,
+        /// Its client; zeros in a client's session.
+        client: nb_client_id = 8,
+        /// The number of its interface in the table.
+        interface: u32 = 24,
+        /// Its number in the protocol.
+        number: u32 = 28,
+    }
+}
+
+plain! {
+    /// A global of a server.
+    nb_global_id: 16, 8 {
+        /// Never used again.
+        serial: u64 = 0,
+        /// What clients bind; used again.
+        name: u32 = 8,
+    }
+}
+
+/// No interface: an object argument that may be of any.
+pub const NB_INTERFACE_ANY: u32 = 0;
+/// `wl_display`.
+pub const NB_INTERFACE_DISPLAY: u32 = 1;
+/// `wl_registry`.
+pub const NB_INTERFACE_REGISTRY: u32 = 2;
+/// `wl_callback`.
+pub const NB_INTERFACE_CALLBACK: u32 = 3;
+/// The first row of the first table that a session was given.
+pub const NB_INTERFACE_FIRST: u32 = 4;
+
+plain! {
+    /// An interface: its name, its version, and how many requests and events it has.
+    nb_interface_row: 20, 4 {
+        /// Where its name begins in the text.
+        name_at: u32 = 0,
+        /// How many bytes the name has.
+        name_length: u32 = 4,
+        /// Its version.
+        version: u32 = 8,
+        /// How many requests it has.
+        requests: u32 = 12,
+        /// How many events it has.
+        events: u32 = 16,
+    }
+}
+
+plain! {
+    /// A request or an event.
+    nb_message_row: 20, 4 {
+        /// Where its name begins in the text.
+        name_at: u32 = 0,
+        /// How many bytes the name has.
+        name_length: u32 = 4,
+        /// The version since which it is there.
+        since: u32 = 8,
+        /// Whether it ends its object (0 or 1).
+        is_destructor: u32 = 12,
+        /// How many arguments it has.
+        arguments: u32 = 16,
+    }
+}
+
+plain! {
+    /// An argument of a message.
+    nb_argument_row: 12, 4 {
+        /// Its kind, [`NB_INT`] to [`NB_DESCRIPTOR`].
+        kind: u32 = 0,
+        /// Whether a string or object may be null (0 or 1).
+        is_nullable: u32 = 4,
+        /// The number of the interface of an object or new id.
+        interface: u32 = 8,
+    }
+}
+
+plain! {
+    /// What is wrong with rows.
+    nb_table_fault: 8, 4 {
+        /// The index of the interface's row among those that were passed, from 0.
+        interface: u32 = 0,
+        /// What is wrong, [`NB_FAULT_ROW`] to [`NB_FAULT_OUT_OF_MEMORY`].
+        fault: u32 = 4,
+    }
+}
+
+/// Nothing is wrong.
+pub const NB_FAULT_NONE: u32 = 0;
+/// A row names what is not there, has a kind that is none, or its name is not UTF-8.
+pub const NB_FAULT_ROW: u32 = 1;
+/// A name has a zero byte.
+pub const NB_FAULT_ZERO_IN_NAME: u32 = 2;
+/// Another interface has the name.
+pub const NB_FAULT_DUPLICATE_NAME: u32 = 3;
+/// An argument names an interface that is not in the table.
+pub const NB_FAULT_UNKNOWN_INTERFACE: u32 = 4;
+/// A message makes two objects.
+pub const NB_FAULT_TOO_MANY_NEW_IDS: u32 = 5;
+/// A new id names no interface.
+pub const NB_FAULT_MISSING_CHILD: u32 = 6;
+/// The interfaces of a message are not those of its object arguments.
+pub const NB_FAULT_ARGUMENT_INTERFACES: u32 = 7;
+/// malloc refused.
+pub const NB_FAULT_OUT_OF_MEMORY: u32 = 8;
+
+/// A signed number.
+pub const NB_INT: u32 = 0;
+/// An unsigned number.
+pub const NB_UINT: u32 = 1;
+/// A number in 256ths.
+pub const NB_FIXED: u32 = 2;
+/// A string.
+pub const NB_STRING: u32 = 3;
+/// An object.
+pub const NB_OBJECT: u32 = 4;
+/// An object that the message makes.
+pub const NB_NEW_ID: u32 = 5;
+/// An array of bytes.
+pub const NB_ARRAY: u32 = 6;
+/// A file descriptor.
+pub const NB_DESCRIPTOR: u32 = 7;
+/// A string that is null; no kind of a row.
+pub const NB_NULL_STRING: u32 = 8;
+
+plain! {
+    /// An argument. Fields that its kind does not use are 0.
+    nb_argument: 56, 8 {
+        /// What it is, [`NB_INT`] to [`NB_NULL_STRING`].
+        kind: u32 = 0,
+        /// The number, or the descriptor.
+        value: i32 = 4,
+        /// Where a string or array stands in the bytes that are lent beside.
+        at: u32 = 8,
+        /// How many bytes it has. A string has no zero at its end.
+        length: u32 = 12,
+        /// The object; null if its number is 0.
+        object: nb_object_id = 16,
+        /// Out: the data of that object; 0 if it has none.
+        data: u64 = 48,
+    }
+}
+
+/// An action that is a request.
+pub const NB_REQUEST: u32 = 1;
+/// An action that is a bind of a global.
+pub const NB_BIND: u32 = 2;
+
+plain! {
+    /// What a client asks of the server. It is open until it is finished.
+    nb_action: 112, 8 {
+        /// [`NB_REQUEST`] or [`NB_BIND`].
+        kind: u32 = 0,
+        /// Of a request: its index among the requests of the sender's interface.
+        opcode: u32 = 4,
+        /// Of a request: how many arguments it has.
+        arguments: u32 = 8,
+        /// Of a request: whether finishing it ends its sender (0 or 1).
+        is_destructor: u32 = 12,
+        /// Of a request: the object that it was sent to. Null for a bind.
+        sender: nb_object_id = 16,
+        /// The data of the sender, or of the global.
+        data: u64 = 48,
+        /// The object that was made or bound; null if none was.
+        created: nb_object_id = 56,
+        /// The version of `created`; 0 if none was made.
+        version: u32 = 88,
+        /// How many bytes its strings and arrays take.
+        bytes: u32 = 92,
+        /// Of a bind: the global.
+        global: nb_global_id = 96,
+    }
+}
+
+plain! {
+    /// What the server tells a client. It is open until it is finished.
+    nb_event: 96, 8 {
+        /// Its index among the events of the sender's interface.
+        opcode: u32 = 0,
+        /// How many arguments it has.
+        arguments: u32 = 4,
+        /// Whether finishing it ends its sender (0 or 1).
+        is_destructor: u32 = 8,
+        /// How many bytes its strings and arrays take.
+        bytes: u32 = 12,
+        /// The object that it was sent to.
+        sender: nb_object_id = 16,
+        /// The data of the sender; 0 if it has none.
+        data: u64 = 48,
+        /// The object that the event made; null if none was.
+        created: nb_object_id = 56,
+        /// The version of `created`; 0 if none was made.
+        version: u32 = 88,
+        /// Whether the sender has data (0 or 1).
+        has_data: u32 = 92,
+    }
+}
+
+plain! {
+    /// What a client asks its session to send.
+    nb_request: 64, 8 {
+        /// The object that it is sent to.
+        sender: nb_object_id = 0,
+        /// Its index among the requests of the sender's interface.
+        opcode: u32 = 32,
+        /// Not 0: `data` are given for the object that it makes.
+        has_data: u32 = 36,
+        /// The data of that object.
+        data: u64 = 40,
+        /// Not 0: the next two are given.
+        has_child: u32 = 48,
+        /// The interface of the object that it makes.
+        child_interface: u32 = 52,
+        /// The version of that object.
+        child_version: u32 = 56,
+        /// 0.
+        unused: u32 = 60,
+    }
+}
+
+plain! {
+    /// An object's number, interface and version.
+    nb_object_info: 12, 4 {
+        /// Its number in the protocol.
+        number: u32 = 0,
+        /// The number of its interface in the table.
+        interface: u32 = 4,
+        /// Its version.
+        version: u32 = 8,
+    }
+}
+
+plain! {
+    /// What a global offers.
+    nb_global_info: 16, 4 {
+        /// The number of its interface in the table.
+        interface: u32 = 0,
+        /// The greatest version that clients may bind.
+        version: u32 = 4,
+        /// Whether it is disabled (0 or 1).
+        is_disabled: u32 = 8,
+        /// 0.
+        unused: u32 = 12,
+    }
+}
+
+plain! {
+    /// How many bytes and descriptors.
+    nb_counts: 8, 4 {
+        /// How many bytes.
+        bytes: u32 = 0,
+        /// How many descriptors.
+        descriptors: u32 = 4,
+    }
+}
+
+/// A note: a client was inserted.
+pub const NB_INSERTED: u32 = 1;
+/// A note: a client was killed.
+pub const NB_KILLED: u32 = 2;
+/// A note: an object with data is gone.
+pub const NB_DESTROYED: u32 = 3;
+
+plain! {
+    /// A note of what happened in a server's session.
+    nb_note: 80, 8 {
+        /// [`NB_INSERTED`], [`NB_KILLED`] or [`NB_DESTROYED`].
+        kind: u32 = 0,
+        /// Of [`NB_KILLED`]: 1 if it was for an error, 0 if the connection closed.
+        is_protocol_error: u32 = 4,
+        /// The code of that error.
+        code: u32 = 8,
+        /// The object of that error.
+        object_number: u32 = 12,
+        /// The client, always.
+        client: nb_client_id = 16,
+        /// Of [`NB_DESTROYED`]: the object, which is gone.
+        object: nb_object_id = 32,
+        /// Of [`NB_DESTROYED`]: its data.
+        data: u64 = 64,
+        /// Of the error: how many bytes its message has. It stands first in the text.
+        message_length: u32 = 72,
+        /// Of the error: how many bytes the name of the object's interface has. It stands behind the message.
+        interface_length: u32 = 76,
+    }
+}
+
+plain! {
+    /// A client that is gone.
+    nb_gone: 32, 8 {
+        /// The client.
+        client: nb_client_id = 0,
+        /// Its data.
+        data: u64 = 16,
+        /// What is still to be sent.
+        waiting: nb_counts = 24,
+    }
+}
+
+/// A client's session has no error.
+pub const NB_NO_ERROR: u32 = 0;
+/// The socket failed, or the connection ended.
+pub const NB_ERROR_OF_IO: u32 = 1;
+/// The server sent an error, or broke the protocol.
+pub const NB_ERROR_OF_PROTOCOL: u32 = 2;
+
+plain! {
+    /// The error of a client's session.
+    nb_error: 28, 4 {
+        /// [`NB_NO_ERROR`], [`NB_ERROR_OF_IO`] or [`NB_ERROR_OF_PROTOCOL`].
+        kind: u32 = 0,
+        /// Of [`NB_ERROR_OF_IO`]: what happened.
+        status: nb_status = 4,
+        /// Of [`NB_IO_ERROR`]: the number of the system.
+        number: i32 = 8,
+        /// Of [`NB_ERROR_OF_PROTOCOL`]: the code that the server sent.
+        code: u32 = 12,
+        /// Of [`NB_ERROR_OF_PROTOCOL`]: the object that the server named.
+        object_number: u32 = 16,
+        /// How many bytes the message has. It stands first in the text.
+        message_length: u32 = 20,
+        /// How many bytes the name of the object's interface has. It stands behind the message.
+        interface_length: u32 = 24,
+    }
+}
+
+// SAFETY: the declarations are those of the header, which `tests/header.rs` compares. A `safe` one takes no pointer but
+// references, so each names a value of its type for the call, and what is written overlaps nothing else.
+unsafe extern "C" {
+    /// Makes a server's session.
+    pub fn nb_server_new(
+        place: &mut nb_server,
+        text: *const u8,
+        text_length: usize,
+        interfaces: *const nb_interface_row,
+        interface_count: usize,
+        messages: *const nb_message_row,
+        message_count: usize,
+        arguments: *const nb_argument_row,
+        argument_count: usize,
+        fault: &mut nb_table_fault,
+    ) -> nb_status;
+    /// Ends the session.
+    pub safe fn nb_server_end(place: &mut nb_server) -> nb_status;
+    /// Appends interfaces to the table.
+    pub fn nb_server_add_interfaces(
+        place: &mut nb_server,
+        text: *const u8,
+        text_length: usize,
+        interfaces: *const nb_interface_row,
+        interface_count: usize,
+        messages: *const nb_message_row,
+        message_count: usize,
+        arguments: *const nb_argument_row,
+        argument_count: usize,
+        fault: &mut nb_table_fault,
+    ) -> nb_status;
+    /// Whether malloc refused in the last call.
+    pub safe fn nb_server_memory_refused(place: &mut nb_server, is_refused: &mut u32) -> nb_status;
+    /// Sets how far the buffers of clients to come may grow.
+    pub safe fn nb_server_set_default_max_buffer_size(
+        place: &mut nb_server,
+        size: u64,
+    ) -> nb_status;
+    /// Sets how far the buffers of a client may grow.
+    pub safe fn nb_server_set_max_buffer_size(
+        place: &mut nb_server,
+        client: &nb_client_id,
+        size: u64,
+    ) -> nb_status;
+    /// Sets how many bytes wait for the host.
+    pub safe fn nb_server_set_room(
+        place: &mut nb_server,
+        client: &nb_client_id,
+        room: u64,
+    ) -> nb_status;
+    /// Inserts a client.
+    pub fn nb_server_insert_client(
+        place: &mut nb_server,
+        data: u64,
+        groups: u64,
+        hidden: *const nb_global_id,
+        hidden_count: usize,
+        client: &mut nb_client_id,
+    ) -> nb_status;
+    /// The data of a client.
+    pub safe fn nb_server_client_data(
+        place: &mut nb_server,
+        client: &nb_client_id,
+        data: &mut u64,
+    ) -> nb_status;
+    /// The live clients.
+    pub fn nb_server_clients(
+        place: &mut nb_server,
+        clients: *mut nb_client_id,
+        room: usize,
+        count: &mut u32,
+    ) -> nb_status;
+    /// Kills a client.
+    pub safe fn nb_server_kill_client(place: &mut nb_server, client: &nb_client_id) -> nb_status;
+    /// The host received this from the client.
+    pub fn nb_server_received(
+        place: &mut nb_server,
+        client: &nb_client_id,
+        bytes: *const u8,
+        length: usize,
+        descriptors: *const i32,
+        count: usize,
+    ) -> nb_status;
+    /// The client has closed the connection.
+    pub safe fn nb_server_received_end(place: &mut nb_server, client: &nb_client_id) -> nb_status;
+    /// A receive failed with this errno.
+    pub safe fn nb_server_receive_failed(
+        place: &mut nb_server,
+        client: &nb_client_id,
+        number: i32,
+    ) -> nb_status;
+    /// A send failed: the client is killed.
+    pub safe fn nb_server_send_failed(place: &mut nb_server, client: &nb_client_id) -> nb_status;
+    /// Hands out the next action of a client.
+    pub fn nb_server_next_action(
+        place: &mut nb_server,
+        client: &nb_client_id,
+        action: &mut nb_action,
+        arguments: *mut nb_argument,
+        argument_room: usize,
+        bytes: *mut u8,
+        byte_room: usize,
+    ) -> nb_status;
+    /// Finishes a request that made no object.
+    pub safe fn nb_server_finish_request(place: &mut nb_server, client: &nb_client_id)
+        -> nb_status;
+    /// Finishes a request that made an object.
+    pub safe fn nb_server_finish_request_with(
+        place: &mut nb_server,
+        client: &nb_client_id,
+        data: u64,
+        is_kept: &mut u32,
+    ) -> nb_status;
+    /// Finishes a bind.
+    pub safe fn nb_server_finish_bind(
+        place: &mut nb_server,
+        client: &nb_client_id,
+        data: u64,
+        is_kept: &mut u32,
+    ) -> nb_status;
+    /// Sends an event of an object.
+    pub fn nb_server_send_event(
+        place: &mut nb_server,
+        sender: &nb_object_id,
+        opcode: u32,
+        arguments: *const nb_argument,
+        argument_count: usize,
+        bytes: *const u8,
+        byte_count: usize,
+    ) -> nb_status;
+    /// Ends a client for an error.
+    pub fn nb_server_post_error(
+        place: &mut nb_server,
+        object: &nb_object_id,
+        code: u32,
+        message: *const u8,
+        length: usize,
+    ) -> nb_status;
+    /// Makes an object of the server for a client.
+    pub safe fn nb_server_create_object(
+        place: &mut nb_server,
+        client: &nb_client_id,
+        interface: u32,
+        version: u32,
+        has_data: u32,
+        data: u64,
+        object: &mut nb_object_id,
+    ) -> nb_status;
+    /// Destroys an object.
+    pub safe fn nb_server_destroy_object(place: &mut nb_server, object: &nb_object_id)
+        -> nb_status;
+    /// An object's number, interface and version.
+    pub safe fn nb_server_object_info(
+        place: &mut nb_server,
+        object: &nb_object_id,
+        info: &mut nb_object_info,
+    ) -> nb_status;
+    /// An object's data.
+    pub safe fn nb_server_object_data(
+        place: &mut nb_server,
+        object: &nb_object_id,
+        data: &mut u64,
+    ) -> nb_status;
+    /// Sets an object's data.
+    pub safe fn nb_server_set_object_data(
+        place: &mut nb_server,
+        object: &nb_object_id,
+        data: u64,
+    ) -> nb_status;
+    /// The client's object with this number.
+    pub safe fn nb_server_object_for_protocol_id(
+        place: &mut nb_server,
+        client: &nb_client_id,
+        interface: u32,
+        number: u32,
+        object: &mut nb_object_id,
+    ) -> nb_status;
+    /// The objects of a client.
+    pub fn nb_server_objects(
+        place: &mut nb_server,
+        client: &nb_client_id,
+        objects: *mut nb_object_id,
+        room: usize,
+        count: &mut u32,
+    ) -> nb_status;
+    /// The id that the next client will have.
+    pub safe fn nb_server_next_client_id(
+        place: &mut nb_server,
+        client: &mut nb_client_id,
+    ) -> nb_status;
+    /// The id that the next global will have.
+    pub safe fn nb_server_next_global_id(
+        place: &mut nb_server,
+        global: &mut nb_global_id,
+    ) -> nb_status;
+    /// Creates a global.
+    pub fn nb_server_create_global(
+        place: &mut nb_server,
+        interface: u32,
+        version: u32,
+        data: u64,
+        groups: u64,
+        hidden: *const nb_client_id,
+        hidden_count: usize,
+        global: &mut nb_global_id,
+    ) -> nb_status;
+    /// Announces a global no more.
+    pub safe fn nb_server_disable_global(place: &mut nb_server, global: &nb_global_id)
+        -> nb_status;
+    /// Removes a global.
+    pub safe fn nb_server_remove_global(place: &mut nb_server, global: &nb_global_id) -> nb_status;
+    /// What a global offers.
+    pub safe fn nb_server_global_info(
+        place: &mut nb_server,
+        global: &nb_global_id,
+        info: &mut nb_global_info,
+    ) -> nb_status;
+    /// A global's data.
+    pub safe fn nb_server_global_data(
+        place: &mut nb_server,
+        global: &nb_global_id,
+        data: &mut u64,
+    ) -> nb_status;
+    /// The name that a client binds a global by.
+    pub safe fn nb_server_global_name(
+        place: &mut nb_server,
+        global: &nb_global_id,
+        client: &nb_client_id,
+        name: &mut u32,
+    ) -> nb_status;
+    /// The next client to which something is to be sent.
+    pub safe fn nb_server_next_writable(
+        place: &mut nb_server,
+        client: &mut nb_client_id,
+    ) -> nb_status;
+    /// Copies what is to be sent to a client next.
+    pub fn nb_server_to_send(
+        place: &mut nb_server,
+        client: &nb_client_id,
+        bytes: *mut u8,
+        byte_room: usize,
+        descriptors: *mut i32,
+        descriptor_room: usize,
+        counts: &mut nb_counts,
+    ) -> nb_status;
+    /// sendmsg took this many bytes.
+    pub safe fn nb_server_sent(
+        place: &mut nb_server,
+        client: &nb_client_id,
+        count: u32,
+    ) -> nb_status;
+    /// Takes the clients out that were killed.
+    pub safe fn nb_server_cleanup(place: &mut nb_server) -> nb_status;
+    /// The next client that was taken out.
+    pub fn nb_server_next_gone(
+        place: &mut nb_server,
+        gone: &mut nb_gone,
+        bytes: *mut u8,
+        byte_room: usize,
+        descriptors: *mut i32,
+        descriptor_room: usize,
+    ) -> nb_status;
+    /// The next note.
+    pub fn nb_server_next_note(
+        place: &mut nb_server,
+        note: &mut nb_note,
+        text: *mut u8,
+        text_room: usize,
+    ) -> nb_status;
+    /// The next descriptor that no call will hand out.
+    pub safe fn nb_server_next_dropped(place: &mut nb_server, descriptor: &mut i32) -> nb_status;
+
+    /// Makes a client's session.
+    pub fn nb_client_connect(
+        place: &mut nb_client,
+        text: *const u8,
+        text_length: usize,
+        interfaces: *const nb_interface_row,
+        interface_count: usize,
+        messages: *const nb_message_row,
+        message_count: usize,
+        arguments: *const nb_argument_row,
+        argument_count: usize,
+        fault: &mut nb_table_fault,
+    ) -> nb_status;
+    /// Ends the session.
+    pub safe fn nb_client_end(place: &mut nb_client) -> nb_status;
+    /// Appends interfaces to the table.
+    pub fn nb_client_add_interfaces(
+        place: &mut nb_client,
+        text: *const u8,
+        text_length: usize,
+        interfaces: *const nb_interface_row,
+        interface_count: usize,
+        messages: *const nb_message_row,
+        message_count: usize,
+        arguments: *const nb_argument_row,
+        argument_count: usize,
+        fault: &mut nb_table_fault,
+    ) -> nb_status;
+    /// Whether malloc refused in the last call.
+    pub safe fn nb_client_memory_refused(place: &mut nb_client, is_refused: &mut u32) -> nb_status;
+    /// Sets how far the buffers may grow.
+    pub safe fn nb_client_set_max_buffer_size(
+        place: &mut nb_client,
+        has_limit: u32,
+        size: u64,
+    ) -> nb_status;
+    /// Sets how many bytes wait for the host.
+    pub safe fn nb_client_set_room(place: &mut nb_client, room: u64) -> nb_status;
+    /// The display.
+    pub safe fn nb_client_display(place: &mut nb_client, display: &mut nb_object_id) -> nb_status;
+    /// The host received this from the server.
+    pub fn nb_client_received(
+        place: &mut nb_client,
+        bytes: *const u8,
+        length: usize,
+        descriptors: *const i32,
+        count: usize,
+    ) -> nb_status;
+    /// The server has closed the connection.
+    pub safe fn nb_client_received_end(place: &mut nb_client) -> nb_status;
+    /// A receive failed with this errno.
+    pub safe fn nb_client_receive_failed(place: &mut nb_client, number: i32) -> nb_status;
+    /// A send failed with this errno.
+    pub safe fn nb_client_send_failed(place: &mut nb_client, number: i32) -> nb_status;
+    /// Hands out the next event.
+    pub fn nb_client_next_event(
+        place: &mut nb_client,
+        event: &mut nb_event,
+        arguments: *mut nb_argument,
+        argument_room: usize,
+        bytes: *mut u8,
+        byte_room: usize,
+    ) -> nb_status;
+    /// Finishes an event that made no object.
+    pub safe fn nb_client_finish_event(place: &mut nb_client) -> nb_status;
+    /// Finishes an event that made an object.
+    pub safe fn nb_client_finish_event_with(place: &mut nb_client, data: u64) -> nb_status;
+    /// Sends a request.
+    pub fn nb_client_send_request(
+        place: &mut nb_client,
+        request: &nb_request,
+        arguments: *const nb_argument,
+        argument_count: usize,
+        bytes: *const u8,
+        byte_count: usize,
+        created: &mut nb_object_id,
+    ) -> nb_status;
+    /// An object's number, interface and version.
+    pub safe fn nb_client_object_info(
+        place: &mut nb_client,
+        object: &nb_object_id,
+        info: &mut nb_object_info,
+    ) -> nb_status;
+    /// An object's data.
+    pub safe fn nb_client_object_data(
+        place: &mut nb_client,
+        object: &nb_object_id,
+        data: &mut u64,
+    ) -> nb_status;
+    /// Sets an object's data.
+    pub safe fn nb_client_set_object_data(
+        place: &mut nb_client,
+        object: &nb_object_id,
+        data: u64,
+    ) -> nb_status;
+    /// Destroys an object.
+    pub safe fn nb_client_destroy_object(place: &mut nb_client, object: &nb_object_id)
+        -> nb_status;
+    /// Hands what waits over to [`nb_client_to_send`].
+    pub safe fn nb_client_flush(place: &mut nb_client) -> nb_status;
+    /// Copies what is to be sent next.
+    pub fn nb_client_to_send(
+        place: &mut nb_client,
+        bytes: *mut u8,
+        byte_room: usize,
+        descriptors: *mut i32,
+        descriptor_room: usize,
+        counts: &mut nb_counts,
+    ) -> nb_status;
+    /// sendmsg took this many bytes.
+    pub safe fn nb_client_sent(place: &mut nb_client, count: u32) -> nb_status;
+    /// The session's error.
+    pub fn nb_client_last_error(
+        place: &mut nb_client,
+        error: &mut nb_error,
+        text: *mut u8,
+        text_room: usize,
+    ) -> nb_status;
+    /// The next object with data that was destroyed.
+    pub safe fn nb_client_next_note(
+        place: &mut nb_client,
+        destroyed: &mut nb_object_id,
+        data: &mut u64,
+    ) -> nb_status;
+    /// The next descriptor that no call will hand out.
+    pub safe fn nb_client_next_dropped(place: &mut nb_client, descriptor: &mut i32) -> nb_status;
+}

@@ -1,0 +1,65 @@
+//! Checks of a backend, with a line for each. The last line is 'N passed, M failed'.
+//!
+//!     checks [TOPIC ..]
+
+mod pair;
+#[allow(dead_code)]
+#[path = "../../scenarios/src/table.rs"]
+mod table;
+mod topics;
+
+use std::panic::{catch_unwind, AssertUnwindSafe};
+use std::process::ExitCode;
+
+/// Counts what held and what did not.
+#[derive(Default)]
+pub struct Checks {
+    passed: u32,
+    failed: u32,
+}
+
+impl Checks {
+    pub fn check(&mut self, what: &str, holds: bool) {
+        println!("{} {what}", if holds { "ok    " } else { "FAILED" });
+        if holds {
+            self.passed += 1;
+        } else {
+            self.failed += 1;
+        }
+    }
+
+    /// Checks that two values are equal, and shows them if not.
+    pub fn equal<T: PartialEq + std::fmt::Debug>(&mut self, what: &str, found: T, wanted: T) {
+        let holds = found == wanted;
+        self.check(what, holds);
+        if !holds {
+            println!("       found {found:?}, wanted {wanted:?}");
+        }
+    }
+}
+
+/// Whether it panics.
+pub fn panics(call: impl FnOnce()) -> bool {
+    catch_unwind(AssertUnwindSafe(call)).is_err()
+}
+
+fn main() -> ExitCode {
+    let asked: Vec<String> = std::env::args().skip(1).collect();
+    // Most panics here are meant.
+    std::panic::set_hook(Box::new(|_| {}));
+    let mut checks = Checks::default();
+    for (topic, run) in topics::ALL {
+        if !asked.is_empty() && !asked.iter().any(|it| it == topic) {
+            continue;
+        }
+        if let Err(panic) = catch_unwind(AssertUnwindSafe(|| run(&mut checks))) {
+            let text = panic.downcast_ref::<String>().map(String::as_str);
+            let text = text
+                .or(panic.downcast_ref::<&str>().copied())
+                .unwrap_or("no text");
+            checks.check(&format!("{topic} panics: {text}"), false);
+        }
+    }
+    println!("{} passed, {} failed", checks.passed, checks.failed);
+    ExitCode::from(u8::from(checks.failed > 0))
+}

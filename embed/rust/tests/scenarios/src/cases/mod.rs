@@ -1,0 +1,28 @@
+//! The scenarios, by topic.
+
+mod descriptors;
+mod ends;
+mod events_by_hand;
+mod globals;
+mod misuse;
+mod objects;
+mod requests_by_hand;
+mod sizes;
+mod threads;
+
+use crate::Case;
+
+pub fn all() -> Vec<Case> {
+    [
+        objects::CASES,
+        misuse::CASES,
+        globals::CASES,
+        ends::CASES,
+        requests_by_hand::CASES,
+        events_by_hand::CASES,
+        descriptors::CASES,
+        sizes::CASES,
+        threads::CASES,
+    ]
+    .concat()
+}

@@ -1,0 +1,176 @@
+//! A connection: a socket, a session behind a lock, and who reads from it.
+
+use std::fmt;
+use std::io;
+use std::os::unix::io::{AsFd, BorrowedFd, RawFd};
+use std::os::unix::net::UnixStream;
+use std::sync::{Arc, Condvar, Mutex, MutexGuard, PoisonError};
+
+use rustix::io::Errno;
+
+use super::misuse;
+use super::reading::Readers;
+use super::session::{Leftovers, Refused, Session};
+use super::{InvalidId, ObjectData, ObjectId, WaylandError};
+use crate::debug;
+use crate::library::{Sent, Status};
+use crate::protocol::{Interface, Message, ObjectInfo};
+
+/// A connection to a server.
+pub(super) struct Connection {
+    socket: UnixStream,
+    session: Mutex<Session>,
+    pub(super) readers: Mutex<Readers>,
+    /// A reading has ended, or all that were prepared were given up.
+    pub(super) read: Condvar,
+    /// Whether messages are printed.
+    pub(super) prints: bool,
+}
+
+impl fmt::Debug for Connection {
+    fn fmt(&self, f: &mut fmt::Formatter<'_>) -> fmt::Result {
+        f.debug_struct("Connection")
+            .field("socket", &self.socket)
+            .finish_non_exhaustive()
+    }
+}
+
+impl Connection {
+    pub(super) fn new(socket: UnixStream) -> Connection {
+        Connection {
+            socket,
+            session: Mutex::new(Session::new()),
+            readers: Mutex::new(Readers::default()),
+            read: Condvar::new(),
+            prints: debug::is_on_for_clients(),
+        }
+    }
+
+    pub(super) fn socket(&self) -> BorrowedFd<'_> {
+        self.socket.as_fd()
+    }
+
+    /// The session. No code of the program runs while it is locked. If a bug of this crate panics then, the session is as
+    /// good as before: each call of the library is whole.
+    pub(super) fn lock(&self) -> MutexGuard<'_, Session> {
+        self.session.lock().unwrap_or_else(PoisonError::into_inner)
+    }
+
+    pub(super) fn display(&self) -> ObjectId {
+        self.lock().display()
+    }
+
+    pub(super) fn last_error(&self) -> Option<WaylandError> {
+        self.lock().error()
+    }
+
+    pub(super) fn info(&self, id: &ObjectId) -> Result<ObjectInfo, InvalidId> {
+        let info = self
+            .lock()
+            .library
+            .object_info(&id.raw())
+            .ok_or(InvalidId)?;
+        Ok(ObjectInfo {
+            id: info.number,
+            interface: id.interface,
+            version: info.version,
+        })
+    }
+
+    pub(super) fn get_data(&self, id: &ObjectId) -> Result<Arc<dyn ObjectData>, InvalidId> {
+        self.lock().get_data(id).ok_or(InvalidId)
+    }
+
+    pub(super) fn set_data(
+        &self,
+        id: &ObjectId,
+        data: Arc<dyn ObjectData>,
+    ) -> Result<(), InvalidId> {
+        // The data that are not needed any more are dropped without the lock.
+        let replaced = self.lock().set_data(id, data);
+        replaced.map(drop).map_err(|_| InvalidId)
+    }
+
+    pub(super) fn destroy_object(&self, id: &ObjectId) -> Result<(), InvalidId> {
+        let mut leftovers = Leftovers::default();
+        let mut session = self.lock();
+        if session.library.destroy_object(&id.raw()).is_err() {
+            return Err(InvalidId);
+        }
+        session.take_note(&mut leftovers);
+        drop(session);
+        leftovers.settle();
+        Ok(())
+    }
+
+    pub(super) fn send_request(
+        &self,
+        message: &Message<ObjectId, RawFd>,
+        data: Option<Arc<dyn ObjectData>>,
+        child_spec: Option<(&'static Interface, u32)>,
+    ) -> Result<ObjectId, InvalidId> {
+        let mut leftovers = Leftovers::default();
+        let sent = self
+            .lock()
+            .send_request(message, data, child_spec, &mut leftovers);
+        match sent {
+            Ok(created) => {
+                self.print_sent(message, &created);
+                leftovers.settle();
+                Ok(created)
+            }
+            Err(Refused::InvalidId) => {
+                if self.prints {
+                    let arguments = debug::List(&message.args);
+                    debug::print_discarded(&message.sender_id, name_of(message), arguments);
+                }
+                Err(InvalidId)
+            }
+            Err(Refused::Misuse(status)) => {
+                let info = self.info(&message.sender_id).ok();
+                panic!("{}", misuse::text(status, message, child_spec, info))
+            }
+            Err(Refused::BadInterface(error)) => panic!("{error}"),
+        }
+    }
+
+    fn print_sent(&self, message: &Message<ObjectId, RawFd>, created: &ObjectId) {
+        let (sender, name) = (&message.sender_id, name_of(message));
+        let arguments = debug::WithNewId(&message.args, created);
+        if self.prints {
+            debug::print_sent(sender, name, &arguments);
+        }
+        crate::log_debug!("Sending {sender}.{name} ({arguments})");
+    }
+
+    pub(super) fn flush(&self) -> Result<(), WaylandError> {
+        let mut session = self.lock();
+        loop {
+            // There may be no room for all of it until some was sent.
+            let is_handed_over = match session.flush() {
+                Ok(()) => true,
+                Err(Status::WOULD_BLOCK) => false,
+                Err(_) => return Err(session.failed()),
+            };
+            match session.library.send(self.socket()) {
+                Ok(Sent::All) if is_handed_over => return Ok(()),
+                Ok(_) => {}
+                Err(Errno::AGAIN) => return Err(io::Error::from(Errno::AGAIN).into()),
+                Err(error) => session.send_failed(error),
+            }
+        }
+    }
+
+    #[cfg(feature = "libwayland_client_1_23")]
+    pub(super) fn set_max_buffer_size(&self, limit: Option<usize>) {
+        self.lock().library.set_max_buffer_size(limit);
+    }
+}
+
+/// The name of a request.
+fn name_of(message: &Message<ObjectId, RawFd>) -> &'static str {
+    let requests = message.sender_id.interface.requests;
+    requests
+        .get(usize::from(message.opcode))
+        .map_or("<unknown>", |request| request.name)
+}

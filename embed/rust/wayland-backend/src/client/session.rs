@@ -1,0 +1,452 @@
+//! What stands behind a connection's lock: the session, and what the program keeps for its objects.
+
+use std::collections::VecDeque;
+use std::io;
+use std::os::unix::io::{BorrowedFd, RawFd};
+use std::sync::Arc;
+
+use rustix::io::Errno;
+use smallvec::SmallVec;
+
+use super::{DisplayData, MissingData, ObjectData, ObjectId, WaylandError};
+use crate::data::Slab;
+use crate::library::{
+    Arguments, Client, Event, Outgoing, RawArgument, RawObjectId, Received, Request, SessionError,
+    Status,
+};
+use crate::protocol::{ArgumentType, Interface, Message, ProtocolError};
+use crate::table::{BadInterface, Table};
+
+/// What is kept for an object.
+#[derive(Debug)]
+struct Kept {
+    data: Arc<dyn ObjectData>,
+    /// The static that the object was made with.
+    interface: &'static Interface,
+}
+
+/// A session, its table, and the data of its objects.
+#[derive(Debug)]
+pub(super) struct Session {
+    pub(super) library: Client,
+    table: Table,
+    data: Slab<Kept>,
+    /// Objects that were destroyed, with the keys of their data. These are kept until the number is free.
+    leaving: VecDeque<(RawObjectId, u64)>,
+    /// How many of them were added since they were last looked at.
+    left_lately: usize,
+    outgoing: Outgoing,
+    /// What ended the connection on this side: the socket failed while it was written, or a descriptor of a request could
+    /// not be duplicated, so that nothing behind it can be sent.
+    fault: Option<Errno>,
+    /// Whether the error was logged.
+    is_logged: bool,
+}
+
+/// Why a request was not sent.
+pub(super) enum Refused {
+    InvalidId,
+    Misuse(Status),
+    BadInterface(BadInterface),
+}
+
+/// An event that is open.
+pub(super) struct OpenEvent {
+    /// The object that it was sent to.
+    pub(super) sender: ObjectId,
+    pub(super) opcode: u16,
+    /// The data of that object.
+    pub(super) data: Arc<dyn ObjectData>,
+    /// The object that it made.
+    pub(super) created: Option<ObjectId>,
+    pub(super) ends_sender: bool,
+}
+
+/// What a call leaves to be done when the lock is free, since it is the program's code.
+#[derive(Default)]
+pub(super) struct Leftovers {
+    /// Objects that were destroyed, whose data are to be told.
+    ended: SmallVec<[(Arc<dyn ObjectData>, ObjectId); 1]>,
+    /// Data that nobody can ask for any more.
+    unused: SmallVec<[Arc<dyn ObjectData>; 1]>,
+}
+
+impl Leftovers {
+    /// Tells the data of the objects that were destroyed, and drops the other data.
+    #[inline]
+    pub(super) fn settle(&mut self) {
+        if !self.ended.is_empty() || !self.unused.is_empty() {
+            self.settle_all();
+        }
+    }
+
+    fn settle_all(&mut self) {
+        // A callback that panics leaves none behind.
+        for (data, id) in std::mem::take(&mut self.ended) {
+            data.destroyed(id);
+        }
+        self.unused.clear();
+    }
+}
+
+impl Session {
+    pub(super) fn new() -> Session {
+        let mut session = Session {
+            library: Client::new(),
+            table: Table::new(),
+            data: Slab::new(),
+            leaving: VecDeque::new(),
+            left_lately: 0,
+            outgoing: Outgoing::default(),
+            fault: None,
+            is_logged: false,
+        };
+        let display = session.library.display();
+        let interface = session.table.interface(display.interface);
+        let key = session.data.insert(Kept {
+            data: Arc::new(DisplayData),
+            interface,
+        });
+        let answer = session.library.set_object_data(&display, key);
+        debug_assert_eq!(answer, Ok(()));
+        session
+    }
+
+    /// The id of the display.
+    pub(super) fn display(&mut self) -> ObjectId {
+        let display = self.library.display();
+        ObjectId::new(&display, self.table.interface(display.interface))
+    }
+
+    /// The session's error.
+    pub(super) fn error(&mut self) -> Option<WaylandError> {
+        if let Some(fault) = self.fault {
+            return Some(io::Error::from(fault).into());
+        }
+        Some(match self.library.last_error()? {
+            SessionError::Io { status, number } => io_error(status, number).into(),
+            SessionError::Protocol {
+                code,
+                object,
+                interface,
+                message,
+            } => ProtocolError {
+                code,
+                object_id: object,
+                object_interface: interface,
+                message,
+            }
+            .into(),
+        })
+    }
+
+    /// The error of a session that has one, which is logged once.
+    pub(super) fn failed(&mut self) -> WaylandError {
+        let error = self
+            .error()
+            .unwrap_or_else(|| io::Error::from(Errno::PIPE).into());
+        if !std::mem::replace(&mut self.is_logged, true) {
+            crate::log_error!("{error}");
+        }
+        error
+    }
+
+    /// The socket failed while it was written.
+    pub(super) fn send_failed(&mut self, error: Errno) {
+        self.library.send_failed(error);
+        self.fault.get_or_insert(error);
+    }
+
+    /// Hands what waits over to be sent. Statuses: `FAILED`, `WOULD_BLOCK`.
+    pub(super) fn flush(&mut self) -> Result<(), Status> {
+        if self.fault.is_some() {
+            return Err(Status::FAILED);
+        }
+        self.library.flush()
+    }
+
+    /// The data of an object.
+    pub(super) fn get_data(&mut self, id: &ObjectId) -> Option<Arc<dyn ObjectData>> {
+        let key = self.library.object_data(&id.raw())?;
+        Some(self.data.get(key)?.data.clone())
+    }
+
+    /// Gives an object other data, and answers those that it had. The error says that it is gone.
+    pub(super) fn set_data(
+        &mut self,
+        id: &ObjectId,
+        data: Arc<dyn ObjectData>,
+    ) -> Result<Option<Arc<dyn ObjectData>>, Arc<dyn ObjectData>> {
+        let old = self.library.object_data(&id.raw());
+        if let Some(kept) = old.and_then(|key| self.data.get_mut(key)) {
+            return Ok(Some(std::mem::replace(&mut kept.data, data)));
+        }
+        // An object that an event has just made has none.
+        let key = self.data.insert(Kept {
+            data,
+            interface: id.interface,
+        });
+        match self.library.set_object_data(&id.raw(), key) {
+            Ok(()) => Ok(None),
+            Err(_) => Err(self.data.remove(key).expect("it was just inserted").data),
+        }
+    }
+
+    /// Sends a request, and answers the object that it makes.
+    pub(super) fn send_request(
+        &mut self,
+        message: &Message<ObjectId, RawFd>,
+        data: Option<Arc<dyn ObjectData>>,
+        child_spec: Option<(&'static Interface, u32)>,
+        leftovers: &mut Leftovers,
+    ) -> Result<ObjectId, Refused> {
+        let sender = &message.sender_id;
+        let description = sender.interface.requests.get(usize::from(message.opcode));
+        let mut request = Request {
+            sender: sender.raw(),
+            opcode: message.opcode.into(),
+            ..Request::default()
+        };
+        let mut interface = None;
+        if description.is_some_and(|it| it.signature.contains(&ArgumentType::NewId)) {
+            interface = description.and_then(|description| description.child_interface);
+            if let Some((child, version)) = child_spec {
+                let library = &mut self.library;
+                let row = self.table.row(child, |rows| library.add_interfaces(rows));
+                match row {
+                    Ok(row) => request.child_interface = row,
+                    Err(error) => {
+                        leftovers.unused.extend(data);
+                        return Err(Refused::BadInterface(error));
+                    }
+                }
+                request.has_child = 1;
+                request.child_version = version;
+                interface = Some(child);
+            }
+            match (data, interface) {
+                (Some(data), Some(interface)) => {
+                    request.has_data = 1;
+                    request.data = self.data.insert(Kept { data, interface });
+                }
+                (data, _) => leftovers.unused.extend(data),
+            }
+        } else {
+            leftovers.unused.extend(data);
+        }
+        let sent = self.send(message, &request);
+        let created = match (sent, interface) {
+            (Ok(created), Some(interface)) if created.number != 0 => {
+                ObjectId::new(&created, interface)
+            }
+            (sent, _) => {
+                if request.has_data != 0 {
+                    self.remove_data(request.data, leftovers);
+                }
+                match sent {
+                    Ok(_) => ObjectId::null(),
+                    Err(Status::INVALID_ID) => return Err(Refused::InvalidId),
+                    Err(status) => return Err(Refused::Misuse(status)),
+                }
+            }
+        };
+        if description.is_some_and(|description| description.is_destructor) {
+            self.take_note(leftovers);
+        }
+        Ok(created)
+    }
+
+    /// Hands a request to the session. If a descriptor cannot be duplicated, nothing is sent any more.
+    fn send(
+        &mut self,
+        message: &Message<ObjectId, RawFd>,
+        request: &Request,
+    ) -> Result<RawObjectId, Status> {
+        let sent = match self.outgoing.set(&message.args, ObjectId::raw) {
+            Ok(()) => self.library.send_request(request, &mut self.outgoing),
+            Err(error) => {
+                self.fault.get_or_insert(error);
+                Ok(RawObjectId::default())
+            }
+        };
+        if sent.is_err() || self.fault.is_some() {
+            // Its descriptors are not sent.
+            self.outgoing.clear();
+        }
+        sent
+    }
+
+    fn remove_data(&mut self, key: u64, leftovers: &mut Leftovers) {
+        leftovers
+            .unused
+            .extend(self.data.remove(key).map(|kept| kept.data));
+    }
+
+    /// Receives once, unless nothing can be read any more.
+    pub(super) fn receive(&mut self, socket: BorrowedFd<'_>) -> Received {
+        match self.fault {
+            None => self.library.receive(socket),
+            Some(_) => Received::Nothing,
+        }
+    }
+
+    /// The next event, and who takes it. Its arguments are appended to `arguments`.
+    pub(super) fn next_event(
+        &mut self,
+        arguments: &mut Arguments<ObjectId>,
+    ) -> Result<OpenEvent, Status> {
+        if self.fault.is_some() {
+            return Err(Status::FAILED);
+        }
+        let Session {
+            library,
+            table,
+            data,
+            ..
+        } = self;
+        let event = library.next_event(arguments, |event, argument| {
+            argument_id(table, data, event, argument)
+        })?;
+        let (receiver, interface) = match data.get(event.data) {
+            Some(kept) => (kept.data.clone(), kept.interface),
+            None => {
+                let missing: Arc<dyn ObjectData> = Arc::new(MissingData);
+                (missing, table.interface(event.sender.interface))
+            }
+        };
+        let created = (event.created.number != 0)
+            .then(|| ObjectId::new(&event.created, child_interface(table, data, &event)));
+        Ok(OpenEvent {
+            sender: ObjectId::new(&event.sender, interface),
+            opcode: event.opcode as u16,
+            data: receiver,
+            created,
+            ends_sender: event.is_destructor != 0,
+        })
+    }
+
+    /// Finishes the open event. An object that it made gets the data that the callback answered.
+    pub(super) fn finish_event(
+        &mut self,
+        created: Option<&ObjectId>,
+        ends_sender: bool,
+        answer: Option<Arc<dyn ObjectData>>,
+        leftovers: &mut Leftovers,
+    ) {
+        match created {
+            None => {
+                leftovers.unused.extend(answer);
+                let finished = self.library.finish_event(None);
+                debug_assert_eq!(finished, Ok(()));
+            }
+            Some(created) => self.finish_making(created, answer, leftovers),
+        }
+        if ends_sender {
+            self.take_note(leftovers);
+        }
+    }
+
+    fn finish_making(
+        &mut self,
+        created: &ObjectId,
+        answer: Option<Arc<dyn ObjectData>>,
+        leftovers: &mut Leftovers,
+    ) {
+        let raw = created.raw();
+        // The callback may have given it data, which these replace.
+        if let Some(key) = self.library.object_data(&raw) {
+            self.remove_data(key, leftovers);
+        }
+        let data = answer.unwrap_or_else(|| Arc::new(MissingData));
+        let key = self.data.insert(Kept {
+            data,
+            interface: created.interface,
+        });
+        let finished = self.library.finish_event(Some(key));
+        debug_assert_eq!(finished, Ok(()));
+        if self.library.object_info(&raw).is_none() {
+            // The callback has destroyed it: no note tells when its data leave.
+            self.keep_until_free(raw, key);
+        }
+    }
+
+    /// Takes the object that the last call of the session has destroyed, if it had data. Each call that may destroy one is
+    /// followed by this one under the same lock, so there is no other.
+    pub(super) fn take_note(&mut self, leftovers: &mut Leftovers) {
+        let Some((raw, key)) = self.library.next_note() else {
+            return;
+        };
+        if let Some(kept) = self.data.get(key) {
+            let id = ObjectId::new(&raw, kept.interface);
+            leftovers.ended.push((kept.data.clone(), id));
+            self.keep_until_free(raw, key);
+        }
+    }
+
+    fn keep_until_free(&mut self, raw: RawObjectId, key: u64) {
+        self.leaving.push_back((raw, key));
+        self.left_lately += 1;
+    }
+
+    /// Takes out the data of objects whose numbers are free.
+    ///
+    /// The session does not tell when a number becomes free, so it is asked. It is asked about twice as many objects as
+    /// were destroyed since the last time, and a few: so the list stays short, and the time does not grow with objects
+    /// that the server never lets go.
+    pub(super) fn take_unused(&mut self, leftovers: &mut Leftovers) {
+        let most = self.leaving.len().min(2 * self.left_lately + 4);
+        self.left_lately = 0;
+        for _ in 0..most {
+            let Some((raw, key)) = self.leaving.pop_front() else {
+                break;
+            };
+            if self.library.object_data(&raw).is_some() {
+                self.leaving.push_back((raw, key));
+            } else {
+                self.remove_data(key, leftovers);
+            }
+        }
+    }
+}
+
+/// The id of an object among an event's arguments.
+fn argument_id(
+    table: &Table,
+    data: &Slab<Kept>,
+    event: &Event,
+    argument: &RawArgument,
+) -> ObjectId {
+    let raw = &argument.object;
+    if raw.number == 0 {
+        return ObjectId::null();
+    }
+    let interface = if raw.number == event.created.number {
+        child_interface(table, data, event)
+    } else {
+        data.get(argument.data)
+            .map_or_else(|| table.interface(raw.interface), |kept| kept.interface)
+    };
+    ObjectId::new(raw, interface)
+}
+
+/// The interface of the object that an event made: the static that the sender's names.
+fn child_interface(table: &Table, data: &Slab<Kept>, event: &Event) -> &'static Interface {
+    data.get(event.data)
+        .and_then(|kept| {
+            kept.interface
+                .events
+                .get(event.opcode as usize)?
+                .child_interface
+        })
+        .unwrap_or_else(|| table.interface(event.created.interface))
+}
+
+/// The system's error for a fault of a session.
+fn io_error(status: Status, number: i32) -> io::Error {
+    match status {
+        Status::IO_ERROR => io::Error::from_raw_os_error(number),
+        Status::TOO_BIG => Errno::TOOBIG.into(),
+        Status::PROTOCOL_ERROR => Errno::PROTO.into(),
+        _ => Errno::PIPE.into(),
+    }
+}

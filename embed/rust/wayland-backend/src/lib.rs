@@ -1,0 +1,88 @@
+//! The API of `wayland-backend` 0.3.17 over the proved sessions of Numbyroga.
+//!
+//! The crate takes the place of the one of that name by a line in `Cargo.toml`, and wayland-client, wayland-server and
+//! what stands on them go on as before:
+//!
+//! ```toml
+//! [patch.crates-io]
+//! wayland-backend = { path = "numbyroga/embed/rust/wayland-backend" }
+//! ```
+//!
+//! Sockets, locks and callbacks are here. What is read and what is sent, which objects there are, and what is an error,
+//! is decided by the sessions of `libnumbyroga`. README lists what differs from the original.
+//!
+//! Errors are printed to stderr, or by the crate `log` with the feature `log`. If the environment has
+//! `WAYLAND_DEBUG=1`, or `client` or `server` in place of the 1, each message is printed to stderr.
+
+#![deny(unsafe_code)]
+#![warn(missing_docs, missing_debug_implementations)]
+// `impl_downcast` writes such bounds.
+#![allow(clippy::multiple_bound_locations)]
+
+#[cfg(any(feature = "client_system", feature = "server_system"))]
+compile_error!(
+    "The features `client_system` and `server_system` of wayland-backend are for programs that share pointers with \
+     libwayland. The sessions of Numbyroga have none, so use the original crate there."
+);
+
+#[cfg(feature = "rwh_06")]
+compile_error!(
+    "The feature `rwh_06` of wayland-backend makes a window handle out of libwayland's pointer to the display. The \
+     sessions of Numbyroga have none, so use the original crate with `client_system` there."
+);
+
+#[cfg(feature = "log")]
+#[allow(unused_imports)]
+use log::{debug as log_debug, error as log_error, warn as log_warn};
+#[cfg(not(feature = "log"))]
+use std::{eprintln as log_error, eprintln as log_warn};
+
+/// Prints nothing: what happens is logged by the crate `log` alone.
+#[cfg(not(feature = "log"))]
+macro_rules! log_debug {
+    ($($text:tt)*) => {};
+}
+#[cfg(not(feature = "log"))]
+use log_debug;
+
+/// The crate `smallvec`, whose vectors have a message's arguments.
+pub extern crate smallvec;
+
+/// Makes a [`Message`][crate::protocol::Message] of a sender, an opcode and arguments.
+///
+/// ```
+/// use wayland_backend::message;
+/// use wayland_backend::protocol::{Argument, Message};
+///
+/// let message: Message<u32, i32> = message!(1, 0, [Argument::Int(5), Argument::NewId(3)]);
+/// assert_eq!(message.args.len(), 2);
+/// ```
+#[macro_export]
+macro_rules! message {
+    ($sender_id: expr, $opcode: expr, [$($args: expr),* $(,)?] $(,)?) => {
+        $crate::protocol::Message {
+            sender_id: $sender_id,
+            opcode: $opcode,
+            args: $crate::smallvec::smallvec![$($args),*],
+        }
+    };
+}
+
+mod core_interfaces;
+mod data;
+mod debug;
+#[allow(unsafe_code)]
+mod library;
+mod socket;
+mod table;
+mod types;
+
+pub mod client;
+pub mod protocol;
+pub mod server;
+
+/// The two sides under the names that they have beside libwayland's in the original.
+pub mod rs {
+    pub use crate::client;
+    pub use crate::server;
+}

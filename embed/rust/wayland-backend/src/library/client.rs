@@ -1,0 +1,395 @@
+//! A client's session.
+
+use std::os::fd::BorrowedFd;
+
+use numbyroga_sys as sys;
+use rustix::io::Errno;
+
+use super::messages::Lent;
+use super::receiving::{Arrival, Inbox};
+use super::rows::table_answer;
+use super::{
+    answer, done, send_once, take_back, Arguments, Event, Outgoing, RawArgument, RawObjectId,
+    RawObjectInfo, Received, Request, Rows, Sent, Status, TableFault, MOST_DESCRIPTORS,
+};
+
+/// The error of a client's session.
+#[derive(Clone, Debug, PartialEq, Eq)]
+pub(crate) enum SessionError {
+    /// The socket failed, or the connection ended. `number` is the errno of [`Status::IO_ERROR`].
+    Io {
+        /// What happened.
+        status: Status,
+        /// The system's number.
+        number: i32,
+    },
+    /// The server sent an error, or broke the protocol: then code and object are 0.
+    Protocol {
+        /// The code that the server sent.
+        code: u32,
+        /// The number of the object that the server named.
+        object: u32,
+        /// The name of that object's interface.
+        interface: String,
+        /// What the server said.
+        message: String,
+    },
+}
+
+/// A client's session over a socket of the caller's.
+#[derive(Debug)]
+pub(crate) struct Client {
+    place: sys::nb_client,
+    lent: Lent,
+    inbox: Inbox,
+}
+
+impl Client {
+    /// A new session. It has one object, the display, and a table of the three fixed interfaces.
+    pub(crate) fn new() -> Client {
+        let mut place = sys::nb_client::EMPTY;
+        let mut fault = sys::nb_table_fault::default();
+        let rows = Rows::default();
+        // SAFETY: each slice is lent with its own length.
+        let status = unsafe {
+            sys::nb_client_connect(
+                &mut place,
+                rows.text.as_ptr(),
+                0,
+                rows.interfaces.as_ptr(),
+                0,
+                rows.messages.as_ptr(),
+                0,
+                rows.arguments.as_ptr(),
+                0,
+                &mut fault,
+            )
+        };
+        done(status);
+        Client {
+            place,
+            lent: Lent::new(),
+            inbox: Inbox::default(),
+        }
+    }
+
+    /// Appends interfaces to the table: all of them, or none.
+    pub(crate) fn add_interfaces(&mut self, rows: &Rows) -> Result<(), TableFault> {
+        let mut fault = sys::nb_table_fault::default();
+        // SAFETY: each slice is lent with its own length.
+        let status = unsafe {
+            sys::nb_client_add_interfaces(
+                &mut self.place,
+                rows.text.as_ptr(),
+                rows.text.len(),
+                rows.interfaces.as_ptr(),
+                rows.interfaces.len(),
+                rows.messages.as_ptr(),
+                rows.messages.len(),
+                rows.arguments.as_ptr(),
+                rows.arguments.len(),
+                &mut fault,
+            )
+        };
+        table_answer(status, fault)
+    }
+
+    /// Sets how far the buffers may grow, in bytes. There is no limit at first.
+    #[cfg(feature = "libwayland_client_1_23")]
+    pub(crate) fn set_max_buffer_size(&mut self, limit: Option<usize>) {
+        let size = limit.unwrap_or(0) as u64;
+        done(sys::nb_client_set_max_buffer_size(
+            &mut self.place,
+            limit.is_some().into(),
+            size,
+        ));
+        // What a flush hands over and the socket does not take would not count.
+        let room = limit.map_or(u64::MAX, |limit| limit as u64);
+        done(sys::nb_client_set_room(&mut self.place, room));
+    }
+
+    /// Receives once from the socket. The end of the stream and a failure are told to the session, which answers them
+    /// when its events are taken.
+    pub(crate) fn receive(&mut self, from: BorrowedFd<'_>) -> Received {
+        let place = &mut self.place;
+        let arrival = self
+            .inbox
+            .receive(from, &mut self.lent.bytes, |bytes, numbers| {
+                // SAFETY: each slice is lent with its own length.
+                answer(unsafe {
+                    sys::nb_client_received(
+                        place,
+                        bytes.as_ptr(),
+                        bytes.len(),
+                        numbers.as_ptr(),
+                        numbers.len(),
+                    )
+                })
+            });
+        match arrival {
+            Arrival::Came(received) => return received,
+            Arrival::Ended => done(sys::nb_client_received_end(&mut self.place)),
+            Arrival::Failed(error) => self.receive_failed(error),
+        }
+        Received::Some
+    }
+
+    /// The socket failed while it was read.
+    fn receive_failed(&mut self, error: Errno) {
+        done(sys::nb_client_receive_failed(
+            &mut self.place,
+            error.raw_os_error(),
+        ));
+    }
+
+    /// The socket failed while it was written: the next [`Client::flush`] with something to send fails.
+    pub(crate) fn send_failed(&mut self, error: Errno) {
+        done(sys::nb_client_send_failed(
+            &mut self.place,
+            error.raw_os_error(),
+        ));
+    }
+
+    /// The next event. It is open until it is finished. Its arguments are appended to `arguments`; `id` answers an id for an
+    /// object among them.
+    ///
+    /// Statuses: `FAILED`, `OPEN`, `WOULD_BLOCK`.
+    #[inline]
+    pub(crate) fn next_event<Id>(
+        &mut self,
+        arguments: &mut Arguments<Id>,
+        mut id: impl FnMut(&Event, &RawArgument) -> Id,
+    ) -> Result<Event, Status> {
+        let mut event = Event::default();
+        loop {
+            let Lent { arguments, bytes } = &mut self.lent;
+            // SAFETY: each slice is lent with its own length.
+            let status = unsafe {
+                sys::nb_client_next_event(
+                    &mut self.place,
+                    &mut event,
+                    arguments.as_mut_ptr(),
+                    arguments.len(),
+                    bytes.as_mut_ptr(),
+                    bytes.len(),
+                )
+            };
+            if status != sys::NB_TOO_SMALL {
+                answer(status)?;
+                break;
+            }
+            self.lent.grow(event.arguments, event.bytes);
+        }
+        // SAFETY: the session has just handed the message out.
+        unsafe {
+            self.lent
+                .take(event.arguments, arguments, |argument| id(&event, argument));
+        }
+        Ok(event)
+    }
+
+    /// Finishes the open event, with the data of the object that it made.
+    ///
+    /// Statuses: `NOT_OPEN`, `MISSING_DATA`, `UNEXPECTED_DATA`.
+    #[inline]
+    pub(crate) fn finish_event(&mut self, data: Option<u64>) -> Result<(), Status> {
+        answer(match data {
+            Some(data) => sys::nb_client_finish_event_with(&mut self.place, data),
+            None => sys::nb_client_finish_event(&mut self.place),
+        })
+    }
+
+    /// Sends a request, and answers the object that it makes. If it succeeds, the descriptors of the message are the
+    /// session's.
+    #[inline]
+    pub(crate) fn send_request(
+        &mut self,
+        request: &Request,
+        message: &mut Outgoing,
+    ) -> Result<RawObjectId, Status> {
+        let mut created = RawObjectId::default();
+        // SAFETY: each slice is lent with its own length.
+        let status = unsafe {
+            sys::nb_client_send_request(
+                &mut self.place,
+                request,
+                message.arguments.as_ptr(),
+                message.arguments.len(),
+                message.bytes.as_ptr(),
+                message.bytes.len(),
+                &mut created,
+            )
+        };
+        answer(status)?;
+        message.give_up_descriptors();
+        Ok(created)
+    }
+
+    /// An object's number, interface and version, unless the client has destroyed it.
+    #[inline]
+    pub(crate) fn object_info(&mut self, object: &RawObjectId) -> Option<RawObjectInfo> {
+        let mut info = RawObjectInfo::default();
+        answer(sys::nb_client_object_info(
+            &mut self.place,
+            object,
+            &mut info,
+        ))
+        .ok()?;
+        Some(info)
+    }
+
+    /// An object's data, also of one that was destroyed, as long as its number is not free.
+    #[inline]
+    pub(crate) fn object_data(&mut self, object: &RawObjectId) -> Option<u64> {
+        let mut data = 0;
+        answer(sys::nb_client_object_data(
+            &mut self.place,
+            object,
+            &mut data,
+        ))
+        .ok()?;
+        Some(data)
+    }
+
+    /// Sets an object's data. Statuses: `INVALID_ID`.
+    pub(crate) fn set_object_data(
+        &mut self,
+        object: &RawObjectId,
+        data: u64,
+    ) -> Result<(), Status> {
+        answer(sys::nb_client_set_object_data(
+            &mut self.place,
+            object,
+            data,
+        ))
+    }
+
+    /// Destroys an object on the client's side. Statuses: `INVALID_ID`.
+    pub(crate) fn destroy_object(&mut self, object: &RawObjectId) -> Result<(), Status> {
+        answer(sys::nb_client_destroy_object(&mut self.place, object))
+    }
+
+    /// The display.
+    pub(crate) fn display(&mut self) -> RawObjectId {
+        let mut display = RawObjectId::default();
+        done(sys::nb_client_display(&mut self.place, &mut display));
+        display
+    }
+
+    /// Hands what waits over to [`Client::send`]. Statuses: `FAILED`, `WOULD_BLOCK`.
+    pub(crate) fn flush(&mut self) -> Result<(), Status> {
+        answer(sys::nb_client_flush(&mut self.place))
+    }
+
+    /// Sends once to the socket what was handed over.
+    pub(crate) fn send(&mut self, to: BorrowedFd<'_>) -> Result<Sent, Errno> {
+        let mut numbers = [0; MOST_DESCRIPTORS];
+        let mut counts = sys::nb_counts::default();
+        let bytes = &mut self.lent.bytes;
+        // SAFETY: each slice is lent with its own length.
+        let status = unsafe {
+            sys::nb_client_to_send(
+                &mut self.place,
+                bytes.as_mut_ptr(),
+                bytes.len(),
+                numbers.as_mut_ptr(),
+                numbers.len(),
+                &mut counts,
+            )
+        };
+        done(status);
+        let place = &mut self.place;
+        send_once(to, counts, bytes, &numbers, |count| {
+            done(sys::nb_client_sent(place, count))
+        })
+    }
+
+    /// The session's error, if it has one.
+    pub(crate) fn last_error(&mut self) -> Option<SessionError> {
+        let mut error = sys::nb_error::default();
+        loop {
+            let text = &mut self.lent.bytes;
+            // SAFETY: the slice is lent with its own length.
+            let status = unsafe {
+                sys::nb_client_last_error(
+                    &mut self.place,
+                    &mut error,
+                    text.as_mut_ptr(),
+                    text.len(),
+                )
+            };
+            if status != sys::NB_TOO_SMALL {
+                done(status);
+                break;
+            }
+            self.lent
+                .grow(0, error.message_length + error.interface_length);
+        }
+        match error.kind {
+            sys::NB_NO_ERROR => None,
+            sys::NB_ERROR_OF_IO => Some(SessionError::Io {
+                status: Status(error.status),
+                number: error.number,
+            }),
+            _ => {
+                let (message, interface) = self
+                    .lent
+                    .texts(error.message_length, error.interface_length);
+                let (code, object) = (error.code, error.object_number);
+                Some(SessionError::Protocol {
+                    code,
+                    object,
+                    interface,
+                    message,
+                })
+            }
+        }
+    }
+
+    /// The next object with data that was destroyed, with its data, the oldest first.
+    #[inline]
+    pub(crate) fn next_note(&mut self) -> Option<(RawObjectId, u64)> {
+        let (mut object, mut data) = (RawObjectId::default(), 0);
+        answer(sys::nb_client_next_note(
+            &mut self.place,
+            &mut object,
+            &mut data,
+        ))
+        .ok()?;
+        Some((object, data))
+    }
+
+    /// Closes the descriptors that the session had and will not hand out.
+    pub(crate) fn close_dropped(&mut self) {
+        let mut number = -1;
+        while sys::nb_client_next_dropped(&mut self.place, &mut number) == sys::NB_OK {
+            // SAFETY: the session has just handed it out.
+            drop(unsafe { take_back(number) });
+        }
+    }
+}
+
+impl Drop for Client {
+    /// Takes the descriptors out that the session still has, and ends it.
+    fn drop(&mut self) {
+        self.receive_failed(Errno::PIPE);
+        loop {
+            match self.next_event(&mut Arguments::new(), |_, _| ()) {
+                Ok(event) => {
+                    let data = (event.created.number != 0).then_some(0);
+                    if self.finish_event(data).is_err() {
+                        break;
+                    }
+                }
+                Err(Status::OPEN) => {
+                    if self.finish_event(None).is_err() && self.finish_event(Some(0)).is_err() {
+                        break;
+                    }
+                }
+                Err(_) => break,
+            }
+        }
+        self.close_dropped();
+        sys::nb_client_end(&mut self.place);
+    }
+}

@@ -1,0 +1,194 @@
+//! Messages as they cross: flat arguments beside one run of bytes.
+
+use std::ffi::CString;
+use std::os::fd::{AsRawFd, BorrowedFd, IntoRawFd, OwnedFd, RawFd};
+
+use numbyroga_sys as sys;
+use rustix::io::Errno;
+use smallvec::SmallVec;
+
+use super::{take_back, RawArgument, RawObjectId};
+use crate::protocol::{Argument, INLINE_ARGS};
+
+/// The arguments of a message that came.
+pub(crate) type Arguments<Id> = SmallVec<[Argument<Id, OwnedFd>; INLINE_ARGS]>;
+
+/// More bytes than a message can have. What is longer is cut to so many, since it is refused for its length anyway.
+const TOO_MANY_BYTES: usize = 1 << 17;
+
+/// A message to a session. Its memory is kept from one message to the next.
+#[derive(Debug, Default)]
+pub(crate) struct Outgoing {
+    pub(super) arguments: Vec<RawArgument>,
+    pub(super) bytes: Vec<u8>,
+    descriptors: Vec<OwnedFd>,
+}
+
+impl Outgoing {
+    /// Takes these arguments in place of those that were there. `id` says which object of the library an id names.
+    ///
+    /// Descriptors are duplicated: the caller's stay its own. An error is that of the duplication.
+    pub(crate) fn set<Id>(
+        &mut self,
+        arguments: &[Argument<Id, RawFd>],
+        id: impl Fn(&Id) -> RawObjectId,
+    ) -> Result<(), Errno> {
+        self.clear();
+        for argument in arguments {
+            let flat = match argument {
+                Argument::Int(value) => number(sys::NB_INT, *value),
+                Argument::Uint(value) => number(sys::NB_UINT, *value as i32),
+                Argument::Fixed(value) => number(sys::NB_FIXED, *value),
+                Argument::Str(None) => number(sys::NB_NULL_STRING, 0),
+                Argument::Str(Some(text)) => self.range(sys::NB_STRING, text.as_bytes()),
+                Argument::Array(bytes) => self.range(sys::NB_ARRAY, bytes),
+                Argument::Object(object) => RawArgument {
+                    kind: sys::NB_OBJECT,
+                    object: id(object),
+                    ..Default::default()
+                },
+                Argument::NewId(object) => RawArgument {
+                    kind: sys::NB_NEW_ID,
+                    object: id(object),
+                    ..Default::default()
+                },
+                Argument::Fd(descriptor) => {
+                    let copy = duplicate(*descriptor)?;
+                    let flat = number(sys::NB_DESCRIPTOR, copy.as_raw_fd());
+                    self.descriptors.push(copy);
+                    flat
+                }
+            };
+            self.arguments.push(flat);
+        }
+        Ok(())
+    }
+
+    fn range(&mut self, kind: u32, bytes: &[u8]) -> RawArgument {
+        let bytes = &bytes[..bytes.len().min(TOO_MANY_BYTES)];
+        let at = self.bytes.len() as u32;
+        self.bytes.extend_from_slice(bytes);
+        RawArgument {
+            kind,
+            at,
+            length: bytes.len() as u32,
+            ..Default::default()
+        }
+    }
+
+    /// How many bytes the message has, at most.
+    pub(crate) fn size(&self) -> usize {
+        const HEADER: usize = 8;
+        // A length, and bytes that fill the last word up.
+        const MOST_BESIDE: usize = 8;
+        HEADER + MOST_BESIDE * self.arguments.len() + self.bytes.len()
+    }
+
+    /// Forgets the message, and closes its descriptors.
+    pub(crate) fn clear(&mut self) {
+        self.arguments.clear();
+        self.bytes.clear();
+        self.descriptors.clear();
+    }
+
+    /// The session has taken the descriptors.
+    pub(super) fn give_up_descriptors(&mut self) {
+        for descriptor in self.descriptors.drain(..) {
+            let _ = descriptor.into_raw_fd();
+        }
+    }
+}
+
+fn number(kind: u32, value: i32) -> RawArgument {
+    RawArgument {
+        kind,
+        value,
+        ..Default::default()
+    }
+}
+
+/// A copy of a caller's descriptor.
+fn duplicate(descriptor: RawFd) -> Result<OwnedFd, Errno> {
+    if descriptor < 0 {
+        return Err(Errno::BADF);
+    }
+    // SAFETY: it is not -1. If the caller passes a number that is no open descriptor, the duplication fails, and nothing
+    // else is done with it.
+    let borrowed = unsafe { BorrowedFd::borrow_raw(descriptor) };
+    rustix::io::fcntl_dupfd_cloexec(borrowed, 3)
+}
+
+/// Memory that a session writes messages into, kept from one to the next.
+#[derive(Debug)]
+pub(super) struct Lent {
+    pub(super) arguments: Vec<RawArgument>,
+    pub(super) bytes: Vec<u8>,
+}
+
+impl Lent {
+    pub(super) fn new() -> Lent {
+        Lent {
+            arguments: vec![RawArgument::default(); 32],
+            bytes: vec![0; sys::NB_MOST_BYTES],
+        }
+    }
+
+    /// Makes room for as much as the session says it needs.
+    pub(super) fn grow(&mut self, arguments: u32, bytes: u32) {
+        let (arguments, bytes) = (arguments as usize, bytes as usize);
+        self.arguments
+            .resize(self.arguments.len().max(arguments), RawArgument::default());
+        self.bytes.resize(self.bytes.len().max(bytes), 0);
+    }
+
+    /// Two texts that were written here, behind each other.
+    pub(super) fn texts(&self, first: u32, second: u32) -> (String, String) {
+        let (first, second) = (first as usize, second as usize);
+        let text = |bytes: &[u8]| String::from_utf8_lossy(bytes).into_owned();
+        (
+            text(&self.bytes[..first]),
+            text(&self.bytes[first..first + second]),
+        )
+    }
+
+    /// Appends the arguments of a message that was written here. `id` answers the id for an object and its data, 0 if it has
+    /// none.
+    ///
+    /// # Safety
+    ///
+    /// A session has handed the message out by the last call, and nobody has taken its descriptors yet.
+    pub(super) unsafe fn take<Id>(
+        &self,
+        count: u32,
+        to: &mut Arguments<Id>,
+        mut id: impl FnMut(&RawArgument) -> Id,
+    ) {
+        let range = |flat: &RawArgument| &self.bytes[flat.at as usize..][..flat.length as usize];
+        let flats = &self.arguments[..count as usize];
+        to.reserve(flats.len());
+        for flat in flats {
+            to.push(match flat.kind {
+                sys::NB_INT => Argument::Int(flat.value),
+                sys::NB_UINT => Argument::Uint(flat.value as u32),
+                sys::NB_FIXED => Argument::Fixed(flat.value),
+                sys::NB_STRING => Argument::Str(Some(Box::new(text(range(flat))))),
+                sys::NB_NULL_STRING => Argument::Str(None),
+                sys::NB_OBJECT => Argument::Object(id(flat)),
+                sys::NB_NEW_ID => Argument::NewId(id(flat)),
+                sys::NB_ARRAY => Argument::Array(Box::new(range(flat).to_vec())),
+                _ => {
+                    // SAFETY: the session has handed this descriptor out with the message, by the caller's promise.
+                    Argument::Fd(unsafe { take_back(flat.value) })
+                }
+            });
+        }
+    }
+}
+
+/// A string that came. The library hands out none with a zero byte.
+fn text(bytes: &[u8]) -> CString {
+    // With room for the zero at its end, it is not allocated again.
+    let mut owned = Vec::with_capacity(bytes.len() + 1);
+    owned.extend_from_slice(bytes);
+    CString::new(owned).expect("a string without zero bytes")
+}

@@ -1,0 +1,303 @@
+//! The server itself: it reads, and calls the handlers.
+
+use std::{
+    fmt, io,
+    os::fd::{AsFd, BorrowedFd, OwnedFd},
+    sync::{Arc, Mutex},
+};
+
+use rustix::{event::epoll, io::retry_on_intr};
+use smallvec::SmallVec;
+
+use super::{
+    state::{lock, tell, Called, Data, Misuse, Open, State, Unused},
+    ClientId, Handle, InitError, ObjectId,
+};
+use crate::{
+    library::{Received, Status},
+    protocol::Message,
+};
+
+/// How many clients are told of at once that have sent something.
+const MOST_READY: usize = 32;
+
+/// How many bytes of a client are read before it is the next one's turn, where all are read. It is more than a socket
+/// holds, so all that was sent before is read, and a client that sends without end keeps nobody else waiting.
+const MOST_BYTES_IN_TURN: usize = 1 << 18;
+
+/// How often it is each client's turn in one dispatch of all, at most.
+const MOST_TURNS: usize = 4;
+
+/// A server. It reads what clients ask, and calls the program's handlers.
+///
+/// `D` is what the handlers get besides: the program's state.
+pub struct Backend<D: 'static> {
+    state: Arc<Mutex<State<D>>>,
+    poll: Arc<OwnedFd>,
+}
+
+impl<D> fmt::Debug for Backend<D> {
+    fn fmt(&self, f: &mut fmt::Formatter<'_>) -> fmt::Result {
+        f.debug_struct("Backend").finish_non_exhaustive()
+    }
+}
+
+impl<D> Backend<D> {
+    /// Makes a server without clients and globals.
+    ///
+    /// # Errors
+    ///
+    /// [`InitError::Io`]: the system's error, where it gives no means to wait for clients.
+    pub fn new() -> Result<Self, InitError> {
+        let poll = epoll::create(epoll::CreateFlags::CLOEXEC);
+        let poll = Arc::new(poll.map_err(|error| InitError::Io(error.into()))?);
+        Ok(Backend {
+            state: Arc::new(Mutex::new(State::new(poll.clone()))),
+            poll,
+        })
+    }
+
+    /// Sends what waits for the client, or for all clients, as [`Handle::flush`].
+    ///
+    /// # Errors
+    ///
+    /// Those of [`Handle::flush`].
+    pub fn flush(&mut self, client: Option<ClientId>) -> io::Result<()> {
+        self.handle().flush(client)
+    }
+
+    /// A handle of the server.
+    pub fn handle(&self) -> Handle {
+        Handle {
+            state: self.state.clone(),
+        }
+    }
+
+    /// The descriptor that can be read when there is something to dispatch. Wait for it, and use it for nothing else.
+    pub fn poll_fd(&self) -> BorrowedFd<'_> {
+        self.poll.as_fd()
+    }
+
+    /// Reads what the client sent, and calls the handlers. It does not wait.
+    ///
+    /// The answer is how many requests were read.
+    ///
+    /// # Errors
+    ///
+    /// `WouldBlock`: no request was there. `InvalidInput`: the client is gone. All others: the client was killed, now or
+    /// before, and the error says why its connection ended.
+    ///
+    /// # Panics
+    ///
+    /// A handler panics, or answers what does not fit the request ([`ObjectData::request`][super::ObjectData::request]).
+    pub fn dispatch_single_client(
+        &mut self,
+        data: &mut D,
+        client_id: ClientId,
+    ) -> io::Result<usize> {
+        let handle = self.handle();
+        let answer = self.read(&handle, data, &client_id, Until::Blocked);
+        self.clean(&handle, data);
+        answer
+    }
+
+    /// Reads what all clients sent, and calls the handlers. It does not wait.
+    ///
+    /// If a client sends on and on, it ends all the same; then there is something to dispatch again. The answer is how many
+    /// requests were read, but for those of clients that were killed.
+    ///
+    /// # Errors
+    ///
+    /// The system's error, where it does not tell which clients have sent something.
+    ///
+    /// # Panics
+    ///
+    /// As [`Self::dispatch_single_client`].
+    pub fn dispatch_all_clients(&mut self, data: &mut D) -> io::Result<usize> {
+        let handle = self.handle();
+        let mut ready = epoll::EventVec::with_capacity(MOST_READY);
+        let mut dispatched = 0;
+        // Clients that are ready stand in a queue, so after so many rounds each has had its turns.
+        let clients = lock(&self.state).core.slots();
+        for _ in 0..MOST_TURNS * (1 + clients / MOST_READY) {
+            retry_on_intr(|| epoll::wait(&*self.poll, &mut ready, 0))?;
+            if ready.is_empty() {
+                break;
+            }
+            for event in ready.iter() {
+                let client = lock(&self.state).core.client_at(event.data.u64() as u32);
+                let Some(client) = client else { continue };
+                let flags = event.flags;
+                let has_ended = flags.contains(epoll::EventFlags::HUP);
+                let until = if has_ended {
+                    Until::Blocked
+                } else {
+                    Until::Short
+                };
+                if let Ok(count) = self.read(&handle, data, &client, until) {
+                    dispatched += count;
+                }
+            }
+            self.clean(&handle, data);
+        }
+        Ok(dispatched)
+    }
+
+    /// Receives from the client, and calls the handlers for what it asks.
+    fn read(
+        &self,
+        handle: &Handle,
+        data: &mut D,
+        client: &ClientId,
+        until: Until,
+    ) -> io::Result<usize> {
+        let mut bytes = 0;
+        let status = loop {
+            let mut state = lock(&self.state);
+            let received = state.core.receive(client);
+            bytes += state.core.take_bytes(client);
+            drop(state);
+            // If a handler has panicked, requests may be left of what came before. So they are asked for in any case.
+            let status = self.call_all(handle, data, client);
+            let has_more = match received {
+                Received::Nothing => false,
+                Received::All => until == Until::Blocked,
+                Received::Some => until == Until::Blocked || bytes < MOST_BYTES_IN_TURN,
+            };
+            if status != Status::WOULD_BLOCK || !has_more {
+                break status;
+            }
+        };
+        let mut state = lock(&self.state);
+        let count = state.core.take_count(client);
+        if status == Status::WOULD_BLOCK && count > 0 {
+            return Ok(count);
+        }
+        let error = state.core.error_of(client, status);
+        if status != Status::WOULD_BLOCK {
+            state.core.unwatch(client);
+            state.core.take_notes();
+            drop(state);
+            tell(&*self.state);
+        }
+        Err(error)
+    }
+
+    /// Calls the handlers for what the client asks, until there is no whole request any more. No lock is held while one
+    /// runs. The answer says why there is none.
+    fn call_all(&self, handle: &Handle, data: &mut D, client: &ClientId) -> Status {
+        let raw = client.raw();
+        loop {
+            let mut message = Message {
+                sender_id: ObjectId::null(),
+                opcode: 0,
+                args: SmallVec::new(),
+            };
+            let next = lock(&self.state).next_call(&raw, &mut message);
+            let (called, open) = match next {
+                Ok(next) => next,
+                Err(status) => return status,
+            };
+            // If a handler panics, the request counts as handled.
+            let mut unfinished = Unfinished {
+                state: &self.state,
+                open,
+                is_finished: false,
+                is_told: false,
+            };
+            let answer = match called {
+                Called::Object(object) if unfinished.open.ends() => {
+                    self.call_last(handle, data, client, object, message, &mut unfinished)
+                }
+                Called::Object(object) => object.request(handle, data, client.clone(), message),
+                Called::Global {
+                    handler,
+                    global,
+                    object,
+                } => handler.map(|it| it.bind(handle, data, client.clone(), global, object)),
+            };
+            if let Some(misuse) = unfinished.finish(answer) {
+                panic!("{misuse}");
+            }
+        }
+    }
+
+    /// Calls the handler of a destructor, and tells the program then that the object ends.
+    fn call_last(
+        &self,
+        handle: &Handle,
+        data: &mut D,
+        client: &ClientId,
+        object: Data<D>,
+        message: Message<ObjectId, OwnedFd>,
+        unfinished: &mut Unfinished<'_, D>,
+    ) -> Option<Data<D>> {
+        let (again, id) = (object.clone(), message.sender_id.clone());
+        let answer = object.request(handle, data, client.clone(), message);
+        // If the handler has destroyed the object by itself, the program is told by the next clean-up.
+        let info = lock(&self.state).core.server.object_info(&id.raw());
+        if info.is_some() {
+            unfinished.is_told = true;
+            again.destroyed(handle, data, client.clone(), id);
+        }
+        answer
+    }
+
+    /// Tells the program of objects that are gone, and takes the clients out that were killed.
+    fn clean(&self, handle: &Handle, data: &mut D) {
+        let mut state = lock(&self.state);
+        let killed = state.clean();
+        let count = state.gather_ended();
+        let has_news = !state.core.told.is_empty();
+        drop(state);
+        if has_news {
+            tell(&*self.state);
+        }
+        for _ in 0..count {
+            // One after the other is taken out, so that after a panic the next clean-up goes on.
+            let Some((object, id)) = lock(&self.state).next_ended() else {
+                break;
+            };
+            let client = id.client();
+            object.destroyed(handle, data, client, id);
+        }
+        drop(killed);
+    }
+}
+
+/// How long a client is read.
+#[derive(Clone, Copy, PartialEq, Eq)]
+enum Until {
+    /// Until its socket has nothing: it may have ended behind what it sent.
+    Blocked,
+    /// Until its socket gave less than there was room for, and so had no more.
+    Short,
+}
+
+/// A request or bind whose handler runs.
+struct Unfinished<'a, D: 'static> {
+    state: &'a Mutex<State<D>>,
+    open: Open,
+    is_finished: bool,
+    /// Whether the program has been told that the sender is gone.
+    is_told: bool,
+}
+
+impl<D> Unfinished<'_, D> {
+    #[inline]
+    fn finish(&mut self, answer: Option<Data<D>>) -> Option<Misuse> {
+        self.is_finished = true;
+        // It is dropped after the lock.
+        let mut unused = Unused::new();
+        let mut state = lock(self.state);
+        state.finish(&self.open, answer, self.is_told, &mut unused)
+    }
+}
+
+impl<D> Drop for Unfinished<'_, D> {
+    fn drop(&mut self) {
+        if !self.is_finished {
+            self.finish(None);
+        }
+    }
+}

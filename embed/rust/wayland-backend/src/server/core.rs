@@ -1,0 +1,674 @@
+//! What of a server's state has nothing to do with the program's type: the session, its sockets and its table.
+
+use std::{
+    collections::{HashMap, VecDeque},
+    fmt, io,
+    os::{
+        fd::{AsFd, BorrowedFd, OwnedFd, RawFd},
+        unix::net::UnixStream,
+    },
+    sync::Arc,
+};
+
+use numbyroga_sys as sys;
+use rustix::{event::epoll, io::Errno, net::sockopt::get_socket_peercred, process::Pid};
+use smallvec::SmallVec;
+
+use super::{ClientData, ClientId, Credentials, DisconnectReason, GlobalId, InvalidId, ObjectId};
+use crate::{
+    debug,
+    library::{
+        Action, Inbox, Note, Outgoing, RawArgument, RawClientId, RawGlobalId, RawObjectId,
+        Received, Sent, Server, Status,
+    },
+    protocol::{same_interface, Argument, Interface, Message, ProtocolError, ANONYMOUS_INTERFACE},
+    socket,
+    table::{BadInterface, Table},
+};
+
+/// How many bytes may wait for a client at first. The library's own limit is so low that a client which is busy for a
+/// moment is killed.
+const MOST_WAITING: u64 = 1 << 20;
+
+/// So many bytes find room for each client, whatever its limit is.
+const ALWAYS_FITS: usize = 4096;
+
+/// How many descriptors of a client may wait for the requests that they belong to. A client that sends more with nothing
+/// that takes them is killed before this process can open no more.
+const MOST_UNREAD: usize = 512;
+
+/// A client's socket, and what the program keeps for the client.
+pub(super) struct Connection {
+    serial: u64,
+    stream: UnixStream,
+    pub(super) data: Arc<dyn ClientData>,
+    inbox: Inbox,
+    /// How many of its descriptors have been handed out with requests.
+    handed_out: usize,
+    /// Whether the server waits for what the client sends.
+    is_watched: bool,
+    /// Whether something may wait for the client.
+    is_listed: bool,
+    /// How many bytes of events, at most, have been sent since nothing waited.
+    queued: usize,
+    /// Why the program kills the client, while it does.
+    reason: Option<DisconnectReason>,
+}
+
+impl Connection {
+    /// Who is at the other end.
+    pub(super) fn credentials(&self) -> io::Result<Credentials> {
+        let peer = get_socket_peercred(&self.stream)?;
+        let pid = Pid::as_raw(Some(peer.pid));
+        Ok(Credentials {
+            pid,
+            uid: peer.uid.as_raw(),
+            gid: peer.gid.as_raw(),
+        })
+    }
+
+    fn unwatch(&mut self, poll: &OwnedFd) {
+        if std::mem::take(&mut self.is_watched) {
+            let _ = epoll::delete(poll, &self.stream);
+        }
+    }
+}
+
+/// What the program is to be told of a client, when no lock is held.
+pub(super) enum Told {
+    Initialized(Arc<dyn ClientData>, ClientId),
+    Disconnected(Arc<dyn ClientData>, ClientId, DisconnectReason),
+}
+
+impl Told {
+    pub(super) fn tell(self) {
+        match self {
+            Told::Initialized(data, id) => data.initialized(id),
+            Told::Disconnected(data, id, reason) => data.disconnected(id, reason),
+        }
+    }
+}
+
+/// An object with data that is gone. The program is told of it by a dispatch.
+pub(super) struct Ended {
+    pub(super) object: ObjectId,
+    pub(super) data: u64,
+}
+
+/// The statics of interfaces, by the numbers that the library has for them.
+pub(super) struct Names {
+    table: Table,
+    /// The interfaces of objects that were made with another static than the first of its name, by the objects' data.
+    others: HashMap<u64, &'static Interface>,
+}
+
+impl Names {
+    /// The interface of an object with these data.
+    #[inline]
+    fn interface(&self, object: &RawObjectId, data: u64) -> &'static Interface {
+        if !self.others.is_empty() {
+            if let Some(interface) = self.others.get(&data) {
+                return interface;
+            }
+        }
+        self.table.interface(object.interface)
+    }
+
+    #[inline]
+    pub(super) fn id(&self, object: &RawObjectId, data: u64) -> ObjectId {
+        ObjectId::of(object, self.interface(object, data))
+    }
+
+    /// The id of an object among the arguments of a request.
+    fn argument(&self, client: &RawClientId, action: &Action, argument: &RawArgument) -> ObjectId {
+        let object = &argument.object;
+        if object.number == 0 {
+            let null = RawObjectId {
+                client: *client,
+                ..RawObjectId::default()
+            };
+            return ObjectId::of(&null, &ANONYMOUS_INTERFACE);
+        }
+        if object.number == action.created.number {
+            return self.created_id(action);
+        }
+        self.id(object, argument.data)
+    }
+
+    /// The object that a request made. Its static is the one that the sender's names.
+    pub(super) fn created_id(&self, action: &Action) -> ObjectId {
+        let known = self.table.interface(action.created.interface);
+        let sender = self.interface(&action.sender, action.data);
+        let request = sender.requests.get(action.opcode as usize);
+        let named = request.and_then(|request| request.child_interface);
+        let interface = named.filter(|named| same_interface(named, known));
+        ObjectId::of(&action.created, interface.unwrap_or(known))
+    }
+
+    /// Notes which static an object was made with, if it is not the first of its name.
+    pub(super) fn keep(&mut self, object: &ObjectId, row: u32, data: u64) {
+        if !std::ptr::eq(self.table.interface(row), object.interface) {
+            self.others.insert(data, object.interface);
+        }
+    }
+
+    pub(super) fn forget(&mut self, data: u64) {
+        if !self.others.is_empty() {
+            self.others.remove(&data);
+        }
+    }
+}
+
+pub(super) struct Core {
+    pub(super) server: Server,
+    pub(super) names: Names,
+    /// By slot.
+    connections: Vec<Option<Connection>>,
+    /// The slots of clients for which something may wait.
+    listed: VecDeque<u32>,
+    pub(super) told: VecDeque<Told>,
+    pub(super) ended: VecDeque<Ended>,
+    outgoing: Outgoing,
+    /// What a client has asked last.
+    pub(super) action: Action,
+    poll: Arc<OwnedFd>,
+    is_logging: bool,
+}
+
+impl Core {
+    pub(super) fn new(poll: Arc<OwnedFd>) -> Core {
+        let mut server = Server::new();
+        server.set_default_max_buffer_size(MOST_WAITING);
+        Core {
+            server,
+            names: Names {
+                table: Table::new(),
+                others: HashMap::new(),
+            },
+            connections: Vec::new(),
+            listed: VecDeque::new(),
+            told: VecDeque::new(),
+            ended: VecDeque::new(),
+            outgoing: Outgoing::default(),
+            action: Action::default(),
+            poll,
+            is_logging: debug::is_on_for_servers(),
+        }
+    }
+
+    /// The number that the library has for an interface. It learns what it does not know yet.
+    pub(super) fn row(&mut self, interface: &'static Interface) -> Result<u32, BadInterface> {
+        let Core { server, names, .. } = self;
+        names
+            .table
+            .row(interface, |rows| server.add_interfaces(rows))
+    }
+
+    // ---- What happened
+
+    /// Takes the session's notes. The program is to be told of them when no lock is held.
+    pub(super) fn take_notes(&mut self) {
+        while let Some(note) = self.server.next_note() {
+            match note {
+                Note::Inserted(client) => {
+                    let id = ClientId::of(&client);
+                    if let Some(connection) = self.connection(&id) {
+                        let data = connection.data.clone();
+                        self.told.push_back(Told::Initialized(data, id));
+                    }
+                }
+                Note::Killed { client, error } => {
+                    let id = ClientId::of(&client);
+                    let Some(connection) = self.connection(&id) else {
+                        continue;
+                    };
+                    let reason = match (connection.reason.take(), error) {
+                        (Some(reason), _) => reason,
+                        (None, None) => DisconnectReason::ConnectionClosed,
+                        (None, Some(error)) => DisconnectReason::ProtocolError(ProtocolError {
+                            code: error.code,
+                            object_id: error.object,
+                            object_interface: error.interface,
+                            message: error.message,
+                        }),
+                    };
+                    let data = connection.data.clone();
+                    self.told.push_back(Told::Disconnected(data, id, reason));
+                }
+                Note::Destroyed { object, data } => {
+                    let object = self.names.id(&object, data);
+                    self.names.forget(data);
+                    self.ended.push_back(Ended { object, data });
+                }
+            }
+        }
+    }
+
+    // ---- Clients
+
+    pub(super) fn connection(&mut self, id: &ClientId) -> Option<&mut Connection> {
+        let connection = self.connections.get_mut(id.slot as usize)?.as_mut()?;
+        (connection.serial == id.serial).then_some(connection)
+    }
+
+    /// The client that has this slot now.
+    pub(super) fn client_at(&self, slot: u32) -> Option<ClientId> {
+        let connection = self.connections.get(slot as usize)?.as_ref()?;
+        Some(ClientId {
+            slot,
+            serial: connection.serial,
+        })
+    }
+
+    /// How many clients there are, at most.
+    pub(super) fn slots(&self) -> usize {
+        self.connections.len()
+    }
+
+    /// The clients that are there, with their data.
+    pub(super) fn clients(&self) -> Vec<(ClientId, Arc<dyn ClientData>)> {
+        let slots = 0..self.connections.len() as u32;
+        let data = self
+            .connections
+            .iter()
+            .flatten()
+            .map(|connection| connection.data.clone());
+        slots
+            .filter_map(|slot| self.client_at(slot))
+            .zip(data)
+            .collect()
+    }
+
+    /// The id of the client that comes next.
+    pub(super) fn next_client(&mut self) -> ClientId {
+        match self.server.next_client_id() {
+            Ok(raw) => ClientId::of(&raw),
+            Err(status) => panic!("the server can have no more clients: {status}"),
+        }
+    }
+
+    /// Inserts a client, which does not see these globals. It is killed if its socket cannot be waited for.
+    pub(super) fn insert(
+        &mut self,
+        stream: UnixStream,
+        data: Arc<dyn ClientData>,
+        hidden: &[RawGlobalId],
+    ) -> io::Result<ClientId> {
+        let raw = match self.server.insert_client(0, hidden) {
+            Ok(raw) => raw,
+            Err(status) => panic!("the server can have no more clients: {status}"),
+        };
+        let slot = raw.slot as usize;
+        if self.connections.len() <= slot {
+            self.connections.resize_with(slot + 1, || None);
+        }
+        let slot_number = epoll::EventData::new_u64(raw.slot.into());
+        let watched = epoll::add(&*self.poll, &stream, slot_number, epoll::EventFlags::IN);
+        self.connections[slot] = Some(Connection {
+            serial: raw.serial,
+            stream,
+            data,
+            inbox: Inbox::default(),
+            handed_out: 0,
+            is_watched: watched.is_ok(),
+            is_listed: false,
+            queued: 0,
+            reason: None,
+        });
+        self.take_notes();
+        let id = ClientId::of(&raw);
+        if let Err(error) = watched {
+            self.kill(&id, DisconnectReason::ConnectionClosed);
+            return Err(error.into());
+        }
+        Ok(id)
+    }
+
+    pub(super) fn kill(&mut self, id: &ClientId, reason: DisconnectReason) {
+        let Some(connection) = self.connection(id) else {
+            return;
+        };
+        connection.reason = Some(reason);
+        self.server.kill_client(&id.raw());
+        self.take_notes();
+        if let Some(connection) = self.connection(id) {
+            connection.reason = None; // without a note it was killed before
+        }
+    }
+
+    /// Waits no more for what the client sends.
+    pub(super) fn unwatch(&mut self, id: &ClientId) {
+        let poll = self.poll.clone();
+        if let Some(connection) = self.connection(id) {
+            connection.unwatch(&poll);
+        }
+    }
+
+    /// Takes the clients out that were killed. What is answered is to be dropped after the program was told of them: then
+    /// their sockets are closed.
+    pub(super) fn take_killed(&mut self) -> Vec<Connection> {
+        let mut taken = Vec::new();
+        self.take_notes(); // while the clients are still there
+        self.server.cleanup();
+        let Core {
+            server,
+            connections,
+            poll,
+            ..
+        } = self;
+        while let Some(gone) = server.next_gone() {
+            let Some(place) = connections.get_mut(gone.client.slot as usize) else {
+                continue;
+            };
+            let Some(mut connection) = place.take() else {
+                continue;
+            };
+            if !gone.bytes.is_empty() {
+                let descriptors: SmallVec<[BorrowedFd<'_>; 4]> = gone
+                    .descriptors
+                    .iter()
+                    .map(|descriptor| descriptor.as_fd())
+                    .collect();
+                // What the socket does not take is lost with the connection.
+                let _ = socket::send(connection.stream.as_fd(), gone.bytes, &descriptors);
+            }
+            connection.unwatch(poll);
+            taken.push(connection);
+        }
+        self.take_notes();
+        self.server.close_dropped();
+        taken
+    }
+
+    // ---- Objects
+
+    /// The objects of a client, by ascending number.
+    pub(super) fn objects(&mut self, client: &ClientId) -> Option<Vec<ObjectId>> {
+        let objects = self.server.objects(&client.raw()).ok()?;
+        Some(objects.iter().map(|object| self.known_id(object)).collect())
+    }
+
+    pub(super) fn object_for_protocol_id(
+        &mut self,
+        client: &ClientId,
+        interface: &'static Interface,
+        number: u32,
+    ) -> Option<ObjectId> {
+        let row = self.row(interface).ok()?;
+        let object = self
+            .server
+            .object_for_protocol_id(&client.raw(), row, number)?;
+        Some(self.known_id(&object))
+    }
+
+    /// The id of an object that the library named without its data.
+    fn known_id(&mut self, object: &RawObjectId) -> ObjectId {
+        let is_sure = self.names.others.is_empty();
+        let data = if is_sure {
+            None
+        } else {
+            self.server.object_data(object)
+        };
+        self.names.id(object, data.unwrap_or(0))
+    }
+
+    pub(super) fn destroy_object(&mut self, id: &ObjectId) -> Result<(), InvalidId> {
+        let answer = self.server.destroy_object(&id.raw());
+        self.take_notes();
+        answer.map_err(|_| InvalidId)
+    }
+
+    // ---- Globals
+
+    /// The id of the global that comes next.
+    pub(super) fn next_global(&mut self) -> GlobalId {
+        match self.server.next_global_id() {
+            Ok(raw) => GlobalId::of(&raw),
+            Err(status) => panic!("the server can have no more globals: {status}"),
+        }
+    }
+
+    pub(super) fn disable_global(&mut self, id: &GlobalId) {
+        self.server.disable_global(&id.raw());
+        self.take_notes();
+    }
+
+    pub(super) fn remove_global(&mut self, id: &GlobalId) {
+        self.server.remove_global(&id.raw());
+        self.take_notes();
+    }
+
+    // ---- Requests
+
+    /// Receives once from the client's socket.
+    pub(super) fn receive(&mut self, id: &ClientId) -> Received {
+        let Core {
+            server,
+            connections,
+            ..
+        } = self;
+        let Some(Some(connection)) = connections.get_mut(id.slot as usize) else {
+            return Received::Nothing;
+        };
+        if connection.serial != id.serial {
+            return Received::Nothing;
+        }
+        let (raw, socket) = (id.raw(), connection.stream.as_fd());
+        let received = server.receive(&raw, socket, &mut connection.inbox);
+        if connection.inbox.came() - connection.handed_out > MOST_UNREAD {
+            server.kill_client(&raw);
+        }
+        received
+    }
+
+    /// How many bytes have come from the client since this was asked before.
+    pub(super) fn take_bytes(&mut self, id: &ClientId) -> usize {
+        self.connection(id)
+            .map_or(0, |connection| connection.inbox.take_bytes())
+    }
+
+    /// How many messages have come from the client since this was asked before.
+    pub(super) fn take_count(&mut self, id: &ClientId) -> usize {
+        self.connection(id)
+            .map_or(0, |connection| connection.inbox.take_count())
+    }
+
+    /// The next thing that the client asks: it is in `self.action`. A request is written into the message.
+    #[inline]
+    pub(super) fn next_action(
+        &mut self,
+        client: &RawClientId,
+        message: &mut Message<ObjectId, OwnedFd>,
+    ) -> Result<(), Status> {
+        let Core {
+            server,
+            names,
+            action,
+            ..
+        } = self;
+        let Message {
+            sender_id,
+            opcode,
+            args,
+        } = message;
+        server.next_action(client, action, args, |action, argument| {
+            names.argument(client, action, argument)
+        })?;
+        let has_descriptors = args.iter().any(|arg| matches!(arg, Argument::Fd(_)));
+        *sender_id = names.id(&action.sender, action.data);
+        *opcode = action.opcode as u16;
+        if has_descriptors {
+            self.hand_out(client, args);
+        }
+        if self.is_logging {
+            self.log_request(message);
+        }
+        Ok(())
+    }
+
+    /// The descriptors among the arguments are not unread any more.
+    #[cold]
+    fn hand_out(&mut self, client: &RawClientId, args: &[Argument<ObjectId, OwnedFd>]) {
+        let is_descriptor = |arg: &&Argument<_, _>| matches!(arg, Argument::Fd(_));
+        let count = args.iter().filter(is_descriptor).count();
+        if let Some(connection) = self.connection(&ClientId::of(client)) {
+            connection.handed_out += count;
+        }
+    }
+
+    /// The error of a dispatch that ended by this status.
+    pub(super) fn error_of(&mut self, id: &ClientId, status: Status) -> io::Error {
+        let number = match status {
+            Status::INVALID_ID => {
+                return io::Error::new(io::ErrorKind::InvalidInput, "Invalid client ID")
+            }
+            Status::WOULD_BLOCK => Errno::AGAIN,
+            Status::PROTOCOL_ERROR | Status::TOO_BIG => Errno::PROTO,
+            Status::IO_ERROR => self
+                .connection(id)
+                .and_then(|it| it.inbox.fault())
+                .unwrap_or(Errno::PIPE),
+            _ => Errno::PIPE,
+        };
+        number.into()
+    }
+
+    // ---- Events
+
+    /// Sends an event. The client is killed if a descriptor among the arguments cannot be duplicated.
+    pub(super) fn send_event(&mut self, message: &Message<ObjectId, RawFd>) -> Result<(), Status> {
+        let Message {
+            sender_id,
+            opcode,
+            args,
+        } = message;
+        if self.outgoing.set(args, ObjectId::raw).is_err() {
+            self.outgoing.clear();
+            self.kill(&sender_id.client(), DisconnectReason::ConnectionClosed);
+            return Ok(());
+        }
+        let size = self.outgoing.size();
+        let answer = self
+            .server
+            .send_event(&sender_id.raw(), *opcode, &mut self.outgoing);
+        if answer.is_err() {
+            self.outgoing.clear();
+            return answer;
+        }
+        if let Some(connection) = self.connection(&sender_id.client()) {
+            connection.queued += size;
+            if connection.queued > ALWAYS_FITS {
+                // The client may have been killed, since there was no room.
+                self.take_notes();
+            }
+        }
+        if self.is_logging {
+            self.log_event(message);
+        }
+        Ok(())
+    }
+
+    /// Ends the client for an error of the object, and tells it at once.
+    pub(super) fn post_error(&mut self, object: &ObjectId, code: u32, message: &[u8]) {
+        let mut raw = object.raw();
+        // An object's interface has a row. The null object's is any.
+        raw.interface = self.row(object.interface).unwrap_or_default();
+        self.server.post_error(&raw, code, message);
+        let _ = self.flush_client(&object.client());
+        self.take_notes();
+    }
+
+    /// Lists the clients for which something waits.
+    fn list_writable(&mut self) {
+        while let Some(client) = self.server.next_writable() {
+            let place = self.connections.get_mut(client.slot as usize);
+            let Some(Some(connection)) = place else {
+                continue;
+            };
+            if !connection.is_listed {
+                connection.is_listed = true;
+                self.listed.push_back(client.slot);
+            }
+        }
+    }
+
+    /// Sends what waits for all clients, as far as their sockets take it.
+    pub(super) fn flush_all(&mut self) {
+        let mut full = VecDeque::new();
+        loop {
+            // When all was sent that the session had ready for a client, there may be more.
+            self.list_writable();
+            let Some(slot) = self.listed.pop_front() else {
+                break;
+            };
+            if self.flush_slot(slot).is_err() {
+                full.push_back(slot);
+            }
+        }
+        self.listed = full;
+        self.server.close_dropped();
+        self.take_notes();
+    }
+
+    /// Sends what waits for one client. One that is gone is no error.
+    pub(super) fn flush_client(&mut self, id: &ClientId) -> io::Result<()> {
+        loop {
+            self.list_writable();
+            if self.connection(id).is_none_or(|it| !it.is_listed) {
+                return Ok(());
+            }
+            self.flush_slot(id.slot)?;
+            self.listed.retain(|&slot| slot != id.slot);
+        }
+    }
+
+    /// Sends what waits for the client in the slot, if there is one.
+    fn flush_slot(&mut self, slot: u32) -> Result<(), Errno> {
+        let Some(Some(connection)) = self.connections.get_mut(slot as usize) else {
+            return Ok(());
+        };
+        let id = RawClientId {
+            serial: connection.serial,
+            slot,
+        };
+        while self.server.send(&id, connection.stream.as_fd())? == Sent::Some {}
+        connection.is_listed = false;
+        connection.queued = 0;
+        Ok(())
+    }
+
+    #[cold]
+    fn log_request(&self, message: &Message<ObjectId, OwnedFd>) {
+        if self.action.kind != sys::NB_BIND {
+            let Message {
+                sender_id,
+                opcode,
+                args,
+            } = message;
+            let request = sender_id.interface.requests.get(usize::from(*opcode));
+            let name = request.map_or("?", |request| request.name);
+            debug::print_dispatched(Logged(sender_id), name, debug::List(args));
+        }
+    }
+
+    #[cold]
+    fn log_event(&self, message: &Message<ObjectId, RawFd>) {
+        let Message {
+            sender_id,
+            opcode,
+            args,
+        } = message;
+        let event = sender_id.interface.events.get(usize::from(*opcode));
+        let name = event.map_or("?", |event| event.name);
+        debug::print_sent(Logged(sender_id), name, debug::List(args));
+    }
+}
+
+/// An object in the log.
+struct Logged<'a>(&'a ObjectId);
+
+impl fmt::Display for Logged<'_> {
+    fn fmt(&self, f: &mut fmt::Formatter<'_>) -> fmt::Result {
+        write!(f, "{}@{}", self.0.interface.name, self.0.number)
+    }
+}

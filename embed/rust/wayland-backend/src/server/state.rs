@@ -1,0 +1,508 @@
+//! The server's state: the core, and the program's handlers.
+
+use std::{
+    any::Any,
+    collections::{HashMap, VecDeque},
+    fmt,
+    os::fd::OwnedFd,
+    sync::{Arc, Mutex, MutexGuard, PoisonError},
+};
+
+use numbyroga_sys as sys;
+use smallvec::SmallVec;
+
+use super::{
+    core::{Connection, Core},
+    handle::raw_hidden,
+    ClientData, ClientId, GlobalHandler, GlobalId, GlobalInfo, Handle, InvalidId, ObjectData,
+    ObjectId,
+};
+use crate::{
+    data::Slab,
+    library::{RawClientId, Status},
+    protocol::{Interface, Message},
+    table::BadInterface,
+};
+
+/// Locks the state.
+///
+/// No code of the program runs while it is locked, and each change of it is whole. So a lock that a panic has poisoned
+/// is as good as another one.
+pub(super) fn lock<S: ?Sized>(state: &Mutex<S>) -> MutexGuard<'_, S> {
+    state.lock().unwrap_or_else(PoisonError::into_inner)
+}
+
+/// Tells the program what was found out about clients: also what another thread found out, if that comes later.
+pub(super) fn tell<S: AnyState + ?Sized>(state: &Mutex<S>) {
+    loop {
+        let next = lock(state).core().told.pop_front();
+        match next {
+            Some(told) => told.tell(),
+            None => return,
+        }
+    }
+}
+
+/// What the program keeps for an object.
+pub(super) type Data<D> = Arc<dyn ObjectData<D>>;
+
+/// Asks a global's handler whether a client sees it.
+pub(super) type View = Box<dyn Fn(ClientId, &Arc<dyn ClientData>) -> bool>;
+
+/// A state of some program's type.
+pub(super) trait AnyState: downcast_rs::Downcast {
+    fn core(&mut self) -> &mut Core;
+
+    /// The globals, and what to ask for each.
+    fn views(&self) -> Vec<(GlobalId, View)>;
+
+    fn global_info(&mut self, id: &GlobalId) -> Option<GlobalInfo>;
+
+    fn object_data_any(&mut self, id: &ObjectId) -> Option<Arc<dyn Any + Send + Sync>>;
+}
+
+downcast_rs::impl_downcast!(AnyState);
+
+struct Global<D: 'static> {
+    serial: u64,
+    interface: &'static Interface,
+    handler: Arc<dyn GlobalHandler<D>>,
+}
+
+pub(super) struct State<D: 'static> {
+    pub(super) core: Core,
+    objects: Slab<Data<D>>,
+    /// By name.
+    globals: Vec<Option<Global<D>>>,
+    /// Objects that are gone. A dispatch tells the program of them.
+    ended: VecDeque<(Data<D>, ObjectId)>,
+    /// The handler of a request or bind may have given data to the object that it makes, before it answered others.
+    is_given: bool,
+}
+
+impl<D> AnyState for State<D> {
+    fn core(&mut self) -> &mut Core {
+        &mut self.core
+    }
+
+    fn views(&self) -> Vec<(GlobalId, View)> {
+        let named = self.globals.iter().enumerate();
+        named
+            .filter_map(|(name, global)| {
+                let Global {
+                    serial, handler, ..
+                } = global.as_ref()?;
+                let (id, handler) = (
+                    GlobalId {
+                        name: name as u32,
+                        serial: *serial,
+                    },
+                    handler.clone(),
+                );
+                let asked = id.clone();
+                let view: View =
+                    Box::new(move |client, data| handler.can_view(client, data, asked.clone()));
+                Some((id, view))
+            })
+            .collect()
+    }
+
+    fn global_info(&mut self, id: &GlobalId) -> Option<GlobalInfo> {
+        let interface = self.global(id)?.interface;
+        let info = self.core.server.global_info(&id.raw())?;
+        Some(GlobalInfo {
+            interface,
+            version: info.version,
+            disabled: info.is_disabled != 0,
+        })
+    }
+
+    fn object_data_any(&mut self, id: &ObjectId) -> Option<Arc<dyn Any + Send + Sync>> {
+        self.object_data(id).map(|object| object.into_any_arc())
+    }
+}
+
+/// A request or bind that was handed out and is to be finished.
+pub(super) struct Open {
+    client: RawClientId,
+    is_bind: bool,
+    /// The object that it makes, with the number that the library has for its interface.
+    created: Option<(ObjectId, u32)>,
+    /// Of a destructor: the data of its sender.
+    ends: Option<u64>,
+}
+
+impl Open {
+    /// Whether the sender ends.
+    pub(super) fn ends(&self) -> bool {
+        self.ends.is_some()
+    }
+}
+
+/// Whose handler is to be called.
+pub(super) enum Called<D: 'static> {
+    Object(Data<D>),
+    Global {
+        handler: Option<Arc<dyn GlobalHandler<D>>>,
+        global: GlobalId,
+        object: ObjectId,
+    },
+}
+
+/// What the program does not need any more. It is to be dropped when the state is not locked.
+pub(super) type Unused<D> = SmallVec<[Data<D>; 2]>;
+
+/// A handler that answered what does not fit its request.
+pub(super) enum Misuse {
+    NoData(ObjectId),
+    UnexpectedData,
+}
+
+impl fmt::Display for Misuse {
+    fn fmt(&self, f: &mut fmt::Formatter<'_>) -> fmt::Result {
+        match self {
+            Misuse::NoData(object) => {
+                write!(
+                    f,
+                    "Callback creating object {object} did not provide any object data."
+                )
+            }
+            Misuse::UnexpectedData => {
+                f.write_str("An object data was returned from a callback not creating any object")
+            }
+        }
+    }
+}
+
+/// Why an object was not made.
+pub(super) enum NotMade {
+    NoClient,
+    Bad(BadInterface),
+    Refused(Status),
+}
+
+impl<D> State<D> {
+    pub(super) fn new(poll: Arc<OwnedFd>) -> State<D> {
+        State {
+            core: Core::new(poll),
+            objects: Slab::new(),
+            globals: Vec::new(),
+            ended: VecDeque::new(),
+            is_given: false,
+        }
+    }
+
+    // ---- Objects
+
+    /// An object's data. Those of an object that has none do nothing.
+    pub(super) fn object_data(&mut self, id: &ObjectId) -> Option<Data<D>> {
+        let raw = id.raw();
+        let key = self.core.server.object_data(&raw);
+        if let Some(object) = key.and_then(|key| self.objects.get(key)) {
+            return Some(object.clone());
+        }
+        self.core
+            .server
+            .object_info(&raw)
+            .map(|_| Arc::new(NoData) as _)
+    }
+
+    /// Gives an object other data, if it is there. What is not used any more is answered besides.
+    pub(super) fn set_object_data(
+        &mut self,
+        id: &ObjectId,
+        object: Data<D>,
+    ) -> (Result<(), InvalidId>, Option<Data<D>>) {
+        let raw = id.raw();
+        let key = self.core.server.object_data(&raw);
+        if let Some(place) = key.and_then(|key| self.objects.get_mut(key)) {
+            return (Ok(()), Some(std::mem::replace(place, object)));
+        }
+        let Some(info) = self.core.server.object_info(&raw) else {
+            return (Err(InvalidId), Some(object));
+        };
+        let key = self.objects.insert(object);
+        if self.core.server.set_object_data(&raw, key).is_err() {
+            return (Err(InvalidId), self.objects.remove(key));
+        }
+        self.core.names.keep(id, info.interface, key);
+        self.is_given = true;
+        (Ok(()), None)
+    }
+
+    /// Makes an object of the server. What is not used is answered besides.
+    pub(super) fn make_object(
+        &mut self,
+        client: &ClientId,
+        interface: &'static Interface,
+        version: u32,
+        object: Data<D>,
+    ) -> (Result<ObjectId, NotMade>, Option<Data<D>>) {
+        let row = match self.core.row(interface) {
+            Ok(row) => row,
+            Err(bad) => return (Err(NotMade::Bad(bad)), Some(object)),
+        };
+        let key = self.objects.insert(object);
+        let status = match self
+            .core
+            .server
+            .create_object(&client.raw(), row, version, key)
+        {
+            Ok(raw) => {
+                let id = ObjectId::of(&raw, interface);
+                self.core.names.keep(&id, row, key);
+                return (Ok(id), None);
+            }
+            Err(status) => status,
+        };
+        let why = match status {
+            Status::INVALID_ID => NotMade::NoClient,
+            status => NotMade::Refused(status),
+        };
+        (Err(why), self.objects.remove(key))
+    }
+
+    /// Puts the objects that are gone, as far as the session has told of them, to those that the program is to be told of.
+    /// The answer is how many these are.
+    pub(super) fn gather_ended(&mut self) -> usize {
+        while let Some(ended) = self.core.ended.pop_front() {
+            // The program has been told already of an object that ended by its own request: its data are here no more.
+            if let Some(object) = self.objects.remove(ended.data) {
+                self.ended.push_back((object, ended.object));
+            }
+        }
+        self.ended.len()
+    }
+
+    pub(super) fn next_ended(&mut self) -> Option<(Data<D>, ObjectId)> {
+        self.ended.pop_front()
+    }
+
+    // ---- Globals
+
+    /// Makes a global, if `id` is the next one's and it is known of each client whether it sees the global.
+    pub(super) fn make_global(
+        &mut self,
+        interface: &'static Interface,
+        version: u32,
+        handler: &Arc<dyn GlobalHandler<D>>,
+        id: &GlobalId,
+        seen: &HashMap<ClientId, bool>,
+    ) -> bool {
+        let row = self
+            .core
+            .row(interface)
+            .unwrap_or_else(|bad| panic!("{bad}"));
+        let clients = self.core.clients();
+        if self.core.next_global() != *id || clients.iter().any(|(it, _)| !seen.contains_key(it)) {
+            return false;
+        }
+        let hidden = raw_hidden(seen, ClientId::raw);
+        if let Err(status) = self.core.server.create_global(row, version, 0, &hidden) {
+            panic!(
+                "Cannot create global {} version {version}: {status}",
+                interface.name
+            );
+        }
+        self.core.take_notes();
+        let name = id.name as usize;
+        if self.globals.len() <= name {
+            self.globals.resize_with(name + 1, || None);
+        }
+        let handler = handler.clone();
+        self.globals[name] = Some(Global {
+            serial: id.serial,
+            interface,
+            handler,
+        });
+        true
+    }
+
+    fn global(&self, id: &GlobalId) -> Option<&Global<D>> {
+        self.globals
+            .get(id.name as usize)?
+            .as_ref()
+            .filter(|global| global.serial == id.serial)
+    }
+
+    pub(super) fn global_handler(&self, id: &GlobalId) -> Option<Arc<dyn GlobalHandler<D>>> {
+        self.global(id).map(|global| global.handler.clone())
+    }
+
+    /// Removes a global. Its handler is to be dropped when the state is not locked.
+    pub(super) fn remove_global(&mut self, id: &GlobalId) -> Option<Arc<dyn GlobalHandler<D>>> {
+        self.global(id)?;
+        self.core.remove_global(id);
+        self.globals[id.name as usize]
+            .take()
+            .map(|global| global.handler)
+    }
+
+    // ---- Requests
+
+    /// The next thing that the client asks, and whose handler is to be called for it. A request is written into the message.
+    #[inline]
+    pub(super) fn next_call(
+        &mut self,
+        client: &RawClientId,
+        message: &mut Message<ObjectId, OwnedFd>,
+    ) -> Result<(Called<D>, Open), Status> {
+        self.core.next_action(client, message)?;
+        let action = &self.core.action;
+        if action.kind == sys::NB_BIND {
+            return Ok(self.bind(client));
+        }
+        let created = (action.created.number != 0)
+            .then(|| (self.core.names.created_id(action), action.created.interface));
+        let object = match self.objects.get(action.data) {
+            Some(object) => object.clone(),
+            None => Arc::new(NoData),
+        };
+        let open = Open {
+            client: *client,
+            is_bind: false,
+            created,
+            ends: (action.is_destructor != 0).then_some(action.data),
+        };
+        Ok((Called::Object(object), open))
+    }
+
+    #[cold]
+    fn bind(&self, client: &RawClientId) -> (Called<D>, Open) {
+        let action = &self.core.action;
+        let global = GlobalId::of(&action.global);
+        let bound = self.global(&global);
+        let object = match bound {
+            Some(bound) => ObjectId::of(&action.created, bound.interface),
+            None => self.core.names.id(&action.created, 0),
+        };
+        let open = Open {
+            client: *client,
+            is_bind: true,
+            created: Some((object.clone(), action.created.interface)),
+            ends: None,
+        };
+        let handler = bound.map(|bound| bound.handler.clone());
+        (
+            Called::Global {
+                handler,
+                global,
+                object,
+            },
+            open,
+        )
+    }
+
+    /// Finishes a request or bind by what its handler answered. What is not used any more is put to `unused`.
+    #[inline]
+    pub(super) fn finish(
+        &mut self,
+        open: &Open,
+        answer: Option<Data<D>>,
+        is_sender_told: bool,
+        unused: &mut Unused<D>,
+    ) -> Option<Misuse> {
+        let misuse = match (&open.created, answer) {
+            (None, None) => {
+                self.finish_alone(open);
+                None
+            }
+            (None, Some(object)) => {
+                self.finish_alone(open);
+                unused.push(object);
+                Some(Misuse::UnexpectedData)
+            }
+            (Some((id, row)), answer) => self.finish_with(open, id, *row, answer, unused),
+        };
+        if is_sender_told {
+            unused.extend(open.ends.and_then(|key| self.forget(key)));
+        }
+        misuse
+    }
+
+    fn finish_alone(&mut self, open: &Open) {
+        let answer = self.core.server.finish_request(&open.client, None);
+        debug_assert!(
+            matches!(answer, Ok(_) | Err(Status::INVALID_ID)),
+            "{answer:?}"
+        );
+    }
+
+    /// Finishes a request or bind that made an object.
+    fn finish_with(
+        &mut self,
+        open: &Open,
+        id: &ObjectId,
+        row: u32,
+        answer: Option<Data<D>>,
+        unused: &mut Unused<D>,
+    ) -> Option<Misuse> {
+        if std::mem::take(&mut self.is_given) {
+            let key = self.core.server.object_data(&id.raw());
+            unused.extend(key.and_then(|key| self.forget(key)));
+        }
+        let Some(object) = answer else {
+            // A client that was killed needs no data for its new object.
+            if self.core.server.finish_request(&open.client, None).is_err() {
+                self.give(open, id, row, Arc::new(NoData), unused);
+                return Some(Misuse::NoData(id.clone()));
+            }
+            return None;
+        };
+        self.give(open, id, row, object, unused);
+        None
+    }
+
+    /// Finishes with the data of the object that was made.
+    fn give(
+        &mut self,
+        open: &Open,
+        id: &ObjectId,
+        row: u32,
+        object: Data<D>,
+        unused: &mut Unused<D>,
+    ) {
+        let key = self.objects.insert(object);
+        let server = &mut self.core.server;
+        let answer = match open.is_bind {
+            true => server.finish_bind(&open.client, key),
+            false => server.finish_request(&open.client, Some(key)),
+        };
+        match answer {
+            Ok(true) => self.core.names.keep(id, row, key),
+            _ => unused.extend(self.objects.remove(key)),
+        }
+    }
+
+    fn forget(&mut self, key: u64) -> Option<Data<D>> {
+        self.core.names.forget(key);
+        self.objects.remove(key)
+    }
+
+    /// Takes the clients out that were killed. They are to be dropped after the program was told of them.
+    pub(super) fn clean(&mut self) -> Vec<Connection> {
+        self.core.take_killed()
+    }
+}
+
+/// The data of objects that the program has given none: the display, registries, and an object whose handler panicked
+/// when it was made.
+struct NoData;
+
+impl<D> ObjectData<D> for NoData {
+    fn request(
+        self: Arc<Self>,
+        _: &Handle,
+        _: &mut D,
+        _: ClientId,
+        msg: Message<ObjectId, OwnedFd>,
+    ) -> Option<Data<D>> {
+        panic!("Received a message on an uninitialized object: {msg:?}");
+    }
+
+    fn destroyed(self: Arc<Self>, _: &Handle, _: &mut D, _: ClientId, _: ObjectId) {}
+
+    fn debug(&self, f: &mut fmt::Formatter<'_>) -> fmt::Result {
+        f.debug_struct("NoData").finish()
+    }
+}
