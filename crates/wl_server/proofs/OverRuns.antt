@@ -6,4 +6,5 @@ pub mod Noted
 pub mod Announced
 pub mod Cut
 pub mod Outcome
+pub mod Killed
 pub mod Alone

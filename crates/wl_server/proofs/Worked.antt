@@ -8,3 +8,4 @@ pub mod WholeCalls
 pub mod Outcomes
 pub mod Cuts
 pub mod Announcements
+pub mod Lifetimes

@@ -1,11 +1,13 @@
--- What holds of each client of a server over a run: five laws, of one and the same history of deeds.
+-- What holds of each client of a server over a run: seven laws, of one and the same history of deeds.
 use Rattle.std.specs.Prelude.{List, [], ◌∷◌, ◌++◌}
 use Rattle.wl_wire.specs.Table.{InterfaceRow}
 use Rattle.wl_link.specs.Runs.{RunEntry}
 use Rattle.wl_server.specs.declared.runs.step.Reply.{Reply}
 use Rattle.wl_server.specs.declared.runs.step.Step.{Step}
 use Rattle.wl_server.specs.Announced.{EachAnnouncesShown}
+use Rattle.wl_server.specs.GivenOnce.{GivesOnce}
 use Rattle.wl_server.specs.Identified.{EachHasOwnIds}
+use Rattle.wl_server.specs.Killed.{EachStaysKilled}
 use Rattle.wl_server.specs.Logged.{EachLogIsSpelled}
 use Rattle.wl_server.specs.NotedOnce.{EachIsNoted}
 use Rattle.wl_server.specs.PartStep.{World}
@@ -14,14 +16,17 @@ use Rattle.wl_server.specs.Server.{ServerState, new_server}
 use Rattle.wl_server.specs.Steps.{Entry}
 
 -- Of a run: each client is alone (`Runs`), has ids of its own (`Identified`), its log is what was sent and what
--- waits (`Logged`), its registries announce what it is shown (`Announced`), and its end is noted (`NotedOnce`). All of
--- them speak of the same deeds.
+-- waits (`Logged`), its registries announce what it is shown (`Announced`), its end is noted (`NotedOnce`), and once it is
+-- killed it stays so (`Killed`). No id of a client or of a global is given twice (`GivenOnce`). All of them speak of the
+-- same deeds.
 pub record IsAccountedFor {T U G C : Type 0} (w : World T G C) (table : List InterfaceRow) (run : List (Entry T U G C)) (after : ServerState T U G C) : Type 0 where
   pub isolated : IsIsolated w table run after
   pub ids : EachHasOwnIds w table run after
   pub logs : EachLogIsSpelled run after
   pub announcements : EachAnnouncesShown w run after
   pub notes : EachIsNoted run after
+  pub killed : EachStaysKilled w table run after
+  pub given : GivesOnce w table run after
 
 -- these steps of a new server, with these replies, are the calls of a run of which these laws hold
 abbrev pub AreAccountedFor : {T U G C : Type 0} → World T G C → List InterfaceRow → List (RunEntry (Step T U G C) (Reply T U)) → ServerState T U G C → Type 0

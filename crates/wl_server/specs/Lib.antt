@@ -34,12 +34,14 @@ pub mod Announced
 pub mod Cutting
 pub mod Stretches
 pub mod Room
+pub mod Bounded
+pub mod Killed
+pub mod GivenOnce
 pub mod Accounts
 pub mod Histories
 -- ---- dispatches
 pub mod Reached
 pub mod Dispatch
-pub mod Bounded
 -- ---- what callers use
 pub mod Plain
 -- ---- what the functions inside promise each other

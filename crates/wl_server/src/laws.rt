@@ -39,10 +39,12 @@ ghost use Rattle.wl_server.specs.Backend.{BackendState};
 ghost use Rattle.wl_server.specs.Bounded.{EachIsBounded, EachPartIsBounded, receives_over};
 ghost use Rattle.wl_server.specs.Cutting.{EachIsServed, GoesOn, HistoriesAreCut, IsServed};
 ghost use Rattle.wl_server.specs.Dispatch.{EachIsDispatched, EndsDispatch, IsDispatched, answering};
+ghost use Rattle.wl_server.specs.GivenOnce.{GivesOnce, HaveGivenOnce};
 ghost use Rattle.wl_server.specs.Globals.{CreatesGlobal, Globals, Offer};
 ghost use Rattle.wl_server.specs.Ids.{ClientParts, GlobalParts};
 ghost use Rattle.wl_server.specs.Outcome.{ClientsHaveOneOutcome, OffersHaveOneOutcome, OwnRunsHaveOneOutcome, StepsHaveOneOutcome};
 ghost use Rattle.wl_server.specs.Identified.{EachHasOwnIds, HaveOwnIds};
+ghost use Rattle.wl_server.specs.Killed.{EachStaysKilled, HaveKilled};
 ghost use Rattle.wl_server.specs.Named.{EachKeepsNaming, EachNamesNoneAgain};
 ghost use Rattle.wl_server.specs.Logged.{EachLogIsSpelled, HaveSpelledLogs};
 ghost use Rattle.wl_server.specs.NotedEnds.{EachNoteIsOfAnEnd, EndIsNotedAtOnce, HaveNotesOfEnds};
@@ -159,6 +161,19 @@ pub fn each_id_that_names_an_object_keeps_it<T: Transport, U, G: GlobalHandler<C
         Leads (over_scripts G.views) mid later after → EachNamesNoneAgain done point mid after }
 {}
 
+/// The ids of clients and globals, over every transport: no id is given twice.
+///
+/// In each run of a new server, each new client has a greater serial than each client before it, and so has each new
+/// global. So no id of a client or of a global is given twice. An id that names a client or a global was given in the run.
+/// The id of a global names that global, from its creation until it is removed, and then none. An id that was given, and
+/// names none at some later point, names none from then on.
+pub fn no_id_is_given_twice<T: Transport, U, G: GlobalHandler<C>, C>()
+    ensures run { (table : List InterfaceRow) (run : List (Entry T U G C)) (after : ServerState T U G C) →
+        Leads (over T.sends T.receives G.views) (new_server table) run after → GivesOnce (over T.sends T.receives G.views) table run after }
+    ensures script { (table : List InterfaceRow) (steps : List (RunEntry (Step Script U G C) (Reply Script U))) (after : ServerState Script U G C) →
+        Performs (over_scripts G.views) (new_server table) steps after → HaveGivenOnce (over_scripts G.views) table steps after }
+{}
+
 /// The log law, over every transport: the bytes that are sent are those of the messages that were put.
 ///
 /// In each run of a new server, take what the transport of a client took since its insertion, followed by what waits to
@@ -197,6 +212,19 @@ pub fn each_object_that_leaves_is_noted_once<T: Transport, U, G: GlobalHandler<C
     ensures script_at_once { EndIsNotedAtOnce U (over_scripts {C = C} G.views) }
 {}
 
+/// The law of killed clients, over every transport: a killed client stays killed until a cleanup takes it out.
+///
+/// Take any point of a run of a new server at which a client is stored and killed, and what comes after it. Nothing is
+/// received from the client. As long as its action is open, each reading of it returns `ActionOpen`; no action is opened
+/// again. Then each reading returns `Pipe`, until a cleanup takes the client out, which hands out its transport. From then
+/// on each reading returns `InvalidInput`, and the client is not stored again.
+pub fn a_killed_client_stays_killed<T: Transport, U, G: GlobalHandler<C>, C>()
+    ensures run { (table : List InterfaceRow) (run : List (Entry T U G C)) (after : ServerState T U G C) →
+        Leads (over T.sends T.receives G.views) (new_server table) run after → EachStaysKilled (over T.sends T.receives G.views) table run after }
+    ensures script { (table : List InterfaceRow) (steps : List (RunEntry (Step Script U G C) (Reply Script U))) (after : ServerState Script U G C) →
+        Performs (over_scripts G.views) (new_server table) steps after → HaveKilled (over_scripts G.views) table steps after }
+{}
+
 /// The law of announcements, over every transport: a registry announces the globals that its client may see.
 ///
 /// In each run of a new server, take a live client and a registry that `get_registry` made for it. The globals that the
@@ -224,10 +252,11 @@ pub fn calls_over_scripts_are_steps<U, G: GlobalHandler<C>, C>()
         Leads (over ScriptSends ScriptReceives G.views) before run after → Leads (over_scripts G.views) before run after }
 {}
 
-/// Five laws of runs hold of one history of steps over the transport by script (clause `steps`).
+/// Seven laws of runs hold of one history of steps over the transport by script (clause `steps`).
 ///
-/// They are isolation, identity, log, announcements, and notes. They hold of every history over that transport,
-/// too, in which a client's transport may be changed between the steps (clause `history`).
+/// They are isolation, identity, log, announcements, notes, killed clients, and the ids of clients and globals. They hold
+/// of every history over that transport, too, in which a client's transport may be changed between the steps (clause
+/// `history`).
 pub fn each_client_of_a_script_is_accounted_for<U, G: GlobalHandler<C>, C>()
     ensures history { (table : List InterfaceRow) (run : List (Entry Script U G C)) (after : ServerState Script U G C) →
         Leads (over_scripts G.views) (new_server table) run after → IsAccountedFor (over_scripts G.views) table run after }

@@ -32,10 +32,11 @@
 //!
 //! The laws of runs are the contracts of the functions of [`laws`]. A *run* is a list of calls, one after another. The
 //! words of each law stand in a file of `specs/`: `Runs` (each client is alone), `Identified` (ids), `Logged` (what was
-//! sent), `Announced` (globals), `NotedOnce` (notes), `Accounts` (these five, of one history), `Named` (what any id names),
-//! `NotedEnds` (which objects notes tell of), `Cutting` and `Stretches` (it does not matter how the bytes are cut into
-//! receives), `Outcome` and `WholeOutcome` (there is one outcome), `Bounded` (how often is received). That a message
-//! always has room in the buffer (`Room`) is a clause of `next_action` itself.
+//! sent), `Announced` (globals), `NotedOnce` (notes), `Killed` (killed clients), `GivenOnce` (ids of clients and globals),
+//! `Accounts` (these seven, of one history), `Named` (what any id names), `NotedEnds` (which objects notes tell of),
+//! `Cutting` and `Stretches` (it does not matter how the bytes are cut into receives), `Outcome` and `WholeOutcome` (there
+//! is one outcome), `Bounded` (how often is received). That a message always has room in the buffer (`Room`) is a clause
+//! of `next_action` itself.
 #![tactic(auto)]
 
 mod backend;

@@ -111,7 +111,7 @@ module _ {T U G C : Type 0} (w : World T G C) (id : ClientParts) (offer : Offer 
       ]
   inserted_quiet transport client_data (Err e) other = unfelt_quiet other
 
-  call_quiet : (call : Call T U G C) → reads_of id call ≡ false → PartCall w id offer call before lacked did after → Quiet
+  pub call_quiet : (call : Call T U G C) → reads_of id call ≡ false → PartCall w id offer call before lacked did after → Quiet
   call_quiet (Asked (step.InsertClient transport client_data) answer) other (r, is, h) = inserted_quiet transport client_data r h
   call_quiet (Asked (step.SetObjectData o u) answer) other h = felt (Asked (step.SetObjectData o u) answer) refl h h
   call_quiet (Asked (step.CreateObject target i version u) answer) other h = felt (Asked (step.CreateObject target i version u) answer) refl h h

@@ -4,3 +4,4 @@ pub mod ChangeLaws
 pub mod ReplyLaws
 pub mod IdentityLaws
 pub mod NamedLaws
+pub mod GivenLaws

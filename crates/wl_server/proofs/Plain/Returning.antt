@@ -1,5 +1,5 @@
 -- What becomes of the data of an action, in the words of the look-ups.
-use Rattle.std.proofs.Common.{◌≡◌, ◌∙◌, ℕ, Bool, List, Option, None, Some, Result, Ok, Err, refl, sym, ap, subst}
+use Rattle.std.proofs.Common.{◌≡◌, ◌∙◌, Bool, List, Option, None, Some, Result, Ok, Err, refl, sym, ap, subst}
 use Rattle.std.specs.Prelude.{IfOk, MatchOption, option_map, slice_set}
 use Rattle.std.specs.Result.{result_and}
 use Rattle.wl_link.specs.declared.object.Object.{Object}
@@ -13,7 +13,7 @@ use Rattle.wl_server.specs.Ids.{ClientParts, IdParts}
 use Rattle.wl_server.specs.Inside.Finishing.{BindLeaves, DataHeld, RequestLeaves}
 use Rattle.wl_server.specs.Lookups.{and_then}
 use Rattle.wl_server.specs.Part.{Part, named, with_user_data}
-use Rattle.wl_server.specs.Plain.{EndsBind, EndsOpenRequest, RequestDataHeld, ReturnsBindData, ReturnsRequestData, client_in, object_of_client}
+use Rattle.wl_server.specs.Plain.{EndsBind, EndsOpenRequest, RequestDataHeld, ReturnsBindData, ReturnsRequestData, client_in}
 use Rattle.wl_server.specs.Server.{Stored, client_at}
 use Rattle.wl_server.proofs.Plain.Finishing.{given_named}
 use Rattle.wl_server.proofs.CallSteps.Slots.{client_present, get_set_same, slot_of_client}

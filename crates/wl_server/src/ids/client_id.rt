@@ -5,7 +5,7 @@ ghost use Rattle.std.specs.Prelude.{◌≡◌};
 use std::marker::Model;
 
 /// The id of a client: its slot, and a serial that no other client has. So it never names a later client of the same
-/// slot.
+/// slot (`laws::no_id_is_given_twice`).
 ///
 /// It stands for `wayland_backend::server::ClientId`.
 #[derive(Clone, Copy, Debug, PartialEq, Eq, Hash)]

@@ -6,7 +6,7 @@ use std::marker::Model;
 use wl_wire::InterfaceId;
 
 /// The id of a global: its name, and a serial that no other global has. So it never names a later global of the same
-/// name.
+/// name (`laws::no_id_is_given_twice`).
 ///
 /// It stands for `wayland_backend::server::GlobalId`.
 #[derive(Clone, Copy, Debug, PartialEq, Eq, Hash)]

@@ -8,8 +8,10 @@ use Rattle.wl_server.specs.declared.runs.step.Step.{Step}
 use Rattle.wl_server.specs.Accounts.{AreAccountedFor, IsAccountedFor, StaysAccountedFor}
 use Rattle.wl_server.proofs.OverRuns.Announced.AnnouncedLaw.{each_announces}
 use Rattle.wl_server.specs.Backend.{BackendState, Calls, IsChange}
+use Rattle.wl_server.proofs.OverRuns.Ids.GivenLaws.{gives_once}
 use Rattle.wl_server.proofs.OverRuns.Ids.IdentityLaws.{each_has_own_ids}
 use Rattle.wl_server.proofs.OverRuns.Alone.IsolationLaw.{are_isolated, is_isolated, join_runs}
+use Rattle.wl_server.proofs.OverRuns.Killed.KilledLaws.{each_stays_killed}
 use Rattle.wl_server.proofs.OverRuns.Log.LogLaws.{each_log}
 use Rattle.wl_server.proofs.OverRuns.Noted.NotedLaws.{each_is_noted}
 use Rattle.wl_server.specs.Ids.{ClientParts}
@@ -26,6 +28,8 @@ is_accounted_for w within table run after leads = record {
   logs = each_log w within table run after leads;
   announcements = each_announces w table run after leads;
   notes = each_is_noted w table run after leads;
+  killed = each_stays_killed w table run after leads;
+  given = gives_once w table run after leads;
 }
 
 pub are_accounted_for : {T U G C : Type 0} (w : World T G C) → IsWithinOffer w.sends → (table : List InterfaceRow) (steps : List (RunEntry (Step T U G C) (Reply T U)))

@@ -1,7 +1,8 @@
 -- That what is held of each client is what its own calls and the shared ones lead to alone: over every run.
-use Rattle.std.proofs.Common.{◌≡◌, ℕ, ◌+◌, ◌<◌, ◌≤◌, Bool, true, false, List, [], ◌∷◌, ◌++◌, None, Some, Result, Ok, Err, refl, sym, ap, subst, ◌∙◌, arith, true≢false}
+use Rattle.std.proofs.Common.{◌≡◌, ℕ, ◌+◌, ◌<◌, ◌≤◌, Bool, true, false, List, [], ◌∷◌, ◌++◌, None, Some, is_some, Result, Ok, Err, refl, sym, ap, subst, ◌∙◌, arith, true≢false}
 use Rattle.std.specs.Prelude.{MatchBool, if◌then◌else◌, ◌==◌, ◌&&◌}
-use Rattle.std.proofs.lemmas.Bool.{eqb-true, eq-eqb, false≢true}
+use Rattle.std.proofs.lemmas.Bool.{cases_lt, eqb-true, eq-eqb, false≢true}
+use mathlib.Core.Logic.{inl, inr}
 use Rattle.wl_wire.specs.Table.{InterfaceRow}
 use Rattle.wl_link.specs.Link.{LinkState, IsFresh}
 use Rattle.wl_link.specs.Runs.{RunEntry}
@@ -262,13 +263,18 @@ module _ {T U G C : Type 0} where
       subst (λ (s : Seen T U C). Alone w id offer s (mine id run) after) (other_call w id offer e.call before (e.lacks id) (e.did id) mid other is by).2
       (subst (λ (o : Offer G). Alone w id o mid (mine id run) after) (offer_of_other id offer e.call is) rest)
 
+  -- an id that was given is not given again
+  pub not_again : (w : World T G C) (id : ClientParts) (before after : ServerState T U G C) (e : Entry T U G C) → id.serial ≤ before.last_client → OneStep w before e after
+      → IsNotInserted id e.call
+  not_again w id before after e born by new inserts = later_differs new id (let next = (numbered before e.call new by.client inserts).2 in omega (arith, born, next))
+
   -- what is held of a client that was inserted before is what its own calls and the shared ones lead to
   pub alone_run : (w : World T G C) (id : ClientParts) (before after : ServerState T U G C) (run : List (Entry T U G C)) → id.serial ≤ before.last_client
       → Leads w before run after → Alone w id before.offer (seen id before) (mine id run) (seen id after)
   alone_run w id before after [] born same = ap (λ (s : ServerState T U G C). seen id s) same
   alone_run w id before after (e ∷ run) born (mid, by, leads) =
       alone_more w id (seen id before) (seen id mid) (seen id after) before.offer e run (concerns id e.call) refl
-      (λ new inserts. later_differs new id (let next = (numbered before e.call new by.client inserts).2 in omega (arith, born, next)))
+      (not_again w id before mid e born by)
       (by.each id)
       (subst (λ (o : Offer G). Alone w id o (seen id mid) (mine id run) (seen id after)) by.offer
       (alone_run w id mid after run (let grown = by.last in omega (arith, born, grown)) leads))
@@ -293,6 +299,17 @@ module _ {T U G C : Type 0} where
 
   new_unborn : (table : List InterfaceRow) → Unborn (new_server {T = T} {U = U} {G = G} {C = C} table)
   new_unborn table = record { each = λ id late. refl }
+
+  -- a client that is stored was given its serial before
+  pub known_before : (w : World T G C) (table : List InterfaceRow) (run : List (Entry T U G C)) (after : ServerState T U G C) → Leads w (new_server table) run after
+      → (id : ClientParts) (p : Part T U C) → (seen id after).part ≡ Some p → id.serial ≤ after.last_client
+  known_before w table run after leads id p there =
+      elim (cases_lt after.last_client id.serial) [
+        | inl late ↦
+            let nothing = (unborn_run w (new_server table) after run (new_unborn table) leads).each id late in
+            absurd (true≢false (ap is_some (sym there ∙ ap (λ (s : Seen T U C). s.part) nothing)))
+        | inr born ↦ born
+      ]
 
   pub each_alone : (w : World T G C) (table : List InterfaceRow) (run : List (Entry T U G C)) (after : ServerState T U G C)
       → Leads w (new_server table) run after → EachAlone w table run after

@@ -10,7 +10,7 @@ use Rattle.wl_wire.specs.declared.protocol.TableError.{TableError}
 use Rattle.wl_wire.specs.Table.{InterfaceRow, grown, interface_rows, name_of}
 use Rattle.wl_wire.proofs.Growth.{row_stays}
 use Rattle.wl_link.specs.declared.object.Object.{Object}
-use Rattle.wl_link.specs.Store.{empty_store, held, stored}
+use Rattle.wl_link.specs.Store.{held}
 use Rattle.wl_link.proofs.Ids.StoreLaws.{held_empty, removed_here, removed_other, rewritten_here, rewritten_other, stored_here, stored_other}
 use Rattle.wl_server.specs.declared.error.GlobalError.{GlobalError}
 use Rattle.wl_server.specs.declared.error.GlobalError.TheVariants as refused
@@ -23,7 +23,7 @@ use Rattle.wl_server.specs.Globals.{CreatesGlobal, CreatesNext, Globals, Offer, 
 use Rattle.wl_server.specs.Ids.{GlobalParts}
 use Rattle.wl_server.specs.PartStep.{Asked, Call, Changed}
 use Rattle.wl_server.specs.Runs.{SharedAlone}
-use Rattle.wl_server.specs.Steps.{Entry, AnswersShared, created_by, inserted_by, offer_after, table_by}
+use Rattle.wl_server.specs.Steps.{Entry, AnswersShared, inserted_by, offer_after}
 use Rattle.wl_server.proofs.OverRuns.Announced.ShownLaws.{global_held, none_some}
 
 -- a row is there for the interface of each global that is kept

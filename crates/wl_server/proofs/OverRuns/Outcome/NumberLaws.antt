@@ -1,11 +1,11 @@
 -- That the numbers which are given out have one outcome: those of globals and of clients.
-use Rattle.std.proofs.Common.{◌≡◌, ◌≢◌, ℕ, ◌<◌, Option, None, Some, is_some, Result, Ok, Err, refl, sym, ap, subst, ◌∙◌, true≢false, arith}
+use Rattle.std.proofs.Common.{◌≡◌, ◌≢◌, ℕ, ◌<◌, Option, None, Some, is_some, Result, Ok, Err, refl, sym, ap, ◌∙◌, true≢false, arith}
 use Rattle.std.specs.Prelude.{IsSome, List, nat_le, slice_get}
 use mathlib.Core.Logic.{inl, inr}
 use Rattle.std.proofs.lemmas.Bool.{cases_order}
 use Rattle.wl_wire.specs.declared.interface.InterfaceId.{InterfaceId}
 use Rattle.wl_wire.specs.Table.{InterfaceRow}
-use Rattle.wl_link.proofs.Calls.Branches.{both_bool, both_option, either_bool, either_option}
+use Rattle.wl_link.proofs.Calls.Branches.{both_bool, both_option}
 use Rattle.wl_link.proofs.Calls.NumberLaws.{full_not_absent, least_absent_one}
 use Rattle.wl_server.specs.declared.error.GlobalError.{GlobalError}
 use Rattle.wl_server.specs.declared.error.GlobalError.TheVariants as global
@@ -13,13 +13,13 @@ use Rattle.wl_server.specs.declared.error.InsertClientError.{InsertClientError}
 use Rattle.wl_server.specs.declared.error.InsertClientError.TheVariants as insert
 use Rattle.wl_server.specs.Globals.{Globals, CreatesGlobal, CreatesNext, IsNextGlobal, LacksName, name_range}
 use Rattle.wl_server.specs.Ids.{ClientParts, GlobalParts}
-use Rattle.wl_server.specs.Next.{ClientIsAsTold, GlobalIsAsTold, NextClient, NextClientIsGiven, NextGlobal, NextGlobalIsGiven}
+use Rattle.wl_server.specs.Next.{NextClient, NextClientIsGiven}
 use Rattle.wl_server.specs.Server.{Stored, stored_at}
 use Rattle.wl_server.specs.Steps.{InsertsNext, IsLeastFree, IsNextClient, LacksSlot}
 
 -- ---- globals
 
-global_is : (a b : GlobalParts) → a.name ≡ b.name → a.serial ≡ b.serial → a ≡ b
+pub global_is : (a b : GlobalParts) → a.name ≡ b.name → a.serial ≡ b.serial → a ≡ b
 global_is a b names serials =
     let with_name : ℕ → GlobalParts = λ n. record { name = n; serial = a.serial } in
     let with_serial : ℕ → GlobalParts = λ n. record { name = b.name; serial = n } in

@@ -1,4 +1,4 @@
-use Rattle.std.proofs.Common.{◌≡◌, ◌∙◌, Bool, List, Result, Err, ap, refl, sym}
+use Rattle.std.proofs.Common.{◌≡◌, Bool, List, Result, Err, ap, refl, sym}
 use Rattle.std.specs.Prelude.{Vec}
 use Rattle.std.specs.Global.{Global}
 use Rattle.wl_wire.specs.declared.interface.Interface.{Interface}

@@ -1,4 +1,4 @@
-use Rattle.std.proofs.Common.{◌≡◌, ◌+◌, subst, sym}
+use Rattle.std.proofs.Common.{◌+◌, subst, sym}
 use Rattle.wl_server.specs.Inside.Inserting.{AreTaken}
 use Rattle.wl_server.proofs.ObjectCalls.Inserting.{inserted, insertion_starved, least_within, not_inserted}
 use Rattle.wl_server.proofs.CleanupSteps.Taken.{taken_put}

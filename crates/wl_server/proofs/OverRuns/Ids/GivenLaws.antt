@@ -1,0 +1,472 @@
+-- That no id of a client or of a global is given twice, and that one which names none any longer never names one again.
+use Rattle.std.proofs.Common.{◌≡◌, ◌≢◌, ◌⊎◌, ℕ, ◌+◌, ◌<◌, ◌≤◌, Bool, true, false, cond, eqb, List, [], ◌∷◌, Option, None, Some, is_some, Ok, refl, sym, ap, subst, ◌∙◌, true≢false, arith}
+use mathlib.Core.Logic.{inl, inr}
+use Rattle.std.specs.Prelude.{◌&&◌, IsSome, is_ok, nat_le, option_map, slice_get}
+use Rattle.std.proofs.lemmas.Bool.{cases_eq, eqb-true, eq-eqb, ne_eqb}
+use Rattle.std.proofs.lemmas.Option.{same_Some}
+use Rattle.wl_wire.specs.declared.interface.InterfaceId.{InterfaceId}
+use Rattle.wl_wire.specs.Table.{InterfaceRow}
+use Rattle.wl_link.specs.declared.object.Object.{Object}
+use Rattle.wl_link.proofs.Calls.Branches.{either_bool, either_option}
+use Rattle.wl_link.specs.Identity.{named_in}
+use Rattle.wl_link.specs.Runs.{RunEntry}
+use Rattle.wl_link.specs.Store.{held, stored}
+use Rattle.wl_link.proofs.Ids.StoreLaws.{held_empty, removed_here, removed_other, rewritten_here, rewritten_other, stored_here, stored_other}
+use Rattle.wl_server.specs.declared.globals.KeptGlobal.{KeptGlobal}
+use Rattle.wl_server.specs.declared.runs.step.Reply.{Reply}
+use Rattle.wl_server.specs.declared.runs.step.Reply.TheVariants as reply
+use Rattle.wl_server.specs.declared.runs.step.Step.{Step}
+use Rattle.wl_server.specs.declared.runs.step.Step.TheVariants as step
+use Rattle.wl_server.specs.GivenOnce.{ClientsRise, EachNamesItsGlobal, GivesOnce, GlobalsRise, HaveGivenOnce, Offers, SomeCall, global_by, global_over, same_global}
+use Rattle.wl_server.specs.Globals.{CreatesGlobal, Globals, IsNextGlobal, Offer, as_disabled, disabled, disabled_at, freed, freed_at, global_of, global_serial, new_global, new_offer}
+use Rattle.wl_server.specs.Ids.{ClientParts, GlobalParts, same_client}
+use Rattle.wl_server.specs.PartStep.{Asked, Call, Changed, World}
+use Rattle.wl_server.specs.Runs.{Inserts, IsNotInserted, Leads, Performs, SharedAlone}
+use Rattle.wl_server.specs.Server.{ServerState, new_server, seen}
+use Rattle.wl_server.specs.Steps.{AnswersShared, Entry, inserted_by, offer_after}
+use Rattle.wl_server.proofs.OverRuns.Alone.IsolationLaw.{one_more, performed, shared_run, split_run}
+use Rattle.wl_server.proofs.OverRuns.Announced.ShownLaws.{global_held}
+use Rattle.wl_server.proofs.OverRuns.Killed.KilledLaws.{out_next, out_run}
+use Rattle.wl_server.proofs.OverRuns.Outcome.NumberLaws.{client_is, global_is}
+
+none_some : {A : Type 0} {x : A} → None ≡ Some x → ⊥
+none_some e = true≢false (sym (ap is_some e))
+
+some_none : {A : Type 0} {o : Option A} → IsSome o → o ≡ None → ⊥
+some_none some none = true≢false (sym some ∙ ap is_some none)
+
+-- ---- the global that an id names
+
+module _ {G : Type 0} where
+  -- what the id names, if its name holds that
+  abbrev named_at : GlobalParts → Option (Object (KeptGlobal G)) → Option (Object (KeptGlobal G))
+  named_at g o = cond (eqb g.name 0) None (named_in global_serial (record { number = g.name; serial = g.serial }) o)
+
+  none_at : (g : GlobalParts) → named_at g None ≡ None
+  none_at g = go (eqb g.name 0)
+    where
+      go : (b : Bool) → cond b None (named_in (global_serial {G = G}) (record { number = g.name; serial = g.serial }) None) ≡ None
+      go true = refl
+      go false = refl
+
+  foreign_at : (g : GlobalParts) (x : Object (KeptGlobal G)) → eqb x.value.serial g.serial ≡ false → named_at g (Some x) ≡ None
+  foreign_at g x other = go (eqb g.name 0) (eqb x.value.serial g.serial) other
+    where
+      go : (z b : Bool) → b ≡ false → cond z None (cond b (Some x) None) ≡ None
+      go true b other = refl
+      go false true other = absurd (true≢false other)
+      go false false other = refl
+
+  -- the serial of what the id names is its own
+  serial_at : (globals : Globals G) (g : GlobalParts) (x : Object (KeptGlobal G)) → global_of globals g ≡ Some x → x.value.serial ≡ g.serial
+  serial_at globals g x is = go (eqb g.name 0) (held globals.store g.name) is
+    where
+      one : (y : Object (KeptGlobal G)) (b : Bool) → eqb y.value.serial g.serial ≡ b → cond b (Some y) None ≡ Some x → x.value.serial ≡ g.serial
+      one y true same is = ap (λ (o : Object (KeptGlobal G)). o.value.serial) (sym (same_Some y x is)) ∙ eqb-true y.value.serial g.serial same
+      one y false same is = absurd (none_some is)
+
+      go : (z : Bool) (o : Option (Object (KeptGlobal G))) → cond z None (named_in global_serial (record { number = g.name; serial = g.serial }) o) ≡ Some x → x.value.serial ≡ g.serial
+      go true o is = absurd (none_some is)
+      go false None is = absurd (none_some is)
+      go false (Some y) is = one y (eqb y.value.serial g.serial) refl is
+
+-- ---- two ids
+
+-- of one name they are the same if their serials are
+same_named : (target g : GlobalParts) → g.name ≡ target.name → same_global target g ≡ eqb target.serial g.serial
+same_named target g same = ap (λ (b : Bool). b && eqb target.serial g.serial) (eq-eqb target.name g.name (sym same))
+
+other_named : (target g : GlobalParts) → g.name ≢ target.name → same_global target g ≡ false
+other_named target g other = ap (λ (b : Bool). b && eqb target.serial g.serial) (ne_eqb target.name g.name (λ same. other (sym same)))
+
+same_ids : (target g : GlobalParts) → same_global target g ≡ true → target ≡ g
+same_ids target g same = go (eqb target.name g.name) (eqb target.serial g.serial) refl refl same
+  where
+    go : (a b : Bool) → eqb target.name g.name ≡ a → eqb target.serial g.serial ≡ b → (a && b) ≡ true → target ≡ g
+    go true true names serials same = global_is target g (eqb-true target.name g.name names) (eqb-true target.serial g.serial serials)
+    go true false names serials same = absurd (true≢false (sym same))
+    go false b names serials same = absurd (true≢false (sym same))
+
+same_clients : (a b : ClientParts) → same_client a b ≡ true → a ≡ b
+same_clients a b same = go (eqb a.slot b.slot) (eqb a.serial b.serial) refl refl same
+  where
+    go : (x y : Bool) → eqb a.slot b.slot ≡ x → eqb a.serial b.serial ≡ y → (x && y) ≡ true → a ≡ b
+    go true true slots serials same = client_is a b (eqb-true a.slot b.slot slots) (eqb-true a.serial b.serial serials)
+    go true false slots serials same = absurd (true≢false (sym same))
+    go false y slots serials same = absurd (true≢false (sym same))
+
+-- ---- what a call does to what an id names
+
+module _ {G : Type 0} where
+  -- a change of what the target names, of each id
+  abbrev Changes : (Option (Object (KeptGlobal G)) → Option (Object (KeptGlobal G))) → Globals G → GlobalParts → Globals G → Type 0
+  Changes change globals target after = (g : GlobalParts) → global_of after g ≡ cond (same_global target g) (change (global_of globals g)) (global_of globals g)
+
+  -- nothing has changed, where the target names none
+  none_changes : (change : Option (Object (KeptGlobal G)) → Option (Object (KeptGlobal G))) → change None ≡ None → (globals : Globals G) (target : GlobalParts)
+      → global_of globals target ≡ None → Changes change globals target globals
+  none_changes change nothing globals target none g = go (same_global target g) refl
+    where
+      go : (b : Bool) → same_global target g ≡ b → global_of globals g ≡ cond b (change (global_of globals g)) (global_of globals g)
+      go true same =
+          let none' : global_of globals g ≡ None = ap (global_of globals) (sym (same_ids target g same)) ∙ none in
+          none' ∙ sym (ap change none' ∙ nothing)
+      go false other = refl
+
+  -- the value at the name is another, or there is none
+  one_changes : (change : Option (Object (KeptGlobal G)) → Option (Object (KeptGlobal G))) → change None ≡ None → (globals after : Globals G) (target : GlobalParts) (x : Object (KeptGlobal G))
+      → global_of globals target ≡ Some x
+      → ((g : GlobalParts) → g.name ≢ target.name → held after.store g.name ≡ held globals.store g.name)
+      → ((g : GlobalParts) → g.name ≡ target.name → (z : Bool) → eqb g.name 0 ≡ z
+      → global_of after g ≡ cond z None (cond (eqb x.value.serial g.serial) (change (Some x)) None))
+      → Changes change globals target after
+  one_changes change nothing globals after target x is elsewhere here g =
+      elim (cases_eq g.name target.name) [
+        | inl same ↦
+            here g same (eqb g.name 0) refl
+            ∙ both (eqb g.name 0) (eqb x.value.serial g.serial)
+            ∙ ap (λ (o : Option (Object (KeptGlobal G))). cond (eqb x.value.serial g.serial) (change o) o)
+            (sym (ap (named_at g) (ap (held globals.store) same ∙ global_held globals target x is)))
+            ∙ ap (λ (b : Bool). cond b (change (global_of globals g)) (global_of globals g))
+            (ap (λ (n : ℕ). eqb n g.serial) (serial_at globals target x is) ∙ sym (same_named target g same))
+        | inr other ↦
+            ap (named_at g) (elsewhere g other)
+            ∙ ap (λ (b : Bool). cond b (change (global_of globals g)) (global_of globals g)) (sym (other_named target g other))
+      ]
+    where
+      both : (z b : Bool) → cond z None (cond b (change (Some x)) None) ≡ cond b (change (cond z None (cond b (Some x) None))) (cond z None (cond b (Some x) None))
+      both true true = sym nothing
+      both true false = refl
+      both false true = refl
+      both false false = refl
+
+  disabled_changes : (globals : Globals G) (target : GlobalParts) → Changes (option_map as_disabled) globals target (disabled globals target)
+  disabled_changes globals target = go (global_of globals target) refl
+    where
+      go : (o : Option (Object (KeptGlobal G))) → global_of globals target ≡ o → Changes (option_map as_disabled) globals target (disabled_at globals target.name o)
+      go None none = none_changes (option_map as_disabled) refl globals target none
+      go (Some x) is =
+          one_changes (option_map as_disabled) refl globals (disabled_at globals target.name (Some x)) target x is
+          (λ g other. rewritten_other globals.store target.name (as_disabled x) g.name other)
+          (λ g same z zero. ap (named_at g) (rewritten_here globals.store target.name (as_disabled x) g.name same)
+          ∙ ap (λ (b : Bool). cond b None (cond (eqb x.value.serial g.serial) (Some (as_disabled x)) None)) zero)
+
+  freed_changes : (globals : Globals G) (target : GlobalParts) → Changes (λ o. None) globals target (freed globals target)
+  freed_changes globals target = go (global_of globals target) refl
+    where
+      nothing : (z b : Bool) → None ≡ cond z None (cond b (let o : Option (Object (KeptGlobal G)) = None in o) None)
+      nothing true b = refl
+      nothing false true = refl
+      nothing false false = refl
+
+      go : (o : Option (Object (KeptGlobal G))) → global_of globals target ≡ o → Changes (λ o. None) globals target (freed_at globals target.name o)
+      go None none = none_changes (λ o. None) refl globals target none
+      go (Some x) is =
+          one_changes (λ o. None) refl globals (freed_at globals target.name (Some x)) target x is
+          (λ g other. removed_other globals.store target.name g.name other)
+          (λ g same z zero. ap (named_at g) (removed_here globals.store target.name g.name same) ∙ none_at g ∙ nothing z (eqb x.value.serial g.serial))
+
+  -- a new global is named by its own id, and no id of an earlier serial names another than before
+  created_named : (globals : Globals G) (i : InterfaceId) (version : ℕ) (handler : G) (new : GlobalParts) → IsNextGlobal globals new
+      → (last : ℕ) → global_of (record { store = stored globals.store new.name (new_global i version new.serial handler); last_serial = last }) new
+      ≡ Some (new_global i version new.serial handler)
+  created_named globals i version handler new (least, left, next) last =
+      let x : Object (KeptGlobal G) = new_global i version new.serial handler in
+      ap (named_at new) (stored_here globals.store new.name x new.name refl)
+      ∙ ap (λ (z : Bool). cond z None (cond (eqb new.serial new.serial) (Some x) None)) (ne_eqb new.name 0 (λ zero. let within = least.within in omega (arith, within, zero)))
+      ∙ ap (λ (b : Bool). cond b (Some x) None) (eq-eqb new.serial new.serial refl)
+
+  created_other : (globals : Globals G) (i : InterfaceId) (version : ℕ) (handler : G) (new : GlobalParts) → IsNextGlobal globals new → (last : ℕ) (g : GlobalParts)
+      → (g.serial ≢ new.serial) → global_of (record { store = stored globals.store new.name (new_global i version new.serial handler); last_serial = last }) g ≡ global_of globals g
+  created_other globals i version handler new (least, left, next) last g older =
+      let x : Object (KeptGlobal G) = new_global i version new.serial handler in
+      elim (cases_eq g.name new.name) [
+        | inl same ↦
+            ap (named_at g) (stored_here globals.store new.name x g.name same)
+            ∙ foreign_at g x (ne_eqb new.serial g.serial (λ is. older (sym is)))
+            ∙ sym (ap (named_at g) (ap (held globals.store) same ∙ least.absent) ∙ none_at g)
+        | inr other ↦ ap (named_at g) (stored_other globals.store new.name x g.name other)
+      ]
+
+-- ---- a call
+
+module _ {G : Type 0} where
+  -- a global that is created has the next id
+  next_in : (offer : Offer G) (i : InterfaceId) (version : ℕ) (g : GlobalParts) → CreatesGlobal offer.table offer.globals i version (Ok g) → IsNextGlobal offer.globals g
+  next_in offer i version g by =
+      elim (either_option (slice_get offer.table i.0) by) [
+        | inl (none, is) ↦ absurd (true≢false (ap is_ok is))
+        | inr (row, there, h) ↦
+            elim (either_bool (nat_le version row.version) h) [
+              | inl next ↦ next
+              | inr is ↦ absurd (true≢false (ap is_ok is))
+            ]
+      ]
+
+  disabled_last : (globals : Globals G) (n : ℕ) (o : Option (Object (KeptGlobal G))) → (disabled_at globals n o).last_serial ≡ globals.last_serial
+  disabled_last globals n None = refl
+  disabled_last globals n (Some x) = refl
+
+  freed_last : (globals : Globals G) (n : ℕ) (o : Option (Object (KeptGlobal G))) → (freed_at globals n o).last_serial ≡ globals.last_serial
+  freed_last globals n None = refl
+  freed_last globals n (Some x) = refl
+
+  -- a change makes no id name a global that named none
+  some_left : (change : Option (Object (KeptGlobal G)) → Option (Object (KeptGlobal G))) → change None ≡ None → (b : Bool) (o : Option (Object (KeptGlobal G)))
+      → IsSome (cond b (change o) o) → IsSome o
+  some_left change nothing b (Some x) some = refl
+  some_left change nothing true None some = absurd (some_none some nothing)
+  some_left change nothing false None some = some
+
+module _ {T U G C : Type 0} where
+  offered_next : (offer : Offer G) (call : Call T U G C) (g : GlobalParts) → AnswersShared offer call → Offers g call → IsNextGlobal offer.globals g
+  offered_next offer call g by (i, version, handler, is) = next_in offer i version g (subst (λ (c : Call T U G C). AnswersShared offer c) is by)
+
+  offered_last : (offer : Offer G) (call : Call T U G C) (g : GlobalParts) → Offers g call → (offer_after offer call).globals.last_serial ≡ g.serial
+  offered_last offer call g (i, version, handler, is) = ap (λ (c : Call T U G C). (offer_after offer c).globals.last_serial) is
+
+  -- the last serial of a global never falls
+  last_grows : (offer : Offer G) (call : Call T U G C) → AnswersShared offer call → offer.globals.last_serial ≤ (offer_after offer call).globals.last_serial
+  last_grows offer (Asked (step.CreateGlobal i version handler) (reply.CreateGlobal (Ok g))) by = (let next = (next_in offer i version g by).2 in omega (arith, next))
+  last_grows offer (Asked (step.CreateGlobal i version handler) answer) by = omega arith
+  last_grows offer (Asked (step.DisableGlobal g) answer) by = (let same = disabled_last offer.globals g.name (global_of offer.globals g) in omega (arith, same))
+  last_grows offer (Asked (step.RemoveGlobal g) answer) by = (let same = freed_last offer.globals g.name (global_of offer.globals g) in omega (arith, same))
+  last_grows offer (Asked call answer) by = omega arith
+  last_grows offer (Changed target t) by = omega arith
+
+  -- what the id of a global that was given before names after a call
+  named_by : (offer : Offer G) (call : Call T U G C) (g : GlobalParts) → AnswersShared offer call → g.serial ≤ offer.globals.last_serial
+      → global_of (offer_after offer call).globals g ≡ global_by g call (global_of offer.globals g)
+  named_by offer (Asked (step.CreateGlobal i version handler) (reply.CreateGlobal (Ok new))) g by given =
+      let next = next_in offer i version new by in
+      created_other offer.globals i version handler new next new.serial g (λ same. let serial = next.2 in omega (arith, same, serial, given))
+  named_by offer (Asked (step.CreateGlobal i version handler) answer) g by given = refl
+  named_by offer (Asked (step.DisableGlobal target) answer) g by given = disabled_changes offer.globals target g
+  named_by offer (Asked (step.RemoveGlobal target) answer) g by given = freed_changes offer.globals target g
+  named_by offer (Asked call answer) g by given = refl
+  named_by offer (Changed target t) g by given = refl
+
+  -- an id names after a call what it named before, or the global that the call creates
+  named_before : (offer : Offer G) (call : Call T U G C) (g : GlobalParts) → AnswersShared offer call → IsSome (global_of (offer_after offer call).globals g)
+      → IsSome (global_of offer.globals g) ⊎ Offers g call
+  named_before offer (Asked (step.CreateGlobal i version handler) (reply.CreateGlobal (Ok new))) g by some =
+      let next = next_in offer i version new by in
+      elim (cases_eq g.serial new.serial) [
+        | inr older ↦ inl (subst IsSome (created_other offer.globals i version handler new next new.serial g older) some)
+        | inl serials ↦
+            elim (cases_eq g.name new.name) [
+              | inl names ↦ inr (i, version, handler, ap (λ (x : GlobalParts). Asked (step.CreateGlobal i version handler) (reply.CreateGlobal (Ok x))) (global_is new g (sym names) (sym serials)))
+              | inr other ↦ inl (subst IsSome (ap (named_at g) (stored_other offer.globals.store new.name (new_global i version new.serial handler) g.name other)) some)
+            ]
+      ]
+  named_before offer (Asked (step.CreateGlobal i version handler) answer) g by some = inl some
+  named_before offer (Asked (step.DisableGlobal target) answer) g by some =
+      inl (some_left (option_map as_disabled) refl (same_global target g) (global_of offer.globals g) (subst IsSome (disabled_changes offer.globals target g) some))
+  named_before offer (Asked (step.RemoveGlobal target) answer) g by some =
+      inl (some_left (λ o. None) refl (same_global target g) (global_of offer.globals g) (subst IsSome (freed_changes offer.globals target g) some))
+  named_before offer (Asked call answer) g by some = inl some
+  named_before offer (Changed target t) g by some = inl some
+
+  -- ---- a run of the shared calls
+
+  clients_above : (offer offer' : Offer G) (last last' : ℕ) (run : List (Entry T U G C)) → SharedAlone offer last run offer' last' → (new : ClientParts) → SomeCall (Inserts new) run
+      → last < new.serial
+  clients_above offer offer' last last' [] shared new some = absurd some
+  clients_above offer offer' last last' (e ∷ run) (by, next, rest) new (inl is) = (let number = (next new is).1 in omega (arith, number))
+  clients_above offer offer' last last' (e ∷ run) (by, next, rest) new (inr later) =
+      (let more = clients_above (offer_after offer e.call) offer' (last + inserted_by e.call) last' run rest new later in omega (arith, more))
+
+  clients_rise : (offer offer' : Offer G) (last last' : ℕ) (run : List (Entry T U G C)) → SharedAlone offer last run offer' last' → ClientsRise run
+  clients_rise offer offer' last last' [] shared = tt
+  clients_rise offer offer' last last' (e ∷ run) (by, next, rest) = (
+    (λ old new is later.
+        (let number = (next old is).1 in
+        let one = one_more e.call old is in
+        let more = clients_above (offer_after offer e.call) offer' (last + inserted_by e.call) last' run rest new later in
+        omega (arith, number, one, more))),
+    clients_rise (offer_after offer e.call) offer' (last + inserted_by e.call) last' run rest,
+  )
+
+  last_over : (offer offer' : Offer G) (last last' : ℕ) (run : List (Entry T U G C)) → SharedAlone offer last run offer' last' → last ≤ last'
+  last_over offer offer' last last' [] (same, is) = omega (arith, is)
+  last_over offer offer' last last' (e ∷ run) (by, next, rest) = (let more = last_over (offer_after offer e.call) offer' (last + inserted_by e.call) last' run rest in omega (arith, more))
+
+  client_given : (offer offer' : Offer G) (last last' : ℕ) (run : List (Entry T U G C)) → SharedAlone offer last run offer' last' → (id : ClientParts) → SomeCall (Inserts id) run
+      → id.serial ≤ last'
+  client_given offer offer' last last' [] shared id some = absurd some
+  client_given offer offer' last last' (e ∷ run) (by, next, rest) id (inl is) =
+      (let number = (next id is).1 in
+      let one = one_more e.call id is in
+      let more = last_over (offer_after offer e.call) offer' (last + inserted_by e.call) last' run rest in
+      omega (arith, number, one, more))
+  client_given offer offer' last last' (e ∷ run) (by, next, rest) id (inr later) =
+      client_given (offer_after offer e.call) offer' (last + inserted_by e.call) last' run rest id later
+
+  globals_above : (offer offer' : Offer G) (last last' : ℕ) (run : List (Entry T U G C)) → SharedAlone offer last run offer' last' → (new : GlobalParts) → SomeCall (Offers new) run
+      → offer.globals.last_serial < new.serial
+  globals_above offer offer' last last' [] shared new some = absurd some
+  globals_above offer offer' last last' (e ∷ run) (by, next, rest) new (inl is) = (let number = (offered_next offer e.call new by is).2 in omega (arith, number))
+  globals_above offer offer' last last' (e ∷ run) (by, next, rest) new (inr later) =
+      (let grown = last_grows offer e.call by in
+      let more = globals_above (offer_after offer e.call) offer' (last + inserted_by e.call) last' run rest new later in
+      omega (arith, grown, more))
+
+  globals_rise : (offer offer' : Offer G) (last last' : ℕ) (run : List (Entry T U G C)) → SharedAlone offer last run offer' last' → GlobalsRise run
+  globals_rise offer offer' last last' [] shared = tt
+  globals_rise offer offer' last last' (e ∷ run) (by, next, rest) = (
+    (λ old new is later.
+        (let number = offered_last offer e.call old is in
+        let more = globals_above (offer_after offer e.call) offer' (last + inserted_by e.call) last' run rest new later in
+        omega (arith, number, more))),
+    globals_rise (offer_after offer e.call) offer' (last + inserted_by e.call) last' run rest,
+  )
+
+  globals_grow : (offer offer' : Offer G) (last last' : ℕ) (run : List (Entry T U G C)) → SharedAlone offer last run offer' last' → offer.globals.last_serial ≤ offer'.globals.last_serial
+  globals_grow offer offer' last last' [] (same, is) = (let e = ap (λ (o : Offer G). o.globals.last_serial) same in omega (arith, e))
+  globals_grow offer offer' last last' (e ∷ run) (by, next, rest) =
+      (let grown = last_grows offer e.call by in
+      let more = globals_grow (offer_after offer e.call) offer' (last + inserted_by e.call) last' run rest in
+      omega (arith, grown, more))
+
+  global_given : (offer offer' : Offer G) (last last' : ℕ) (run : List (Entry T U G C)) → SharedAlone offer last run offer' last' → (g : GlobalParts) → SomeCall (Offers g) run
+      → g.serial ≤ offer'.globals.last_serial
+  global_given offer offer' last last' [] shared g some = absurd some
+  global_given offer offer' last last' (e ∷ run) (by, next, rest) g (inl is) =
+      (let number = offered_last offer e.call g is in
+      let more = globals_grow (offer_after offer e.call) offer' (last + inserted_by e.call) last' run rest in
+      omega (arith, number, more))
+  global_given offer offer' last last' (e ∷ run) (by, next, rest) g (inr later) =
+      global_given (offer_after offer e.call) offer' (last + inserted_by e.call) last' run rest g later
+
+  -- what the id of a global that was given before names after a run
+  named_over : (offer offer' : Offer G) (last last' : ℕ) (run : List (Entry T U G C)) → SharedAlone offer last run offer' last' → (g : GlobalParts) → g.serial ≤ offer.globals.last_serial
+      → global_of offer'.globals g ≡ global_over g run (global_of offer.globals g)
+  named_over offer offer' last last' [] (same, is) g given = ap (λ (o : Offer G). global_of o.globals g) same
+  named_over offer offer' last last' (e ∷ run) (by, next, rest) g given =
+      named_over (offer_after offer e.call) offer' (last + inserted_by e.call) last' run rest g (let grown = last_grows offer e.call by in omega (arith, given, grown))
+      ∙ ap (global_over g run) (named_by offer e.call g by given)
+
+  made_over : (offer offer' : Offer G) (last last' : ℕ) (run : List (Entry T U G C)) → SharedAlone offer last run offer' last' → (g : GlobalParts) → IsSome (global_of offer'.globals g)
+      → IsSome (global_of offer.globals g) ⊎ SomeCall (Offers g) run
+  made_over offer offer' last last' [] (same, is) g some = inl (subst (λ (o : Offer G). IsSome (global_of o.globals g)) same some)
+  made_over offer offer' last last' (e ∷ run) (by, next, rest) g some =
+      elim (made_over (offer_after offer e.call) offer' (last + inserted_by e.call) last' run rest g some) [
+        | inr later ↦ inr (inr later)
+        | inl now ↦
+            elim (named_before offer e.call g by now) [
+              | inl before ↦ inl before
+              | inr is ↦ inr (inl is)
+            ]
+      ]
+
+  -- where an id names none, no call but a creation makes it name one
+  none_by : (g : GlobalParts) (call : Call T U G C) → global_by g call None ≡ None
+  none_by g (Asked (step.DisableGlobal target) answer) = go (same_global target g)
+    where
+      go : (b : Bool) → cond b (option_map as_disabled (let o : Option (Object (KeptGlobal G)) = None in o)) None ≡ None
+      go true = refl
+      go false = refl
+  none_by g (Asked (step.RemoveGlobal target) answer) = go (same_global target g)
+    where
+      go : (b : Bool) → cond b (let o : Option (Object (KeptGlobal G)) = None in o) None ≡ None
+      go true = refl
+      go false = refl
+  none_by g (Asked call answer) = refl
+  none_by g (Changed target t) = refl
+
+  none_over : (g : GlobalParts) (run : List (Entry T U G C)) → global_over g run None ≡ None
+  none_over g [] = refl
+  none_over g (e ∷ run) = ap (global_over g run) (none_by g e.call) ∙ none_over g run
+
+  -- ---- the clients that a run inserts
+
+  -- the client that a call inserts
+  abbrev inserted_in : Call T U G C → Option ClientParts
+  inserted_in (Asked (step.InsertClient transport client_data) (reply.InsertClient (Ok id))) = Some id
+  inserted_in _ = None
+
+  inserts_in : (call : Call T U G C) (id : ClientParts) → inserted_in call ≡ Some id → Inserts id call
+  inserts_in (Asked (step.InsertClient transport client_data) (reply.InsertClient (Ok new))) id is =
+      (transport, client_data, ap (λ (x : ClientParts). Asked (step.InsertClient transport client_data) (reply.InsertClient (Ok x))) (same_Some new id is))
+  inserts_in (Asked call answer) id is = absurd (none_some is)
+  inserts_in (Changed target t) id is = absurd (none_some is)
+
+  either_inserts : (id : ClientParts) (call : Call T U G C) → Inserts id call ⊎ IsNotInserted id call
+  either_inserts id call = go (inserted_in call) refl
+    where
+      go : (o : Option ClientParts) → inserted_in call ≡ o → Inserts id call ⊎ IsNotInserted id call
+      go None none = inr (λ new (transport, client_data, is). absurd (none_some (sym none ∙ ap inserted_in is)))
+      go (Some k) one = at (same_client k id) refl
+        where
+          at : (b : Bool) → same_client k id ≡ b → Inserts id call ⊎ IsNotInserted id call
+          at true same = inl (inserts_in call id (one ∙ ap Some (same_clients k id same)))
+          at false other = inr (λ new (transport, client_data, is). ap (λ (x : ClientParts). same_client x id) (same_Some new k (sym (ap inserted_in is) ∙ one)) ∙ other)
+
+  client_made_over : (w : World T G C) (before after : ServerState T U G C) (run : List (Entry T U G C)) (id : ClientParts) → Leads w before run after → IsSome (seen id after).part
+      → IsSome (seen id before).part ⊎ SomeCall (Inserts id) run
+  client_made_over w before after [] id same some = inl (subst (λ (s : ServerState T U G C). IsSome (seen id s).part) same some)
+  client_made_over w before after (e ∷ run) id (mid, by, leads) some =
+      elim (client_made_over w mid after run id leads some) [
+        | inr later ↦ inr (inr later)
+        | inl now ↦
+            elim (either_inserts id e.call) [
+              | inl is ↦ inr (inl is)
+              | inr other ↦ inl (stored_before (seen id before).part refl other now)
+            ]
+      ]
+    where
+      stored_before : (o : Option _) → (seen id before).part ≡ o → IsNotInserted id e.call → IsSome (seen id mid).part → IsSome o
+      stored_before (Some p) there other now = refl
+      stored_before None none other now = absurd (some_none now (out_next w id before mid e none other by))
+
+-- ---- every run of a new server
+
+module _ {T U G C : Type 0} where
+  each_names_its_global : (w : World T G C) (table : List InterfaceRow) (run : List (Entry T U G C)) (after : ServerState T U G C) → Leads w (new_server table) run after
+      → EachNamesItsGlobal run after
+  each_names_its_global w table run after leads g i version handler earlier later e split creates =
+      let (mid, first, (next, by, rest)) =
+      split_run w (new_server table) after earlier (e ∷ later) (subst (λ (r : List (Entry T U G C)). Leads w (new_server table) r after) split leads) in
+      let call : Call T U G C = Asked (step.CreateGlobal i version handler) (reply.CreateGlobal (Ok g)) in
+      let offered : next.offer ≡ offer_after mid.offer call =
+      by.offer ∙ ap (λ (c : Call T U G C). offer_after mid.offer c) creates in
+      let number = offered_next mid.offer e.call g by.global (i, version, handler, creates) in
+      let last : next.offer.globals.last_serial ≡ g.serial = ap (λ (o : Offer G). o.globals.last_serial) offered in
+      named_over next.offer after.offer next.last_client after.last_client later (shared_run w next after later rest) g (omega (arith, last))
+      ∙ ap (global_over g later) (ap (λ (o : Offer G). global_of o.globals g) offered ∙ created_named mid.offer.globals i version handler g number g.serial)
+
+  pub gives_once : (w : World T G C) (table : List InterfaceRow) (run : List (Entry T U G C)) (after : ServerState T U G C) → Leads w (new_server table) run after
+      → GivesOnce w table run after
+  gives_once w table run after leads =
+      let shared = shared_run w (new_server table) after run leads in
+      record {
+        clients = clients_rise (new_offer table) after.offer 0 after.last_client run shared;
+        globals = globals_rise (new_offer table) after.offer 0 after.last_client run shared;
+        client_made = λ id some. (
+            elim (client_made_over w (new_server table) after run id leads some) [
+              | inl new ↦ absurd (true≢false (sym new))
+              | inr made ↦ made
+            ]
+            );
+        global_made = λ g some. (
+            elim (made_over (new_offer table) after.offer 0 after.last_client run shared g some) [
+              | inl new ↦ absurd (some_none new (ap (named_at g) (held_empty g.name) ∙ none_at g))
+              | inr made ↦ made
+            ]
+            );
+        names_global = each_names_its_global w table run after leads;
+        no_client_again = λ id done later point split first others made none. (
+            let given = client_given (new_offer table) point.offer 0 point.last_client done (shared_run w (new_server table) point done first) id made in
+            (out_run w id point after later given none others).none
+            );
+        no_global_again = λ g done later point split first others made none. (
+            let given = global_given (new_offer table) point.offer 0 point.last_client done (shared_run w (new_server table) point done first) g made in
+            named_over point.offer after.offer point.last_client after.last_client later (shared_run w point after later others) g given
+            ∙ ap (global_over g later) none ∙ none_over g later
+            );
+      }
+
+  pub have_given_once : (w : World T G C) (table : List InterfaceRow) (steps : List (RunEntry (Step T U G C) (Reply T U))) (after : ServerState T U G C)
+      → Performs w (new_server table) steps after → HaveGivenOnce w table steps after
+  have_given_once w table steps after performs =
+      let (run, are, leads) = performed w (new_server table) after steps performs in (run, are, leads, gives_once w table run after leads)

@@ -1,0 +1,288 @@
+-- What each call answers and does where a client is killed, and where it is not stored.
+use Rattle.std.proofs.Common.{◌≡◌, ◌⊎◌, ℕ, Bool, true, false, List, [], Option, None, Some, is_some, Result, Ok, Err, refl, sym, ap, subst, ◌∙◌, true≢false}
+use Rattle.std.specs.Prelude.{Vec, is_ok}
+use Rattle.std.specs.Global.{Global}
+use Rattle.std.proofs.lemmas.Option.{same_Some}
+use mathlib.Core.Logic.{inl, inr}
+use Rattle.wl_wire.specs.declared.error.IoFault.{IoFault}
+use Rattle.wl_wire.specs.declared.error.IoFault.TheVariants as fault
+use Rattle.wl_wire.specs.declared.error.OutOfMemory.{OutOfMemory}
+use Rattle.wl_wire.specs.declared.interface.InterfaceId.{InterfaceId}
+use Rattle.wl_link.proofs.Calls.Branches.{either_bool, either_option}
+use Rattle.wl_server.specs.declared.error.ActionError.{ActionError}
+use Rattle.wl_server.specs.declared.error.ActionError.TheVariants.{ActionOpen, Io}
+use Rattle.wl_server.specs.declared.error.GlobalError.{GlobalError}
+use Rattle.wl_server.specs.declared.notes.Note.{Note}
+use Rattle.wl_server.specs.declared.reading.action.Action.{Action}
+use Rattle.wl_server.specs.declared.reading.action.OpenAction.{OpenAction}
+use Rattle.wl_server.specs.declared.reading.action.Reading.{Reading}
+use Rattle.wl_server.specs.declared.runs.step.Reply.{Reply}
+use Rattle.wl_server.specs.declared.runs.step.Reply.TheVariants as reply
+use Rattle.wl_server.specs.declared.runs.step.Step.{Step}
+use Rattle.wl_server.specs.declared.runs.step.Step.TheVariants as step
+use Rattle.wl_server.specs.Deeds.{Deed, Handed, came_in}
+use Rattle.wl_server.specs.Events.{session_content}
+use Rattle.wl_server.specs.Felt.{Cleaned, news, removals}
+use Rattle.wl_server.specs.Globals.{Offer, global_of, is_enabled}
+use Rattle.wl_server.specs.Ids.{ClientParts, GlobalParts, same_client}
+use Rattle.wl_server.specs.Killed.{ReadingAnswers, TakesOut}
+use Rattle.wl_server.specs.Moves.{Move, Moved}
+use Rattle.wl_server.specs.Part.{Part}
+use Rattle.wl_server.specs.PartStep.{Asked, Call, Changed, CleanedAs, FeelsGlobal, FeelsLoss, FlushedFor, MovedFor, NotesTaken, OfClient, OnPart, PartCall, PartStep, ReadsFor, Unfelt, World, around, share_of}
+use Rattle.wl_server.specs.Reading.{NextAction, action_content, new_reading}
+use Rattle.wl_server.specs.Runs.{IsNotInserted, concerns}
+use Rattle.wl_server.specs.Server.{Seen}
+use Rattle.wl_server.proofs.Dispatches.Receiving.{call_quiet}
+use Rattle.wl_server.proofs.OverRuns.Alone.IsolationLaw.{other_call}
+use Rattle.wl_server.proofs.OverRuns.Moves.BaseMoves.{Goes, notes_taken, taken_out, unfelt, within}
+use Rattle.wl_server.proofs.OverRuns.Moves.BaseMovesLaw.{call_goes}
+use Rattle.wl_server.proofs.OverRuns.Killed.KilledParts.{Remains, creates_remains, data_remains, destroys_remains, error_remains, event_remains, finish_bind_remains, finish_remains, flushed_remains, flushes_remains, hears_remains, kills_remains, remains, remains_as, transport_remains, when_killed}
+
+none_some : {A : Type 0} {x : A} → None ≡ Some x → ⊥
+none_some e = true≢false (sym (ap is_some e))
+
+-- ---- the answer of a reading
+
+content_is : (r : Result Action ActionError) (e : ActionError) → action_content r ≡ Err e → r ≡ Err e
+content_is (Ok a) e is = absurd (true≢false (ap is_ok is))
+content_is (Err f) e is = ap error_in is
+  where
+    error_in : Result Handed ActionError → Result Action ActionError
+    error_in (Ok h) = Err f
+    error_in (Err e) = Err e
+
+-- why nothing is read of a killed client
+abbrev pub refusal_with : Option OpenAction → ActionError
+refusal_with None = Io fault.Pipe
+refusal_with (Some a) = ActionOpen
+
+-- nothing is read, for this reason
+record Unread {U : Type 0} (e : ActionError) (r r' : Reading) (answer : Result Handed ActionError) (did : List (Deed U)) : Type 0 where
+  answers : answer ≡ Err e
+  left : r' ≡ r
+  none : did ≡ []
+
+module _ {T U : Type 0} (id target : ClientParts) (e : ActionError) (r : Result Action ActionError) (answer : Reply T U) where
+  says_next : answer ≡ reply.NextAction r → (same_client target id ≡ true → action_content r ≡ Err e) → same_client target id ≡ true → answer ≡ reply.NextAction (Err e)
+  says_next is says mine = is ∙ ap reply.NextAction (content_is r e (says mine))
+
+  says_within : (reading left : Reading) → answer ≡ reply.NextActionWithin r left → (same_client target id ≡ true → (action_content r ≡ Err e) × (left ≡ reading))
+      → same_client target id ≡ true → answer ≡ reply.NextActionWithin (Err e) reading
+  says_within reading left is says mine =
+      is ∙ ap (λ (x : Result Action ActionError). reply.NextActionWithin x left) (content_is r e (says mine).0)
+      ∙ ap (λ (x : Reading). reply.NextActionWithin (Err e) x) (says mine).1
+
+-- ---- a killed client
+
+module _ {T U G C : Type 0} (w : World T G C) (id : ClientParts) (offer : Offer G) (before : Seen T U C) (p : Part T U C) (there : before.part ≡ Some p) (killed : p.is_killed ≡ true)
+    (lacked : Bool) (did : List (Deed U)) (after : Seen T U C) where
+  -- the part that a call finds
+  found_part : (p' : Part T U C) → before.part ≡ Some p' → p' ≡ p
+  found_part p' there' = same_Some p' p (sym there' ∙ there)
+
+  dead_unread : (r r' : Reading) (answer : Result Handed ActionError) (q : Part T U C) → NextAction w.sends w.receives (around w id offer) r p answer r' lacked did q
+      → Unread (refusal_with p.action) r r' answer did
+  dead_unread r r' answer q h =
+      elim (either_option p.action h) [
+        | inl (none, g) ↦
+            let (is, same, calm, nothing, stays) = when_killed _ p.is_killed killed g in
+            record { answers = is ∙ ap (λ (o : Option OpenAction). let x : Result Handed ActionError = Err (refusal_with o) in x) (sym none); left = same; none = nothing }
+        | inr (a, open', (is, same, calm, nothing, stays)) ↦
+            record { answers = is ∙ ap (λ (o : Option OpenAction). let x : Result Handed ActionError = Err (refusal_with o) in x) (sym open'); left = same; none = nothing }
+      ]
+
+  dead_reads : (target : ClientParts) (r r' : Reading) (answer : Result Handed ActionError) → ReadsFor w id offer target r answer r' before lacked did after
+      → (did ≡ []) × (same_client target id ≡ true → (answer ≡ Err (refusal_with p.action)) × (r' ≡ r))
+  dead_reads target r r' answer h = go (same_client target id) refl h
+    where
+      go : (b : Bool) → same_client target id ≡ b
+          → OfClient b before (λ p q. NextAction w.sends w.receives (around w id offer) r p answer r' lacked did q) ((answer ≡ Err (Io fault.InvalidInput)) × (r' ≡ r)) lacked did after
+          → (did ≡ []) × (same_client target id ≡ true → (answer ≡ Err (refusal_with p.action)) × (r' ≡ r))
+      go true is h =
+          elim (either_option before.part h) [
+            | inl (none, nothing) ↦ absurd (none_some (sym none ∙ there))
+            | inr (p', there', (q, next, same)) ↦
+                let u = dead_unread r r' answer q (subst (λ (x : Part T U C). NextAction w.sends w.receives (around w id offer) r x answer r' lacked did q) (found_part p' there') next) in
+                (u.none, λ mine. (u.answers, u.left))
+          ]
+      go false is (calm, none, same) = (none, λ mine. absurd (true≢false (sym mine ∙ is)))
+
+  -- what a reading of it answers
+  pub dead_says : (call : Call T U G C) → PartCall w id offer call before lacked did after → ReadingAnswers id (refusal_with p.action) call
+  dead_says (Asked (step.NextAction target) answer) (r, left, is, h) =
+      says_next id target (refusal_with p.action) r answer is (λ mine. ((dead_reads target new_reading left (action_content r) h).1 mine).0)
+  dead_says (Asked (step.NextActionWithin target reading) answer) (r, left, is, h) =
+      says_within id target (refusal_with p.action) r answer reading left is (dead_reads target reading left (action_content r) h).1
+  dead_says (Asked call answer) h = tt
+  dead_says (Changed target t) h = tt
+
+  -- nothing is received from it
+  pub dead_silent : (call : Call T U G C) → PartCall w id offer call before lacked did after → came_in did ≡ []
+  dead_silent (Asked (step.NextAction target) answer) (r, left, is, h) = ap came_in (dead_reads target new_reading left (action_content r) h).0
+  dead_silent (Asked (step.NextActionWithin target reading) answer) (r, left, is, h) = ap came_in (dead_reads target reading left (action_content r) h).0
+  dead_silent (Asked call answer) h = call_quiet w id offer before after lacked did (Asked call answer) refl h
+  dead_silent (Changed target t) h = call_quiet w id offer before after lacked did (Changed target t) refl h
+
+  -- ---- what becomes of it
+
+  -- it is still stored, and killed
+  abbrev pub StillDead : Type 0
+  StillDead = (q : Part T U C) × (after.part ≡ Some q) × Remains p q
+
+  abbrev pub DeadOrOut : Call T U G C → Type 0
+  DeadOrOut call = StillDead ⊎ (TakesOut id call × (after.part ≡ None))
+
+  unfelt_dead : Unfelt before lacked did after → StillDead
+  unfelt_dead (calm, none, same) = (p, ap (λ (s : Seen T U C). s.part) same ∙ there, remains p killed p refl)
+
+  on_dead : (R : Part T U C → Part T U C → Type 0) (missing : Type 0) → OnPart before R missing lacked did after → ((q : Part T U C) → R p q → Remains p q) → StillDead
+  on_dead R missing h keeps =
+      elim (either_option before.part h) [
+        | inl (none, nothing) ↦ absurd (none_some (sym none ∙ there))
+        | inr (p', there', (q, by, same)) ↦ (q, ap (λ (s : Seen T U C). s.part) same, keeps q (subst (λ (x : Part T U C). R x q) (found_part p' there') by))
+      ]
+
+  of_dead : (b : Bool) (R : Part T U C → Part T U C → Type 0) (missing : Type 0) → OfClient b before R missing lacked did after → ((q : Part T U C) → R p q → Remains p q)
+      → StillDead
+  of_dead b R missing h keeps =
+      elim (either_bool b h) [
+        | inl on ↦ on_dead R missing on keeps
+        | inr unfelt' ↦ unfelt_dead unfelt'
+      ]
+
+  global_dead : (i : InterfaceId) (version : ℕ) (handler : G) (r : Result GlobalParts GlobalError) → FeelsGlobal w id offer i version handler r before lacked did after → StillDead
+  global_dead i version handler (Ok g) h =
+      on_dead _ _ h (λ q by. hears_remains p killed w.sends q (news offer.table p (w.views handler id p.client_data g) (record { name = g.name; interface = i; version = version })) lacked did by)
+  global_dead i version handler (Err e) h = unfelt_dead h
+
+  loss_dead : (g : GlobalParts) → FeelsLoss w id offer g before lacked did after → StillDead
+  loss_dead g h =
+      elim (either_bool (is_enabled (global_of offer.globals g)) h) [
+        | inl felt ↦ on_dead _ _ felt (λ q by. hears_remains p killed w.sends q (removals p g.name) lacked did by)
+        | inr other ↦ unfelt_dead other
+      ]
+
+  flushed_dead : (target : Option ClientParts) (r : Result (Unit {0}) IoFault) → FlushedFor w id offer target r before lacked did after → StillDead
+  flushed_dead None r (is, h) = on_dead _ _ h (λ q by. flushes_remains p killed w.sends q lacked did by)
+  flushed_dead (Some target) r h = of_dead (same_client target id) _ _ h (λ q by. flushed_remains p killed w.sends q r lacked did by)
+
+  cleanup_dead : (answer : Reply T U) (r : Result (Vec (ClientParts × T) Global) OutOfMemory) → answer ≡ reply.Cleanup r → CleanedAs w id offer r before lacked did after
+      → DeadOrOut (Asked step.Cleanup answer)
+  cleanup_dead answer (Err e) is h = inl (unfelt_dead h)
+  cleanup_dead answer (Ok out) is h =
+      elim (either_option before.part h) [
+        | inl (none, nothing) ↦ absurd (none_some (sym none ∙ there))
+        | inr (p', there', (q, cleans, same)) ↦
+            let (sent, flushed, end, flushes, did_so, handed, gone) =
+            when_killed _ p.is_killed killed (subst (λ (x : Part T U C). Cleaned w.sends id x lacked did (share_of id out.items) q) (found_part p' there') cleans) in
+            inr ((out, end.link.transport, ap (λ (a : Reply T U). Asked step.Cleanup a) is, handed), ap (λ (s : Seen T U C). s.part) same ∙ gone)
+      ]
+
+  taken_dead : (r : Result (Vec (Note U) Global) OutOfMemory) → NotesTaken w id offer r before lacked did after → StillDead
+  taken_dead (Ok out) (all, calm, did_so, same) = (p, ap (λ (s : Seen T U C). s.part) same ∙ there, remains p killed p refl)
+  taken_dead (Err e) h = unfelt_dead h
+
+  moved_dead : (target : ClientParts) (m : Move) (answer : Moved) → MovedFor w id offer target m answer before lacked did after → StillDead
+  moved_dead target m answer h =
+      of_dead (same_client target id) _ _ h (λ q (lacks, none, becomes). transport_remains p killed (λ t t'. w.moves t m answer t') q becomes)
+
+  reads_dead : (target : ClientParts) (r r' : Reading) (answer : Result Handed ActionError) → ReadsFor w id offer target r answer r' before lacked did after → StillDead
+  reads_dead target r r' answer h = of_dead (same_client target id) _ _ h (λ q next. stays q next)
+    where
+      stays : (q : Part T U C) → NextAction w.sends w.receives (around w id offer) r p answer r' lacked did q → Remains p q
+      stays q next =
+          elim (either_option p.action next) [
+            | inl (none, g) ↦ let (is, same, calm, nothing, still) = when_killed _ p.is_killed killed g in remains p killed q still
+            | inr (a, open', (is, same, calm, nothing, still)) ↦ remains p killed q still
+          ]
+
+  step_dead : (call : Step T U G C) (answer : Reply T U) → IsNotInserted id (Asked call answer) → PartStep w id offer call answer before lacked did after → DeadOrOut (Asked call answer)
+  step_dead (step.InsertClient transport client_data) answer other h =
+      inl (unfelt_dead (other_call w id offer (Asked (step.InsertClient transport client_data) answer) before lacked did after other refl h))
+  step_dead (step.SetObjectData o u) answer other (r, is, h) =
+      inl (of_dead (same_client o.client id) _ _ h (λ q (calm, none, set). data_remains p killed q o u r set))
+  step_dead (step.CreateObject target i version u) answer other (r, is, h) =
+      inl (of_dead (same_client target id) _ _ h (λ q (lacks, none, by). creates_remains p killed offer.table id q i version u r by))
+  step_dead (step.DestroyObject o) answer other (r, is, h) =
+      inl (of_dead (same_client o.client id) _ _ h (λ q by. destroys_remains p killed w.sends id q o r lacked did by))
+  step_dead (step.SendEvent m) answer other (r, is, h) =
+      inl (of_dead (same_client m.sender_id.client id) _ _ h (λ q by. event_remains p killed w.sends id offer.table q (session_content m) r lacked did by))
+  step_dead (step.PostError o code text) answer other (is, h) =
+      inl (of_dead (same_client o.client id) _ _ h (λ q by. error_remains p killed w.sends offer.table q o _ _ lacked did by))
+  step_dead (step.KillClient target reason) answer other (is, h) =
+      inl (of_dead (same_client target id) _ _ h (λ q (calm, by). kills_remains p killed q reason did by))
+  step_dead (step.CreateGlobal i version handler) answer other (r, is, h) = inl (global_dead i _ handler r h)
+  step_dead (step.DisableGlobal g) answer other (is, h) = inl (loss_dead g h)
+  step_dead (step.RemoveGlobal g) answer other (is, h) = inl (loss_dead g h)
+  step_dead (step.Flush target) answer other (r, is, h) = inl (flushed_dead target r h)
+  step_dead (step.SetDefaultMaxBufferSize limit) answer other (is, h) = inl (unfelt_dead h)
+  step_dead (step.AddInterfaces interfaces) answer other (r, is, h) = inl (unfelt_dead h)
+  step_dead (step.SetClientMaxBufferSize target limit) answer other (is, h) =
+      inl (of_dead (same_client target id) _ _ h (λ q (calm, none, (link, set, same)). remains_as p killed q _ same refl refl))
+  step_dead (step.NextAction target) answer other (r, left, is, h) = inl (reads_dead target new_reading left (action_content r) h)
+  step_dead (step.NextActionWithin target reading) answer other (r, left, is, h) = inl (reads_dead target reading left (action_content r) h)
+  step_dead (step.FinishRequest target u) answer other (r, is, h) =
+      inl (of_dead (same_client target id) _ _ h (λ q by. finish_remains p killed w.sends id q u r lacked did by))
+  step_dead (step.FinishBind target u) answer other (r, is, h) =
+      inl (of_dead (same_client target id) _ _ h (λ q by. finish_bind_remains p killed q u r lacked did by))
+  step_dead step.Cleanup answer other (r, is, h) = cleanup_dead answer r is h
+  step_dead step.TakeNotes answer other (r, is, h) = inl (taken_dead r h)
+  step_dead (step.Arrive target bytes tokens) answer other (r, is, h) = inl (moved_dead target _ _ h)
+  step_dead (step.ArriveFault target f) answer other (r, is, h) = inl (moved_dead target _ _ h)
+  step_dead (step.Accept target n) answer other (r, is, h) = inl (moved_dead target _ _ h)
+  step_dead (step.AcceptFault target f) answer other (r, is, h) = inl (moved_dead target _ _ h)
+  step_dead (step.TakeSent target) answer other (r, is, h) = inl (moved_dead target _ _ h)
+
+  -- a killed client stays killed, or the call is the cleanup that takes it out
+  pub dead_or_out : (call : Call T U G C) → IsNotInserted id call → PartCall w id offer call before lacked did after → DeadOrOut call
+  dead_or_out (Asked call answer) other h = step_dead call answer other h
+  dead_or_out (Changed target t) other h =
+      inl (of_dead (same_client target id) _ _ h (λ q (calm, none, becomes). transport_remains p killed (λ _ t'. t' ≡ t) q becomes))
+
+-- ---- a client that is not stored
+
+module _ {T U G C : Type 0} (w : World T G C) (id : ClientParts) (offer : Offer G) (before : Seen T U C) (gone : before.part ≡ None) (lacked : Bool) (did : List (Deed U))
+    (after : Seen T U C) where
+  out_reads : (target : ClientParts) (r r' : Reading) (answer : Result Handed ActionError) → ReadsFor w id offer target r answer r' before lacked did after
+      → (did ≡ []) × (same_client target id ≡ true → (answer ≡ Err (Io fault.InvalidInput)) × (r' ≡ r))
+  out_reads target r r' answer h = go (same_client target id) refl h
+    where
+      go : (b : Bool) → same_client target id ≡ b
+          → OfClient b before (λ p q. NextAction w.sends w.receives (around w id offer) r p answer r' lacked did q) ((answer ≡ Err (Io fault.InvalidInput)) × (r' ≡ r)) lacked did after
+          → (did ≡ []) × (same_client target id ≡ true → (answer ≡ Err (Io fault.InvalidInput)) × (r' ≡ r))
+      go true is h =
+          elim (either_option before.part h) [
+            | inl (nobody, (says, (calm, none, same))) ↦ (none, λ mine. says)
+            | inr (p, there, others) ↦ absurd (none_some (sym gone ∙ there))
+          ]
+      go false is (calm, none, same) = (none, λ mine. absurd (true≢false (sym mine ∙ is)))
+
+  -- what a reading of it answers
+  pub out_says : (call : Call T U G C) → PartCall w id offer call before lacked did after → ReadingAnswers id (Io fault.InvalidInput) call
+  out_says (Asked (step.NextAction target) answer) (r, left, is, h) =
+      says_next id target (Io fault.InvalidInput) r answer is (λ mine. ((out_reads target new_reading left (action_content r) h).1 mine).0)
+  out_says (Asked (step.NextActionWithin target reading) answer) (r, left, is, h) =
+      says_within id target (Io fault.InvalidInput) r answer reading left is (out_reads target reading left (action_content r) h).1
+  out_says (Asked call answer) h = tt
+  out_says (Changed target t) h = tt
+
+  -- nothing is received from it
+  pub out_silent : (call : Call T U G C) → PartCall w id offer call before lacked did after → came_in did ≡ []
+  out_silent (Asked (step.NextAction target) answer) (r, left, is, h) = ap came_in (out_reads target new_reading left (action_content r) h).0
+  out_silent (Asked (step.NextActionWithin target reading) answer) (r, left, is, h) = ap came_in (out_reads target reading left (action_content r) h).0
+  out_silent (Asked call answer) h = call_quiet w id offer before after lacked did (Asked call answer) refl h
+  out_silent (Changed target t) h = call_quiet w id offer before after lacked did (Changed target t) refl h
+
+  goes_out : (d : _) → Goes w.sends w.receives id before d after → after.part ≡ None
+  goes_out d (unfelt is same) = ap (λ (s : Seen T U C). s.part) same ∙ gone
+  goes_out d (within p q there moves same) = absurd (none_some (sym gone ∙ there))
+  goes_out d (taken_out p q there killed moves empty no_notes same) = ap (λ (s : Seen T U C). s.part) same
+  goes_out d (notes_taken is same) = ap (λ (s : Seen T U C). s.part) same ∙ gone
+
+  -- it is not stored again, if it is not inserted again
+  pub out_stays : (call : Call T U G C) → IsNotInserted id call → PartCall w id offer call before lacked did after → after.part ≡ None
+  out_stays call other h = go (concerns id call) refl
+    where
+      go : (b : Bool) → concerns id call ≡ b → after.part ≡ None
+      go true about = goes_out _ (call_goes w id offer call before lacked did after about h)
+      go false far = ap (λ (s : Seen T U C). s.part) (other_call w id offer call before lacked did after other far h).2 ∙ gone
