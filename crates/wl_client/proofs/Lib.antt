@@ -5,6 +5,7 @@ pub mod Requests
 pub mod Sending
 pub mod Vacating
 pub mod Handling
+pub mod NewIds
 pub mod Readings
 mod Flushing
 mod Rows

@@ -7,6 +7,7 @@ use Rattle.wl_wire.specs.declared.error.MessageParseError.{MessageParseError}
 use Rattle.wl_wire.specs.declared.error.MessageParseError.TheVariants as parse
 use Rattle.wl_wire.specs.declared.message.Message.{Message}
 use Rattle.wl_wire.specs.Message.{WireMessage}
+use Rattle.wl_wire.specs.MessageRows.{creates}
 use Rattle.wl_wire.specs.Table.{MessageRow}
 use Rattle.wl_link.specs.declared.object.Object.{Object}
 use Rattle.wl_link.specs.Exchange.{Queue}
@@ -40,7 +41,7 @@ event_content (Err e) = Err e
 -- an event asks for memory before it is read: for the object that it makes, or for arguments beyond four
 abbrev pub row_asks : Option MessageRow → Bool
 row_asks None = false
-row_asks (Some row) = is_some row.child_interface || nat_lt 4 (length row.signature)
+row_asks (Some row) = creates row || nat_lt 4 (length row.signature)
 
 module _ {U : Type 0} where
   abbrev pub objects_in : Core U → Objects (Kept U)

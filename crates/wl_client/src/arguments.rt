@@ -2,7 +2,7 @@
 //!
 //! An event has numbers in place of objects. They are *converted* to object ids. A new id makes an object.
 
-ghost use Rattle.std.specs.Prelude.{◌≡◌, ◌+◌, ◌<◌, false, true, Ok, Err, IfOk, MatchResult, length, reverse};
+ghost use Rattle.std.specs.Prelude.{◌≡◌, ◌≢◌, ◌+◌, ◌<◌, [], ◌∷◌, false, true, None, Ok, Err, IfOk, MatchResult, length, reverse};
 ghost use Rattle.smallvec.specs.SmallVec.{HasRoomFor};
 ghost use Rattle.wl_link.specs.Store.{is_free};
 ghost use Rattle.wl_wire.specs.MessageRows.{next_interface, rest_of};
@@ -139,10 +139,10 @@ fn convert_one<U: Drop>(
     progress: &mut Progress<'_>,
     arg: Argument<u32, Token>,
 ) -> Result<Argument<ObjectId, Token>, EventFault>
-    requires { CanMake progress.old objects.old }
+    requires { CanMake progress.old (arg ∷ []) objects.old }
     ensures converts { Converts receiver.version receiver.client_destroyed (state objects.old last_serial.old progress.old) arg result
         (state objects.new last_serial.new progress.new) }
-    ensures can_make { IfOk result (λ _. CanMake progress.new objects.new) }
+    ensures reserved { IfOk result (λ _. progress.new.child ≢ None → (progress.old.child ≢ None) × (objects.new.reserved ≡ objects.old.reserved)) }
 {
     match arg {
         Argument::Int(value) => Ok(Argument::Int(value)),
@@ -185,7 +185,7 @@ pub fn convert<U: Drop>(
     args: &mut SmallVec<Argument<u32, Token>, INLINE_ARGS>,
     converted: &mut SmallVec<Argument<ObjectId, Token>, INLINE_ARGS>,
 ) -> Result<(), EventFault>
-    requires can_make { CanMake progress.old objects.old }
+    requires can_make { CanMake progress.old (reverse args.old.items) objects.old }
     requires room { HasRoomFor converted.old (length args.old.items) }
     ensures capacity { converted.new.capacity ≡ converted.old.capacity }
     ensures converts { MatchResult result

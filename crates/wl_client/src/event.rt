@@ -1,9 +1,11 @@
 //! The events of all objects but the display.
 
-ghost use Rattle.std.specs.Prelude.{◌≡◌, ◌≢◌, [], true, None, IsSome, length, MatchOption};
+ghost use Rattle.std.specs.Prelude.{◌≡◌, [], true, IsSome, length, MatchOption};
+ghost use Rattle.std.specs.List.{list_any};
 ghost use Rattle.smallvec.specs.SmallVec.{HasRoomFor};
 ghost use Rattle.wl_wire.specs.Message.{content};
-ghost use Rattle.wl_wire.specs.Table.{message_row};
+ghost use Rattle.wl_wire.specs.Argument.{type_of};
+ghost use Rattle.wl_wire.specs.Table.{is_new_id, message_row};
 ghost use Rattle.wl_link.specs.Store.{held};
 ghost use Rattle.wl_client.specs.Events.{convert as outcome_of, start};
 ghost use Rattle.wl_client.specs.Inside.Conversion.{objects_in};
@@ -31,7 +33,7 @@ pub struct OpenEvent {
 /// Makes an event from a message: converts its arguments, which are taken out of it, and puts them into `event`. Returns
 /// whether the event is handed out. Then it is open.
 ///
-/// `event` has no arguments yet, and room for these. The map has room for the object that the event may make. The event is
+/// `event` has no arguments yet, and room for these. The map has room for an object, if one of them is a new id. The event is
 /// not handed out if the client has destroyed its receiver. The error says what is wrong with the event.
 pub fn handle_event<U: Drop>(
     objects: &mut ObjectMap<Kept<U>>,
@@ -42,7 +44,7 @@ pub fn handle_event<U: Drop>(
     event: &mut Message<ObjectId, Token>,
 ) -> Result<bool, EventFault>
     requires receiver { IsSome (held objects.old.store message.old.sender_id) }
-    requires can_make { desc.now.child_interface ≢ None → objects.old.reserved ≡ true }
+    requires can_make { list_any (λ x. is_new_id (type_of x)) message.old.args.items ≡ true → objects.old.reserved ≡ true }
     requires empty { event.old.args.items ≡ [] }
     requires room { HasRoomFor event.old.args (length message.old.args.items) }
     ensures capacity { event.new.args.capacity ≡ event.old.args.capacity }

@@ -1,10 +1,13 @@
 //! Takes the first message off what was received, and handles it.
 
-ghost use Rattle.std.specs.Prelude.{◌≡◌, ◌≢◌, ◌≤◌, ℕ, Option, [], true, false, None, Some, MatchResult, length, IfOk, OnErr, OnOk, option_copied, option_map};
+ghost use Rattle.std.specs.Prelude.{◌≡◌, ◌≤◌, ℕ, Option, [], true, false, Some, MatchResult, length, OnErr, OnOk, option_copied, option_map};
+ghost use Rattle.std.specs.List.{list_any};
 ghost use Rattle.smallvec.specs.SmallVec.{HasRoomFor};
+ghost use Rattle.wl_wire.specs.Argument.{type_of};
 ghost use Rattle.wl_wire.specs.Message.{content};
+ghost use Rattle.wl_wire.specs.MessageRows.{creates};
 ghost use Rattle.wl_wire.specs.Parse.{IsThere};
-ghost use Rattle.wl_wire.specs.Table.{message_row};
+ghost use Rattle.wl_wire.specs.Table.{is_new_id, message_row};
 ghost use Rattle.wl_link.specs.Store.{held};
 ghost use Rattle.wl_wire.specs.declared.error.IoFault.TheVariants as io;
 ghost use Rattle.wl_client.specs.declared.error.EventError.TheVariants as no_event;
@@ -89,16 +92,17 @@ fn make_room<T: Drop, U: Drop>(
     ensures room { OnOk result (IsThere socket.now.incoming.bytes desc.now.signature.items socket.now.incoming.tokens
         → length desc.now.signature.items ≤ converted.new.capacity) }
     ensures can_make { OnOk result (IsThere socket.now.incoming.bytes desc.now.signature.items socket.now.incoming.tokens
-        → desc.now.child_interface ≢ None → objects.new.reserved ≡ true) }
+        → creates (message_row desc.now) ≡ true → objects.new.reserved ≡ true) }
     ensures asked { OnErr result ((row_asks (Some (message_row desc.now)) ≡ true)
         × IsThere socket.now.incoming.bytes desc.now.signature.items socket.now.incoming.tokens) }
 {
-    let asks = desc.child_interface.is_some() || desc.signature.len() > INLINE_ARGS;
+    let creates = desc.creates_object();
+    let asks = creates || desc.signature.len() > INLINE_ARGS;
     if !asks || !socket.holds_message(desc.signature.as_slice()) {
         return Ok(());
     }
     converted.reserve(desc.signature.len())?;
-    if desc.child_interface.is_some() {
+    if creates {
         objects.reserve()?;
     }
     Ok(())
@@ -124,7 +128,7 @@ fn take<'p, T: Drop, U: Drop>(
     ensures room { OnOk result (HasRoomFor converted.new (length message.new.args.items)) }
     ensures inline { INLINE_ARGS ≤ converted.new.capacity }
     ensures empty { converted.new.items ≡ [] }
-    ensures can_make { IfOk result (λ desc. desc.now.child_interface ≢ None → objects.new.reserved ≡ true) }
+    ensures can_make { OnOk result (list_any (λ x. is_new_id (type_of x)) message.new.args.items ≡ true → objects.new.reserved ≡ true) }
 {
     converted.clear();
     let (sender, opcode) = header;

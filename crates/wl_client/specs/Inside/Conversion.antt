@@ -1,9 +1,11 @@
 -- What the functions that go through the arguments of an event say to each other.
 use Rattle.std.specs.Prelude.{◌≡◌, ◌≢◌, ℕ, Bool, true, List, Option, None, Some, Result, Ok, Err, false, ◌+◌}
+use Rattle.std.specs.List.{list_any}
 use Rattle.wl_wire.specs.declared.argument.Argument.{Argument}
 use Rattle.wl_wire.specs.declared.argument.Token.{Token}
 use Rattle.wl_wire.specs.declared.interface.InterfaceId.{InterfaceId}
-use Rattle.wl_wire.specs.Argument.{WireArgument}
+use Rattle.wl_wire.specs.Argument.{WireArgument, type_of}
+use Rattle.wl_wire.specs.Table.{is_new_id}
 use Rattle.wl_link.specs.declared.object.Object.{Object}
 use Rattle.wl_link.specs.Identity.{Objects}
 use Rattle.wl_link.specs.ObjectMap.{MapState}
@@ -26,9 +28,10 @@ module _ {U : Type 0} where
     created = progress.created;
   }
 
-  -- the map has capacity for the object that the event may yet make
-  abbrev pub CanMake : Progress → MapState (Kept U) → Type 0
-  CanMake progress map = progress.child ≢ None → map.reserved ≡ true
+  -- the map has capacity for the object that the event may yet make, if one of these arguments is a new id
+  abbrev pub CanMake : Progress → List WireArgument → MapState (Kept U) → Type 0
+  CanMake progress args map =
+      progress.child ≢ None → list_any (λ a. is_new_id (type_of a)) args ≡ true → map.reserved ≡ true
 
   -- an object is made at that number, or no object may be made there and nothing is changed
   abbrev pub MakesObject : Objects (Kept U) → ℕ → Bool → InterfaceId → ℕ → Option IdParts → Objects (Kept U) → Type 0

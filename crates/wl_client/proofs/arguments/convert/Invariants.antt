@@ -7,7 +7,7 @@ use Rattle.wl_client.proofs.arguments.convert.Given as goal
 -- the arguments that are left come to what all come to
 abbrev pub invariant-loop-arg : goal.invariant-loop-arg
 invariant-loop-arg g l = record {
-  can_make : CanMake l.progress l.objects;
+  can_make : CanMake l.progress (reverse l.args.items) l.objects;
   capacity : l.converted.capacity ≡ l.fn.converted.capacity;
   room : HasRoomFor l.converted (length l.args.items);
   left : convert l.fn.receiver.version l.fn.receiver.client_destroyed (state l.objects l.last_serial l.progress) l.converted.items (reverse l.args.items)
